@@ -1,0 +1,6 @@
+use Rattle.std.proofs.Common.{◌≡◌, take, string_bytes}
+use Rattle.f77_source.specs.Write.{written}
+use Rattle.f77_source.proofs.write.write_form.Given as goal
+
+abbrev pub invariant-loop-card : goal.invariant-loop-card
+invariant-loop-card l = string_bytes l.text ≡ written (take l.card-index l.cards)

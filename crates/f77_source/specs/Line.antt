@@ -1,0 +1,89 @@
+-- One line of a source (ANSI X3.9-1978, 3.2): its columns, its kind, its label and its part of a statement.
+-- Columns are numbered from 1. Those from 73 on do not count.
+use Rattle.std.specs.Prelude.{ℕ, ◌-◌, ◌==◌, ◌&&◌, ◌||◌, not, Bool, true, if◌then◌else◌, List, take, drop, map, filter, Option, Some, None, slice_index_or}
+use Rattle.std.specs.List.{list_all, list_any}
+use Rattle.std.specs.Char.{is_ascii_digit, to_ascii_uppercase}
+use Rattle.std.specs.Int.{is_in_range}
+use Rattle.std.specs.Str.Parse.{digits_value}
+use Rattle.f77_source.specs.declared.fault.FormFault.{FormFault}
+use Rattle.f77_source.specs.declared.fault.FormFault.TheVariants.{NotAscii, Tab, BadLabel}
+use Rattle.f77_source.specs.declared.line.LineKind.{LineKind}
+use Rattle.f77_source.specs.declared.line.LineKind.TheVariants.{Comment, Initial, Continuation}
+
+abbrev pub is_blank : ℕ → Bool
+is_blank c = c == 32
+
+-- columns 1 to 72
+abbrev pub counted : List ℕ → List ℕ
+counted line = take 72 line
+
+-- columns 1 to 5, and 7 to 72
+abbrev pub label_field : List ℕ → List ℕ
+label_field line = take 5 line
+
+abbrev pub statement_field : List ℕ → List ℕ
+statement_field line = drop 6 (counted line)
+
+-- what stands in a column, a blank where the line is shorter
+abbrev pub column : List ℕ → ℕ → ℕ
+column line n = slice_index_or line (n - 1) 32
+
+-- C or * in column 1, or only blanks
+unfoldable pub is_comment : List ℕ → Bool
+is_comment line = (column line 1 == 67) || (column line 1 == 99) || (column line 1 == 42) || list_all is_blank (counted line)
+
+-- a line that is no comment has a continuation mark where column 6 holds neither a blank nor 0
+unfoldable pub kind : List ℕ → LineKind
+kind line =
+    if is_comment line then Comment
+    else (if is_blank (column line 6) || (column line 6 == 48) then Initial else Continuation)
+
+-- the number of the digits, blanks left out
+unfoldable pub label_number : List ℕ → ℕ
+label_number line = digits_value 10 (filter (λ c. not (is_blank c)) (label_field line))
+
+-- the label of an initial line
+unfoldable pub label : List ℕ → Option ℕ
+label line = if list_all is_blank (label_field line) then None else Some (label_number line)
+
+abbrev pub is_label_character : ℕ → Bool
+is_label_character c = is_ascii_digit c || is_blank c
+
+-- columns 1 to 5 of an initial line hold only digits and blanks, and where there are digits one is not zero
+unfoldable pub is_label_field : List ℕ → Bool
+is_label_field line =
+    list_all is_label_character (label_field line)
+    && (list_all is_blank (label_field line) || not (label_number line == 0))
+
+-- what the line adds to its statement: columns 7 to 72, blanks left out, in upper case
+unfoldable pub statement_text : List ℕ → List ℕ
+statement_text line = map to_ascii_uppercase (filter (λ c. not (is_blank c)) (statement_field line))
+
+-- a byte that only a comment or the columns from 73 on may hold, a tab aside
+abbrev pub is_foreign : ℕ → Bool
+is_foreign c = not (is_in_range 32 126 c || (c == 9))
+
+abbrev pub has_foreign : List ℕ → Bool
+has_foreign line = list_any is_foreign (counted line)
+
+abbrev pub has_tab : List ℕ → Bool
+has_tab line = list_any (λ c. c == 9) (counted line)
+
+-- columns 1 to 5 of a continuation line are blank
+abbrev pub fits_label_field : LineKind → List ℕ → Bool
+fits_label_field Initial line = is_label_field line
+fits_label_field Continuation line = list_all is_blank (label_field line)
+fits_label_field Comment line = true
+
+-- a comment is not looked at further
+unfoldable pub is_well_formed : List ℕ → Bool
+is_well_formed line = is_comment line || not (has_foreign line) && not (has_tab line) && fits_label_field (kind line) line
+
+-- what is wrong with line number n by itself
+unfoldable pub own_fault : ℕ → List ℕ → Option FormFault
+own_fault n line =
+    if is_comment line then None
+    else (if has_foreign line then Some (NotAscii n)
+    else (if has_tab line then Some (Tab n)
+    else (if fits_label_field (kind line) line then None
+    else Some (BadLabel n))))

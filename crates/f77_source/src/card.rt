@@ -1,0 +1,67 @@
+//! Cards: statements as they stand on their lines.
+
+ghost use Rattle.std.specs.Prelude.{◌≡◌, OnOk, false, string_bytes};
+ghost use Rattle.f77_source.specs.Line.{has_foreign};
+ghost use Rattle.f77_source.specs.Card.{extended};
+
+use crate::line::append_statement_text;
+use std::alloc::AllocError;
+use std::marker::Model;
+
+/// A statement as it stands on its lines: the label, the text and the number of the initial line.
+///
+/// As read, the label is 1 to 99999, the text has no blanks and is in upper case, and lines count from 1. A card that
+/// is to be written may hold any label and any text.
+#[derive(Drop)]
+pub struct Card {
+    label: Option<u32>,
+    text: String,
+    line: u32,
+}
+
+impl Model for Card {
+    ghost use Rattle.std.specs.Prelude.{string_bytes};
+    ghost use Rattle.f77_source.specs.Card.{CardFields};
+
+    ghost Value = { CardFields };
+
+    ghost view = { λ c. record { label = c.label; text = string_bytes c.text; line = c.line } };
+}
+
+impl Card {
+    /// A card of these parts.
+    pub fn new(label: Option<u32>, text: String, line: u32) -> Card
+        ensures { result ≡ record { label = label; text = string_bytes text; line = line } }
+    {
+        Card { label, text, line }
+    }
+
+    /// The statement label, where there is one (ANSI X3.9-1978, 3.4).
+    pub fn label(&self) -> Option<u32>
+        ensures { result ≡ self.now.label }
+    {
+        self.label
+    }
+
+    /// The text of the statement.
+    pub fn text(&self) -> &str
+        ensures { result.now ≡ self.now.text }
+    {
+        self.text.as_str()
+    }
+
+    /// The number of the initial line.
+    pub fn line(&self) -> u32
+        ensures { result ≡ self.now.line }
+    {
+        self.line
+    }
+
+    /// Adds what a line adds to its statement. After want of memory the text is of no use.
+    pub(crate) fn append(&mut self, line: &[u8]) -> Result<(), AllocError>
+        requires { has_foreign line.now ≡ false }
+        ensures { OnOk result (self.new ≡ extended line.now self.old) }
+    {
+        append_statement_text(&mut self.text, line)
+    }
+}
