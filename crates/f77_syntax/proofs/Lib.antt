@@ -1,0 +1,15 @@
+mod Steps
+mod Words
+mod Functions
+mod Sound
+mod Shorter
+mod Agree
+mod Complete
+mod Views
+mod Gives
+mod Loops
+mod Numbers
+mod Operators
+mod Whole
+mod Back
+mod Printing

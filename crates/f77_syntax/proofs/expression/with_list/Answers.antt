@@ -1,0 +1,13 @@
+use Rattle.std.proofs.Common.{◌≡◌, ap, ◌∙◌, sym, ℕ, List}
+use Rattle.std.specs.Prelude.{map}
+use Rattle.f77_syntax.specs.Tree.{Tree, Trees}
+use Rattle.f77_syntax.specs.Reading.{listed_by}
+use Rattle.f77_syntax.specs.View.{tree_of, trees}
+use Rattle.f77_syntax.proofs.Views.{reference_view}
+use Rattle.f77_syntax.proofs.expression.with_list.Goals as goal
+
+pub returns : goal.returns
+returns c =
+    let none = sym c.named.ensures ∙ c.in_default.is in
+    reference_view _ ∙ ap (λ (z : List ℕ). Tree.Reference z (trees (map tree_of c.args.items.items))) c.in_ok-name.ensures
+    ∙ ap (λ o. listed_by o c.args.name.now (trees (map tree_of c.args.items.items))) (sym none)

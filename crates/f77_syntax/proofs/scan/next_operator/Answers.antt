@@ -1,0 +1,11 @@
+use Rattle.f77_syntax.specs.Reading.{operator_at}
+use Rattle.f77_syntax.proofs.Operators.{next_shorter}
+use Rattle.f77_syntax.proofs.scan.next_operator.Goals as goal
+
+pub returns-clause-found : goal.returns-clause-found
+unfolding operator_at
+returns-clause-found c = c.first_operator.ensures
+
+pub returns-clause-shorter : goal.returns-clause-shorter
+unfolding operator_at
+returns-clause-shorter c = next_shorter c.args.text.now c.first_operator.result c.first_operator.ensures

@@ -1,0 +1,9 @@
+use Rattle.std.proofs.Common.{◌≡◌, ◌++◌, take, drop}
+use Rattle.f77_syntax.specs.Reading.{word, past_word}
+use Rattle.f77_syntax.proofs.scan.split_word.Given as goal
+
+abbrev pub invariant-loop-i : goal.invariant-loop-i
+invariant-loop-i l = record {
+    front : word l.text ≡ take l.i l.text ++ word (drop l.i l.text);
+    back : past_word l.text ≡ past_word (drop l.i l.text);
+  }

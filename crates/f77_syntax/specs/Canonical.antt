@@ -1,0 +1,57 @@
+-- The canonical text of a tree.
+use Rattle.std.specs.Prelude.{◌≡◌, ◌≢◌, ◌<◌, ◌^◌, true, false, ℕ, List, [], ◌∷◌, ◌++◌, nat_lt, if◌then◌else◌, codes}
+use Rattle.std.specs.Fmt.{decimal}
+use Rattle.f77_syntax.specs.Operator.{symbol, sign_symbol, level, left_level, right_level}
+use Rattle.f77_syntax.specs.Intrinsic.{function_name}
+use Rattle.f77_syntax.specs.Grammar.{is_name, is_call, truth_text}
+use Rattle.f77_syntax.specs.Tree.{Tree, Trees}
+
+-- the level of a tree's own form
+abbrev pub own_level : Tree → ℕ
+own_level (Tree.Number n) = 9
+own_level (Tree.Truth b) = 9
+own_level (Tree.Reference name items) = 9
+own_level (Tree.Call f items) = 9
+own_level (Tree.Signed sign t) = 6
+own_level (Tree.Not t) = 4
+own_level (Tree.Binary op a b) = level op
+
+-- an operand, in parentheses exactly where its level is below the wanted one
+abbrev pub operand : ℕ → ℕ → List ℕ → List ℕ
+operand wanted own text = if nat_lt own wanted then 40 ∷ (text ++ 41 ∷ []) else text
+
+abbrev mutual
+  pub text_of : Tree → List ℕ
+  text_of (Tree.Number n) = decimal n
+  text_of (Tree.Truth b) = truth_text b
+  text_of (Tree.Reference name items) = name ++ list_text items
+  text_of (Tree.Call f items) = function_name f ++ list_text items
+  text_of (Tree.Signed sign t) = sign_symbol sign ∷ operand 7 (own_level t) (text_of t)
+  text_of (Tree.Not t) = codes ".NOT." ++ operand 5 (own_level t) (text_of t)
+  text_of (Tree.Binary op a b) =
+      operand (left_level op) (own_level a) (text_of a) ++ (symbol op ++ operand (right_level op) (own_level b) (text_of b))
+
+  -- a list in parentheses, and nothing where there is none
+  pub list_text : Trees → List ℕ
+  list_text Trees.None = []
+  list_text (Trees.Then t ts) = 40 ∷ ((text_of t ++ rest_text 44 ts) ++ 41 ∷ [])
+
+  -- this character before the first, and a comma before each other
+  pub rest_text : ℕ → Trees → List ℕ
+  rest_text c Trees.None = []
+  rest_text c (Trees.Then t ts) = c ∷ (text_of t ++ rest_text 44 ts)
+
+-- names are names, and constants are those that a program can keep
+abbrev mutual
+  pub Formed : Tree → Type 0
+  Formed (Tree.Number n) = n < 2 ^ 64
+  Formed (Tree.Truth b) = Unit {0}
+  Formed (Tree.Reference name items) = (is_name name ≡ true) × (is_call name items ≡ false) × FormedAll items
+  Formed (Tree.Call f items) = (items ≢ Trees.None) × FormedAll items
+  Formed (Tree.Signed sign t) = Formed t
+  Formed (Tree.Not t) = Formed t
+  Formed (Tree.Binary op a b) = Formed a × Formed b
+
+  pub FormedAll : Trees → Type 0
+  FormedAll Trees.None = Unit {0}
+  FormedAll (Trees.Then t ts) = Formed t × FormedAll ts

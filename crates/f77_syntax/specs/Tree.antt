@@ -1,0 +1,20 @@
+-- Expressions as trees, apart from where they lie in memory. Parentheses leave no trace.
+use Rattle.std.specs.Prelude.{ℕ, List, Bool}
+use Rattle.f77_syntax.specs.declared.intrinsic.Intrinsic.{Intrinsic}
+use Rattle.f77_syntax.specs.declared.operator.Operator.{Operator}
+use Rattle.f77_syntax.specs.declared.operator.Sign.{Sign}
+
+mutual
+  pub data Tree : Type 0 where
+    Number : ℕ → Tree
+    Truth : Bool → Tree
+    Reference : List ℕ → Trees → Tree
+    Call : Intrinsic → Trees → Tree
+    Signed : Sign → Tree → Tree
+    Not : Tree → Tree
+    Binary : Operator → Tree → Tree → Tree
+
+  -- subscripts or arguments
+  pub data Trees : Type 0 where
+    None : Trees
+    Then : Tree → Trees → Trees

@@ -1,0 +1,191 @@
+//! Expressions read from texts, by recursive descent.
+
+ghost use Rattle.std.specs.Prelude.{◌≡◌, ◌<◌, true, length, map, codes, IfOk, option_map};
+ghost use Rattle.f77_syntax.specs.Reading.{reading, close_at, after, word, past_word, start_at, group_at, signed_at, negated_at, dotted_at, word_at, listed};
+ghost use Rattle.f77_syntax.specs.Grammar.{Spells, is_name};
+ghost use Rattle.f77_syntax.specs.Tree.{Tree};
+ghost use Rattle.f77_syntax.specs.declared.fault.ReadError.TheVariants.{Memory};
+ghost use Rattle.f77_syntax.specs.View.{tree_of, trees, clip, Unless, Gives, IsTree, IsStart, IsList};
+
+use crate::fault::ReadError;
+use crate::intrinsic::Intrinsic;
+use crate::name::Name;
+use crate::operator::Sign;
+use crate::scan::{is_name, is_number, next_operator, number, split_word};
+use crate::tree::{Expr, Ref};
+use std::alloc::{AllocError, Global};
+
+/// The expression that the text spells.
+pub fn whole_expression(alloc: Global, text: &[u8]) -> Result<Expr, ReadError>
+    // What is read is spelled so.
+    ensures found { IfOk result (λ e. (t : Tree) × Spells 1 text.now t × (tree_of e ≡ clip t)) }
+    // What is spelled is read so, unless memory runs out.
+    ensures only { (t : Tree) → Spells 1 text.now t → Unless result Memory (λ e. tree_of e ≡ clip t) }
+{
+    let (expr, rest) = expression(alloc, 1, text)?;
+    if !rest.is_empty() {
+        return Err(ReadError::Unknown);
+    }
+    Ok(expr)
+}
+
+/// Reads an expression of the wanted level or a tighter one, and what follows it.
+#[cycle(parser)]
+pub fn expression(alloc: Global, wanted: u8, text: &[u8]) -> Result<(Expr, &[u8]), ReadError>
+    ensures found { Gives IsTree result (reading.expr wanted text.now) }
+    ensures shorter { IfOk result (λ x. length x.1.now < length text.now) }
+{
+    let (mut left, mut own, mut rest) = start(alloc, wanted, text)?;
+    loop {
+        let Some((op, behind)) = next_operator(rest) else {
+            return Ok((left, rest));
+        };
+        if !op.may_follow(own, wanted) {
+            return Ok((left, rest));
+        }
+        let (right, after) = expression(alloc, op.right_level(), behind)?;
+        left = Expr::Binary(op, Box::new(alloc, left)?, Box::new(alloc, right)?);
+        own = op.level();
+        rest = after;
+    }
+}
+
+/// Reads what an expression begins with: that, its level, and what follows it.
+#[cycle(parser)]
+fn start(alloc: Global, wanted: u8, text: &[u8]) -> Result<(Expr, u8, &[u8]), ReadError>
+    ensures found { Gives IsStart result (start_at reading wanted text.now) }
+    ensures shorter { IfOk result (λ x. length x.2.now < length text.now) }
+{
+    let Some((first, behind)) = text.split_first() else {
+        return Err(ReadError::Unknown);
+    };
+    match *first {
+        b'(' => group(alloc, behind),
+        b'+' => signed(alloc, wanted, Sign::Plus, behind),
+        b'-' => signed(alloc, wanted, Sign::Minus, behind),
+        b'.' => dotted(alloc, wanted, text),
+        _ => operand(alloc, text),
+    }
+}
+
+#[cycle(parser)]
+fn group(alloc: Global, text: &[u8]) -> Result<(Expr, u8, &[u8]), ReadError>
+    ensures { Gives IsStart result (group_at reading text.now) }
+{
+    let (inner, rest) = expression(alloc, 1, text)?;
+    let rest = closed(rest)?;
+    Ok((inner, 9, rest))
+}
+
+#[cycle(parser)]
+fn signed(
+    alloc: Global,
+    wanted: u8,
+    sign: Sign,
+    text: &[u8],
+) -> Result<(Expr, u8, &[u8]), ReadError>
+    ensures { Gives IsStart result (signed_at reading wanted sign text.now) }
+{
+    if wanted > 6 {
+        return Err(ReadError::Unknown);
+    }
+    let (operand, rest) = expression(alloc, 7, text)?;
+    Ok((Expr::Signed(sign, Box::new(alloc, operand)?), 6, rest))
+}
+
+/// Reads what begins with a dot: a LOGICAL constant, or `.NOT.` and its operand.
+#[cycle(parser)]
+fn dotted(alloc: Global, wanted: u8, text: &[u8]) -> Result<(Expr, u8, &[u8]), ReadError>
+    ensures { Gives IsStart result (dotted_at reading wanted text.now) }
+{
+    if let Some(rest) = text.strip_prefix(b".TRUE.") {
+        return Ok((Expr::Truth(true), 9, rest));
+    }
+    if let Some(rest) = text.strip_prefix(b".FALSE.") {
+        return Ok((Expr::Truth(false), 9, rest));
+    }
+    let Some(behind) = text.strip_prefix(b".NOT.") else {
+        return Err(ReadError::Unknown);
+    };
+    negated(alloc, wanted, behind)
+}
+
+#[cycle(parser)]
+fn negated(alloc: Global, wanted: u8, text: &[u8]) -> Result<(Expr, u8, &[u8]), ReadError>
+    ensures { Gives IsStart result (negated_at reading wanted text.now) }
+{
+    if wanted > 4 {
+        return Err(ReadError::Unknown);
+    }
+    let (operand, rest) = expression(alloc, 5, text)?;
+    Ok((Expr::Not(Box::new(alloc, operand)?), 4, rest))
+}
+
+/// Reads a constant, a name, or a name with a list.
+#[cycle(parser)]
+fn operand(alloc: Global, text: &[u8]) -> Result<(Expr, u8, &[u8]), ReadError>
+    ensures { Gives IsStart result (word_at reading (word text.now) (past_word text.now)) }
+{
+    let (front, rest) = split_word(text);
+    if is_number(front) {
+        return Ok((Expr::Number(number(front)), 9, rest));
+    }
+    if !is_name(front) {
+        return Err(ReadError::Unknown);
+    }
+    let Some(inner) = after_byte(rest, b'(') else {
+        let name = Name::copy_of(alloc, front)?;
+        let subscripts = Vec::new(alloc);
+        return Ok((Expr::Reference(Ref { name, subscripts }), 9, rest));
+    };
+    let (items, after) = list(alloc, inner)?;
+    let rest = closed(after)?;
+    Ok((with_list(alloc, front, items)?, 9, rest))
+}
+
+/// A call of the function of this name, or else a reference.
+fn with_list(alloc: Global, name: &[u8], items: Vec<Expr>) -> Result<Expr, AllocError>
+    requires { is_name name.now ≡ true }
+    ensures { IfOk result (λ e. tree_of e ≡ listed name.now (trees (map tree_of items.items))) }
+{
+    if let Some(function) = Intrinsic::named(name) {
+        return Ok(Expr::Call(function, items));
+    }
+    let name = Name::copy_of(alloc, name)?;
+    Ok(Expr::Reference(Ref {
+        name,
+        subscripts: items,
+    }))
+}
+
+/// Reads expressions joined by commas, and what follows them.
+#[cycle(parser)]
+fn list(alloc: Global, text: &[u8]) -> Result<(Vec<Expr>, &[u8]), ReadError>
+    ensures { Gives IsList result (reading.items text.now) }
+{
+    let mut items = Vec::new(alloc);
+    let mut rest = text;
+    loop {
+        let (item, after) = expression(alloc, 1, rest)?;
+        items.push(item)?;
+        let Some(next) = after_byte(after, b',') else {
+            return Ok((items, after));
+        };
+        rest = next;
+    }
+}
+
+/// What follows a closing parenthesis.
+fn closed(text: &[u8]) -> Result<&[u8], ReadError>
+    ensures { Gives (λ x s. x.now ≡ s) result (close_at text.now) }
+{
+    after_byte(text, b')').ok_or(ReadError::Unknown)
+}
+
+/// What follows this byte, where the text begins with it.
+fn after_byte(text: &[u8], byte: u8) -> Option<&[u8]>
+    ensures { option_map (λ rest. rest.now) result ≡ after byte text.now }
+{
+    let (first, rest) = text.split_first()?;
+    (*first == byte).then_some(rest)
+}

@@ -1,0 +1,12 @@
+//! The statements of the FORTRAN 77 subset as trees: the grammar, the reader and the printer.
+#![tactic(auto)]
+
+pub mod expression;
+pub mod fault;
+pub mod intrinsic;
+pub mod law;
+pub mod name;
+pub mod operator;
+pub mod print;
+pub mod scan;
+pub mod tree;

@@ -1,0 +1,125 @@
+//! Names, numbers and operators at the front of a text.
+
+ghost use Rattle.std.specs.Prelude.{◌≡◌, ◌<◌, ◌≤◌, length, true, option_map, IfSome};
+ghost use Rattle.std.specs.Str.Parse.{digits_value};
+ghost use Rattle.f77_syntax.specs.Grammar as grammar;
+ghost use Rattle.f77_syntax.specs.Reading as reading;
+ghost use Rattle.std.specs.List.{list_all};
+ghost use Rattle.f77_syntax.specs.Reading.{word, past_word, operator_at};
+ghost use Rattle.f77_syntax.specs.View.{clipped};
+
+use crate::operator::Operator;
+
+const OPERATORS: [Operator; 15] = [
+    Operator::Power,
+    Operator::Multiply,
+    Operator::Divide,
+    Operator::Add,
+    Operator::Subtract,
+    Operator::Less,
+    Operator::LessOrEqual,
+    Operator::Equal,
+    Operator::NotEqual,
+    Operator::GreaterOrEqual,
+    Operator::Greater,
+    Operator::And,
+    Operator::Or,
+    Operator::Equivalent,
+    Operator::NotEquivalent,
+];
+
+fn is_letter(c: u8) -> bool
+    ensures { result ≡ grammar.is_letter c }
+{
+    c.is_ascii_uppercase()
+}
+
+fn is_digit(c: u8) -> bool
+    ensures { result ≡ grammar.is_digit c }
+{
+    c.is_ascii_digit()
+}
+
+fn is_word(c: u8) -> bool
+    ensures { result ≡ grammar.is_word c }
+{
+    is_letter(c) || is_digit(c)
+}
+
+/// The letters and digits at the front, and what follows them.
+pub fn split_word(text: &[u8]) -> (&[u8], &[u8])
+    ensures front { result.0.now ≡ word text.now }
+    ensures back { result.1.now ≡ past_word text.now }
+    ensures short { length result.1.now ≤ length text.now }
+{
+    for (i, c) in text.iter().enumerate() {
+        if !is_word(*c) {
+            return text.split_at(i);
+        }
+    }
+    text.split_at(text.len())
+}
+
+/// Whether the text is letters and digits, the first of them a letter.
+pub fn is_name(text: &[u8]) -> bool
+    ensures { result ≡ grammar.is_name text.now }
+{
+    match text.split_first() {
+        None => false,
+        Some((first, rest)) => is_letter(*first) && are_words(rest),
+    }
+}
+
+/// Whether the text is one digit or more.
+pub fn is_number(text: &[u8]) -> bool
+    ensures { result ≡ grammar.is_number text.now }
+{
+    match text.split_first() {
+        None => false,
+        Some((first, rest)) => is_digit(*first) && are_digits(rest),
+    }
+}
+
+fn are_words(text: &[u8]) -> bool
+    ensures { result ≡ list_all grammar.is_word text.now }
+{
+    text.iter().all(|c| is_word(*c))
+}
+
+fn are_digits(text: &[u8]) -> bool
+    ensures { result ≡ list_all grammar.is_digit text.now }
+{
+    text.iter().all(|c| is_digit(*c))
+}
+
+/// The number that digits write, or the least one that is too large.
+pub fn number(digits: &[u8]) -> u32
+    requires { grammar.is_number digits.now ≡ true }
+    ensures { result ≡ clipped (digits_value 10 digits.now) }
+{
+    let mut n: u32 = 0;
+    for c in digits {
+        n = n.saturating_mul(10).saturating_add(u32::from(*c - b'0')).min(2147483648);
+    }
+    n
+}
+
+/// The operator at the front, and what follows it.
+pub fn next_operator(text: &[u8]) -> Option<(Operator, &[u8])>
+    ensures found { option_map (λ x. (x.0, x.1.now)) result ≡ operator_at text.now }
+    ensures shorter { IfSome result (λ x. length x.1.now < length text.now) }
+{
+    first_operator(&OPERATORS, text)
+}
+
+/// The first of these operators whose text stands at the front, and what follows it.
+fn first_operator<'a>(operators: &[Operator], text: &'a [u8]) -> Option<(Operator, &'a [u8])>
+    ensures { option_map (λ x. (x.0, x.1.now)) result ≡ reading.first_operator operators.now text.now }
+{
+    for op in operators {
+        if let Some(rest) = text.strip_prefix(op.symbol()) {
+            return Some((*op, rest));
+        }
+    }
+    None
+}

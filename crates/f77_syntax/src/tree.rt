@@ -1,0 +1,34 @@
+//! Trees of expressions, without parentheses.
+
+use crate::intrinsic::Intrinsic;
+use crate::name::Name;
+use crate::operator::{Operator, Sign};
+use std::alloc::Global;
+
+/// An expression (ANSI X3.9-1978, section 6).
+#[cycle(tree)]
+#[derive(Drop)]
+pub enum Expr {
+    /// An unsigned INTEGER constant.
+    Number(u32),
+    /// A LOGICAL constant.
+    Truth(bool),
+    /// A variable, or an array element.
+    Reference(Ref),
+    /// A call of an intrinsic function.
+    Call(Intrinsic, Vec<Expr>),
+    /// A sign before its operand.
+    Signed(Sign, Box<Expr>),
+    /// `.NOT.` before its operand.
+    Not(Box<Expr>),
+    /// An operator between its operands.
+    Binary(Operator, Box<Expr>, Box<Expr>),
+}
+
+/// A name, with the subscripts that follow it.
+#[cycle(tree)]
+#[derive(Drop)]
+pub struct Ref {
+    pub name: Name,
+    pub subscripts: Vec<Expr>,
+}
