@@ -360,7 +360,7 @@ mutual
   complete {w = w} h (Spells.binary {x = x} {y = y} {a = a} {b = b} op k p q) =
       binary_read w op x y a b k (no_star q) (complete (tables op).high p) (complete (let r = (tables op).right in omega arith) q)
 
-  complete_all : {text : List ℕ} {ts : Trees} → SpellsAll text ts → (rest : List ℕ) → reading.items (text ++ (41 ∷ rest)) ≡ Some (ts, 41 ∷ rest)
+  pub complete_all : {text : List ℕ} {ts : Trees} → SpellsAll text ts → (rest : List ℕ) → reading.items (text ++ (41 ∷ rest)) ≡ Some (ts, 41 ∷ rest)
   complete_all (SpellsAll.last {text = text} {t = t} p) rest = last_read text t (complete (omega arith) p) rest
   complete_all (SpellsAll.more {text = text} {rest = others} {t = t} {ts = ts} p q) rest = more_read text others t ts (complete (omega arith) p) rest (complete_all q rest)
 

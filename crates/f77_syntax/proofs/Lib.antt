@@ -13,3 +13,6 @@ mod Operators
 mod Whole
 mod Back
 mod Printing
+mod StatementSound
+mod StatementComplete
+mod StatementGives

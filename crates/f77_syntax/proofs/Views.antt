@@ -12,7 +12,7 @@ use Rattle.f77_syntax.specs.declared.tree.Expr.TheViews as views
 use Rattle.f77_syntax.specs.declared.tree.Expr.TheOpen.{Expr-F}
 use Rattle.f77_syntax.specs.declared.tree.Expr.TheFolds.{fold-roll-Expr, fold_out-Ref}
 use Rattle.f77_syntax.specs.Tree.{Tree, Trees}
-use Rattle.f77_syntax.specs.View.{trees, expr_step, ref_step, tree_of}
+use Rattle.f77_syntax.specs.View.{trees, expr_step, ref_step, tree_of, place_of}
 
 pub number_view : (n : ℕ) → tree_of (Number n) ≡ Tree.Number n
 number_view n = ap tree_of (sym (rolls-Number n)) ∙ fold-roll-Expr Tree (List ℕ × List Tree) expr_step ref_step (Expr-F.Number n)
@@ -36,3 +36,6 @@ pub reference_view : (r : Ref) → tree_of (views.Reference r) ≡ Tree.Referenc
 reference_view r =
     ap tree_of (sym (rolls-Reference r)) ∙ fold-roll-Expr Tree (List ℕ × List Tree) expr_step ref_step (Expr-F.Reference r)
     ∙ ap (λ x. Tree.Reference x.0 (trees x.1)) (fold_out-Ref Tree (List ℕ × List Tree) expr_step ref_step r)
+
+pub ref_view : (r : Ref) → place_of r ≡ (r.name, map tree_of r.subscripts.items)
+ref_view r = fold_out-Ref Tree (List ℕ × List Tree) expr_step ref_step r

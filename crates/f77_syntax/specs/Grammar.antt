@@ -1,14 +1,14 @@
 -- Which blank-free texts spell which expressions (ANSI X3.9-1978, sections 5 and 6). Names and constants are of any
 -- length here.
 use Rattle.std.specs.Prelude.{◌≡◌, ℕ, ◌≤◌, List, [], ◌∷◌, ◌++◌, Bool, true, false, ◌&&◌, ◌||◌, nat_le, is_some, codes}
-use Rattle.std.specs.List.{list_all}
+use Rattle.std.specs.List.{list_all, join_with_byte}
 use Rattle.std.specs.Str.Parse.{digits_value}
 use Rattle.f77_syntax.specs.declared.intrinsic.Intrinsic.{Intrinsic}
 use Rattle.f77_syntax.specs.declared.operator.Operator.{Operator}
 use Rattle.f77_syntax.specs.declared.operator.Sign.{Sign}
 use Rattle.f77_syntax.specs.Intrinsic.{function_name, function_named}
 use Rattle.f77_syntax.specs.Operator.{symbol, sign_symbol, level, left_level, right_level}
-use Rattle.f77_syntax.specs.Tree.{Tree, Trees}
+use Rattle.f77_syntax.specs.Tree.{Tree, Trees, Statement}
 
 abbrev pub is_letter : ℕ → Bool
 is_letter c = nat_le 65 c && nat_le c 90
@@ -67,3 +67,13 @@ mutual
     last : {text : List ℕ} {t : Tree} → Spells 1 text t → SpellsAll text (Trees.Then t Trees.None)
     more : {text rest : List ℕ} {t : Tree} {ts : Trees} → Spells 1 text t → SpellsAll rest ts
         → SpellsAll (text ++ (44 ∷ rest)) (Trees.Then t ts)
+
+-- The text spells the statement. No word is reserved: which rule serves is a matter of the whole text.
+pub data SpellsStatement : List ℕ → Statement → Type 0 where
+  subroutine : {name : List ℕ} → is_name name ≡ true
+      → SpellsStatement (codes "SUBROUTINE" ++ name) (Statement.Subroutine name [])
+  subroutine_of : {name : List ℕ} (names : List (List ℕ)) → is_name name ≡ true → list_all is_name names ≡ true
+      → SpellsStatement (codes "SUBROUTINE" ++ (name ++ (40 ∷ (join_with_byte 44 names ++ 41 ∷ [])))) (Statement.Subroutine name names)
+  assign : {x y name : List ℕ} {items : Trees} {t : Tree} → SpellsReference x name items → Spells 1 y t
+      → SpellsStatement (x ++ (61 ∷ y)) (Statement.Assign name items t)
+  end : SpellsStatement (codes "END") Statement.End

@@ -5,3 +5,4 @@ pub mod Grammar
 pub mod Canonical
 pub mod Reading
 pub mod View
+pub mod Statement

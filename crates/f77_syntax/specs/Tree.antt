@@ -18,3 +18,9 @@ mutual
   pub data Trees : Type 0 where
     None : Trees
     Then : Tree → Trees → Trees
+
+-- statements
+pub data Statement : Type 0 where
+  Subroutine : List ℕ → List (List ℕ) → Statement
+  Assign : List ℕ → Trees → Tree → Statement
+  End : Statement

@@ -8,7 +8,10 @@ use Rattle.f77_syntax.specs.declared.tree.Expr.{Expr}
 use Rattle.f77_syntax.specs.declared.tree.Ref.{Ref}
 use Rattle.f77_syntax.specs.declared.tree.Expr.TheOpen.{Expr-F, Ref-F}
 use Rattle.f77_syntax.specs.declared.tree.Expr.TheFolds.{fold-Expr, fold-Ref}
-use Rattle.f77_syntax.specs.Tree.{Tree, Trees}
+use Rattle.f77_syntax.specs.declared.name.Name.{Name}
+use Rattle.f77_syntax.specs.declared.tree.Stmt.{Stmt}
+use Rattle.f77_syntax.specs.declared.tree.Stmt.TheVariants.{Subroutine, Assign, End}
+use Rattle.f77_syntax.specs.Tree.{Tree, Trees, Statement}
 
 abbrev pub trees : List Tree → Trees
 trees [] = Trees.None
@@ -74,3 +77,25 @@ IsList x a = (trees (map tree_of x.0.items) ≡ clip_all a.0) × (x.1.now ≡ a.
 abbrev pub Unless : {X E : Type 0} → Result X E → E → (X → Type 0) → Type 0
 Unless (Ok x) e P = P x
 Unless (Err f) e P = f ≡ e
+
+-- a statement of the program
+abbrev pub statement_of : Stmt → Statement
+statement_of (Subroutine name arguments) = Statement.Subroutine name arguments.items
+statement_of (Assign target value) = Statement.Assign (place_of target).0 (trees (place_of target).1) (tree_of value)
+statement_of End = Statement.End
+
+-- a statement as it is kept
+abbrev pub clip_statement : Statement → Statement
+clip_statement (Statement.Subroutine name names) = Statement.Subroutine name names
+clip_statement (Statement.Assign name items t) = Statement.Assign name (clip_all items) (clip t)
+clip_statement Statement.End = Statement.End
+
+abbrev pub IsStatement : Stmt → Statement → Type 0
+IsStatement x a = statement_of x ≡ clip_statement a
+
+-- a reference and the text behind it
+abbrev pub IsReference : Ref × Bor (List ℕ) → List ℕ × Trees × List ℕ → Type 0
+IsReference x a = ((place_of x.0).0 ≡ a.0) × (trees (place_of x.0).1 ≡ clip_all a.1) × (x.1.now ≡ a.2)
+
+abbrev pub AreNames : Vec Name Global → List (List ℕ) → Type 0
+AreNames x a = x.items ≡ a

@@ -31,7 +31,7 @@ pub fn whole_expression(alloc: Global, text: &[u8]) -> Result<Expr, ReadError>
 
 /// Reads an expression of the wanted level or a tighter one, and what follows it.
 #[cycle(parser)]
-pub fn expression(alloc: Global, wanted: u8, text: &[u8]) -> Result<(Expr, &[u8]), ReadError>
+pub(crate) fn expression(alloc: Global, wanted: u8, text: &[u8]) -> Result<(Expr, &[u8]), ReadError>
     ensures found { Gives IsTree result (reading.expr wanted text.now) }
     ensures shorter { IfOk result (λ x. length x.1.now < length text.now) }
 {
@@ -160,7 +160,7 @@ fn with_list(alloc: Global, name: &[u8], items: Vec<Expr>) -> Result<Expr, Alloc
 
 /// Reads expressions joined by commas, and what follows them.
 #[cycle(parser)]
-fn list(alloc: Global, text: &[u8]) -> Result<(Vec<Expr>, &[u8]), ReadError>
+pub(crate) fn list(alloc: Global, text: &[u8]) -> Result<(Vec<Expr>, &[u8]), ReadError>
     ensures { Gives IsList result (reading.items text.now) }
 {
     let mut items = Vec::new(alloc);
@@ -176,14 +176,14 @@ fn list(alloc: Global, text: &[u8]) -> Result<(Vec<Expr>, &[u8]), ReadError>
 }
 
 /// What follows a closing parenthesis.
-fn closed(text: &[u8]) -> Result<&[u8], ReadError>
+pub(crate) fn closed(text: &[u8]) -> Result<&[u8], ReadError>
     ensures { Gives (λ x s. x.now ≡ s) result (close_at text.now) }
 {
     after_byte(text, b')').ok_or(ReadError::Unknown)
 }
 
 /// What follows this byte, where the text begins with it.
-fn after_byte(text: &[u8], byte: u8) -> Option<&[u8]>
+pub(crate) fn after_byte(text: &[u8], byte: u8) -> Option<&[u8]>
     ensures { option_map (λ rest. rest.now) result ≡ after byte text.now }
 {
     let (first, rest) = text.split_first()?;

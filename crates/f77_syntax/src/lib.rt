@@ -9,4 +9,5 @@ pub mod name;
 pub mod operator;
 pub mod print;
 pub mod scan;
+pub mod statement;
 pub mod tree;

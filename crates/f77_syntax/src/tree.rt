@@ -32,3 +32,14 @@ pub struct Ref {
     pub name: Name,
     pub subscripts: Vec<Expr>,
 }
+
+/// A statement (ANSI X3.9-1978, section 7).
+#[derive(Drop)]
+pub enum Stmt {
+    /// SUBROUTINE with the unit's name and its dummy arguments, in order (15.6).
+    Subroutine { name: Name, arguments: Vec<Name> },
+    /// An assignment to a variable or an array element (section 10).
+    Assign { target: Ref, value: Expr },
+    /// END (11.13).
+    End,
+}
