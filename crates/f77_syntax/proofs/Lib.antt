@@ -16,3 +16,4 @@ mod Printing
 mod StatementSound
 mod StatementComplete
 mod StatementGives
+mod Counts

@@ -6,3 +6,4 @@ pub mod Canonical
 pub mod Reading
 pub mod View
 pub mod Statement
+pub mod Limits

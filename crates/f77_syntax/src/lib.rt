@@ -5,6 +5,7 @@ pub mod expression;
 pub mod fault;
 pub mod intrinsic;
 pub mod law;
+mod limits;
 pub mod name;
 pub mod operator;
 pub mod print;

@@ -1,0 +1,168 @@
+//! The limits of a statement.
+
+ghost use Rattle.std.specs.Prelude.{◌≡◌, ◌≤◌, ◌+◌, length, true, false, map, min, if◌then◌else◌};
+ghost use Rattle.std.specs.List.{list_all};
+ghost use Rattle.f77_syntax.specs.Limits as limits;
+ghost use Rattle.f77_syntax.specs.Limits.{IsTooDeep, is_short, all_short_names, all_small_constants, all_nodes};
+ghost use Rattle.f77_syntax.specs.View.{tree_of, trees, statement_of};
+
+use crate::name::Name;
+use crate::tree::{Expr, Stmt};
+
+const MOST_OPEN: usize = 40;
+const LONGEST_NAME: usize = 6;
+const LARGEST: u32 = 2_147_483_647;
+
+fn one_if(holds: bool) -> usize
+    ensures { result ≡ if holds then 1 else 0 }
+{
+    if holds {
+        1
+    } else {
+        0
+    }
+}
+
+/// Whether some beginning of the text opens over 40 parentheses more than it closes.
+pub(crate) fn is_too_deep(text: &[u8]) -> bool
+    requires { length text.now ≤ limits.most_characters }
+    ensures deep { result ≡ true → IsTooDeep text.now }
+    ensures flat { result ≡ false → ¬ (IsTooDeep text.now) }
+{
+    let mut opened: usize = 0;
+    let mut closed: usize = 0;
+    for c in text {
+        opened += one_if(*c == b'(');
+        closed += one_if(*c == b')');
+        if opened > closed + MOST_OPEN {
+            return true;
+        }
+    }
+    false
+}
+
+fn is_short(name: &Name) -> bool
+    ensures { result ≡ is_short name.now }
+{
+    name.as_slice().len() <= LONGEST_NAME
+}
+
+fn are_short(names: &[Name]) -> bool
+    ensures { result ≡ list_all is_short names.now }
+{
+    names.iter().all(|name| is_short(name))
+}
+
+/// Whether each name in it has six characters at most.
+#[cycle(names)]
+fn short_names(expr: &Expr) -> bool
+    ensures { result ≡ limits.short_names (tree_of expr.now) }
+{
+    match expr {
+        Expr::Number(_) | Expr::Truth(_) => true,
+        Expr::Reference(place) => is_short(&place.name) && all_short_names(&place.subscripts),
+        Expr::Call(_, arguments) => all_short_names(arguments),
+        Expr::Signed(_, inner) | Expr::Not(inner) => short_names(inner),
+        Expr::Binary(_, left, right) => short_names(left) && short_names(right),
+    }
+}
+
+#[cycle(names)]
+fn all_short_names(items: &[Expr]) -> bool
+    ensures { result ≡ all_short_names (trees (map tree_of items.now)) }
+{
+    for item in items {
+        if !short_names(item) {
+            return false;
+        }
+    }
+    true
+}
+
+/// Whether each constant in it is one that INTEGER has.
+#[cycle(constants)]
+fn small_constants(expr: &Expr) -> bool
+    ensures { result ≡ limits.small_constants (tree_of expr.now) }
+{
+    match expr {
+        Expr::Number(n) => *n <= LARGEST,
+        Expr::Truth(_) => true,
+        Expr::Reference(place) => all_small_constants(&place.subscripts),
+        Expr::Call(_, arguments) => all_small_constants(arguments),
+        Expr::Signed(_, inner) | Expr::Not(inner) => small_constants(inner),
+        Expr::Binary(_, left, right) => small_constants(left) && small_constants(right),
+    }
+}
+
+#[cycle(constants)]
+fn all_small_constants(items: &[Expr]) -> bool
+    ensures { result ≡ all_small_constants (trees (map tree_of items.now)) }
+{
+    for item in items {
+        if !small_constants(item) {
+            return false;
+        }
+    }
+    true
+}
+
+/// How many nodes it has, the largest `u32` for more than that.
+#[cycle(nodes)]
+fn nodes(expr: &Expr) -> u32
+    ensures { result ≡ min (limits.nodes (tree_of expr.now)) 4294967295 }
+{
+    match expr {
+        Expr::Number(_) | Expr::Truth(_) => 1,
+        Expr::Reference(place) => all_nodes(&place.subscripts).saturating_add(1),
+        Expr::Call(_, arguments) => all_nodes(arguments).saturating_add(1),
+        Expr::Signed(_, inner) | Expr::Not(inner) => nodes(inner).saturating_add(1),
+        Expr::Binary(_, left, right) => nodes(left).saturating_add(nodes(right)).saturating_add(1),
+    }
+}
+
+#[cycle(nodes)]
+fn all_nodes(items: &[Expr]) -> u32
+    ensures { result ≡ min (all_nodes (trees (map tree_of items.now))) 4294967295 }
+{
+    let mut sum: u32 = 0;
+    for item in items {
+        sum = sum.saturating_add(nodes(item));
+    }
+    sum
+}
+
+/// Whether each name of the statement has six characters at most.
+pub(crate) fn statement_names(stmt: &Stmt) -> bool
+    ensures { result ≡ limits.statement_names (statement_of stmt.now) }
+{
+    match stmt {
+        Stmt::Subroutine { name, arguments } => is_short(name) && are_short(arguments),
+        Stmt::Assign { target, value } => {
+            is_short(&target.name) && all_short_names(&target.subscripts) && short_names(value)
+        }
+        Stmt::End => true,
+    }
+}
+
+/// Whether each constant of the statement is one that INTEGER has.
+pub(crate) fn statement_constants(stmt: &Stmt) -> bool
+    ensures { result ≡ limits.statement_constants (statement_of stmt.now) }
+{
+    match stmt {
+        Stmt::Assign { target, value } => all_small_constants(&target.subscripts) && small_constants(value),
+        Stmt::Subroutine { .. } | Stmt::End => true,
+    }
+}
+
+/// How many nodes the statement has, the largest `u32` for more than that.
+pub(crate) fn statement_nodes(stmt: &Stmt) -> u32
+    ensures { result ≡ min (limits.statement_nodes (statement_of stmt.now)) 4294967295 }
+{
+    match stmt {
+        Stmt::Subroutine { arguments, .. } => u32::try_from(arguments.len()).unwrap_or(u32::MAX).saturating_add(1),
+        Stmt::Assign { target, value } => {
+            all_nodes(&target.subscripts).saturating_add(1).saturating_add(nodes(value)).saturating_add(1)
+        }
+        Stmt::End => 1,
+    }
+}
