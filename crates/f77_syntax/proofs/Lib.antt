@@ -17,3 +17,7 @@ mod StatementSound
 mod StatementComplete
 mod StatementGives
 mod Counts
+mod Clip
+mod Admit
+mod Exact
+mod Parsing

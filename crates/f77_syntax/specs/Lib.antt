@@ -7,3 +7,5 @@ pub mod Reading
 pub mod View
 pub mod Statement
 pub mod Limits
+pub mod Group
+pub mod Parse

@@ -3,12 +3,15 @@
 
 pub mod expression;
 pub mod fault;
+pub mod group;
 pub mod intrinsic;
 pub mod law;
 mod limits;
 pub mod name;
 pub mod operator;
+pub mod parse;
 pub mod print;
+pub mod program;
 pub mod scan;
 pub mod statement;
 pub mod tree;

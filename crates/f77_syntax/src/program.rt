@@ -1,0 +1,43 @@
+//! Programs.
+
+ghost use Rattle.std.specs.Prelude.{◌≡◌, List, None, map};
+ghost use Rattle.std.specs.Coded.{codes};
+ghost use Rattle.f77_syntax.specs.contracts.tree.Expr as expr;
+ghost use Rattle.f77_syntax.specs.Parse.{IsProgram, line_of};
+ghost use Rattle.f77_syntax.specs.declared.program.Line.{Line};
+
+use crate::tree::Stmt;
+use std::marker::Model;
+
+/// A statement with its label, where it has one, and the number of its initial line.
+#[derive(Drop)]
+pub struct Line {
+    pub label: Option<u32>,
+    pub stmt: Stmt,
+    pub line: u32,
+}
+
+/// A subroutine: SUBROUTINE first, then executable statements, END last and only there, each one that some text spells.
+#[derive(Drop)]
+pub struct Program {
+    lines: Vec<Line>,
+}
+
+impl Model for Program {
+    ghost Value = { List Line };
+
+    ghost coded = { Prim.hlevel (codes, expr.the_row.coded) };
+
+    ghost view = { λ p. p.lines.items };
+
+    ghost invariant = { λ p. IsProgram None (map line_of p.lines.items) };
+}
+
+impl Program {
+    pub(crate) fn from_lines(lines: Vec<Line>) -> Program
+        requires { IsProgram None (map line_of lines.items) }
+        ensures { result ≡ lines.items }
+    {
+        Program { lines }
+    }
+}
