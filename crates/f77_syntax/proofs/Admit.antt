@@ -7,7 +7,7 @@ use Rattle.f77_syntax.specs.Tree.{Statement}
 use Rattle.f77_syntax.specs.Grammar.{SpellsStatement}
 use Rattle.f77_syntax.specs.View.{clip_statement}
 use Rattle.f77_syntax.specs.Limits.{most_characters, most_nodes, IsTooDeep, statement_names, statement_constants, statement_nodes}
-use Rattle.f77_syntax.specs.Parse.{IsAdmitted, IsRefused}
+use Rattle.f77_syntax.specs.Parsing.{IsAdmitted, IsRefused}
 use Rattle.f77_syntax.proofs.Clip.{statement_names_clip, statement_constants_clip, statement_nodes_clip, statement_kept}
 
 -- a text within the limits on texts, and the statement that was kept of it

@@ -9,7 +9,7 @@ use Rattle.f77_syntax.specs.Tree.{Statement}
 use Rattle.f77_syntax.specs.Group.{group_of, may_stand}
 use Rattle.f77_syntax.specs.Limits.{statement_names, statement_constants, statement_nodes}
 use Rattle.f77_syntax.specs.declared.fault.SyntaxFault.TheVariants.{Memory, AfterEnd}
-use Rattle.f77_syntax.specs.Parse.{IsAdmitted, IsRefused, LineFields, line_with, AreLines, IsFirstFault, misplaced}
+use Rattle.f77_syntax.specs.Parsing.{IsAdmitted, IsRefused, LineFields, line_with, AreLines, IsFirstFault, misplaced}
 use Rattle.f77_syntax.proofs.StatementComplete.{one_statement}
 
 pub same_admitted : {text : List ℕ} {s t : Statement} → IsAdmitted text s → IsAdmitted text t → s ≡ t

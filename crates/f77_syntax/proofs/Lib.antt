@@ -20,4 +20,4 @@ mod Counts
 mod Clip
 mod Admit
 mod Exact
-mod Parsing
+mod Cards

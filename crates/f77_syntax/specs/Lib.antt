@@ -8,4 +8,4 @@ pub mod View
 pub mod Statement
 pub mod Limits
 pub mod Group
-pub mod Parse
+pub mod Parsing

@@ -1,17 +1,30 @@
-//! The statements of the FORTRAN 77 subset as trees: the grammar, the reader and the printer.
+//! The statements of the FORTRAN 77 subset as trees: the grammar, the reader and the printer of expressions.
 #![tactic(auto)]
 
-pub mod expression;
-pub mod fault;
-pub mod group;
-pub mod intrinsic;
+mod expression;
+mod fault;
+mod group;
+mod intrinsic;
 pub mod law;
 mod limits;
-pub mod name;
-pub mod operator;
-pub mod parse;
-pub mod print;
-pub mod program;
-pub mod scan;
-pub mod statement;
-pub mod tree;
+mod name;
+mod operator;
+mod parsing;
+mod print;
+mod program;
+mod scan;
+mod statement;
+#[cfg(test)]
+mod tests;
+mod tree;
+
+pub use expression::whole_expression;
+pub use fault::{ReadError, SyntaxFault};
+pub use group::Group;
+pub use intrinsic::Intrinsic;
+pub use name::Name;
+pub use operator::{Operator, Sign};
+pub use parsing::parse;
+pub use print::print_expression;
+pub use program::{Line, Program};
+pub use tree::{Expr, Ref, Stmt};

@@ -21,7 +21,7 @@ fn own_level(expr: &Expr) -> u8
 }
 
 /// The canonical text of an expression, which reads back.
-pub fn print(alloc: Global, expr: &Expr) -> Result<Vec<u8>, AllocError>
+pub fn print_expression(alloc: Global, expr: &Expr) -> Result<Vec<u8>, AllocError>
     ensures text { IfOk result (λ text. text.items ≡ canonical.text_of (tree_of expr.now)) }
     ensures back { IfOk result (λ text. canonical.Formed (tree_of expr.now) → Spells 1 text.items (tree_of expr.now)) }
 {
@@ -32,7 +32,7 @@ pub fn print(alloc: Global, expr: &Expr) -> Result<Vec<u8>, AllocError>
 
 /// Writes an operand, in parentheses where its level is below the wanted one.
 #[cycle(printer)]
-pub fn operand(alloc: Global, out: &mut Vec<u8>, wanted: u8, expr: &Expr) -> Result<(), AllocError>
+fn operand(alloc: Global, out: &mut Vec<u8>, wanted: u8, expr: &Expr) -> Result<(), AllocError>
     ensures { OnOk result (out.new.items ≡ out.old.items ++ canonical.operand wanted (canonical.own_level (tree_of expr.now)) (canonical.text_of (tree_of expr.now))) }
 {
     if own_level(expr) < wanted {

@@ -1,9 +1,9 @@
 //! Programs.
 
-ghost use Rattle.std.specs.Prelude.{◌≡◌, List, None, map};
+ghost use Rattle.std.specs.Prelude.{◌≡◌, List, None, map, option_map};
 ghost use Rattle.std.specs.Coded.{codes};
 ghost use Rattle.f77_syntax.specs.contracts.tree.Expr as expr;
-ghost use Rattle.f77_syntax.specs.Parse.{IsProgram, line_of};
+ghost use Rattle.f77_syntax.specs.Parsing.{IsProgram, line_of, line_at};
 ghost use Rattle.f77_syntax.specs.declared.program.Line.{Line};
 
 use crate::tree::Stmt;
@@ -39,5 +39,15 @@ impl Program {
         ensures { result ≡ lines.items }
     {
         Program { lines }
+    }
+
+    /// The line of this number, where there is one. SUBROUTINE is line 1.
+    pub fn line(&self, number: usize) -> Option<&Line>
+        ensures { option_map (λ line. line.now) result ≡ line_at self.now number }
+    {
+        if number == 0 {
+            return None;
+        }
+        self.lines.get(number - 1)
     }
 }

@@ -47,7 +47,7 @@ fn is_word(c: u8) -> bool
 }
 
 /// The letters and digits at the front, and what follows them.
-pub fn split_word(text: &[u8]) -> (&[u8], &[u8])
+pub(crate) fn split_word(text: &[u8]) -> (&[u8], &[u8])
     ensures front { result.0.now ≡ word text.now }
     ensures back { result.1.now ≡ past_word text.now }
     ensures short { length result.1.now ≤ length text.now }
@@ -61,7 +61,7 @@ pub fn split_word(text: &[u8]) -> (&[u8], &[u8])
 }
 
 /// Whether the text is letters and digits, the first of them a letter.
-pub fn is_name(text: &[u8]) -> bool
+pub(crate) fn is_name(text: &[u8]) -> bool
     ensures { result ≡ grammar.is_name text.now }
 {
     match text.split_first() {
@@ -71,7 +71,7 @@ pub fn is_name(text: &[u8]) -> bool
 }
 
 /// Whether the text is one digit or more.
-pub fn is_number(text: &[u8]) -> bool
+pub(crate) fn is_number(text: &[u8]) -> bool
     ensures { result ≡ grammar.is_number text.now }
 {
     match text.split_first() {
@@ -93,7 +93,7 @@ fn are_digits(text: &[u8]) -> bool
 }
 
 /// The number that digits write, or the least one that is too large.
-pub fn number(digits: &[u8]) -> u32
+pub(crate) fn number(digits: &[u8]) -> u32
     requires { grammar.is_number digits.now ≡ true }
     ensures { result ≡ clipped (digits_value 10 digits.now) }
 {
@@ -105,7 +105,7 @@ pub fn number(digits: &[u8]) -> u32
 }
 
 /// The operator at the front, and what follows it.
-pub fn next_operator(text: &[u8]) -> Option<(Operator, &[u8])>
+pub(crate) fn next_operator(text: &[u8]) -> Option<(Operator, &[u8])>
     ensures found { option_map (λ x. (x.0, x.1.now)) result ≡ operator_at text.now }
     ensures shorter { IfSome result (λ x. length x.1.now < length text.now) }
 {

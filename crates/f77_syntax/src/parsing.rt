@@ -1,0 +1,139 @@
+//! Programs read from cards.
+
+ghost use Rattle.std.specs.Prelude.{◌≡◌, ◌≢◌, ◌⊎◌, List, ◌∷◌, [], ◌++◌, true, false, IfOk, IfErr, MatchResult, map, Some, None, Err};
+ghost use Rattle.f77_source.specs.Card.{CardFields};
+ghost use Rattle.f77_syntax.specs.Grammar.{SpellsStatement};
+ghost use Rattle.f77_syntax.specs.Group.{group_of, may_stand};
+ghost use Rattle.f77_syntax.specs.Parsing.{IsAdmitted, IsRefused, IsFirstFault, AreLines, IsProgram, LineFields, line_of, misplaced, unfinished};
+ghost use Rattle.f77_syntax.specs.Tree.{Statement};
+ghost use Rattle.f77_syntax.specs.View.{statement_of, clip_statement};
+ghost use Rattle.f77_syntax.specs.declared.group.Group.TheVariants.{End};
+
+use crate::fault::{ReadError, SyntaxFault};
+use crate::group::Group;
+use crate::limits::{is_too_deep, statement_constants, statement_names, statement_nodes};
+use crate::program::{Line, Program};
+use crate::statement::statement;
+use crate::tree::Stmt;
+use f77_source::Card;
+use std::alloc::Global;
+
+const MOST_CHARACTERS: usize = 1320;
+const MOST_NODES: u32 = 200;
+
+/// The statement that a text spells.
+fn spelled(alloc: Global, line: u32, text: &[u8]) -> Result<Stmt, SyntaxFault>
+    ensures {
+        MatchResult result
+            (λ stmt. (s : Statement) × SpellsStatement text.now s × (statement_of stmt ≡ clip_statement s))
+            (λ fault. (fault ≡ SyntaxFault.Memory) ⊎ ((fault ≡ SyntaxFault.Unknown line) × ((s : Statement) → ¬ (SpellsStatement text.now s))))
+    }
+{
+    match statement(alloc, text) {
+        Ok(stmt) => Ok(stmt),
+        Err(ReadError::Memory) => Err(SyntaxFault::Memory),
+        Err(ReadError::Unknown) => Err(SyntaxFault::Unknown(line)),
+    }
+}
+
+/// The statement that a text spells within the limits.
+pub(crate) fn admitted(alloc: Global, line: u32, text: &[u8]) -> Result<Stmt, SyntaxFault>
+    ensures {
+        MatchResult result
+            (λ stmt. IsAdmitted text.now (statement_of stmt))
+            (λ fault. (fault ≡ SyntaxFault.Memory) ⊎ IsRefused line text.now fault)
+    }
+{
+    if text.len() > MOST_CHARACTERS {
+        return Err(SyntaxFault::TooLong(line));
+    }
+    if is_too_deep(text) {
+        return Err(SyntaxFault::TooDeep(line));
+    }
+    let stmt = spelled(alloc, line, text)?;
+    if !statement_names(&stmt) {
+        return Err(SyntaxFault::BadName(line));
+    }
+    if !statement_constants(&stmt) {
+        return Err(SyntaxFault::BadConstant(line));
+    }
+    if statement_nodes(&stmt) > MOST_NODES {
+        return Err(SyntaxFault::TooLong(line));
+    }
+    Ok(stmt)
+}
+
+fn is_end(before: Option<Group>) -> bool
+    ensures yes { result ≡ true → before ≡ Some End }
+    ensures no { result ≡ false → before ≢ Some End }
+{
+    matches!(before, Some(Group::End))
+}
+
+fn misplaced(before: Option<Group>, line: u32) -> SyntaxFault
+    ensures { result ≡ misplaced before line }
+{
+    match before {
+        None => SyntaxFault::NoSubroutine,
+        Some(_) => SyntaxFault::Unknown(line),
+    }
+}
+
+/// The statement of a card that stands behind a statement of this group, or first.
+fn in_place(alloc: Global, before: Option<Group>, card: &Card) -> Result<Stmt, SyntaxFault>
+    ensures {
+        MatchResult result
+            (λ stmt. IsAdmitted card.now.text (statement_of stmt) × (may_stand before (group_of (statement_of stmt)) ≡ true))
+            (λ fault. (fault ≡ SyntaxFault.Memory) ⊎ ((cards : List CardFields) → IsFirstFault before (card.now ∷ cards) fault))
+    }
+{
+    if is_end(before) {
+        return Err(SyntaxFault::AfterEnd(card.line()));
+    }
+    let stmt = admitted(alloc, card.line(), card.text().as_bytes())?;
+    if !stmt.group().may_stand(before) {
+        return Err(misplaced(before, card.line()));
+    }
+    Ok(stmt)
+}
+
+/// The program of these cards, where the last statement is of this group.
+fn finished(lines: Vec<Line>, last: Option<Group>) -> Result<Program, SyntaxFault>
+    requires { last ≡ Some End → IsProgram None (map line_of lines.items) }
+    ensures {
+        MatchResult result
+            (λ program. (program ≡ lines.items) × (last ≡ Some End))
+            (λ fault. (last ≢ Some End) × (fault ≡ unfinished last))
+    }
+{
+    match last {
+        Some(Group::End) => Ok(Program::from_lines(lines)),
+        Some(_) => Err(SyntaxFault::NoEnd),
+        None => Err(SyntaxFault::NoSubroutine),
+    }
+}
+
+/// The program that the cards are: the statement of each card's text, in order (ANSI X3.9-1978, 3.5).
+///
+/// Of several faults the first card's is told, and of one card's faults the first in this order: a card behind END, the
+/// length of its text, the depth of its parentheses, no statement, a name, a constant, the number of nodes, its place.
+pub fn parse(alloc: Global, cards: &[Card]) -> Result<Program, SyntaxFault>
+    // What is read.
+    ensures lines { IfOk result (λ program. AreLines None cards.now (map line_of program)) }
+    ensures accepts { (lines : List LineFields) → AreLines None cards.now lines
+        → MatchResult result (λ program. map line_of program ≡ lines) (λ fault. fault ≡ SyntaxFault.Memory) }
+
+    // What is refused.
+    ensures refused { IfErr result (λ fault. (fault ≡ SyntaxFault.Memory) ⊎ IsFirstFault None cards.now fault) }
+    ensures first_fault { (fault : SyntaxFault) → IsFirstFault None cards.now fault
+        → (result ≡ Err fault) ⊎ (result ≡ Err SyntaxFault.Memory) }
+{
+    let mut lines = Vec::new(alloc);
+    let mut last = None;
+    for card in cards {
+        let stmt = in_place(alloc, last, card)?;
+        last = Some(stmt.group());
+        lines.push(Line { label: card.label(), stmt, line: card.line() })?;
+    }
+    finished(lines, last)
+}

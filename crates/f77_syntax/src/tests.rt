@@ -1,0 +1,148 @@
+//! Statements and programs, from the rules of the standard and of the limits.
+
+use crate::{Expr, Stmt, parse, print_expression};
+use f77_source::{Card, read_form};
+use std::test::Fail;
+
+/// The right side of the program's second statement in its canonical form, or the fault.
+fn right_side(rt: &impl AllocGlobal, statement: &str) -> Result<String, Fail> {
+    let alloc = rt.alloc();
+    let mut text = String::new(alloc);
+    let mut cards = Vec::new(alloc);
+    for line in ["SUBROUTINEA", statement, "END"] {
+        let number = u32::try_from(cards.len()).unwrap_or(0) + 1;
+        cards.push(Card::new(None, String::from_str(alloc, line)?, number))?;
+    }
+    match parse(alloc, &cards) {
+        Ok(program) => {
+            if let Some(line) = program.line(2) {
+                if let Stmt::Assign { value, .. } = &line.stmt {
+                    write_expression(rt, &mut text, value)?;
+                }
+            }
+        }
+        Err(fault) => write!(text, "{fault:?}")?,
+    }
+    Ok(text)
+}
+
+fn write_expression(rt: &impl AllocGlobal, text: &mut String, value: &Expr) -> Result<(), Fail> {
+    for byte in &print_expression(rt.alloc(), value)? {
+        text.push(char::from(*byte))?;
+    }
+    Ok(())
+}
+
+/// Text before, this text so many times, text behind.
+fn repeated(rt: &impl AllocGlobal, front: &str, times: usize, part: &str, back: &str) -> Result<String, Fail> {
+    let mut text = String::from_str(rt.alloc(), front)?;
+    for _ in 0..times {
+        text.push_str(part)?;
+    }
+    text.push_str(back)?;
+    Ok(text)
+}
+
+#[test]
+fn reads_and_writes_expressions(rt: HostRuntime) -> Result<(), Fail> {
+    for (statement, want) in [
+        ("K=I-(J-K)", "I-(J-K)"),
+        ("K=(-I)**J", "(-I)**J"),
+        ("K=I**J**K", "I**J**K"),
+        ("K=(I**J)**K", "(I**J)**K"),
+        ("K=-I**2", "-I**2"),
+        ("K=-(I+J)*K", "-(I+J)*K"),
+        ("K=((I))+(J*K)", "I+J*K"),
+        ("K=+I", "+I"),
+        ("K=I-J-K", "I-J-K"),
+        ("P=(P.EQV.Q).EQV.(Q.EQV.P)", "P.EQV.Q.EQV.(Q.EQV.P)"),
+        ("P=.NOT.(.NOT.Q)", ".NOT.(.NOT.Q)"),
+        ("P=.TRUE..AND..FALSE..OR.P", ".TRUE..AND..FALSE..OR.P"),
+        ("P=I.LT.J.AND.J.GE.1", "I.LT.J.AND.J.GE.1"),
+        ("K=M(I,J)+MOD(I,3)", "M(I,J)+MOD(I,3)"),
+        ("MOD(I)=1", "1"),
+        ("END=END+1", "END+1"),
+        ("K=007", "7"),
+        ("K=2147483647", "2147483647"),
+    ] {
+        let shown = right_side(&rt, statement)?;
+        assert_eq!(rt; shown.as_str(), want, "{statement}");
+    }
+    Ok(())
+}
+
+#[test]
+fn refuses_statements(rt: HostRuntime) -> Result<(), Fail> {
+    for (statement, want) in [
+        ("K=I**-J", "Unknown(2)"),
+        ("P=I.LT.J.LT.K", "Unknown(2)"),
+        ("(K)=1", "Unknown(2)"),
+        ("K=", "Unknown(2)"),
+        ("K=I+", "Unknown(2)"),
+        ("K=I)", "Unknown(2)"),
+        ("K=2147483648", "BadConstant(2)"),
+        ("K=ABCDEFG", "BadName(2)"),
+        ("K=ABCDEFG+2147483648", "BadName(2)"),
+        ("K=ABCDEFG+", "Unknown(2)"),
+        ("SUBROUTINEB=1", "BadName(2)"),
+        ("SUBROUTINEB", "Unknown(2)"),
+        ("END", "AfterEnd(3)"),
+    ] {
+        let shown = right_side(&rt, statement)?;
+        assert_eq!(rt; shown.as_str(), want, "{statement}");
+    }
+    Ok(())
+}
+
+#[test]
+fn keeps_the_limits(rt: HostRuntime) -> Result<(), Fail> {
+    let front = repeated(&rt, "K=", 40, "(", "I")?;
+    let deep = repeated(&rt, front.as_str(), 40, ")", "")?;
+    assert_eq!(rt; right_side(&rt, deep.as_str())?.as_str(), "I");
+    let front = repeated(&rt, "K=", 41, "(", "I")?;
+    let deep = repeated(&rt, front.as_str(), 41, ")", "")?;
+    assert_eq!(rt; right_side(&rt, deep.as_str())?.as_str(), "TooDeep(2)");
+
+    let many = repeated(&rt, "K=I", 98, "+I", "")?;
+    let value = repeated(&rt, "I", 98, "+I", "")?;
+    assert_eq!(rt; right_side(&rt, many.as_str())?.as_str(), value.as_str());
+    let many = repeated(&rt, "K=I", 99, "+I", "")?;
+    assert_eq!(rt; right_side(&rt, many.as_str())?.as_str(), "TooLong(2)");
+
+    let long = repeated(&rt, "K=", 1317, "0", "1")?;
+    assert_eq!(rt; right_side(&rt, long.as_str())?.as_str(), "1");
+    let long = repeated(&rt, "K=", 1318, "0", "1")?;
+    assert_eq!(rt; right_side(&rt, long.as_str())?.as_str(), "TooLong(2)");
+    Ok(())
+}
+
+#[test]
+fn tells_the_first_fault(rt: HostRuntime) -> Result<(), Fail> {
+    let alloc = rt.alloc();
+    for (source, want) in [
+        ("", "NoSubroutine"),
+        ("      K=1\n      END\n", "NoSubroutine"),
+        ("      END\n", "NoSubroutine"),
+        ("      K=\n", "Unknown(1)"),
+        ("      SUBROUTINE A\n", "NoEnd"),
+        ("      SUBROUTINE A\n      K=1\n", "NoEnd"),
+        ("      SUBROUTINE A\n      END\n      K=\n", "AfterEnd(3)"),
+        ("      SUBROUTINE A\n      K=\n      END\n      END\n", "Unknown(2)"),
+        ("      SUBROUTINE A(I\n      END\n", "Unknown(1)"),
+        ("      SUBROUTINE ABCDEFG\n      END\n", "BadName(1)"),
+        ("      subroutine a ( i , j )\n      k = i\n      end\n", "3"),
+    ] {
+        let mut text = String::new(alloc);
+        if let Ok(cards) = read_form(alloc, source.as_bytes()) {
+            match parse(alloc, &cards) {
+                Ok(program) => {
+                    let lines = (1..=cards.len()).filter(|number| program.line(*number).is_some()).count();
+                    write!(text, "{lines}")?;
+                }
+                Err(fault) => write!(text, "{fault:?}")?,
+            }
+        }
+        assert_eq!(rt; text.as_str(), want, "{source:?}");
+    }
+    Ok(())
+}

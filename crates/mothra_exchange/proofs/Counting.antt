@@ -1,0 +1,72 @@
+-- Counts over tickets and over views.
+use Rattle.std.proofs.Common.{◌≡◌, ◌≢◌, ℕ, zero, suc, ◌+◌, ◌<◌, ◌≤◌, List, [], ◌∷◌, ◌++◌, length, set, get_or, false, eqb, refl, sym, ap, ◌∙◌, arith, ne_eqb, eq-eqb}
+use mathlib.Core.Option.{some, some-ne-none, some-injective}
+use lib.ListN.{get_elem?}
+use Rattle.std.proofs.lemmas.Bool.Decides.{nat_tests}
+use Rattle.mothra_ops.specs.declared.op.Op.{Op}
+use Rattle.mothra_exchange.specs.declared.ticket.Ticket.{Ticket}
+use Rattle.mothra_exchange.specs.declared.word.Word.{Word}
+use Rattle.mothra_exchange.specs.declared.view.View.{View}
+use Rattle.mothra_ops.specs.Op.{index}
+use Rattle.mothra_exchange.specs.Word.{AtMost}
+use Rattle.mothra_exchange.specs.Ticket.{one_if, is_ticket, times, once_up_to, ticket}
+use Rattle.mothra_exchange.specs.View.{total, once_if_closed}
+
+-- the total after a change of one view
+pub total_set : (f : View → ℕ) (views : List View) (by : ℕ) (v w : View) → get_elem? views by ≡ some v → total f (set views by w) + f v ≡ total f views + f w
+total_set f [] by v w e = absurd (some-ne-none v (sym e))
+total_set f (x ∷ xs) zero v w e = let same : f x ≡ f v = ap f (some-injective _ _ e) in omega arith
+total_set f (x ∷ xs) (suc by) v w e = let h = total_set f xs by v w e in omega arith
+
+pub times-append : (i k : ℕ) (ts us : List Ticket) → times i k (ts ++ us) ≡ times i k ts + times i k us
+times-append i k [] us = omega arith
+times-append i k (t ∷ ts) us = let h = times-append i k ts us in omega arith
+
+-- one ticket more
+pub times-more : (i k : ℕ) (ts : List Ticket) (t : Ticket) → times i k (ts ++ t ∷ []) ≡ times i k ts + one_if (is_ticket i k t)
+times-more i k ts t = let h = times-append i k ts (t ∷ []) in omega arith
+
+pub is_ticket-own : (op : Op) (n k : ℕ) → is_ticket (index op) k (ticket op n) ≡ eqb n k
+is_ticket-own op n k = rw (eq-eqb (index op) (index op) refl) refl
+
+pub is_ticket-other : (op : Op) (i n k : ℕ) → i ≢ index op → is_ticket i k (ticket op n) ≡ false
+is_ticket-other op i n k ne = rw (ne_eqb (index op) i (λ e. ne (sym e))) refl
+
+pub once_up_to-suc : (h k : ℕ) → once_up_to (h + 1) k ≡ once_up_to h k + one_if (eqb (h + 1) k)
+once_up_to-suc h k = grind (arith, nat_tests)
+
+pub AtMost-refl : (a : Word) → AtMost a a
+AtMost-refl a = record { count = omega arith; offered = omega arith; handed = omega arith; close = λ c. (c, refl) }
+
+pub AtMost-trans : (a b c : Word) → AtMost a b → AtMost b c → AtMost a c
+AtMost-trans a b c p q = record { count = omega arith; offered = omega arith; handed = omega arith; close = λ s. ((q.close ((p.close s).0)).0, (q.close ((p.close s).0)).1 ∙ (p.close s).1) }
+
+pub get_or-set_there : {A : Type 0} (xs : List A) (i : ℕ) (a d : A) → i < length xs → get_or (set xs i a) i d ≡ a
+get_or-set_there [] i a d h = absurd (omega arith)
+get_or-set_there (x ∷ xs) zero a d h = refl
+get_or-set_there (x ∷ xs) (suc i) a d h = get_or-set_there xs i a d (omega arith)
+
+pub get_or-set_else : {A : Type 0} (xs : List A) (i j : ℕ) (a d : A) → j ≢ i → get_or (set xs i a) j d ≡ get_or xs j d
+get_or-set_else [] i j a d n = refl
+get_or-set_else (x ∷ xs) zero zero a d n = absurd (n refl)
+get_or-set_else (x ∷ xs) zero (suc j) a d n = refl
+get_or-set_else (x ∷ xs) (suc i) zero a d n = refl
+get_or-set_else (x ∷ xs) (suc i) (suc j) a d n = get_or-set_else xs i j a d (λ e. n (ap suc e))
+
+pub total_has : (f : View → ℕ) (views : List View) (by : ℕ) (v : View) → get_elem? views by ≡ some v → f v ≤ total f views
+total_has f [] by v e = absurd (some-ne-none v (sym e))
+total_has f (x ∷ xs) zero v e = let same : f x ≡ f v = ap f (some-injective _ _ e) in omega arith
+total_has f (x ∷ xs) (suc by) v e = let h = total_has f xs by v e in omega arith
+
+pub once_up_to-past : (h : ℕ) → once_up_to h (h + 1) ≡ 0
+once_up_to-past h = grind (arith, nat_tests)
+
+pub once_up_to-most : (h k : ℕ) → once_up_to h k ≤ 1
+once_up_to-most h k = grind (arith, nat_tests)
+
+pub once_if_closed-most : (w : Word) (k : ℕ) → once_if_closed w k ≤ 1
+once_if_closed-most w k = grind (arith, nat_tests)
+
+pub total-snoc : (f : View → ℕ) (views : List View) (v : View) → total f (views ++ v ∷ []) ≡ total f views + f v
+total-snoc f [] v = omega arith
+total-snoc f (x ∷ xs) v = let h = total-snoc f xs v in omega arith

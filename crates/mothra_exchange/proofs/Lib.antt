@@ -1,0 +1,13 @@
+pub mod Counting
+pub mod Ends
+pub mod Exchanges
+pub mod Follows
+pub mod Halves
+pub mod Histories
+pub mod Logs
+pub mod Others
+pub mod Outcomes
+pub mod Overs
+pub mod Standings
+pub mod Starts
+pub mod Steps

@@ -1,0 +1,29 @@
+-- The table of answers: each call's answer from an operator's numbers, tested in the order given.
+use Rattle.std.specs.Prelude.{ℕ, ◌+◌, not, nat_lt, ◌==◌, if◌then◌else◌}
+use Rattle.mothra_ops.specs.declared.op.Op.{Op}
+use Rattle.mothra_exchange.specs.declared.word.Word.{Word}
+use Rattle.mothra_exchange.specs.declared.answer.Offer.{Offer}
+use Rattle.mothra_exchange.specs.declared.answer.Offer.TheVariants.{Closed, PastEnd, OutOfTurn, Full, Accepted}
+use Rattle.mothra_exchange.specs.declared.answer.Take.{Take}
+use Rattle.mothra_exchange.specs.declared.answer.Take.TheVariants.{Finished, Empty, Taken}
+use Rattle.mothra_exchange.specs.declared.answer.Close.{Close}
+use Rattle.mothra_exchange.specs.declared.answer.Close.TheVariants.{Already, Done}
+use Rattle.mothra_exchange.specs.Ticket.{ticket}
+
+-- an offer of number k, where C tickets may wait
+abbrev pub offer_answer : ℕ → ℕ → Word → Offer
+offer_answer C k w =
+    if w.closed then Closed
+    else if nat_lt w.count k then PastEnd
+    else if not (k == w.offered + 1) then OutOfTurn (w.offered + 1)
+    else if w.offered == w.handed + C then Full
+    else Accepted
+
+-- Finished and Empty are both for an operator of which nothing waits
+abbrev pub take_answer : Op → Word → Take
+take_answer op w =
+    if w.handed == w.offered then (if w.closed then Finished else Empty)
+    else Taken (ticket op (w.handed + 1))
+
+abbrev pub close_answer : Word → Close
+close_answer w = if w.closed then Already else Done

@@ -1,0 +1,67 @@
+-- The words of the laws: where a ticket stands among the views of an exchange.
+use Rattle.std.specs.Prelude.{◌≡◌, ◌≢◌, ◌⊎◌, ℕ, ◌<◌, ◌≤◌, List, [], ◌∷◌, ◌++◌, slice_index}
+use mathlib.Core.Option.{some}
+use lib.ListN.{get_elem?}
+use Rattle.mothra_ops.specs.declared.op.Op.{Op}
+use Rattle.mothra_ops.specs.Op.{index}
+use Rattle.mothra_exchange.specs.declared.ticket.Ticket.{Ticket}
+use Rattle.mothra_exchange.specs.declared.word.Word.{Word}
+use Rattle.mothra_exchange.specs.declared.view.View.{View}
+use Rattle.mothra_exchange.specs.declared.log.Event.{Event}
+use Rattle.mothra_exchange.specs.Word.{pack, Fits}
+use Rattle.mothra_exchange.specs.Ticket.{times}
+use Rattle.mothra_exchange.specs.View.{look_at}
+use Rattle.mothra_exchange.specs.Rule.{IsSound}
+use Rattle.mothra_exchange.specs.Log.{IsLegal, word_of}
+
+-- w is the operator's word
+abbrev pub IsWordOf : List ℕ → Op → Word → Type 0
+IsWordOf words op w = Fits w × (slice_index words (index op) ≡ pack w)
+
+-- v is one of the views
+abbrev pub IsAmong : List View → View → Type 0
+IsAmong views v = (by : ℕ) × (get_elem? views by ≡ some v)
+
+-- exactly one view has number k of the operator in this list of its own, and there it stands once
+abbrev pub StandsInOne : (View → List Ticket) → Op → ℕ → List View → Type 0
+StandsInOne list op k views = (by : ℕ) × (v : View) × (get_elem? views by ≡ some v) × (times (index op) k (list v) ≡ 1)
+    × ((other : ℕ) (u : View) → get_elem? views other ≡ some u → other ≢ by → times (index op) k (list u) ≡ 0)
+
+-- no view has it
+abbrev pub StandsInNone : (View → List Ticket) → Op → ℕ → List View → Type 0
+StandsInNone list op k views = (v : View) → IsAmong views v → times (index op) k (list v) ≡ 0
+
+-- the operator's numbers in the views are 1 to n, each in exactly one
+pub record AreOneTo (list : View → List Ticket) (op : Op) (n : ℕ) (views : List View) : Type 0 where
+  pub each : (k : ℕ) → 0 < k → k ≤ n → StandsInOne list op k views
+  pub no_other : (k : ℕ) → (k ≡ 0) ⊎ (n < k) → StandsInNone list op k views
+
+-- the two views have the same of the operator
+pub record HaveSame (op : Op) (v w : View) : Type 0 where
+  pub look : look_at w (index op) ≡ look_at v (index op)
+  pub taken : (k : ℕ) → times (index op) k w.taken ≡ times (index op) k v.taken
+  pub offered : (k : ℕ) → times (index op) k w.offered ≡ times (index op) k v.offered
+  pub closings : (k : ℕ) → times (index op) k w.closings ≡ times (index op) k v.closings
+
+-- from v to w nothing changed but what the view has of op
+pub record ChangesOnly (op : Op) (v w : View) : Type 0 where
+  pub counts : w.counts ≡ v.counts
+  pub part : w.part ≡ v.part
+  pub others : (o : Op) → o ≢ op → HaveSame o v w
+
+-- between any two steps P holds of the bound, the views, each operator and its word
+abbrev pub BetweenSteps : (ℕ → List View → Op → Word → Type 0) → Type 0
+BetweenSteps P = (C : ℕ) (counts words : List ℕ) (views : List View) → IsSound C counts words views
+    → (op : Op) (w : Word) → IsWordOf words op w → P C views op w
+
+-- P holds of the bound, the counts and each legal log
+abbrev pub InLegalLogs : (ℕ → List ℕ → List Event → Type 0) → Type 0
+InLegalLogs P = (C : ℕ) (counts : List ℕ) (log : List Event) → IsLegal C counts log → P C counts log
+
+-- the operator's numbers w are those of the log
+abbrev pub Shows : List ℕ → List Event → Op → Word → Type 0
+Shows counts log op w = w ≡ word_of counts log (index op)
+
+-- the log with e at its end is legal, and w shows it
+abbrev pub ShowsNext : ℕ → List ℕ → List Event → Event → Op → Word → Type 0
+ShowsNext C counts log e op w = IsLegal C counts (log ++ e ∷ []) × Shows counts (log ++ e ∷ []) op w

@@ -1,0 +1,14 @@
+pub mod Answer
+pub mod Calls
+pub mod Fault
+pub mod Gate
+pub mod Laws
+pub mod Log
+pub mod Rule
+pub mod Sharing
+pub mod State
+pub mod Table
+pub mod Tally
+pub mod Ticket
+pub mod View
+pub mod Word

@@ -1,0 +1,79 @@
+-- What holds between any two steps, and what each step tells.
+use Rattle.std.specs.Prelude.{◌≡◌, ◌⊎◌, ℕ, ◌+◌, ◌<◌, ◌≤◌, List, length, slice_index_or, slice_index}
+use mathlib.Core.Option.{some}
+use lib.ListN.{get_elem?}
+use Rattle.atomic_table.specs.Table.{State, Step, Me}
+use Rattle.mothra_ops.specs.declared.op.Op.{Op}
+use Rattle.mothra_ops.specs.Op.{index, op_at}
+use Rattle.mothra_exchange.specs.declared.word.Word.{Word}
+use Rattle.mothra_exchange.specs.declared.view.View.{View}
+use Rattle.mothra_exchange.specs.Word.{pack, Fits, AtMost, InBounds}
+use Rattle.mothra_exchange.specs.Ticket.{times, once_up_to}
+use Rattle.mothra_exchange.specs.View.{once_if_closed, total, first_look, look_at, whole_part, spent_view, view_after_load, view_after_finding, view_after_take, view_after_offer, view_after_close, settled_view}
+
+-- the last words that a view has seen of the operator at the place i are at most w
+abbrev pub Knows : ℕ → View → Word → Type 0
+Knows i v w = AtMost (look_at v i).seen w × AtMost (slice_index_or v.mine i (first_look 0)).seen w × AtMost (slice_index_or v.theirs i (first_look 0)).seen w
+
+-- one operator: its place, its count, its word, and what the views have of it
+pub record OpRule (C : ℕ) (i : ℕ) (n : ℕ) (w : Word) (views : List View) : Type 0 where
+  pub count : w.count ≡ n
+  pub bounds : InBounds C w
+  pub taken : (k : ℕ) → total (λ v. times i k v.taken) views ≡ once_up_to w.handed k
+  pub offered : (k : ℕ) → total (λ v. times i k v.offered) views ≡ once_up_to w.offered k
+  pub closings : (k : ℕ) → total (λ v. times i k v.closings) views ≡ once_if_closed w k
+  pub seen : (by : ℕ) (v : View) → get_elem? views by ≡ some v → Knows i v w
+
+-- a pass that is not spent has the counts of the exchange and a look for each operator
+abbrev pub IsLive : List ℕ → View → Type 0
+IsLive counts v = (v.counts ≡ counts) × (0 < v.part) × (length v.looks ≡ 22)
+
+-- the words and the views of an exchange between any two steps
+pub record IsSound (C : ℕ) (counts : List ℕ) (words : List ℕ) (views : List View) : Type 0 where
+  pub length_is : length words ≡ 22
+  pub ops : (op : Op) → (w : Word) × (slice_index words (index op) ≡ pack w) × OpRule C (index op) (slice_index counts (index op)) w views
+  pub parts : total (λ v. v.part) views ≡ whole_part
+  pub lives : (by : ℕ) (v : View) → get_elem? views by ≡ some v → IsLive counts v ⊎ (v ≡ spent_view)
+
+abbrev pub Holds : {S : Type 0} → ℕ → List ℕ → State S View → Type 0
+Holds C counts s = IsSound C counts s.words s.views
+
+-- a load finds a word w of a legal log, with no field below what the view had seen
+pub record Loads (C : ℕ) (v : View) (i : ℕ) (w : Word) : Type 0 where
+  pub bounds : InBounds C w
+  pub rises : AtMost (look_at v i).seen w
+  pub count : w.count ≡ slice_index v.counts i
+  pub looks : length v.looks ≡ 22
+
+-- what the seat of a pass is told of each kind of step
+abbrev pub Looks : {S : Type 0} → ℕ → Step S → Me S View → ℕ → Me S View → Type 0
+Looks C s me found new = (w : Word) × (found ≡ pack w) × Loads C me.0 s.word w × (new ≡ (view_after_load me.0 s.word w, me.1))
+
+-- an exchange that found another word than it expected has changed nothing
+abbrev pub Loses : {S : Type 0} → Step S → Me S View → ℕ → Me S View → Type 0
+Loses s me found new = (w : Word) × (found ≡ pack w) × (¬ (found ≡ s.first)) × Fits w × AtMost (look_at me.0 s.word).loaded w × (new ≡ (view_after_finding me.0 s.word w, me.1))
+
+abbrev pub Takes : {S : Type 0} → Step S → Me S View → ℕ → Me S View → Type 0
+Takes s me found new = ((found ≡ s.first) × (times s.word ((look_at me.0 s.word).loaded.handed + 1) me.0.taken ≡ 0) × (new ≡ (view_after_take me.0 (op_at s.word) (look_at me.0 s.word).loaded, me.1))) ⊎ Loses s me found new
+
+abbrev pub Offers : {S : Type 0} → Step S → Me S View → ℕ → Me S View → Type 0
+Offers s me found new = ((found ≡ s.first) × (times s.word ((look_at me.0 s.word).loaded.offered + 1) me.0.offered ≡ 0) × (new ≡ (view_after_offer me.0 (op_at s.word) (look_at me.0 s.word).loaded, me.1))) ⊎ Loses s me found new
+
+abbrev pub Closes : {S : Type 0} → Step S → Me S View → ℕ → Me S View → Type 0
+Closes s me found new = ((found ≡ s.first) × (Unit {0}) × (new ≡ (view_after_close me.0 (op_at s.word) (look_at me.0 s.word).loaded, me.1))) ⊎ Loses s me found new
+
+-- of the operator at the place i, whose word is w: the view and the two that were merged into it had seen no more, and no ticket or closing stands twice
+pub record AgreesAt (C : ℕ) (i : ℕ) (v : View) (w : Word) : Type 0 where
+  pub bounds : InBounds C w
+  pub knows : Knows i v w
+  pub taken : (k : ℕ) → times i k v.taken ≤ 1
+  pub offered : (k : ℕ) → times i k v.offered ≤ 1
+  pub closings : (k : ℕ) → times i k v.closings ≤ 1
+
+abbrev pub Agrees : ℕ → View → Type 0
+Agrees C v = (op : Op) → (w : Word) × AgreesAt C (index op) v w
+
+-- the load that ends a merge
+
+abbrev pub Settles : {S : Type 0} → ℕ → Step S → Me S View → ℕ → Me S View → Type 0
+Settles C s me found new = Agrees C me.0 × (new ≡ (settled_view me.0, me.1))

@@ -1,0 +1,23 @@
+-- What two passes agree on when one is merged into the other.
+use Rattle.std.specs.Prelude.{◌≡◌, ℕ, ◌+◌, ◌≤◌, true}
+use Rattle.mothra_ops.specs.declared.op.Op.{Op}
+use Rattle.mothra_ops.specs.Op.{index}
+use Rattle.mothra_exchange.specs.declared.view.View.{View}
+use Rattle.mothra_exchange.specs.Ticket.{times}
+use Rattle.mothra_exchange.specs.View.{look_at, united_view}
+
+-- the view shows that the operator is closed and all that was offered is handed out
+abbrev pub IsOver : View → Op → Type 0
+IsOver v op = ((look_at v (index op)).seen.closed ≡ true) × ((look_at v (index op)).seen.handed ≡ (look_at v (index op)).seen.offered)
+
+-- of one operator: what either side saw to be over stays over, both saw one close, and the two are disjoint
+pub record MergesAt (v w : View) (op : Op) : Type 0 where
+  pub left_over : IsOver v op → IsOver (united_view v w) op
+  pub right_over : IsOver w op → IsOver (united_view v w) op
+  pub same_close : (look_at v (index op)).seen.closed ≡ true → (look_at w (index op)).seen.closed ≡ true → (look_at v (index op)).seen.offered ≡ (look_at w (index op)).seen.offered
+  pub taken : (k : ℕ) → times (index op) k v.taken + times (index op) k w.taken ≤ 1
+  pub offered : (k : ℕ) → times (index op) k v.offered + times (index op) k w.offered ≤ 1
+  pub closings : (k : ℕ) → times (index op) k v.closings + times (index op) k w.closings ≤ 1
+
+abbrev pub MergesWell : View → View → Type 0
+MergesWell v w = (op : Op) → MergesAt v w op

@@ -1,0 +1,32 @@
+-- What an exchange ends with.
+use Rattle.std.specs.Prelude.{◌≡◌, ℕ, ◌≤◌, List, slice_index_or, slice_index}
+use Rattle.mothra_ops.specs.declared.op.Op.{Op}
+use Rattle.mothra_ops.specs.Op.{index}
+use Rattle.mothra_exchange.specs.declared.word.Word.{Word}
+use Rattle.mothra_exchange.specs.declared.view.View.{View}
+use Rattle.mothra_exchange.specs.Word.{AtMost, InBounds, opening_word}
+use Rattle.mothra_exchange.specs.Ticket.{times, once_up_to}
+use Rattle.mothra_exchange.specs.View.{look_at, whole_part, once_if_closed}
+
+-- an operator's numbers in a tally
+abbrev pub word_at : List Word → Op → Word
+word_at words op = slice_index_or words (index op) (opening_word 0)
+
+-- the view has each ticket taken and offered, and the closing
+pub record HasAll (i : ℕ) (v : View) (w : Word) : Type 0 where
+  pub taken : (k : ℕ) → times i k v.taken ≡ once_up_to w.handed k
+  pub offered : (k : ℕ) → times i k v.offered ≡ once_up_to w.offered k
+  pub closings : (k : ℕ) → times i k v.closings ≡ once_if_closed w k
+
+-- one operator's numbers w, where the pass that finished had the view v
+pub record EndsAt (C : ℕ) (i : ℕ) (v : View) (w : Word) : Type 0 where
+  pub bounds : InBounds C w
+  pub count : w.count ≡ slice_index v.counts i
+  pub seen : AtMost (look_at v i).seen w
+  pub taken : (k : ℕ) → times i k v.taken ≤ once_up_to w.handed k
+  pub offered : (k : ℕ) → times i k v.offered ≤ once_up_to w.offered k
+  pub closings : (k : ℕ) → times i k v.closings ≤ once_if_closed w k
+  pub whole : v.part ≡ whole_part → HasAll i v w
+
+abbrev pub Ends : ℕ → View → List Word → Type 0
+Ends C v words = (op : Op) → EndsAt C (index op) v (word_at words op)

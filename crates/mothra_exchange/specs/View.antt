@@ -1,0 +1,85 @@
+-- The view of a pass, and how each step changes it.
+use Rattle.std.specs.Prelude.{ℕ, ◌+◌, ◌-◌, ◌&&◌, ◌==◌, List, [], ◌∷◌, ◌++◌, map, slice_index_or, slice_set}
+use Rattle.mothra_ops.specs.declared.op.Op.{Op}
+use Rattle.mothra_ops.specs.Op.{index}
+use Rattle.mothra_exchange.specs.declared.word.Word.{Word}
+use Rattle.mothra_exchange.specs.declared.view.Look.{Look}
+use Rattle.mothra_exchange.specs.declared.view.View.{View}
+use Rattle.mothra_exchange.specs.Word.{opening_word, word_after_offer, word_after_take, word_after_close, greater_word}
+use Rattle.mothra_exchange.specs.Ticket.{one_if, ticket}
+
+-- f of each view, added up
+abbrev pub total : (View → ℕ) → List View → ℕ
+total f [] = 0
+total f (v ∷ vs) = f v + total f vs
+
+-- once where the word is closed with k offered, else not at all
+abbrev pub once_if_closed : Word → ℕ → ℕ
+once_if_closed w k = one_if (w.closed && w.offered == k)
+
+abbrev pub first_look : ℕ → Look
+first_look n = record { loads = 0; loaded = opening_word n; seen = opening_word n }
+
+-- what the view has of the operator at the place i
+abbrev pub look_at : View → ℕ → Look
+look_at v i = slice_index_or v.looks i (first_look 0)
+
+-- all shares of an exchange
+abbrev pub whole_part : ℕ
+whole_part = 1048576
+
+-- the first pass of an exchange
+abbrev pub whole_view : List ℕ → View
+whole_view counts = record { counts = counts; part = whole_part; offered = []; taken = []; closings = []; looks = map first_look counts; mine = []; theirs = [] }
+
+-- what a pass leaves that was merged into another
+abbrev pub spent_view : View
+spent_view = record { counts = []; part = 0; offered = []; taken = []; closings = []; looks = []; mine = []; theirs = [] }
+
+abbrev pub with_look : View → ℕ → Look → View
+with_look v i l = record v { looks = slice_set v.looks i l }
+
+-- after a load that found w
+abbrev pub view_after_load : View → ℕ → Word → View
+view_after_load v i w = with_look v i (record { loads = (look_at v i).loads + 1; loaded = w; seen = w })
+
+-- after an exchange that found or wrote w
+abbrev pub view_after_finding : View → ℕ → Word → View
+view_after_finding v i w = with_look v i (record { loads = (look_at v i).loads; loaded = (look_at v i).loaded; seen = w })
+
+-- after a winning offer, take or close that found w
+abbrev pub view_after_offer : View → Op → Word → View
+view_after_offer v op w = record (view_after_finding v (index op) (word_after_offer w)) { offered = v.offered ++ ticket op (w.offered + 1) ∷ [] }
+
+abbrev pub view_after_take : View → Op → Word → View
+view_after_take v op w = record (view_after_finding v (index op) (word_after_take w)) { taken = v.taken ++ ticket op (w.handed + 1) ∷ [] }
+
+abbrev pub view_after_close : View → Op → Word → View
+view_after_close v op w = record (view_after_finding v (index op) (word_after_close w)) { closings = v.closings ++ ticket op w.offered ∷ [] }
+
+-- a split: the pass that is lent gives one share, and the new pass knows what it knew
+abbrev pub view_after_split : View → View
+view_after_split v = record v { part = v.part - 1 }
+
+abbrev pub split_off_view : View → View
+split_off_view v = record { counts = v.counts; part = 1; offered = []; taken = []; closings = []; looks = v.looks; mine = []; theirs = [] }
+
+-- the loads of the pass that stays, and the greater of the words seen
+abbrev pub joined_look : Look → Look → Look
+joined_look a b = record { loads = a.loads; loaded = a.loaded; seen = greater_word a.seen b.seen }
+
+abbrev pub joined_looks : List Look → List Look → List Look
+joined_looks [] bs = []
+joined_looks (a ∷ rest) [] = a ∷ rest
+joined_looks (a ∷ rest) (b ∷ bs) = joined_look a b ∷ joined_looks rest bs
+
+-- a merge: the view of the pass that stays
+abbrev pub united_view : View → View → View
+united_view v w = record { counts = v.counts; part = v.part + w.part; offered = v.offered ++ w.offered; taken = v.taken ++ w.taken; closings = v.closings ++ w.closings; looks = joined_looks v.looks w.looks; mine = []; theirs = [] }
+
+-- between the two steps of a merge the view has the looks of both passes
+abbrev pub merging_view : View → View → View
+merging_view v w = record (united_view v w) { mine = v.looks; theirs = w.looks }
+
+abbrev pub settled_view : View → View
+settled_view v = record v { mine = []; theirs = [] }

@@ -1,0 +1,44 @@
+-- One operator's numbers n, o, h and c, and the word n + 2^20 o + 2^40 h + 2^60 c that packs them.
+use Rattle.std.specs.Prelude.{◌≡◌, ℕ, ◌+◌, ◌*◌, ◌<◌, ◌≤◌, Bool, true, false, ◌||◌, max}
+use Rattle.mothra_exchange.specs.declared.word.Word.{Word}
+
+abbrev pub bit : Bool → ℕ
+bit true = 1
+bit false = 0
+
+abbrev pub pack : Word → ℕ
+pack w = w.count + 1048576 * w.offered + 1099511627776 * w.handed + 1152921504606846976 * bit w.closed
+
+-- each number is below 2^20, so that none runs into the next
+abbrev pub Fits : Word → Type 0
+Fits w = (w.count < 1048576) × (w.offered < 1048576) × (w.handed < 1048576)
+
+-- the numbers that a legal log can have whose bound is C
+pub record InBounds (C : ℕ) (w : Word) : Type 0 where
+  pub handed : w.handed ≤ w.offered
+  pub offered : w.offered ≤ w.count
+  pub waiting : w.offered ≤ w.handed + C
+  pub count : w.count < 1048576
+
+-- field by field, and where a is closed no more was offered
+pub record AtMost (a b : Word) : Type 0 where
+  pub count : a.count ≤ b.count
+  pub offered : a.offered ≤ b.offered
+  pub handed : a.handed ≤ b.handed
+  pub close : a.closed ≡ true → (b.closed ≡ true) × (b.offered ≡ a.offered)
+
+-- the greater of two words, field by field
+abbrev pub greater_word : Word → Word → Word
+greater_word a b = record { count = max a.count b.count; offered = max a.offered b.offered; handed = max a.handed b.handed; closed = a.closed || b.closed }
+
+abbrev pub opening_word : ℕ → Word
+opening_word n = record { count = n; offered = 0; handed = 0; closed = false }
+
+abbrev pub word_after_offer : Word → Word
+word_after_offer w = record w { offered = w.offered + 1 }
+
+abbrev pub word_after_take : Word → Word
+word_after_take w = record w { handed = w.handed + 1 }
+
+abbrev pub word_after_close : Word → Word
+word_after_close w = record w { closed = true }

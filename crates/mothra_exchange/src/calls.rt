@@ -1,0 +1,155 @@
+// The try calls of the word form: each is one load and at most one compare-exchange.
+ghost use Rattle.std.specs.Prelude.{◌≡◌};
+ghost use Rattle.mothra_ops.specs.Op.{index};
+ghost use Rattle.mothra_exchange.specs.View.{view_after_load};
+ghost use Rattle.mothra_exchange.specs.Rule.{Loads};
+ghost use Rattle.mothra_exchange.specs.Calls.{HasLoaded, OfferDid, TakeDid, CloseDid, OfferLeaves, TakeLeaves, CloseLeaves};
+ghost use Rattle.mothra_exchange.specs.Table.{view_of, IsPassOf};
+
+use crate::answer::{Close, Offer, Take};
+use crate::rule::{Closing, Loading, Offering, Taking};
+use crate::table::{Pass, TableExchange};
+use crate::ticket::Ticket;
+use crate::word::Word;
+use mothra_ops::Op;
+
+impl<const C: u32> TableExchange<C> {
+    /// Offers a ticket. It tries once, waits for nobody and takes no memory.
+    pub fn try_offer(&self, pass: &mut Pass, ticket: Ticket) -> Offer
+        requires { IsPassOf self.now pass.old }
+        ensures own { IsPassOf self.now pass.new }
+        ensures did { OfferDid C (view_of pass.old) ticket result (view_of pass.new) }
+    {
+        let word = self.load(pass, ticket.op);
+        self.answer_offer(pass, ticket, word)
+    }
+
+    /// Takes the next ticket of an operator. It tries once, waits for nobody and takes no memory.
+    pub fn try_take(&self, pass: &mut Pass, op: Op) -> Take
+        requires { IsPassOf self.now pass.old }
+        ensures own { IsPassOf self.now pass.new }
+        ensures did { TakeDid C (view_of pass.old) op result (view_of pass.new) }
+    {
+        let word = self.load(pass, op);
+        self.answer_take(pass, op, word)
+    }
+
+    /// Closes an operator. It tries once, waits for nobody and takes no memory.
+    pub fn try_close(&self, pass: &mut Pass, op: Op) -> Close
+        requires { IsPassOf self.now pass.old }
+        ensures own { IsPassOf self.now pass.new }
+        ensures did { CloseDid C (view_of pass.old) op result (view_of pass.new) }
+    {
+        let word = self.load(pass, op);
+        self.answer_close(pass, op, word)
+    }
+
+    // The first half of each try call: one load, which the pass notes.
+    pub(crate) fn load(&self, pass: &mut Pass, op: Op) -> Word
+        requires { IsPassOf self.now pass.old }
+        ensures own { IsPassOf self.now pass.new }
+        ensures found { Loads C (view_of pass.old) (index op) result }
+        ensures view { view_of pass.new ≡ view_after_load (view_of pass.old) (index op) result }
+        ensures loaded { HasLoaded C (view_of pass.new) (index op) result }
+    {
+        Word::unpack(
+            self.table
+                .shared
+                .load::<Loading<C>>(&mut pass.seat, op.index()),
+        )
+    }
+
+    // The second half: the answer for the word that the pass loaded last.
+    pub(crate) fn answer_offer(&self, pass: &mut Pass, ticket: Ticket, word: Word) -> Offer
+        requires own { IsPassOf self.now pass.old }
+        requires loaded { HasLoaded C (view_of pass.old) (index ticket.op) word }
+        ensures own { IsPassOf self.now pass.new }
+        ensures left { OfferLeaves C (view_of pass.old) ticket word result (view_of pass.new) }
+    {
+        if word.closed {
+            return Offer::Closed;
+        }
+        if ticket.number > word.count {
+            return Offer::PastEnd;
+        }
+        if ticket.number != word.offered + 1 {
+            return Offer::OutOfTurn(word.offered + 1);
+        }
+        if word.offered - word.handed == C {
+            return Offer::Full;
+        }
+        let next = Word {
+            offered: word.offered + 1,
+            ..word
+        };
+        let old = word.pack();
+        let found = self
+            .table
+            .shared
+            .compare_exchange::<Offering>(&mut pass.seat, ticket.op.index(), old, next.pack());
+        if found == old {
+            Offer::Accepted
+        } else {
+            Offer::Busy
+        }
+    }
+
+    // The second half of a take.
+    pub(crate) fn answer_take(&self, pass: &mut Pass, op: Op, word: Word) -> Take
+        requires own { IsPassOf self.now pass.old }
+        requires loaded { HasLoaded C (view_of pass.old) (index op) word }
+        ensures own { IsPassOf self.now pass.new }
+        ensures left { TakeLeaves (view_of pass.old) op word result (view_of pass.new) }
+    {
+        if word.handed == word.offered {
+            return if word.closed {
+                Take::Finished
+            } else {
+                Take::Empty
+            };
+        }
+        let next = Word {
+            handed: word.handed + 1,
+            ..word
+        };
+        let old = word.pack();
+        let found = self
+            .table
+            .shared
+            .compare_exchange::<Taking>(&mut pass.seat, op.index(), old, next.pack());
+        if found == old {
+            Take::Taken(Ticket {
+                op,
+                number: next.handed,
+            })
+        } else {
+            Take::Busy
+        }
+    }
+
+    // The second half of a close.
+    pub(crate) fn answer_close(&self, pass: &mut Pass, op: Op, word: Word) -> Close
+        requires own { IsPassOf self.now pass.old }
+        requires loaded { HasLoaded C (view_of pass.old) (index op) word }
+        ensures own { IsPassOf self.now pass.new }
+        ensures left { CloseLeaves (view_of pass.old) op word result (view_of pass.new) }
+    {
+        if word.closed {
+            return Close::Already;
+        }
+        let next = Word {
+            closed: true,
+            ..word
+        };
+        let old = word.pack();
+        let found = self
+            .table
+            .shared
+            .compare_exchange::<Closing>(&mut pass.seat, op.index(), old, next.pack());
+        if found == old {
+            Close::Done
+        } else {
+            Close::Busy
+        }
+    }
+}

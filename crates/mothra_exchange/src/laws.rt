@@ -1,0 +1,136 @@
+// What follows from the definitions, for every log, every call and every state of an exchange. Each
+// function is its contract: it has nothing to do.
+ghost use Rattle.std.specs.Prelude.{◌≡◌, ◌≢◌, ◌⊎◌, ℕ, ◌+◌, ◌<◌, ◌≤◌, true, false, List, slice_index};
+ghost use mathlib.Core.Option.{some};
+ghost use lib.ListN.{get_elem?};
+ghost use Rattle.mothra_ops.specs.declared.op.Op.{Op};
+ghost use Rattle.mothra_ops.specs.Op.{index};
+ghost use Rattle.mothra_exchange.specs.declared.ticket.Ticket.{Ticket};
+ghost use Rattle.mothra_exchange.specs.declared.word.Word.{Word};
+ghost use Rattle.mothra_exchange.specs.declared.view.View.{View};
+ghost use Rattle.mothra_exchange.specs.declared.log.Event.TheVariants.{Closed, Offered, Handed};
+ghost use Rattle.mothra_exchange.specs.declared.answer.Offer.{Offer};
+ghost use Rattle.mothra_exchange.specs.declared.answer.Offer.TheVariants.{Accepted};
+ghost use Rattle.mothra_exchange.specs.declared.answer.Take.{Take};
+ghost use Rattle.mothra_exchange.specs.declared.answer.Take.TheVariants.{Finished, Taken};
+ghost use Rattle.mothra_exchange.specs.declared.answer.Close.{Close};
+ghost use Rattle.mothra_exchange.specs.declared.answer.Close.TheVariants.{Done};
+ghost use Rattle.mothra_exchange.specs.Word.{AtMost, word_after_offer, word_after_take, word_after_close};
+ghost use Rattle.mothra_exchange.specs.Ticket.{ticket};
+ghost use Rattle.mothra_exchange.specs.View.{total, look_at, whole_part, spent_view, view_after_split, split_off_view, united_view};
+ghost use Rattle.mothra_exchange.specs.Rule.{IsSound};
+ghost use Rattle.mothra_exchange.specs.Answer.{offer_answer, take_answer, close_answer};
+ghost use Rattle.mothra_exchange.specs.Calls.{OfferDid, TakeDid, CloseDid};
+ghost use Rattle.mothra_exchange.specs.Sharing.{IsOver, MergesWell};
+ghost use Rattle.mothra_exchange.specs.Log.{offers, hands, taken_in, one_to};
+ghost use Rattle.mothra_exchange.specs.Laws.{IsWordOf, IsAmong, StandsInOne, StandsInNone, AreOneTo, ChangesOnly, BetweenSteps, InLegalLogs, Shows, ShowsNext};
+
+/// In a legal log the tickets of an operator are handed out in order, each once.
+pub fn handed_in_order()
+    ensures { InLegalLogs (λ C counts log. (op : Op) → taken_in (index op) log ≡ one_to (hands (index op) log)) }
+{}
+
+/// In a legal log no ticket is offered after its operator was closed.
+pub fn none_offered_after_close()
+    ensures { InLegalLogs (λ C counts log. (op : Op) (close offer : ℕ) (t : Ticket)
+        → get_elem? log close ≡ some (Closed op) → get_elem? log offer ≡ some (Offered t)
+        → t.op ≡ op → offer < close) }
+{}
+
+/// In a legal log no more is handed out than offered, no more offered than there is, and no more
+/// than the bound waits.
+pub fn legal_logs_stay_in_bounds()
+    ensures handed { InLegalLogs (λ C counts log. (op : Op) → hands (index op) log ≤ offers (index op) log) }
+    ensures offered { InLegalLogs (λ C counts log. (op : Op) → offers (index op) log ≤ slice_index counts (index op)) }
+    ensures waiting { InLegalLogs (λ C counts log. (op : Op) → offers (index op) log ≤ hands (index op) log + C) }
+{}
+
+/// Where a word shows a legal log, the word after a winning step shows that log with the step's
+/// event at its end, and that log is legal.
+pub fn words_follow_the_log()
+    ensures offer { InLegalLogs (λ C counts log. (op : Op) (k : ℕ) (w : Word) → Shows counts log op w
+        → offer_answer C k w ≡ Accepted
+        → ShowsNext C counts log (Offered (ticket op k)) op (word_after_offer w)) }
+    ensures take { InLegalLogs (λ C counts log. (op : Op) (t : Ticket) (w : Word) → Shows counts log op w
+        → take_answer op w ≡ Taken t
+        → ShowsNext C counts log (Handed t) op (word_after_take w)) }
+    ensures close { InLegalLogs (λ C counts log. (op : Op) (w : Word) → Shows counts log op w
+        → close_answer w ≡ Done
+        → ShowsNext C counts log (Closed op) op (word_after_close w)) }
+{}
+
+/// Between any two steps the numbers taken of an operator are 1 to the number handed out, and each
+/// stands in exactly one view.
+pub fn taken_are_one_to_handed()
+    ensures { BetweenSteps (λ C views op w. AreOneTo (λ v. v.taken) op w.handed views) }
+{}
+
+/// Between any two steps the numbers offered of an operator are 1 to the number offered, and each
+/// stands in exactly one view.
+pub fn offered_are_one_to_offered()
+    ensures { BetweenSteps (λ C views op w. AreOneTo (λ v. v.offered) op w.offered views) }
+{}
+
+/// Between any two steps a closed operator has its one closing in exactly one view, with the number
+/// offered then and now, and an open one has none.
+pub fn closed_once()
+    ensures closed { BetweenSteps (λ C views op w. w.closed ≡ true
+        → StandsInOne (λ v. v.closings) op w.offered views) }
+    ensures no_other { BetweenSteps (λ C views op w. (k : ℕ) → (w.closed ≡ false) ⊎ (k ≢ w.offered)
+        → StandsInNone (λ v. v.closings) op k views) }
+{}
+
+/// Between any two steps each operator has a word, in bounds, with the count of every view that is
+/// not spent.
+pub fn words_stay_in_bounds()
+    ensures word { (C : ℕ) (counts words : List ℕ) (views : List View) → IsSound C counts words views
+        → (op : Op) → (w : Word) × IsWordOf words op w }
+    ensures bounds { BetweenSteps (λ C views op w.
+        (w.handed ≤ w.offered) × (w.offered ≤ w.count) × (w.offered ≤ w.handed + C)) }
+    ensures count { BetweenSteps (λ C views op w. (v : View) → IsAmong views v → v ≢ spent_view
+        → slice_index v.counts (index op) ≡ w.count) }
+{}
+
+/// Between any two steps no number of a word is below what any view saw of it. Where a view saw it
+/// closed, it is closed, and as much is offered as then: what is offered stays from the close on.
+pub fn words_never_fall()
+    ensures seen { BetweenSteps (λ C views op w. (v : View) → IsAmong views v
+        → AtMost (look_at v (index op)).seen w) }
+    ensures closed { BetweenSteps (λ C views op w. (v : View) → IsAmong views v
+        → (look_at v (index op)).seen.closed ≡ true
+        → (w.closed ≡ true) × (w.offered ≡ (look_at v (index op)).seen.offered)) }
+    ensures parts { (C : ℕ) (counts words : List ℕ) (views : List View) → IsSound C counts words views
+        → total (λ v. v.part) views ≡ whole_part }
+{}
+
+/// A take that answers number k found k - 1 handed out, and a pass that saw an operator closed gets
+/// no ticket of it accepted.
+pub fn answers_follow_the_word()
+    ensures take { (C : ℕ) (v : View) (op : Op) (t : Ticket) (new : View) → TakeDid C v op (Taken t) new
+        → (t.op ≡ op) × ((look_at new (index op)).loaded.handed + 1 ≡ t.number) }
+    ensures offer { (C : ℕ) (v : View) (t : Ticket) (new : View) → OfferDid C v t Accepted new
+        → (look_at v (index t.op)).seen.closed ≡ false }
+{}
+
+/// A try call leaves the counts, the part and all that the view has of other operators.
+pub fn calls_change_one_operator()
+    ensures offer { (C : ℕ) (v : View) (t : Ticket) (a : Offer) (new : View)
+        → OfferDid C v t a new → ChangesOnly t.op v new }
+    ensures take { (C : ℕ) (v : View) (op : Op) (a : Take) (new : View)
+        → TakeDid C v op a new → ChangesOnly op v new }
+    ensures close { (C : ℕ) (v : View) (op : Op) (a : Close) (new : View)
+        → CloseDid C v op a new → ChangesOnly op v new }
+{}
+
+/// An operator that a pass saw to be over, closed with nothing left, stays so: a take answers
+/// Finished, and each pass of a split or a merge sees it too. A take that answers Finished saw it.
+pub fn stays_over()
+    ensures take { (C : ℕ) (v : View) (op : Op) (a : Take) (new : View)
+        → TakeDid C v op a new → IsOver v op → a ≡ Finished }
+    ensures finished { (C : ℕ) (v : View) (op : Op) (new : View)
+        → TakeDid C v op Finished new → IsOver new op }
+    ensures split { (v : View) (op : Op) → IsOver v op
+        → IsOver (view_after_split v) op × IsOver (split_off_view v) op }
+    ensures merge { (v w : View) (op : Op) → MergesWell v w
+        → IsOver v op ⊎ IsOver w op → IsOver (united_view v w) op }
+{}

@@ -1,0 +1,41 @@
+//! The exchange through which feeders hand the tickets of mutants to workers: for each operator a
+//! line of numbers from 1, offered in order, taken in order, each once, and closed once.
+//!
+//! It stands in two forms that answer alike. `LockedExchange` is one lock round a log. In
+//! `TableExchange` each operator is one packed word, and each call is one load and at most one
+//! compare-exchange.
+#![tactic(auto)]
+
+mod answer;
+mod calls;
+mod fault;
+mod gate;
+mod laws;
+mod locked;
+mod log;
+mod rule;
+mod sharing;
+mod state;
+mod table;
+mod table_gate;
+mod tally;
+#[cfg(test)]
+mod tests;
+mod ticket;
+mod view;
+mod word;
+
+pub use answer::{Close, Offer, Take};
+pub use fault::ExchangeFault;
+pub use gate::Gate;
+pub use laws::{
+    answers_follow_the_word, calls_change_one_operator, closed_once, handed_in_order,
+    legal_logs_stay_in_bounds, none_offered_after_close, offered_are_one_to_offered, stays_over,
+    taken_are_one_to_handed, words_follow_the_log, words_never_fall, words_stay_in_bounds,
+};
+pub use locked::{LockedExchange, LockedPass};
+pub use log::Event;
+pub use state::State;
+pub use table::{Pass, TableExchange};
+pub use tally::Tally;
+pub use ticket::Ticket;

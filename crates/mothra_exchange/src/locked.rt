@@ -1,0 +1,109 @@
+// The exchange under one lock.
+ghost use Rattle.std.specs.Prelude.{◌≡◌, IfErr, OnOk, true, false};
+ghost use Rattle.mothra_ops.specs.declared.op.Op.{Op};
+ghost use Rattle.mothra_exchange.specs.declared.word.Word.{Word};
+ghost use Rattle.mothra_exchange.specs.View.{spent_view};
+ghost use Rattle.mothra_exchange.specs.Answer.{offer_answer, take_answer, close_answer};
+ghost use Rattle.mothra_exchange.specs.Gate.{MayOffer, MayTake, MayClose, OfferKept, TakeKept, CloseKept};
+ghost use Rattle.mothra_exchange.specs.Log.{IsLegal};
+ghost use Rattle.mothra_exchange.specs.State.{History, numbers_of};
+ghost use Rattle.mothra_exchange.specs.Fault.{AllCountsFit, IsFaultOf};
+ghost use Rattle.mothra_exchange.specs.Tally.{word_at, Ends};
+
+use crate::answer::{Close, Offer, Take};
+use crate::fault::ExchangeFault;
+use crate::gate::Gate;
+use crate::state::State;
+use crate::tally::Tally;
+use crate::ticket::Ticket;
+use mothra_ops::Op;
+use std::alloc::Global;
+use std::sync::{Mutex, Wait};
+
+/// The exchange as one lock round a `State`: whenever the lock is free, its events are a legal log.
+/// It keeps no records, and never answers Busy.
+#[derive(Drop)]
+pub struct LockedExchange<const C: u32> {
+    state: Mutex<State<C>>,
+}
+
+/// A pass of a `LockedExchange`, which knows nothing.
+#[derive(Drop)]
+pub struct LockedPass;
+
+impl<const C: u32> LockedExchange<C> {
+    /// An exchange with these counts, in the order of the operators, in which nothing was offered.
+    pub fn new(
+        alloc: Global,
+        counts: [u32; 22],
+    ) -> Result<(LockedExchange<C>, LockedPass), ExchangeFault>
+        ensures fits { OnOk result (AllCountsFit counts) }
+        ensures fault { IfErr result (IsFaultOf counts) }
+    {
+        let state = State::new(alloc, counts)?;
+        let exchange = LockedExchange {
+            state: Mutex::new(state),
+        };
+        Ok((exchange, LockedPass))
+    }
+}
+
+impl<const C: u32> Gate for LockedExchange<C> {
+    ghost use Rattle.std.specs.Prelude.{false};
+    ghost use Rattle.mothra_exchange.specs.View.{spent_view};
+
+    type Pass = LockedPass;
+
+    ghost is_pass = { λ _ _. Unit {0} };
+
+    ghost view = { λ _. spent_view };
+
+    ghost keeps_records = { false };
+
+    ghost needs_parts = { false };
+
+    ghost may_give_up = { false };
+
+    ghost bound = { C };
+
+    fn split(&self, _pass: &mut LockedPass) -> LockedPass {
+        LockedPass
+    }
+
+    fn merge(&self, _pass: &mut LockedPass, _other: LockedPass) {}
+
+    // The answer of the table for some numbers, so never Busy.
+    fn offer<R: Wait>(&self, rt: &R, _pass: &mut LockedPass, ticket: Ticket) -> Offer
+        ensures gives_up { MayOffer false result }
+        ensures records { false ≡ true → OfferKept C spent_view ticket result spent_view }
+        ensures answer { (w : Word) × (result ≡ offer_answer C ticket.number w) }
+    {
+        self.state.lock(rt).offer(ticket)
+    }
+
+    fn take<R: Wait>(&self, rt: &R, _pass: &mut LockedPass, op: Op) -> Take
+        ensures gives_up { MayTake false result }
+        ensures records { false ≡ true → TakeKept C spent_view op result spent_view }
+        ensures answer { (w : Word) × (result ≡ take_answer op w) }
+    {
+        self.state.lock(rt).take(op)
+    }
+
+    fn close<R: Wait>(&self, rt: &R, _pass: &mut LockedPass, op: Op) -> Close
+        ensures gives_up { MayClose false result }
+        ensures records { false ≡ true → CloseKept C spent_view op result spent_view }
+        ensures answer { (w : Word) × (result ≡ close_answer w) }
+    {
+        self.state.lock(rt).close(op)
+    }
+
+    // Some legal log has the numbers of the tally.
+    fn finish(self, _pass: LockedPass) -> Tally
+        ensures records { false ≡ true → Ends C spent_view result }
+        ensures log { (h : History) × IsLegal C h.counts h.events
+            × ((op : Op) → word_at result op ≡ numbers_of h op) }
+    {
+        let LockedExchange { state } = self;
+        state.into_inner().into_tally()
+    }
+}

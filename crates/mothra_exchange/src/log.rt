@@ -1,0 +1,14 @@
+// What happens in an exchange.
+use crate::ticket::Ticket;
+use mothra_ops::Op;
+
+/// One change of an exchange.
+#[derive(Clone, Copy, PartialEq, Eq, Debug, Drop)]
+pub enum Event {
+    /// The ticket was offered and accepted.
+    Offered(Ticket),
+    /// The ticket was handed out.
+    Handed(Ticket),
+    /// No ticket of the operator is accepted from here on.
+    Closed(Op),
+}

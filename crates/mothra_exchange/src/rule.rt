@@ -1,0 +1,73 @@
+// The rule that the words and the views keep, and what each kind of step tells.
+use crate::view::View;
+use atomic_table::{Join, Play, Split, TableRule};
+
+/// The rule of an exchange in which `C` tickets of an operator may wait.
+pub struct Bound<const C: u32>;
+
+impl<const C: u32> TableRule<(), View, [u32; 22]> for Bound<C> {
+    ghost use Rattle.mothra_exchange.specs.Rule.{Holds};
+    ghost use Rattle.mothra_exchange.specs.View.{whole_view};
+
+    ghost holds = { Holds C };
+
+    ghost first = { whole_view };
+}
+
+pub(crate) struct Loading<const C: u32>;
+
+impl<const C: u32> Play<(), View> for Loading<C> {
+    ghost use Rattle.mothra_exchange.specs.Rule.{Looks};
+
+    ghost then = { Looks C };
+}
+
+pub(crate) struct Offering;
+
+impl Play<(), View> for Offering {
+    ghost use Rattle.mothra_exchange.specs.Rule.{Offers};
+
+    ghost then = { Offers };
+}
+
+pub(crate) struct Taking;
+
+impl Play<(), View> for Taking {
+    ghost use Rattle.mothra_exchange.specs.Rule.{Takes};
+
+    ghost then = { Takes };
+}
+
+pub(crate) struct Closing;
+
+impl Play<(), View> for Closing {
+    ghost use Rattle.mothra_exchange.specs.Rule.{Closes};
+
+    ghost then = { Closes };
+}
+
+pub(crate) struct Settling<const C: u32>;
+
+impl<const C: u32> Play<(), View> for Settling<C> {
+    ghost use Rattle.mothra_exchange.specs.Rule.{Settles};
+
+    ghost then = { Settles C };
+}
+
+pub(crate) struct Sharing;
+
+impl Split<View> for Sharing {
+    ghost use Rattle.mothra_exchange.specs.View.{view_after_split, split_off_view};
+
+    ghost left = { view_after_split };
+
+    ghost right = { split_off_view };
+}
+
+impl Join<View> for Sharing {
+    ghost use Rattle.mothra_exchange.specs.View.{merging_view, spent_view};
+
+    ghost both = { merging_view };
+
+    ghost spent = { spent_view };
+}

@@ -1,0 +1,165 @@
+// The exchange that one caller at a time changes, with its log.
+ghost use Rattle.std.specs.Prelude.{◌≡◌, [], map, IfOk, IfErr, OnOk, vec_capacity};
+ghost use Rattle.mothra_ops.specs.declared.op.Op.{Op};
+ghost use Rattle.mothra_exchange.specs.Word.{opening_word};
+ghost use Rattle.mothra_exchange.specs.Answer.{offer_answer, take_answer, close_answer};
+ghost use Rattle.mothra_exchange.specs.Log.{IsLegal, log_after_offer, log_after_take, log_after_close};
+ghost use Rattle.mothra_exchange.specs.State.{History, history, numbers_of, Keeps, counts_of, room};
+ghost use Rattle.mothra_exchange.specs.Fault.{AllCountsFit, IsFaultOf};
+ghost use Rattle.mothra_exchange.specs.Tally.{word_at};
+
+use crate::answer::{Close, Offer, Take};
+use crate::fault::{ExchangeFault, first_too_large};
+use crate::log::Event;
+use crate::tally::Tally;
+use crate::ticket::Ticket;
+use crate::word::Word;
+use mothra_ops::Op;
+use std::alloc::Global;
+use std::marker::Model;
+
+/// The exchange for one caller at a time, with its log. Up to `C` tickets of an operator wait, 1 to
+/// 1,048,575. Its calls never answer Busy.
+/// A contract sees the counts and the events.
+#[derive(Drop)]
+pub struct State<const C: u32> {
+    words: [Word; 22],
+    log: Vec<Event>,
+}
+
+impl<const C: u32> Model for State<C> {
+    ghost Value = { History };
+
+    ghost view = { λ s. history (counts_of s.words) s.log.items };
+
+    ghost invariant = { λ s. Keeps C s.words s.log.items (vec_capacity s.log) };
+}
+
+// Each operator's numbers with nothing offered.
+fn opening_state(counts: &[u32; 22]) -> [Word; 22]
+    ensures { result ≡ map opening_word counts.now }
+{
+    let mut words = [Word::opening(0); 22];
+    for i in 0..22 {
+        words[i] = Word::opening(counts[i]);
+    }
+    words
+}
+
+// How many events can come.
+fn room_of(counts: &[u32; 22]) -> usize
+    requires { AllCountsFit counts.now }
+    ensures { result ≡ room (map opening_word counts.now) }
+{
+    let mut total = 0usize;
+    for i in 0..22 {
+        total += 2 * counts[i] as usize + 1;
+    }
+    total
+}
+
+impl<const C: u32> State<C> {
+    /// An empty log for these counts, in the order of the operators, and room for every event that
+    /// can come.
+    pub fn new(alloc: Global, counts: [u32; 22]) -> Result<State<C>, ExchangeFault>
+        ensures empty { IfOk result (λ s. s ≡ history counts []) }
+        ensures fits { OnOk result (AllCountsFit counts) }
+        ensures fault { IfErr result (IsFaultOf counts) }
+    {
+        if let Some(op) = first_too_large(&counts) {
+            return Err(ExchangeFault::CountTooLarge(op));
+        }
+        match Vec::with_capacity(alloc, room_of(&counts)) {
+            Ok(log) => Ok(State {
+                words: opening_state(&counts),
+                log,
+            }),
+            Err(_) => Err(ExchangeFault::Memory),
+        }
+    }
+
+    // The numbers of the log.
+    pub(crate) fn into_tally(self) -> Tally
+        ensures shows { (op : Op) → word_at result op ≡ numbers_of self.entry op }
+        ensures legal { IsLegal C self.entry.counts self.entry.events }
+    {
+        let State { words, log: _ } = self;
+        Tally { words }
+    }
+
+    /// The log: what was offered, handed out and closed, in order.
+    pub fn events(&self) -> &[Event]
+        ensures log { result.now ≡ self.now.events }
+        ensures legal { IsLegal C self.now.counts self.now.events }
+    {
+        self.log.as_slice()
+    }
+
+    /// Offers a ticket. Only an accepted one is logged.
+    pub fn offer(&mut self, ticket: Ticket) -> Offer
+        ensures answer { result ≡ offer_answer C ticket.number (numbers_of self.old ticket.op) }
+        ensures log { self.new ≡ record self.old { events = log_after_offer self.old.events ticket result } }
+    {
+        let i = ticket.op.index();
+        let word = self.words[i];
+        if word.closed {
+            return Offer::Closed;
+        }
+        if ticket.number > word.count {
+            return Offer::PastEnd;
+        }
+        if ticket.number != word.offered + 1 {
+            return Offer::OutOfTurn(word.offered + 1);
+        }
+        if word.offered - word.handed == C {
+            return Offer::Full;
+        }
+        let Ok(()) = self.log.push(Event::Offered(ticket)) else {
+            unreachable!()
+        };
+        self.words[i].offered = word.offered + 1;
+        Offer::Accepted
+    }
+
+    /// Takes the next ticket of an operator. Only a take that got one is logged.
+    pub fn take(&mut self, op: Op) -> Take
+        ensures answer { result ≡ take_answer op (numbers_of self.old op) }
+        ensures log { self.new ≡ record self.old { events = log_after_take self.old.events result } }
+    {
+        let i = op.index();
+        let word = self.words[i];
+        if word.handed == word.offered {
+            return if word.closed {
+                Take::Finished
+            } else {
+                Take::Empty
+            };
+        }
+        let ticket = Ticket {
+            op,
+            number: word.handed + 1,
+        };
+        let Ok(()) = self.log.push(Event::Handed(ticket)) else {
+            unreachable!()
+        };
+        self.words[i].handed = word.handed + 1;
+        Take::Taken(ticket)
+    }
+
+    /// Closes an operator: no ticket of it is accepted from then on. Only the first close is logged.
+    pub fn close(&mut self, op: Op) -> Close
+        ensures answer { result ≡ close_answer (numbers_of self.old op) }
+        ensures log { self.new ≡ record self.old { events = log_after_close self.old.events op result } }
+    {
+        let i = op.index();
+        let word = self.words[i];
+        if word.closed {
+            return Close::Already;
+        }
+        let Ok(()) = self.log.push(Event::Closed(op)) else {
+            unreachable!()
+        };
+        self.words[i].closed = true;
+        Close::Done
+    }
+}

@@ -1,0 +1,9 @@
+// The name of one mutant.
+use mothra_ops::Op;
+
+/// Mutant `number` of an operator's list, from 1.
+#[derive(Clone, Copy, PartialEq, Eq, Debug, Drop)]
+pub struct Ticket {
+    pub op: Op,
+    pub number: u32,
+}

@@ -1,0 +1,8 @@
+//! The operators of the mutation analyser.
+#![tactic(auto)]
+
+mod op;
+#[cfg(test)]
+mod tests;
+
+pub use op::Op;
