@@ -9,8 +9,7 @@ fn right_side(rt: &impl AllocGlobal, statement: &str) -> Result<String, Fail> {
     let alloc = rt.alloc();
     let mut text = String::new(alloc);
     let mut cards = Vec::new(alloc);
-    for line in ["SUBROUTINEA", statement, "END"] {
-        let number = u32::try_from(cards.len()).unwrap_or(0) + 1;
+    for (number, line) in [(1, "SUBROUTINEA"), (2, statement), (3, "END")] {
         cards.push(Card::new(None, String::from_str(alloc, line)?, number))?;
     }
     match parse(alloc, &cards) {
