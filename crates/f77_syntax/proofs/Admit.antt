@@ -26,7 +26,7 @@ pub bad_constant : (line : ℕ) (text : List ℕ) (got : Statement) (b d : Bool)
 bad_constant line text got b d k e f g h =
     let (s, p, same) = k.spells in
     IsRefused.constant k.characters k.flat p (sym (statement_names_clip s) ∙ ap statement_names (sym same) ∙ sym e ∙ f)
-      (sym (statement_constants_clip s) ∙ ap statement_constants (sym same) ∙ sym g ∙ h)
+    (sym (statement_constants_clip s) ∙ ap statement_constants (sym same) ∙ sym g ∙ h)
 
 pub many_nodes : (line : ℕ) (text : List ℕ) (got : Statement) (b d : Bool) (n : ℕ) → Kept text got → b ≡ statement_names got → b ≡ true
     → d ≡ statement_constants got → d ≡ true → n ≡ min (statement_nodes got) 4294967295 → 200 < n → IsRefused line text (TooLong line)
@@ -35,7 +35,7 @@ many_nodes line text got b d n k e f g h i j =
     let count : statement_nodes got ≡ statement_nodes s = ap statement_nodes same ∙ statement_nodes_clip s in
     let more : 200 < statement_nodes got = omega arith in
     IsRefused.nodes k.characters k.flat p (sym (statement_names_clip s) ∙ ap statement_names (sym same) ∙ sym e ∙ f)
-      (sym (statement_constants_clip s) ∙ ap statement_constants (sym same) ∙ sym g ∙ h) (rw (sym count) more)
+    (sym (statement_constants_clip s) ∙ ap statement_constants (sym same) ∙ sym g ∙ h) (rw (sym count) more)
 
 pub all_well : (text : List ℕ) (got : Statement) (b d : Bool) (n : ℕ) → Kept text got → b ≡ statement_names got → b ≡ true
     → d ≡ statement_constants got → d ≡ true → n ≡ min (statement_nodes got) 4294967295 → n ≤ 200 → IsAdmitted text got
@@ -49,7 +49,7 @@ all_well text got b d n k e f g h i j =
       spells = subst (λ z. SpellsStatement text z) is p;
       names = sym e ∙ f;
       constants = sym g ∙ h;
-      nodes = omega arith
+      nodes = omega arith;
     }
 
 pub not_spelled : (line : ℕ) (text : List ℕ) (fault : SyntaxFault) → length text ≤ most_characters → ¬ (IsTooDeep text)

@@ -50,7 +50,7 @@ module _ (n : ℕ) (R Q : Readers) (short : Shorter R) (sound_R : Sound R) (agre
       by_front None (Some r) c e = refl
       by_front None None (Some r) e =
           same_when (nat_le w 4) _ _ _ (λ _. same_bind (R.expr 5 r) (Q.expr 5 r) _ _
-            (agree.expr 5 r (omega (arith, ap length (strip_is (codes ".NOT.") s r e), length-append (codes ".NOT.") r))) (λ x e. refl))
+          (agree.expr 5 r (omega (arith, ap length (strip_is (codes ".NOT.") s r e), length-append (codes ".NOT.") r))) (λ x e. refl))
       by_front None None None e = refl
 
   start_same : (w : ℕ) (s : List ℕ) → length s ≤ suc n → start_at R w s ≡ start_at Q w s
@@ -62,14 +62,14 @@ module _ (n : ℕ) (R Q : Readers) (short : Shorter R) (sound_R : Sound R) (agre
       (same_cond (c == 43) _ _ _ _ (same_when (nat_le w 6) _ _ _ (λ _. same_bind (R.expr 7 s) (Q.expr 7 s) _ _ (inner 7) (λ x e. refl)))
       (same_cond (c == 45) _ _ _ _ (same_when (nat_le w 6) _ _ _ (λ _. same_bind (R.expr 7 s) (Q.expr 7 s) _ _ (inner 7) (λ x e. refl)))
       (same_cond (c == 46) _ _ _ _
-        (dotted_same w (c ∷ s) h)
-        (word_same (word (c ∷ s)) (past_word (c ∷ s)) (omega (arith, past_word_short (c ∷ s)))))))
+      (dotted_same w (c ∷ s) h)
+      (word_same (word (c ∷ s)) (past_word (c ∷ s)) (omega (arith, past_word_short (c ∷ s)))))))
 
   expr_same : (w : ℕ) (s : List ℕ) → length s ≤ suc n → expr_at R w s ≡ expr_at Q w s
   unfolding expr_at
   expr_same w s h = same_bind (start_at R w s) (start_at Q w s) _ _ (start_same w s h)
       (λ x e. let f = sound.start_is R sound_R w s x e in
-        agree.climb w x.0 x.1 x.2 (omega (arith, ap length f.is, length-append f.text x.2, spelled_long f.spells)))
+      agree.climb w x.0 x.1 x.2 (omega (arith, ap length f.is, length-append f.text x.2, spelled_long f.spells)))
 
   climb_same : (w : ℕ) (t : Tree) (own : ℕ) (s : List ℕ) → length s ≤ suc n → climb_at R w t own s ≡ climb_at Q w t own s
   unfolding climb_at
@@ -80,8 +80,8 @@ module _ (n : ℕ) (R Q : Readers) (short : Shorter R) (sound_R : Sound R) (agre
       step (Some y) e =
           let fall : length y.1 < length s = operator_shorter s y e in
           same_when (nat_le w (level y.0) && nat_le (left_level y.0) own) _ _ _
-            (λ _. same_bind (R.expr (right_level y.0) y.1) (Q.expr (right_level y.0) y.1) _ _ (agree.expr (right_level y.0) y.1 (omega arith))
-              (λ z found. agree.climb w (Tree.Binary y.0 t z.0) (level y.0) z.1 (omega (arith, short.expr (right_level y.0) y.1 z found))))
+          (λ _. same_bind (R.expr (right_level y.0) y.1) (Q.expr (right_level y.0) y.1) _ _ (agree.expr (right_level y.0) y.1 (omega arith))
+          (λ z found. agree.climb w (Tree.Binary y.0 t z.0) (level y.0) z.1 (omega (arith, short.expr (right_level y.0) y.1 z found))))
 
   items_same : (s : List ℕ) → length s ≤ suc n → items_at R s ≡ items_at Q s
   unfolding items_at
@@ -96,17 +96,19 @@ module _ (n : ℕ) (R Q : Readers) (short : Shorter R) (sound_R : Sound R) (agre
 more_calls : (n : ℕ) → Agree n (within n) (within (suc n))
 unfolding within expr_at start_at climb_at items_at operator_at
 more_calls zero = record {
-    expr = none;
-    climb = ends;
-    items = empty;
-  }
+  expr = none;
+  climb = ends;
+  items = empty;
+}
   where
     none : (w : ℕ) (s : List ℕ) → length s ≤ 0 → (within zero).expr w s ≡ (within (suc zero)).expr w s
     none w [] h = refl
     none w (c ∷ s) h = absurd (omega arith)
+
     ends : (w : ℕ) (t : Tree) (own : ℕ) (s : List ℕ) → length s ≤ 0 → (within zero).climb w t own s ≡ (within (suc zero)).climb w t own s
     ends w t own [] h = refl
     ends w t own (c ∷ s) h = absurd (omega arith)
+
     empty : (s : List ℕ) → length s ≤ 0 → (within zero).items s ≡ (within (suc zero)).items s
     empty [] h = refl
     empty (c ∷ s) h = absurd (omega arith)
@@ -136,10 +138,10 @@ enough_items (suc d) n s h = enough_items d n s h ∙ (more_calls (d + n)).items
 reads : (n : ℕ) → Agree n (within n) reading
 unfolding reading
 reads n = record {
-    expr = λ w s h. sym (enough_expr (n - length s) (length s) w s (omega arith) ∙ ap (λ k. (within k).expr w s) (omega arith));
-    climb = λ w t own s h. sym (enough_climb (n - length s) (length s) w t own s (omega arith) ∙ ap (λ k. (within k).climb w t own s) (omega arith));
-    items = λ s h. sym (enough_items (n - length s) (length s) s (omega arith) ∙ ap (λ k. (within k).items s) (omega arith));
-  }
+  expr = λ w s h. sym (enough_expr (n - length s) (length s) w s (omega arith) ∙ ap (λ k. (within k).expr w s) (omega arith));
+  climb = λ w t own s h. sym (enough_climb (n - length s) (length s) w t own s (omega arith) ∙ ap (λ k. (within k).climb w t own s) (omega arith));
+  items = λ s h. sym (enough_items (n - length s) (length s) s (omega arith) ∙ ap (λ k. (within k).items s) (omega arith));
+}
 
 -- the equations of the readers
 pub reading_expr : (w : ℕ) (s : List ℕ) → reading.expr w s ≡ expr_at reading w s

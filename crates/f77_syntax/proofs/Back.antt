@@ -81,7 +81,7 @@ mutual
   back (Tree.Not t) f v h = Spells.negated h (as_operand 5 (own_level t) (text_of t) t (back t f) (own_low t))
   back (Tree.Binary op a b) f v h =
       Spells.binary op h (as_operand (left_level op) (own_level a) (text_of a) a (back a f.0) (own_low a))
-        (as_operand (right_level op) (own_level b) (text_of b) b (back b f.1) (own_low b))
+      (as_operand (right_level op) (own_level b) (text_of b) b (back b f.1) (own_low b))
 
   pub back_reference : (items : Trees) (name : List ℕ) → is_name name ≡ true → FormedAll items → SpellsReference (name ++ list_text items) name items
   back_reference Trees.None name n f = subst (λ z. SpellsReference z name Trees.None) (sym (append-nil name)) (SpellsReference.scalar n)

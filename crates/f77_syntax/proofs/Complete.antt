@@ -225,23 +225,23 @@ operand_read {t = t} w r rest h =
 
 number_read : (w : ℕ) (text : List ℕ) → w ≤ 9 → is_number text ≡ true → Reads w text (Tree.Number (digits_value 10 text))
 number_read w text h n = record {
-    own = 9;
-    least = h;
-    most = omega arith;
-    reads = λ v rest k f.
+  own = 9;
+  least = h;
+  most = omega arith;
+  reads = λ v rest k f.
       begins v (text ++ rest) (Tree.Number (digits_value 10 text), 9, rest)
-        (at_word v text rest (number_words text n) (number_long text n) (ends_word rest f) ∙ rw n refl);
-  }
+      (at_word v text rest (number_words text n) (number_long text n) (ends_word rest f) ∙ rw n refl);
+}
 
 scalar_read : (w : ℕ) (name : List ℕ) → w ≤ 9 → is_name name ≡ true → Reads w name (Tree.Reference name Trees.None)
 scalar_read w name h n = record {
-    own = 9;
-    least = h;
-    most = omega arith;
-    reads = λ v rest k f.
+  own = 9;
+  least = h;
+  most = omega arith;
+  reads = λ v rest k f.
       begins v (name ++ rest) (Tree.Reference name Trees.None, 9, rest)
-        (at_word v name rest (name_words name n) (name_long name n) (ends_word rest f) ∙ rw (not_number name n, n) (alone rest f));
-  }
+      (at_word v name rest (name_words name n) (name_long name n) (ends_word rest f) ∙ rw (not_number name n, n) (alone rest f));
+}
   where
     alone : (rest : List ℕ) → front_level rest < 9 → named_at reading name rest ≡ Some (Tree.Reference name Trees.None, 9, rest)
     alone [] f = refl
@@ -255,35 +255,35 @@ truth_read w false h = record { own = 9; least = h; most = omega arith; reads = 
 -- a name with a list behind it
 listed_read : (w : ℕ) (name text : List ℕ) (items : Trees) → w ≤ 9 → is_name name ≡ true → ((rest : List ℕ) → reading.items (text ++ (41 ∷ rest)) ≡ Some (items, 41 ∷ rest)) → Reads w (name ++ (40 ∷ (text ++ 41 ∷ []))) (listed name items)
 listed_read w name text items h n inner = record {
-    own = 9;
-    least = h;
-    most = omega arith;
-    reads = λ v rest k f.
+  own = 9;
+  least = h;
+  most = omega arith;
+  reads = λ v rest k f.
       let shape : (name ++ (40 ∷ (text ++ 41 ∷ []))) ++ rest ≡ name ++ (40 ∷ (text ++ (41 ∷ rest))) =
-        append_assoc name (40 ∷ (text ++ 41 ∷ [])) rest ∙ ap (λ z. name ++ (40 ∷ z)) (append_assoc text (41 ∷ []) rest) in
+      append_assoc name (40 ∷ (text ++ 41 ∷ [])) rest ∙ ap (λ z. name ++ (40 ∷ z)) (append_assoc text (41 ∷ []) rest) in
       rw shape (begins v (name ++ (40 ∷ (text ++ (41 ∷ rest)))) (listed name items, 9, rest)
-        (at_word v name (40 ∷ (text ++ (41 ∷ rest))) (name_words name n) (name_long name n) refl ∙ rw (not_number name n, n, inner rest) refl));
-  }
+      (at_word v name (40 ∷ (text ++ (41 ∷ rest))) (name_words name n) (name_long name n) refl ∙ rw (not_number name n, n, inner rest) refl));
+}
 
 group_read : (w : ℕ) (text : List ℕ) (t : Tree) → w ≤ 9 → Reads 1 text t → Reads w (40 ∷ (text ++ 41 ∷ [])) t
 unfolding start_at front_level operator_at
 group_read w text t h inner = record {
-    own = 9;
-    least = h;
-    most = omega arith;
-    reads = λ v rest k f.
+  own = 9;
+  least = h;
+  most = omega arith;
+  reads = λ v rest k f.
       rw (append_assoc text (41 ∷ []) rest) (begins v (40 ∷ (text ++ (41 ∷ rest))) (t, 9, rest)
-        (rw (operand_read 1 inner (41 ∷ rest) (omega arith)) refl));
-  }
+      (rw (operand_read 1 inner (41 ∷ rest) (omega arith)) refl));
+}
 
 signed_read : (w : ℕ) (sign : Sign) (text : List ℕ) (t : Tree) → w ≤ 6 → Reads 7 text t → Reads w (sign_symbol sign ∷ text) (Tree.Signed sign t)
 unfolding start_at
 signed_read w sign text t h inner = record {
-    own = 6;
-    least = h;
-    most = omega arith;
-    reads = λ v rest k f. begins v (sign_symbol sign ∷ (text ++ rest)) (Tree.Signed sign t, 6, rest) (at_sign sign v rest (omega arith) f);
-  }
+  own = 6;
+  least = h;
+  most = omega arith;
+  reads = λ v rest k f. begins v (sign_symbol sign ∷ (text ++ rest)) (Tree.Signed sign t, 6, rest) (at_sign sign v rest (omega arith) f);
+}
   where
     at_sign : (sign : Sign) (v : ℕ) (rest : List ℕ) → v ≤ 6 → front_level rest < 7 → start_at reading v (sign_symbol sign ∷ (text ++ rest)) ≡ Some (Tree.Signed sign t, 6, rest)
     at_sign Plus v rest k f = rw (le-leb v 6 k, operand_read 7 inner rest f) refl
@@ -292,12 +292,12 @@ signed_read w sign text t h inner = record {
 negated_read : (w : ℕ) (text : List ℕ) (t : Tree) → w ≤ 4 → Reads 5 text t → Reads w (codes ".NOT." ++ text) (Tree.Not t)
 unfolding start_at
 negated_read w text t h inner = record {
-    own = 4;
-    least = h;
-    most = omega arith;
-    reads = λ v rest k f. begins v (codes ".NOT." ++ (text ++ rest)) (Tree.Not t, 4, rest)
+  own = 4;
+  least = h;
+  most = omega arith;
+  reads = λ v rest k f. begins v (codes ".NOT." ++ (text ++ rest)) (Tree.Not t, 4, rest)
       (let low : v ≤ 4 = omega arith in rw (le-leb v 4 low, operand_read 5 inner rest f) refl);
-  }
+}
 
 binary_read : (w : ℕ) (op : Operator) (x y : List ℕ) (a b : Tree) → w ≤ level op → ((rest : List ℕ) → NoStar (y ++ rest)) → Reads (left_level op) x a → Reads (right_level op) y b
     → Reads w (x ++ (symbol op ++ y)) (Tree.Binary op a b)
@@ -310,17 +310,17 @@ binary_read w op x y a b h other left right =
       least = h;
       most = let m = table.high in omega arith;
       reads = λ v rest k f.
-        let behind : List ℕ = y ++ rest in
-        let shape : (x ++ (symbol op ++ y)) ++ rest ≡ x ++ (symbol op ++ (y ++ rest)) =
+          let behind : List ℕ = y ++ rest in
+          let shape : (x ++ (symbol op ++ y)) ++ rest ≡ x ++ (symbol op ++ (y ++ rest)) =
           append_assoc x (symbol op ++ y) rest ∙ ap (λ z. x ++ z) (append_assoc (symbol op) y rest) in
-        let found : operator_at (symbol op ++ (y ++ rest)) ≡ Some (op, y ++ rest) = operator_found op (y ++ rest) (other rest) in
-        let front : front_level (symbol op ++ (y ++ rest)) ≡ level op = table.front (y ++ rest) ∙ ap level_at found in
-        let least = left.least in
-        let low : front_level rest < right_level op = subst (λ n. front_level rest < n) (closing_level op) f in
-        let first : reading.expr v (x ++ (symbol op ++ (y ++ rest))) ≡ reading.climb v a left.own (symbol op ++ (y ++ rest)) =
+          let found : operator_at (symbol op ++ (y ++ rest)) ≡ Some (op, y ++ rest) = operator_found op (y ++ rest) (other rest) in
+          let front : front_level (symbol op ++ (y ++ rest)) ≡ level op = table.front (y ++ rest) ∙ ap level_at found in
+          let least = left.least in
+          let low : front_level rest < right_level op = subst (λ n. front_level rest < n) (closing_level op) f in
+          let first : reading.expr v (x ++ (symbol op ++ (y ++ rest))) ≡ reading.climb v a left.own (symbol op ++ (y ++ rest)) =
           left.reads v (symbol op ++ (y ++ rest)) (omega arith) (let l = table.left left.own left.least left.most in omega arith) in
-        let second : reading.expr (right_level op) (y ++ rest) ≡ Some (b, rest) = operand_read (right_level op) right rest low in
-        rw shape (first ∙ goes_on v a left.own op (y ++ rest) (symbol op ++ (y ++ rest)) found (omega arith) left.least ∙ rw second refl);
+          let second : reading.expr (right_level op) (y ++ rest) ≡ Some (b, rest) = operand_read (right_level op) right rest low in
+          rw shape (first ∙ goes_on v a left.own op (y ++ rest) (symbol op ++ (y ++ rest)) found (omega arith) left.least ∙ rw second refl);
     }
 
 -- neither a comma nor a closing parenthesis is an operator
@@ -338,7 +338,7 @@ more_read : (text others : List ℕ) (t : Tree) (ts : Trees) → Reads 1 text t 
 unfolding items_at
 more_read text others t ts r rest e =
     rw (append_assoc text (44 ∷ others) (41 ∷ rest)) (reading_items (text ++ (44 ∷ (others ++ (41 ∷ rest))))
-      ∙ rw (sym (reading_expr 1 (text ++ (44 ∷ (others ++ (41 ∷ rest))))) ∙ operand_read 1 r (44 ∷ (others ++ (41 ∷ rest))) (ends_item 44 (others ++ (41 ∷ rest)) (inr refl)), e) refl)
+    ∙ rw (sym (reading_expr 1 (text ++ (44 ∷ (others ++ (41 ∷ rest))))) ∙ operand_read 1 r (44 ∷ (others ++ (41 ∷ rest))) (ends_item 44 (others ++ (41 ∷ rest)) (inr refl)), e) refl)
 
 -- a list is not empty
 not_called : {text : List ℕ} (name : List ℕ) (items : Trees) → is_call name items ≡ false → SpellsAll text items → function_named name ≡ None

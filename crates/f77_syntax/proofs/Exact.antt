@@ -127,4 +127,4 @@ pub out_first : (before : Option Group) (card : CardFields) (line : ℕ) (text :
     → (cards : List CardFields) → IsFirstFault before (card ∷ cards) fault
 out_first before card line text s fault g b h e f p same is no_place told cards =
     subst (λ z. IsFirstFault before (card ∷ cards) z) (sym (told ∙ ap (λ z. misplaced before z) e))
-      (IsFirstFault.out_of_place h (subst (λ z. IsAdmitted z s) f p) (ap (λ z. may_stand before z) (sym same) ∙ sym is ∙ no_place))
+    (IsFirstFault.out_of_place h (subst (λ z. IsAdmitted z s) f p) (ap (λ z. may_stand before z) (sym same) ∙ sym is ∙ no_place))

@@ -57,11 +57,11 @@ pub climbing_starts : (w : ℕ) (s : List ℕ) (left : Expr) (own : ℕ) (rest :
     → start_at reading w s ≡ Some a → tree_of left ≡ clip a.0 → own ≡ a.1 → rest ≡ a.2 → length rest < length s → Climbing w own left rest s
 unfolding expr_at
 climbing_starts w s left own rest a e same level_is rest_is short = record {
-    tree = a.0;
-    same = same;
-    reads = rw (level_is, rest_is) (sym (reading_expr w s ∙ rw e refl));
-    short = short;
-  }
+  tree = a.0;
+  same = same;
+  reads = rw (level_is, rest_is) (sym (reading_expr w s ∙ rw e refl));
+  short = short;
+}
 
 -- the operator that goes on
 climb_step : (w own : ℕ) (t : Tree) (op : Operator) (rest behind : List ℕ) → operator_at rest ≡ Some (op, behind) → (nat_le w (level op) && nat_le (left_level op) own) ≡ true
@@ -74,7 +74,7 @@ pub climb_fails : (w own : ℕ) (left : Expr) (op : Operator) (rest behind text 
     → Fails e (reading.expr (right_level op) behind) → Fails e (reading.expr w text)
 climb_fails w own left op rest behind text e k at h f =
     fails_along e _ (reading.expr w text) (sym (climb_step w own k.tree op rest behind at h) ∙ k.reads)
-      (fails_bind e (reading.expr (right_level op) behind) (λ z. reading.climb w (Tree.Binary op k.tree z.0) (level op) z.1) f)
+    (fails_bind e (reading.expr (right_level op) behind) (λ z. reading.climb w (Tree.Binary op k.tree z.0) (level op) z.1) f)
 
 pub climbing_goes_on : (w own : ℕ) (left : Expr) (op : Operator) (rest behind text after : List ℕ) (right : Expr) (a b : Box Expr Global) → Climbing w own left rest text
     → operator_at rest ≡ Some (op, behind) → (nat_le w (level op) && nat_le (left_level op) own) ≡ true
@@ -82,11 +82,11 @@ pub climbing_goes_on : (w own : ℕ) (left : Expr) (op : Operator) (rest behind 
     → a.value ≡ left → b.value ≡ right → length after < length text
     → Climbing w (level op) (views.Binary op a b) after text
 climbing_goes_on w own left op rest behind text after right a b k at h x e same_right end a_is b_is short = record {
-    tree = Tree.Binary op k.tree x.0;
-    same = binary_view op a b ∙ ap (λ z. Tree.Binary op (tree_of z) (tree_of b.value)) a_is ∙ ap (λ z. Tree.Binary op (tree_of left) (tree_of z)) b_is ∙ ap (λ z. Tree.Binary op z (tree_of right)) k.same ∙ ap (λ z. Tree.Binary op (clip k.tree) z) same_right;
-    reads = rw end (sym (climb_step w own k.tree op rest behind at h ∙ rw e refl) ∙ k.reads);
-    short = short;
-  }
+  tree = Tree.Binary op k.tree x.0;
+  same = binary_view op a b ∙ ap (λ z. Tree.Binary op (tree_of z) (tree_of b.value)) a_is ∙ ap (λ z. Tree.Binary op (tree_of left) (tree_of z)) b_is ∙ ap (λ z. Tree.Binary op z (tree_of right)) k.same ∙ ap (λ z. Tree.Binary op (clip k.tree) z) same_right;
+  reads = rw end (sym (climb_step w own k.tree op rest behind at h ∙ rw e refl) ∙ k.reads);
+  short = short;
+}
 
 -- no operator goes on
 climb_whole : (w own : ℕ) (t : Tree) (left : Expr) (rest text : List ℕ) → tree_of left ≡ clip t → reading.climb w t own rest ≡ reading.expr w text
@@ -198,6 +198,7 @@ last_at t (c ∷ s) h = step (c == 44) h
   where
     grown : Trees × List ℕ → Option (Trees × List ℕ)
     grown x = Some (Trees.Then t x.0, x.1)
+
     step : (b : Bool) → cond b (Some s) None ≡ None → cond b (reading.items s >>= grown) (Some (Trees.Then t Trees.None, c ∷ s)) ≡ Some (Trees.Then t Trees.None, c ∷ s)
     step true e = absurd (none-some s (sym e))
     step false e = refl
@@ -238,7 +239,7 @@ item_equation s = reading_items s ∙ rw (reading_expr 1 s) refl
 pub list_fails : (items : List Expr) (rest text : List ℕ) (e : ReadError) → Listing items rest text → Fails e (reading.expr 1 rest) → Fails e (reading.items text)
 list_fails items rest text e k h =
     fails_along e _ (reading.items text) k.reads (fails_bind e (reading.items rest) (λ x. Some (before k.front x.0, x.1))
-      (fails_along e _ (reading.items rest) (sym (item_equation rest)) (fails_bind e (reading.expr 1 rest) (λ x. more_at reading x.0 x.1) h)))
+    (fails_along e _ (reading.items rest) (sym (item_equation rest)) (fails_bind e (reading.expr 1 rest) (λ x. more_at reading x.0 x.1) h)))
 
 before_push : (front : List Tree) (t : Tree) (ts : Trees) → before (front ++ t ∷ []) ts ≡ before front (Trees.Then t ts)
 before_push [] t ts = refl
@@ -255,18 +256,21 @@ pushed items new item front t h k e =
 pub list_goes_on : (items new : List Expr) (item : Expr) (rest text after next : List ℕ) (x : Tree × List ℕ) → Listing items rest text
     → reading.expr 1 rest ≡ Some x → tree_of item ≡ clip x.0 → after ≡ x.1 → new ≡ items ++ item ∷ [] → after ≡ 44 ∷ next → length after < length rest → Listing new next text
 list_goes_on items new item rest text after next x k e same end added comma short = record {
-    front = k.front ++ x.0 ∷ [];
-    same = pushed items new item k.front x.0 k.same same added;
-    reads = step (reading.items next) refl ∙ k.reads;
-    short = let l = k.short in omega (arith, ap length comma);
-  }
+  front = k.front ++ x.0 ∷ [];
+  same = pushed items new item k.front x.0 k.same same added;
+  reads = step (reading.items next) refl ∙ k.reads;
+  short = let l = k.short in omega (arith, ap length comma);
+}
   where
     grown : Trees × List ℕ → Option (Trees × List ℕ)
     grown y = Some (Trees.Then x.0 y.0, y.1)
+
     known : reading.items rest ≡ (reading.items next >>= grown)
     known = item_equation rest ∙ rw (e, sym end ∙ comma) refl
+
     shown : List Tree → Trees × List ℕ → Option (Trees × List ℕ)
     shown front y = Some (before front y.0, y.1)
+
     step : (o : Option (Trees × List ℕ)) → reading.items next ≡ o → (o >>= shown (k.front ++ x.0 ∷ [])) ≡ (reading.items rest >>= shown k.front)
     step None h = rw (known, h) refl
     step (Some y) h = rw (known, h, before_push k.front x.0 y.0) refl
@@ -275,9 +279,11 @@ pub list_ends : (items new : List Expr) (item : Expr) (rest text after : List �
     → reading.expr 1 rest ≡ Some x → tree_of item ≡ clip x.0 → after ≡ x.1 → new ≡ items ++ item ∷ [] → more_at reading x.0 after ≡ Some (Trees.Then x.0 Trees.None, after)
     → (y : Trees × List ℕ) × (reading.items text ≡ Some y) × ((trees (map tree_of new) ≡ clip_all y.0) × (after ≡ y.1))
 list_ends items new item rest text after x k e same end added alone =
-    let known : reading.items rest ≡ Some (Trees.Then x.0 Trees.None, after) = item_equation rest ∙ rw (e, ← end) alone in
-    ((before (k.front ++ x.0 ∷ []) Trees.None, after), sym k.reads ∙ rw (known, before_push k.front x.0 Trees.None) refl,
-      (ap trees (pushed items new item k.front x.0 k.same same added) ∙ trees_before (k.front ++ x.0 ∷ []), refl))
+    let known : reading.items rest ≡ Some (Trees.Then x.0 Trees.None, after) = item_equation rest ∙ rw (e, ← end) alone in (
+      (before (k.front ++ x.0 ∷ []) Trees.None, after),
+      sym k.reads ∙ rw (known, before_push k.front x.0 Trees.None) refl,
+      (ap trees (pushed items new item k.front x.0 k.same same added) ∙ trees_before (k.front ++ x.0 ∷ []), refl),
+    )
 
 pub ends_list : (t : Tree) → more_at reading t [] ≡ Some (Trees.Then t Trees.None, [])
 ends_list t = refl

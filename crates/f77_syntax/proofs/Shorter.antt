@@ -69,6 +69,6 @@ pub record Shorter (R : Readers) : Type 0 where
 
 pub shorter : (R : Readers) → Sound R → Shorter R
 shorter R sound = record {
-    expr = λ w s x e. let f = sound.expr w s x e in omega (arith, ap length f.is, length-append f.text x.1, spelled_long f.spells);
-    items = λ s x e. let f = sound.items s x e in omega (arith, ap length f.is, length-append f.text x.1, all_long f.spells);
-  }
+  expr = λ w s x e. let f = sound.expr w s x e in omega (arith, ap length f.is, length-append f.text x.1, spelled_long f.spells);
+  items = λ s x e. let f = sound.items s x e in omega (arith, ap length f.is, length-append f.text x.1, all_long f.spells);
+}

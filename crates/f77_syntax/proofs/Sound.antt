@@ -57,6 +57,7 @@ operator_is s y e = among operators e
     choice : (op : Operator) (o : Option (List ℕ)) (other : Option (Operator × List ℕ)) → strip (symbol op) s ≡ o → (other ≡ Some y → s ≡ symbol y.0 ++ y.1) → or_operator op o other ≡ Some y → s ≡ symbol y.0 ++ y.1
     choice op None other at next e = next e
     choice op (Some r) other at next e = along (λ y. s ≡ symbol y.0 ++ y.1) (op, r) y e (strip_is (symbol op) s r at)
+
     among : (ops : List Operator) → first_operator ops s ≡ Some y → s ≡ symbol y.0 ++ y.1
     among [] e = absurd (none-some y e)
     among (op ∷ ops) e = choice op (strip (symbol op) s) (first_operator ops s) refl (among ops) e
@@ -137,42 +138,42 @@ module _ (R : Readers) (sound : Sound R) where
 
   named_at_is : (w : ℕ) (name r : List ℕ) (x : Tree × ℕ × List ℕ) → is_name name ≡ true → named_at R name r ≡ Some x → Starts w (name ++ r) x
   named_at_is w name [] x n e = along (Starts w (name ++ [])) (Tree.Reference name Trees.None, 9, []) x e (record {
-      text = name;
-      is = refl;
-      spells = Spells.reference refl (SpellsReference.scalar n);
-      own = Spells.reference refl (SpellsReference.scalar n);
-    })
+    text = name;
+    is = refl;
+    spells = Spells.reference refl (SpellsReference.scalar n);
+    own = Spells.reference refl (SpellsReference.scalar n);
+  })
   named_at_is w name (c ∷ r) x n e =
       elim (chosen (c == 40) (R.items r >>= λ y. closed (listed name y.0) y.1) (Some (Tree.Reference name Trees.None, 9, c ∷ r)) (Some x) e) [
-        inl p ↦
-          let (y, inner, end) = bind_ok (R.items r) (λ y. closed (listed name y.0) y.1) x p.1 in
-          let front = sound.items r y inner in
-          let (close, same, nine) = closed_is (listed name y.0) y.1 x end in
-          let open_is : c ≡ 40 = eqb-true c 40 p.0 in
-          let text : List ℕ = name ++ (40 ∷ (front.text ++ 41 ∷ [])) in
-          record {
-            text = text;
-            is = ap (λ z. name ++ (z ∷ r)) open_is ∙ ap (λ z. name ++ (40 ∷ z)) (front.is ∙ ap (λ z. front.text ++ z) close ∙ sym (append_assoc front.text (41 ∷ []) x.2)) ∙ sym (append_assoc name (40 ∷ (front.text ++ 41 ∷ [])) x.2);
-            spells = subst (λ t. Spells w text t) same (listed_is w name front.text y.0 n front.spells);
-            own = subst (λ t. Spells x.1 text t) same (listed_is x.1 name front.text y.0 n front.spells);
-          }
+        | inl p ↦
+            let (y, inner, end) = bind_ok (R.items r) (λ y. closed (listed name y.0) y.1) x p.1 in
+            let front = sound.items r y inner in
+            let (close, same, nine) = closed_is (listed name y.0) y.1 x end in
+            let open_is : c ≡ 40 = eqb-true c 40 p.0 in
+            let text : List ℕ = name ++ (40 ∷ (front.text ++ 41 ∷ [])) in
+            record {
+              text = text;
+              is = ap (λ z. name ++ (z ∷ r)) open_is ∙ ap (λ z. name ++ (40 ∷ z)) (front.is ∙ ap (λ z. front.text ++ z) close ∙ sym (append_assoc front.text (41 ∷ []) x.2)) ∙ sym (append_assoc name (40 ∷ (front.text ++ 41 ∷ [])) x.2);
+              spells = subst (λ t. Spells w text t) same (listed_is w name front.text y.0 n front.spells);
+              own = subst (λ t. Spells x.1 text t) same (listed_is x.1 name front.text y.0 n front.spells);
+            }
         | inr p ↦ along (Starts w (name ++ (c ∷ r))) (Tree.Reference name Trees.None, 9, c ∷ r) x p.1 (record {
-            text = name;
-            is = refl;
-            spells = Spells.reference refl (SpellsReference.scalar n);
-            own = Spells.reference refl (SpellsReference.scalar n);
-          })
+          text = name;
+          is = refl;
+          spells = Spells.reference refl (SpellsReference.scalar n);
+          own = Spells.reference refl (SpellsReference.scalar n);
+        })
       ]
 
   word_is : (w : ℕ) (name r : List ℕ) (x : Tree × ℕ × List ℕ) → word_at R name r ≡ Some x → Starts w (name ++ r) x
   word_is w name r x e =
       elim (chosen (is_number name) (Some (Tree.Number (digits_value 10 name), 9, r)) (cond (is_name name) (named_at R name r) None) (Some x) e) [
-        inl p ↦ along (Starts w (name ++ r)) (Tree.Number (digits_value 10 name), 9, r) x p.1 (record {
-            text = name;
-            is = refl;
-            spells = Spells.number p.0;
-            own = Spells.number p.0;
-          })
+        | inl p ↦ along (Starts w (name ++ r)) (Tree.Number (digits_value 10 name), 9, r) x p.1 (record {
+          text = name;
+          is = refl;
+          spells = Spells.number p.0;
+          own = Spells.number p.0;
+        })
         | inr p ↦ let (n, rest) = guarded (is_name name) (named_at R name r) x p.1 in named_at_is w name r x n rest
       ]
 
@@ -181,13 +182,13 @@ module _ (R : Readers) (sound : Sound R) where
   start_is w [] x e = absurd (none-some x e)
   start_is w (c ∷ s) x e =
       elim (chosen (c == 40) _ _ _ e) [
-        inl p ↦ subst (λ c. Starts w (c ∷ s) x) (sym (eqb-true c 40 p.0)) (group_is w s x p.1)
+        | inl p ↦ subst (λ c. Starts w (c ∷ s) x) (sym (eqb-true c 40 p.0)) (group_is w s x p.1)
         | inr p ↦ elim (chosen (c == 43) _ _ _ p.1) [
-          inl p ↦ subst (λ c. Starts w (c ∷ s) x) (sym (eqb-true c 43 p.0)) (signed_is w Plus s x p.1)
+          | inl p ↦ subst (λ c. Starts w (c ∷ s) x) (sym (eqb-true c 43 p.0)) (signed_is w Plus s x p.1)
           | inr p ↦ elim (chosen (c == 45) _ _ _ p.1) [
-            inl p ↦ subst (λ c. Starts w (c ∷ s) x) (sym (eqb-true c 45 p.0)) (signed_is w Minus s x p.1)
+            | inl p ↦ subst (λ c. Starts w (c ∷ s) x) (sym (eqb-true c 45 p.0)) (signed_is w Minus s x p.1)
             | inr p ↦ elim (chosen (c == 46) _ _ _ p.1) [
-              inl p ↦ dotted_is w (c ∷ s) x p.1
+              | inl p ↦ dotted_is w (c ∷ s) x p.1
               | inr p ↦ subst (λ z. Starts w z x) (sym (word_whole (c ∷ s))) (word_is w (word (c ∷ s)) (past_word (c ∷ s)) x p.1)
             ]
           ]
@@ -212,14 +213,14 @@ module _ (R : Readers) (sound : Sound R) where
       more_is text s t [] x is spells e = along (λ x. FrontsAll s x.0 x.1) (Trees.Then t Trees.None, []) x e (record { text = text; is = is; spells = SpellsAll.last spells })
       more_is text s t (c ∷ r) x is spells e =
           elim (chosen (c == 44) (R.items r >>= λ y. Some (Trees.Then t y.0, y.1)) (Some (Trees.Then t Trees.None, c ∷ r)) (Some x) e) [
-            inl p ↦
-              let (y, first, rest) = bind_ok (R.items r) (λ y. Some (Trees.Then t y.0, y.1)) x p.1 in
-              let others = sound.items r y first in
-              along (λ x. FrontsAll s x.0 x.1) (Trees.Then t y.0, y.1) x rest (record {
-                text = text ++ (44 ∷ others.text);
-                is = is ∙ ap (λ z. text ++ (z ∷ r)) (eqb-true c 44 p.0) ∙ ap (λ z. text ++ (44 ∷ z)) others.is ∙ sym (append_assoc text (44 ∷ others.text) y.1);
-                spells = SpellsAll.more spells others.spells;
-              })
+            | inl p ↦
+                let (y, first, rest) = bind_ok (R.items r) (λ y. Some (Trees.Then t y.0, y.1)) x p.1 in
+                let others = sound.items r y first in
+                along (λ x. FrontsAll s x.0 x.1) (Trees.Then t y.0, y.1) x rest (record {
+                  text = text ++ (44 ∷ others.text);
+                  is = is ∙ ap (λ z. text ++ (z ∷ r)) (eqb-true c 44 p.0) ∙ ap (λ z. text ++ (44 ∷ z)) others.is ∙ sym (append_assoc text (44 ∷ others.text) y.1);
+                  spells = SpellsAll.more spells others.spells;
+                })
             | inr p ↦ along (λ x. FrontsAll s x.0 x.1) (Trees.Then t Trees.None, c ∷ r) x p.1 (record { text = text; is = is; spells = SpellsAll.last spells })
           ]
 
@@ -231,15 +232,15 @@ module _ (R : Readers) (sound : Sound R) where
       step None at e = along (λ x. Fronts w (front ++ s) x.0 x.1) (t, s) x e (record { text = front; is = refl; spells = wanted })
       step (Some y) at e =
           elim (chosen (nat_le w (level y.0) && nat_le (left_level y.0) own) _ _ _ e) [
-            inl p ↦
-              let (z, right, rest) = bind_ok (R.expr (right_level y.0) y.1) (λ z. R.climb w (Tree.Binary y.0 t z.0) (level y.0) z.1) x p.1 in
-              let (low, high) = and_true (nat_le w (level y.0)) (nat_le (left_level y.0) own) p.0 in
-              let operand = sound.expr (right_level y.0) y.1 z right in
-              let left : Spells (left_level y.0) front t = weaken (left_level y.0) (leb-true (left_level y.0) own high) has in
-              let text : List ℕ = front ++ (symbol y.0 ++ operand.text) in
-              let is : front ++ s ≡ text ++ z.1 =
+            | inl p ↦
+                let (z, right, rest) = bind_ok (R.expr (right_level y.0) y.1) (λ z. R.climb w (Tree.Binary y.0 t z.0) (level y.0) z.1) x p.1 in
+                let (low, high) = and_true (nat_le w (level y.0)) (nat_le (left_level y.0) own) p.0 in
+                let operand = sound.expr (right_level y.0) y.1 z right in
+                let left : Spells (left_level y.0) front t = weaken (left_level y.0) (leb-true (left_level y.0) own high) has in
+                let text : List ℕ = front ++ (symbol y.0 ++ operand.text) in
+                let is : front ++ s ≡ text ++ z.1 =
                 ap (λ v. front ++ v) (operator_is s y at ∙ ap (λ v. symbol y.0 ++ v) operand.is ∙ sym (append_assoc (symbol y.0) operand.text z.1)) ∙ sym (append_assoc front (symbol y.0 ++ operand.text) z.1) in
-              subst (λ v. Fronts w v x.0 x.1) (sym is)
+                subst (λ v. Fronts w v x.0 x.1) (sym is)
                 (sound.climb w (Tree.Binary y.0 t z.0) (level y.0) text z.1 x (Spells.binary y.0 (leb-true w (level y.0) low) left operand.spells) (Spells.binary y.0 (omega arith) left operand.spells) rest)
             | inr p ↦ along (λ x. Fronts w (front ++ s) x.0 x.1) (t, s) x p.1 (record { text = front; is = refl; spells = wanted })
           ]
@@ -247,20 +248,20 @@ module _ (R : Readers) (sound : Sound R) where
 pub sound_within : (n : ℕ) → Sound (within n)
 unfolding within
 sound_within zero = record {
-    expr = λ w s x e. absurd (none-some x e);
-    climb = λ w t own front s x wanted has e. along (λ x. Fronts w (front ++ s) x.0 x.1) (t, s) x e (record { text = front; is = refl; spells = wanted });
-    items = λ s x e. absurd (none-some x e);
-  }
+  expr = λ w s x e. absurd (none-some x e);
+  climb = λ w t own front s x wanted has e. along (λ x. Fronts w (front ++ s) x.0 x.1) (t, s) x e (record { text = front; is = refl; spells = wanted });
+  items = λ s x e. absurd (none-some x e);
+}
 sound_within (suc n) = record {
-    expr = expr_is (within n) (sound_within n);
-    climb = climb_is (within n) (sound_within n);
-    items = items_is (within n) (sound_within n);
-  }
+  expr = expr_is (within n) (sound_within n);
+  climb = climb_is (within n) (sound_within n);
+  items = items_is (within n) (sound_within n);
+}
 
 pub sound_reading : Sound reading
 unfolding reading
 sound_reading = record {
-    expr = λ w s. (sound_within (length s)).expr w s;
-    climb = λ w t own front s. (sound_within (length s)).climb w t own front s;
-    items = λ s. (sound_within (length s)).items s;
-  }
+  expr = λ w s. (sound_within (length s)).expr w s;
+  climb = λ w t own front s. (sound_within (length s)).climb w t own front s;
+  items = λ s. (sound_within (length s)).items s;
+}

@@ -77,7 +77,7 @@ unfolding subroutine_at
 subroutine_of_read name names n all =
     let rest : List ℕ = 40 ∷ (join_with_byte 44 names ++ 41 ∷ []) in
     rw (word_front name (40 ∷ (join_with_byte 44 names ++ 41 ∷ [])) (name_words name n) refl, past_word_front name (40 ∷ (join_with_byte 44 names ++ 41 ∷ [])) (name_words name n) refl, n)
-      (rw (before_close_found (join_with_byte 44 names), names_read names all) refl)
+    (rw (before_close_found (join_with_byte 44 names), names_read names all) refl)
 
 -- a reference before an equals sign
 reference_read : {x name : List ℕ} {items : Trees} → SpellsReference x name items → (y : List ℕ) → reference_at (x ++ (61 ∷ y)) ≡ Some (name, items, 61 ∷ y)
@@ -86,9 +86,9 @@ reference_read (SpellsReference.scalar {name = name} n) y =
     rw (word_front name (61 ∷ y) (name_words name n) refl, past_word_front name (61 ∷ y) (name_words name n) refl, n) refl
 reference_read (SpellsReference.element {name = name} {text = text} {items = items} n l) y =
     let shape : (name ++ (40 ∷ (text ++ 41 ∷ []))) ++ (61 ∷ y) ≡ name ++ (40 ∷ (text ++ (41 ∷ (61 ∷ y)))) =
-        append_assoc name (40 ∷ (text ++ 41 ∷ [])) (61 ∷ y) ∙ ap (λ z. name ++ (40 ∷ z)) (append_assoc text (41 ∷ []) (61 ∷ y)) in
+    append_assoc name (40 ∷ (text ++ 41 ∷ [])) (61 ∷ y) ∙ ap (λ z. name ++ (40 ∷ z)) (append_assoc text (41 ∷ []) (61 ∷ y)) in
     rw (shape, word_front name (40 ∷ (text ++ (41 ∷ (61 ∷ y)))) (name_words name n) refl, past_word_front name (40 ∷ (text ++ (41 ∷ (61 ∷ y)))) (name_words name n) refl, n)
-      (rw (complete_all l (61 ∷ y)) refl)
+    (rw (complete_all l (61 ∷ y)) refl)
 
 or_true : (b : Bool) → (b || true) ≡ true
 or_true true = refl
@@ -104,8 +104,12 @@ pub statement_read : {s : List ℕ} {t : Statement} → SpellsStatement s t → 
 unfolding statement_at
 statement_read (SpellsStatement.subroutine {name = name} n) = rw (words_no_equals name (name_words name n)) (subroutine_read name n)
 statement_read (SpellsStatement.subroutine_of {name = name} names n all) =
-    rw (list_any-append is_equals name (40 ∷ (join_with_byte 44 names ++ 41 ∷ [])), words_no_equals name (name_words name n),
-        list_any-append is_equals (join_with_byte 44 names) (41 ∷ []), joined_no_equals names all) (subroutine_of_read name names n all)
+    rw (
+      list_any-append is_equals name (40 ∷ (join_with_byte 44 names ++ 41 ∷ [])),
+      words_no_equals name (name_words name n),
+      list_any-append is_equals (join_with_byte 44 names) (41 ∷ []),
+      joined_no_equals names all,
+    ) (subroutine_of_read name names n all)
 statement_read (SpellsStatement.assign r p) = assign_read r p
 statement_read SpellsStatement.end = refl
 

@@ -171,7 +171,7 @@ pub naming_goes_on : (names new : List (List ℕ)) (rest next text name : List �
 naming_goes_on names new rest next text name n h comma is added =
     let whole : rest ≡ word rest ++ 44 ∷ next = word_whole rest ∙ ap (λ z. word rest ++ z) (after_is 44 (past_word rest) next comma) in
     let cut : slice_split is_comma rest ≡ word rest ∷ slice_split is_comma next =
-        ap (slice_split is_comma) whole ∙ slice_split_at is_comma (word rest) 44 next (words_no_comma (word rest) (name_words (word rest) h)) refl in
+    ap (slice_split is_comma) whole ∙ slice_split_at is_comma (word rest) 44 next (words_no_comma (word rest) (name_words (word rest) h)) refl in
     record {
       split = n.split ∙ ap (λ z. names ++ z) cut ∙ sym (append_assoc names (word rest ∷ []) (slice_split is_comma next)) ∙ ap (λ z. z ++ slice_split is_comma next) (sym (added ∙ ap (λ z. names ++ z ∷ []) is));
       named = ap (list_all is_name) (added ∙ ap (λ z. names ++ z ∷ []) is) ∙ list_all-append is_name names (word rest ∷ []) ∙ rw (n.named, h) refl;
@@ -183,10 +183,10 @@ unfolding names_at
 naming_ends names new rest text name n some h none is added =
     let whole : rest ≡ word rest = word_whole rest ∙ ap (λ z. word rest ++ z) none ∙ append-nil (word rest) in
     let cut : slice_split is_comma rest ≡ word rest ∷ [] =
-        ap (slice_split is_comma) whole ∙ slice_split_none is_comma (word rest) (words_no_comma (word rest) (name_words (word rest) h)) in
+    ap (slice_split is_comma) whole ∙ slice_split_none is_comma (word rest) (words_no_comma (word rest) (name_words (word rest) h)) in
     let all : slice_split is_comma text ≡ new = n.split ∙ ap (λ z. names ++ z) cut ∙ sym (added ∙ ap (λ z. names ++ z ∷ []) is) in
     let named : list_all is_name new ≡ true =
-        ap (list_all is_name) (added ∙ ap (λ z. names ++ z ∷ []) is) ∙ list_all-append is_name names (word rest ∷ []) ∙ rw (n.named, h) refl in
+    ap (list_all is_name) (added ∙ ap (λ z. names ++ z ∷ []) is) ∙ list_all-append is_name names (word rest ∷ []) ∙ rw (n.named, h) refl in
     rw (some, all, named) refl
 
 pub names_empty : (text : List ℕ) → (length text == 0) ≡ true → names_at text ≡ Some []

@@ -39,18 +39,18 @@ reference_behind_is : (name r : List ℕ) (x : List ℕ × Trees × List ℕ) �
 reference_behind_is name [] x n e = along (FrontsReference (name ++ [])) (name, Trees.None, []) x e (record { text = name; is = refl; spells = SpellsReference.scalar n })
 reference_behind_is name (c ∷ r) x n e =
     elim (chosen (c == 40) (reading.items r >>= λ y. close_at y.1 >>= λ z. Some (name, y.0, z)) (Some (name, Trees.None, c ∷ r)) (Some x) e) [
-      inl p ↦
-        let (y, inner, more) = bind_ok (reading.items r) (λ y. close_at y.1 >>= λ z. Some (name, y.0, z)) x p.1 in
-        let (z, close, end) = bind_ok (close_at y.1) (λ z. Some (name, y.0, z)) x more in
-        let front = sound_reading.items r y inner in
-        let open_is : c ≡ 40 = eqb-true c 40 p.0 in
-        along (FrontsReference (name ++ (c ∷ r))) (name, y.0, z) x end (record {
-          text = name ++ (40 ∷ (front.text ++ 41 ∷ []));
-          is = ap (λ v. name ++ (v ∷ r)) open_is
-              ∙ ap (λ v. name ++ (40 ∷ v)) (front.is ∙ ap (λ v. front.text ++ v) (close_is y.1 z close) ∙ sym (append_assoc front.text (41 ∷ []) z))
-              ∙ sym (append_assoc name (40 ∷ (front.text ++ 41 ∷ [])) z);
-          spells = SpellsReference.element n front.spells;
-        })
+      | inl p ↦
+          let (y, inner, more) = bind_ok (reading.items r) (λ y. close_at y.1 >>= λ z. Some (name, y.0, z)) x p.1 in
+          let (z, close, end) = bind_ok (close_at y.1) (λ z. Some (name, y.0, z)) x more in
+          let front = sound_reading.items r y inner in
+          let open_is : c ≡ 40 = eqb-true c 40 p.0 in
+          along (FrontsReference (name ++ (c ∷ r))) (name, y.0, z) x end (record {
+            text = name ++ (40 ∷ (front.text ++ 41 ∷ []));
+            is = ap (λ v. name ++ (v ∷ r)) open_is
+                ∙ ap (λ v. name ++ (40 ∷ v)) (front.is ∙ ap (λ v. front.text ++ v) (close_is y.1 z close) ∙ sym (append_assoc front.text (41 ∷ []) z))
+                ∙ sym (append_assoc name (40 ∷ (front.text ++ 41 ∷ [])) z);
+            spells = SpellsReference.element n front.spells;
+          })
       | inr p ↦ along (FrontsReference (name ++ (c ∷ r))) (name, Trees.None, c ∷ r) x p.1 (record { text = name; is = refl; spells = SpellsReference.scalar n })
     ]
 
@@ -91,10 +91,10 @@ pub names_is : (s : List ℕ) (names : List (List ℕ)) → names_at s ≡ Some 
 unfolding names_at
 names_is s names e =
     elim (chosen (length s == 0) (Some []) (cond (list_all is_name (slice_split is_comma s)) (Some (slice_split is_comma s)) None) (Some names) e) [
-      inl p ↦ let none : s ≡ [] = nil_from_length s (eqb-true (length s) 0 p.0) in along (λ ns. (s ≡ join_with_byte 44 ns) × (list_all is_name ns ≡ true)) [] names p.1 (none, refl)
+      | inl p ↦ let none : s ≡ [] = nil_from_length s (eqb-true (length s) 0 p.0) in along (λ ns. (s ≡ join_with_byte 44 ns) × (list_all is_name ns ≡ true)) [] names p.1 (none, refl)
       | inr p ↦
-        let (all, found) = guarded (list_all is_name (slice_split is_comma s)) (Some (slice_split is_comma s)) names p.1 in
-        along (λ ns. (s ≡ join_with_byte 44 ns) × (list_all is_name ns ≡ true)) (slice_split is_comma s) names found (sym (join_with_byte-slice_split 44 s), all)
+          let (all, found) = guarded (list_all is_name (slice_split is_comma s)) (Some (slice_split is_comma s)) names p.1 in
+          along (λ ns. (s ≡ join_with_byte 44 ns) × (list_all is_name ns ≡ true)) (slice_split is_comma s) names found (sym (join_with_byte-slice_split 44 s), all)
     ]
 
 arguments_is : (name r : List ℕ) (t : Statement) → is_name name ≡ true → arguments_at name r ≡ Some t → SpellsStatement (codes "SUBROUTINE" ++ (name ++ r)) t
@@ -112,7 +112,7 @@ pub statement_is : (s : List ℕ) (t : Statement) → statement_at s ≡ Some t 
 unfolding statement_at subroutine_at
 statement_is s t e =
     elim (chosen (list_any is_equals s) (assign_at s) (keyword_by s (strip (codes "SUBROUTINE") s)) (Some t) e) [
-      inl p ↦ assign_is s t p.1
+      | inl p ↦ assign_is s t p.1
       | inr p ↦ by_keyword (strip (codes "SUBROUTINE") s) refl p.1
     ]
   where

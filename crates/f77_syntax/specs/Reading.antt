@@ -145,7 +145,7 @@ within (suc n) = record { expr = expr_at (within n); climb = climb_at (within n)
 -- what is read by as many calls as are needed
 unfoldable pub reading : Readers
 reading = record {
-    expr = λ w s. (within (length s)).expr w s;
-    climb = λ w t own s. (within (length s)).climb w t own s;
-    items = λ s. (within (length s)).items s;
-  }
+  expr = λ w s. (within (length s)).expr w s;
+  climb = λ w t own s. (within (length s)).climb w t own s;
+  items = λ s. (within (length s)).items s;
+}

@@ -8,12 +8,10 @@ ghost use Rattle.f77_syntax.specs.Tree.{Tree, Statement};
 #[tactic(auto, using(crate::proofs::Complete::one_tree))]
 pub fn one_tree()
     ensures { (text : List ℕ) (t u : Tree) → Spells 1 text t → Spells 1 text u → t ≡ u }
-{
-}
+{}
 
 /// A text spells one statement at most, though no word is reserved (ANSI X3.9-1978, 2.3).
 #[tactic(auto, using(crate::proofs::StatementComplete::one_statement))]
 pub fn one_statement()
     ensures { (text : List ℕ) (s t : Statement) → SpellsStatement text s → SpellsStatement text t → s ≡ t }
-{
-}
+{}

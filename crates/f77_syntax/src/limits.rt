@@ -10,17 +10,15 @@ use crate::name::Name;
 use crate::tree::{Expr, Stmt};
 
 const MOST_OPEN: usize = 40;
+
 const LONGEST_NAME: usize = 6;
+
 const LARGEST: u32 = 2_147_483_647;
 
 fn one_if(holds: bool) -> usize
     ensures { result ≡ if holds then 1 else 0 }
 {
-    if holds {
-        1
-    } else {
-        0
-    }
+    if holds { 1 } else { 0 }
 }
 
 /// Whether some beginning of the text opens over 40 parentheses more than it closes.
@@ -149,7 +147,8 @@ pub(crate) fn statement_constants(stmt: &Stmt) -> bool
     ensures { result ≡ limits.statement_constants (statement_of stmt.now) }
 {
     match stmt {
-        Stmt::Assign { target, value } => all_small_constants(&target.subscripts) && small_constants(value),
+        Stmt::Assign { target, value } => all_small_constants(&target.subscripts)
+            && small_constants(value),
         Stmt::Subroutine { .. } | Stmt::End => true,
     }
 }
@@ -159,9 +158,14 @@ pub(crate) fn statement_nodes(stmt: &Stmt) -> u32
     ensures { result ≡ min (limits.statement_nodes (statement_of stmt.now)) 4294967295 }
 {
     match stmt {
-        Stmt::Subroutine { arguments, .. } => u32::try_from(arguments.len()).unwrap_or(u32::MAX).saturating_add(1),
+        Stmt::Subroutine { arguments, .. } => u32::try_from(arguments.len())
+            .unwrap_or(u32::MAX)
+            .saturating_add(1),
         Stmt::Assign { target, value } => {
-            all_nodes(&target.subscripts).saturating_add(1).saturating_add(nodes(value)).saturating_add(1)
+            all_nodes(&target.subscripts)
+                .saturating_add(1)
+                .saturating_add(nodes(value))
+                .saturating_add(1)
         }
         Stmt::End => 1,
     }

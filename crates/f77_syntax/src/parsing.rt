@@ -19,15 +19,14 @@ use f77_source::Card;
 use std::alloc::Global;
 
 const MOST_CHARACTERS: usize = 1320;
+
 const MOST_NODES: u32 = 200;
 
 /// The statement that a text spells.
 fn spelled(alloc: Global, line: u32, text: &[u8]) -> Result<Stmt, SyntaxFault>
-    ensures {
-        MatchResult result
-            (λ stmt. (s : Statement) × SpellsStatement text.now s × (statement_of stmt ≡ clip_statement s))
-            (λ fault. (fault ≡ SyntaxFault.Memory) ⊎ ((fault ≡ SyntaxFault.Unknown line) × ((s : Statement) → ¬ (SpellsStatement text.now s))))
-    }
+    ensures { MatchResult result
+        (λ stmt. (s : Statement) × SpellsStatement text.now s × (statement_of stmt ≡ clip_statement s))
+        (λ fault. (fault ≡ SyntaxFault.Memory) ⊎ ((fault ≡ SyntaxFault.Unknown line) × ((s : Statement) → ¬ (SpellsStatement text.now s)))) }
 {
     match statement(alloc, text) {
         Ok(stmt) => Ok(stmt),
@@ -38,11 +37,9 @@ fn spelled(alloc: Global, line: u32, text: &[u8]) -> Result<Stmt, SyntaxFault>
 
 /// The statement that a text spells within the limits.
 pub(crate) fn admitted(alloc: Global, line: u32, text: &[u8]) -> Result<Stmt, SyntaxFault>
-    ensures {
-        MatchResult result
-            (λ stmt. IsAdmitted text.now (statement_of stmt))
-            (λ fault. (fault ≡ SyntaxFault.Memory) ⊎ IsRefused line text.now fault)
-    }
+    ensures { MatchResult result
+        (λ stmt. IsAdmitted text.now (statement_of stmt))
+        (λ fault. (fault ≡ SyntaxFault.Memory) ⊎ IsRefused line text.now fault) }
 {
     if text.len() > MOST_CHARACTERS {
         return Err(SyntaxFault::TooLong(line));
@@ -81,11 +78,9 @@ fn misplaced(before: Option<Group>, line: u32) -> SyntaxFault
 
 /// The statement of a card that stands behind a statement of this group, or first.
 fn in_place(alloc: Global, before: Option<Group>, card: &Card) -> Result<Stmt, SyntaxFault>
-    ensures {
-        MatchResult result
-            (λ stmt. IsAdmitted card.now.text (statement_of stmt) × (may_stand before (group_of (statement_of stmt)) ≡ true))
-            (λ fault. (fault ≡ SyntaxFault.Memory) ⊎ ((cards : List CardFields) → IsFirstFault before (card.now ∷ cards) fault))
-    }
+    ensures { MatchResult result
+        (λ stmt. IsAdmitted card.now.text (statement_of stmt) × (may_stand before (group_of (statement_of stmt)) ≡ true))
+        (λ fault. (fault ≡ SyntaxFault.Memory) ⊎ ((cards : List CardFields) → IsFirstFault before (card.now ∷ cards) fault)) }
 {
     if is_end(before) {
         return Err(SyntaxFault::AfterEnd(card.line()));
@@ -100,11 +95,9 @@ fn in_place(alloc: Global, before: Option<Group>, card: &Card) -> Result<Stmt, S
 /// The program of these cards, where the last statement is of this group.
 fn finished(lines: Vec<Line>, last: Option<Group>) -> Result<Program, SyntaxFault>
     requires { last ≡ Some End → IsProgram None (map line_of lines.items) }
-    ensures {
-        MatchResult result
-            (λ program. (program ≡ lines.items) × (last ≡ Some End))
-            (λ fault. (last ≢ Some End) × (fault ≡ unfinished last))
-    }
+    ensures { MatchResult result
+        (λ program. (program ≡ lines.items) × (last ≡ Some End))
+        (λ fault. (last ≢ Some End) × (fault ≡ unfinished last)) }
 {
     match last {
         Some(Group::End) => Ok(Program::from_lines(lines)),
@@ -133,7 +126,11 @@ pub fn parse(alloc: Global, cards: &[Card]) -> Result<Program, SyntaxFault>
     for card in cards {
         let stmt = in_place(alloc, last, card)?;
         last = Some(stmt.group());
-        lines.push(Line { label: card.label(), stmt, line: card.line() })?;
+        lines.push(Line {
+            label: card.label(),
+            stmt,
+            line: card.line(),
+        })?;
     }
     finished(lines, last)
 }

@@ -96,7 +96,12 @@ fn list(alloc: Global, out: &mut Vec<u8>, items: &[Expr]) -> Result<(), AllocErr
 
 /// Writes expressions, this character before the first and a comma before each other.
 #[cycle(printer)]
-fn separated(alloc: Global, out: &mut Vec<u8>, opening: u8, items: &[Expr]) -> Result<(), AllocError>
+fn separated(
+    alloc: Global,
+    out: &mut Vec<u8>,
+    opening: u8,
+    items: &[Expr],
+) -> Result<(), AllocError>
     ensures { OnOk result (out.new.items ≡ out.old.items ++ canonical.rest_text opening (trees (map tree_of items.now))) }
 {
     let mut before = opening;

@@ -99,7 +99,10 @@ pub(crate) fn number(digits: &[u8]) -> u32
 {
     let mut n: u32 = 0;
     for c in digits {
-        n = n.saturating_mul(10).saturating_add(u32::from(*c - b'0')).min(2147483648);
+        n = n
+            .saturating_mul(10)
+            .saturating_add(u32::from(*c - b'0'))
+            .min(2147483648);
     }
     n
 }

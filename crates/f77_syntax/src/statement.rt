@@ -3,7 +3,13 @@
 ghost use Rattle.std.specs.Prelude.{◌≡◌, length, option_map};
 ghost use Rattle.std.specs.List.{list_any};
 ghost use Rattle.f77_syntax.specs.Statement.{
-    is_equals, reference_at, assign_at, names_at, before_close, subroutine_at, statement_at,
+  is_equals,
+  reference_at,
+  assign_at,
+  names_at,
+  before_close,
+  subroutine_at,
+  statement_at,
 };
 ghost use Rattle.f77_syntax.specs.View.{Gives, IsStatement, IsReference, AreNames};
 

@@ -33,7 +33,13 @@ fn write_expression(rt: &impl AllocGlobal, text: &mut String, value: &Expr) -> R
 }
 
 /// Text before, this text so many times, text behind.
-fn repeated(rt: &impl AllocGlobal, front: &str, times: usize, part: &str, back: &str) -> Result<String, Fail> {
+fn repeated(
+    rt: &impl AllocGlobal,
+    front: &str,
+    times: usize,
+    part: &str,
+    back: &str,
+) -> Result<String, Fail> {
     let mut text = String::from_str(rt.alloc(), front)?;
     for _ in 0..times {
         text.push_str(part)?;
@@ -126,16 +132,24 @@ fn tells_the_first_fault(rt: HostRuntime) -> Result<(), Fail> {
         ("      SUBROUTINE A\n", "NoEnd"),
         ("      SUBROUTINE A\n      K=1\n", "NoEnd"),
         ("      SUBROUTINE A\n      END\n      K=\n", "AfterEnd(3)"),
-        ("      SUBROUTINE A\n      K=\n      END\n      END\n", "Unknown(2)"),
+        (
+            "      SUBROUTINE A\n      K=\n      END\n      END\n",
+            "Unknown(2)",
+        ),
         ("      SUBROUTINE A(I\n      END\n", "Unknown(1)"),
         ("      SUBROUTINE ABCDEFG\n      END\n", "BadName(1)"),
-        ("      subroutine a ( i , j )\n      k = i\n      end\n", "3"),
+        (
+            "      subroutine a ( i , j )\n      k = i\n      end\n",
+            "3",
+        ),
     ] {
         let mut text = String::new(alloc);
         if let Ok(cards) = read_form(alloc, source.as_bytes()) {
             match parse(alloc, &cards) {
                 Ok(program) => {
-                    let lines = (1..=cards.len()).filter(|number| program.line(*number).is_some()).count();
+                    let lines = (1..=cards.len())
+                        .filter(|number| program.line(*number).is_some())
+                        .count();
                     write!(text, "{lines}")?;
                 }
                 Err(fault) => write!(text, "{fault:?}")?,

@@ -41,7 +41,7 @@ expression-loop-op-preserved t c =
     let fall = c.in-Some.ensures.shorter in
     let fall_on = c.in_ok-right.ensures.shorter in
     rw c.level-own.ensures (climbing_goes_on c.args.wanted c.loop-op.own c.loop-op.left c.in-Some.op c.loop-op.rest.now c.in-Some.behind.now c.args.text.now c.in_ok-right.after.now c.in_ok-right.right _ _ c.loop-op.invariant (sym c.in-Some.ensures.found) yes
-      g.0 (rw c.right_level.ensures at g.1) g.2.0 g.2.1 c.in_ok-new.ensures.ok c.in_ok-new-2.ensures.ok (omega arith))
+    g.0 (rw c.right_level.ensures at g.1) g.2.0 g.2.1 c.in_ok-new.ensures.ok c.in_ok-new-2.ensures.ok (omega arith))
 
 pub group-returns : goal.group-returns
 group-returns t c =
@@ -67,7 +67,7 @@ negated-returns t c =
 pub operand-returns-then-is_number : goal.operand-returns-then-is_number
 operand-returns-then-is_number t c =
     rw (← c.split_word.ensures.front, ← c.split_word.ensures.back)
-      (number_whole c.split_word.result.0.now c.split_word.result.1.now c.number.result (cc) (rw c.number.ensures refl))
+    (number_whole c.split_word.result.0.now c.split_word.result.1.now c.number.result (cc) (rw c.number.ensures refl))
 
 pub start-returns-in_default-clause-found : goal.start-returns-in_default-clause-found
 start-returns-in_default-clause-found t c = start_none c.args.wanted c.args.text.now c.in_default.ensures.cases
@@ -116,8 +116,8 @@ start-returns-in_default-first-clause-found t c =
     let no_minus : (c.in-Some.first.now == 45) ≡ false = grind (arith, nat_tests) in
     let no_dot : (c.in-Some.first.now == 46) ≡ false = grind (arith, nat_tests) in
     start_along c.args.wanted c.args.text.now c.operand.result _
-      (ap (start_at reading c.args.wanted) p ∙ start_word c.args.wanted c.in-Some.first.now c.in-Some.behind.now no_group no_plus no_minus no_dot)
-      (rw p at c.operand.ensures)
+    (ap (start_at reading c.args.wanted) p ∙ start_word c.args.wanted c.in-Some.first.now c.in-Some.behind.now no_group no_plus no_minus no_dot)
+    (rw p at c.operand.ensures)
 
 pub start-returns-in_default-first-clause-shorter : goal.start-returns-in_default-first-clause-shorter
 start-returns-in_default-first-clause-shorter t c = start_shorter c.args.wanted c.args.text.now c.operand.result (start-returns-in_default-first-clause-found t c)
@@ -125,7 +125,7 @@ start-returns-in_default-first-clause-shorter t c = start_shorter c.args.wanted 
 pub operand-returns-in_default : goal.operand-returns-in_default
 operand-returns-in_default t c =
     rw (← c.split_word.ensures.front, ← c.split_word.ensures.back)
-      (scalar_whole c.split_word.result.0.now c.split_word.result.1.now _ (cc) (cc) (alone_at c.split_word.result.0.now c.split_word.result.1.now (sym c.in_default.ensures)) c.in_ok-name.ensures c.new-subscripts.ensures.items)
+    (scalar_whole c.split_word.result.0.now c.split_word.result.1.now _ (cc) (cc) (alone_at c.split_word.result.0.now c.split_word.result.1.now (sym c.in_default.ensures)) c.in_ok-name.ensures c.new-subscripts.ensures.items)
 
 pub operand-returns : goal.operand-returns
 operand-returns t c =
@@ -133,7 +133,7 @@ operand-returns t c =
     let h = c.in_ok-rest.ensures in
     let e : c.split_word.result.1.now ≡ 40 ∷ c.in-Some.inner.now = after_is 40 c.split_word.result.1.now c.in-Some.inner.now (sym c.in-Some.ensures) in
     rw (← c.split_word.ensures.front, ← c.split_word.ensures.back, e)
-      (listed_whole c.split_word.result.0.now c.in-Some.inner.now c.in_ok-items.after.now c.in_ok-rest.rest.now _ _ g.0 (cc) (cc) g.1 g.2.0 g.2.1 (h.1 ∙ ap Some (sym h.2)) c.in_ok-with_list.ensures)
+    (listed_whole c.split_word.result.0.now c.in-Some.inner.now c.in_ok-items.after.now c.in_ok-rest.rest.now _ _ g.0 (cc) (cc) g.1 g.2.0 g.2.1 (h.1 ∙ ap Some (sym h.2)) c.in_ok-with_list.ensures)
 
 pub list-returns-in_default : goal.list-returns-in_default
 list-returns-in_default t c =
@@ -154,4 +154,4 @@ pub dotted-returns-in-Some-strip_prefix : goal.dotted-returns-in-Some-strip_pref
 dotted-returns-in-Some-strip_prefix t c =
     let p = c.in-Some-strip_prefix.ensures.cases in
     false_whole c.args.wanted c.args.text.now c.in-Some-strip_prefix.rest.now (strip_other (codes ".TRUE.") c.args.text.now c.in_default.ensures.cases)
-      (strip_same (codes ".FALSE.") c.args.text.now p.0 ∙ ap Some (sym p.1))
+    (strip_same (codes ".FALSE.") c.args.text.now p.0 ∙ ap Some (sym p.1))

@@ -26,8 +26,6 @@ decreases-dotted l = 8 * length l.text.now + 4
 abbrev pub decreases-operand : goal.decreases-operand
 decreases-operand l = 8 * length l.text.now + 4
 
-
-
 abbrev pub invariant-list-loop-items : goal.invariant-list-loop-items
 invariant-list-loop-items l = Listing l.items.items l.rest l.text
 

@@ -9,5 +9,5 @@ abbrev pub invariant-all_nodes-loop-item : goal.invariant-all_nodes-loop-item
 invariant-all_nodes-loop-item l = record {
   kept : l.sum ≤ 4294967295;
   counted : min (all_nodes (trees (map tree_of l.items))) 4294967295
-    ≡ min (l.sum + all_nodes (trees (map tree_of (drop l.item-index l.items)))) 4294967295;
+      ≡ min (l.sum + all_nodes (trees (map tree_of (drop l.item-index l.items)))) 4294967295;
 }

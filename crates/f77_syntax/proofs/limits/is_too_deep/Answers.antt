@@ -20,5 +20,5 @@ loop-c-preserved c =
       opened = o;
       closed = d;
       few = few_step _ c.loop-c.opened c.loop-c.closed c.loop-c.c-index c.one_if-opened.result c.one_if-closed.result c.loop-c.invariant.few c.one_if-opened.ensures c.one_if-closed.ensures;
-      flat = flat_step c.args.text.now c.loop-c.c-index c.loop-c.invariant.flat (rw (sym o) (rw (sym d) c.if-opened-closed.false))
+      flat = flat_step c.args.text.now c.loop-c.c-index c.loop-c.invariant.flat (rw (sym o) (rw (sym d) c.if-opened-closed.false));
     }

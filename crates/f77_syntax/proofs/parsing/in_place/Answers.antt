@@ -17,9 +17,10 @@ returns-in_err-stmt c =
 pub returns-then-not-may_stand : goal.returns-then-not-may_stand
 returns-then-not-may_stand c =
     inr (out_first c.args.before c.args.card.now c.line-then-not-may_stand.result c.as_bytes.result.now (statement_of c.in_ok-stmt.stmt) c.misplaced.result c.group.result c.may_stand.result
-      (c.is_end.ensures.no c.if-is_end.false) c.line-then-not-may_stand.ensures (c.as_bytes.ensures.value ∙ c.text.ensures) c.in_ok-stmt.ensures c.group.ensures c.may_stand.ensures c.if-not-may_stand.true c.misplaced.ensures)
+    (c.is_end.ensures.no c.if-is_end.false) c.line-then-not-may_stand.ensures (c.as_bytes.ensures.value ∙ c.text.ensures) c.in_ok-stmt.ensures c.group.ensures c.may_stand.ensures c.if-not-may_stand.true c.misplaced.ensures)
 
 pub returns : goal.returns
-returns c =
-    (subst (λ z. IsAdmitted z (statement_of c.in_ok-stmt.stmt)) (c.as_bytes.ensures.value ∙ c.text.ensures) c.in_ok-stmt.ensures,
-     ap (λ z. may_stand c.args.before z) (sym c.group.ensures) ∙ sym c.may_stand.ensures ∙ c.if-not-may_stand.false)
+returns c = (
+  subst (λ z. IsAdmitted z (statement_of c.in_ok-stmt.stmt)) (c.as_bytes.ensures.value ∙ c.text.ensures) c.in_ok-stmt.ensures,
+  ap (λ z. may_stand c.args.before z) (sym c.group.ensures) ∙ sym c.may_stand.ensures ∙ c.if-not-may_stand.false,
+)

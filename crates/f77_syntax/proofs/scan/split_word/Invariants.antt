@@ -4,6 +4,6 @@ use Rattle.f77_syntax.proofs.scan.split_word.Given as goal
 
 abbrev pub invariant-loop-i : goal.invariant-loop-i
 invariant-loop-i l = record {
-    front : word l.text ≡ take l.i l.text ++ word (drop l.i l.text);
-    back : past_word l.text ≡ past_word (drop l.i l.text);
-  }
+  front : word l.text ≡ take l.i l.text ++ word (drop l.i l.text);
+  back : past_word l.text ≡ past_word (drop l.i l.text);
+}

@@ -33,4 +33,4 @@ returns c =
     let h = c.in_ok-value.ensures.found in
     let none : (length c.in_ok-value.end.now == 0) ≡ true = cc in
     assign_whole c.args.text.now c.in_ok-target.behind.now c.in-Some.rest.now c.in_ok-value.end.now g.0 h.0 c.in_ok-target.target c.in_ok-value.value
-      g.1 g.2.0 g.2.1 g.2.2 (sym c.in-Some.ensures) h.1 h.2.0 h.2.1 none
+    g.1 g.2.0 g.2.1 g.2.2 (sym c.in-Some.ensures) h.1 h.2.0 h.2.1 none

@@ -18,14 +18,14 @@ returns-in_default c =
     let n : is_name c.split_word.result.0.now ≡ true = cc in
     let alone = ap (after 40) (sym c.split_word.ensures.back) ∙ sym c.in_default.ensures in
     reference_whole c.args.text.now _ _ _ (reference_scalar c.args.text.now (ap is_name (sym c.split_word.ensures.front) ∙ n) alone)
-      (c.in_ok-name.ensures ∙ c.split_word.ensures.front) (ap (λ (items : List Expr). trees (map tree_of items)) c.new-subscripts.ensures.items) c.split_word.ensures.back
+    (c.in_ok-name.ensures ∙ c.split_word.ensures.front) (ap (λ (items : List Expr). trees (map tree_of items)) c.new-subscripts.ensures.items) c.split_word.ensures.back
 
 pub returns-in_err-subscripts : goal.returns-in_err-subscripts
 returns-in_err-subscripts c =
     let p = err_from_is_err_and c.from_residual-in_err-subscripts.result c.from_residual-in_err-subscripts.ensures.1 in
     let n : is_name c.split_word.result.0.now ≡ true = cc in
     rw (p.1, p.2) (reference_fails_items c.args.text.now c.in-Some.inner.now _ (ap is_name (sym c.split_word.ensures.front) ∙ n)
-      (ap (after 40) (sym c.split_word.ensures.back) ∙ sym c.in-Some.ensures) c.in_err-subscripts.ensures)
+    (ap (after 40) (sym c.split_word.ensures.back) ∙ sym c.in-Some.ensures) c.in_err-subscripts.ensures)
 
 pub returns-in_err-rest : goal.returns-in_err-rest
 returns-in_err-rest c =
@@ -33,7 +33,7 @@ returns-in_err-rest c =
     let n : is_name c.split_word.result.0.now ≡ true = cc in
     let g = c.in_ok-subscripts.ensures in
     rw (p.1, p.2) (reference_fails_close c.args.text.now c.in-Some.inner.now c.in_ok-subscripts.after.now g.0 _ (ap is_name (sym c.split_word.ensures.front) ∙ n)
-      (ap (after 40) (sym c.split_word.ensures.back) ∙ sym c.in-Some.ensures) g.1 g.2.1 c.in_err-rest.ensures)
+    (ap (after 40) (sym c.split_word.ensures.back) ∙ sym c.in-Some.ensures) g.1 g.2.1 c.in_err-rest.ensures)
 
 pub returns : goal.returns
 returns c =
@@ -41,5 +41,5 @@ returns c =
     let g = c.in_ok-subscripts.ensures in
     let h = c.in_ok-rest.ensures in
     reference_whole c.args.text.now _ _ _ (reference_element c.args.text.now c.in-Some.inner.now c.in_ok-subscripts.after.now c.in_ok-rest.rest.now g.0 (ap is_name (sym c.split_word.ensures.front) ∙ n)
-        (ap (after 40) (sym c.split_word.ensures.back) ∙ sym c.in-Some.ensures) g.1 g.2.1 (h.1 ∙ ap Some (sym h.2)))
-      (c.in_ok-name.ensures ∙ c.split_word.ensures.front) g.2.0 refl
+    (ap (after 40) (sym c.split_word.ensures.back) ∙ sym c.in-Some.ensures) g.1 g.2.1 (h.1 ∙ ap Some (sym h.2)))
+    (c.in_ok-name.ensures ∙ c.split_word.ensures.front) g.2.0 refl

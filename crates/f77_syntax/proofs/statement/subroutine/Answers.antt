@@ -18,7 +18,7 @@ returns-then-is_empty c =
     let none : (length c.split_word.result.1.now == 0) ≡ true = cc in
     let empty = nil_from_length c.split_word.result.1.now (eqb-true (length c.split_word.result.1.now) 0 none) in
     subroutine_bare c.args.text.now _ (ap is_name (sym c.split_word.ensures.front) ∙ n) (sym c.split_word.ensures.back ∙ empty)
-      (c.in_ok-name.ensures ∙ c.split_word.ensures.front) _ c.new-arguments.ensures.items
+    (c.in_ok-name.ensures ∙ c.split_word.ensures.front) _ c.new-arguments.ensures.items
 
 pub returns-in_default : goal.returns-in_default
 returns-in_default c =
@@ -30,18 +30,18 @@ pub returns-in_default-without_close : goal.returns-in_default-without_close
 returns-in_default-without_close c =
     let n : is_name c.split_word.result.0.now ≡ true = cc in
     subroutine_open c.args.text.now c.split_word.result.1.now c.in-Some.behind.now (ap is_name (sym c.split_word.ensures.front) ∙ n) c.split_word.ensures.back
-      (sym c.in-Some.ensures) (sym c.in_default-without_close.ensures)
+    (sym c.in-Some.ensures) (sym c.in_default-without_close.ensures)
 
 pub returns-in_err-arguments : goal.returns-in_err-arguments
 returns-in_err-arguments c =
     let p = err_from_is_err_and c.from_residual-in_err-arguments.result c.from_residual-in_err-arguments.ensures.1 in
     let n : is_name c.split_word.result.0.now ≡ true = cc in
     rw (p.1, p.2) (subroutine_fails c.args.text.now c.split_word.result.1.now c.in-Some.behind.now c.in-Some-without_close.inner.now _ (ap is_name (sym c.split_word.ensures.front) ∙ n) c.split_word.ensures.back
-      (sym c.in-Some.ensures) (sym c.in-Some-without_close.ensures) c.in_err-arguments.ensures)
+    (sym c.in-Some.ensures) (sym c.in-Some-without_close.ensures) c.in_err-arguments.ensures)
 
 pub returns : goal.returns
 returns c =
     let n : is_name c.split_word.result.0.now ≡ true = cc in
     let g = c.in_ok-arguments.ensures in
     subroutine_whole c.args.text.now c.split_word.result.1.now c.in-Some.behind.now c.in-Some-without_close.inner.now _ g.0 _ (ap is_name (sym c.split_word.ensures.front) ∙ n) c.split_word.ensures.back
-      (sym c.in-Some.ensures) (sym c.in-Some-without_close.ensures) g.1 g.2 (c.in_ok-name.ensures ∙ c.split_word.ensures.front)
+    (sym c.in-Some.ensures) (sym c.in-Some-without_close.ensures) g.1 g.2 (c.in_ok-name.ensures ∙ c.split_word.ensures.front)
