@@ -1,12 +1,12 @@
 -- What the limits say of the statement that is kept, they say of the one that the text spells.
-use Rattle.std.proofs.Common.{arith, ◌≡◌, ◌⊎◌, inl, inr, ◌≤◌, ◌<◌, ℕ, List, length, Bool, true, false, refl, ap, sym, ◌∙◌, subst}
+use Rattle.std.proofs.Common.{arith, ◌≡◌, ◌⊎◌, inl, inr, ◌≤◌, ◌<◌, ℕ, List, length, Bool, true, false, ap, sym, ◌∙◌, subst}
 use Rattle.std.specs.Prelude.{min}
 use Rattle.f77_syntax.specs.declared.fault.SyntaxFault.{SyntaxFault}
 use Rattle.f77_syntax.specs.declared.fault.SyntaxFault.TheVariants.{Memory, Unknown, BadName, BadConstant, TooLong}
 use Rattle.f77_syntax.specs.Tree.{Statement}
 use Rattle.f77_syntax.specs.Grammar.{SpellsStatement}
 use Rattle.f77_syntax.specs.View.{clip_statement}
-use Rattle.f77_syntax.specs.Limits.{most_characters, most_nodes, IsTooDeep, statement_names, statement_constants, statement_nodes}
+use Rattle.f77_syntax.specs.Limits.{most_characters, IsTooDeep, statement_names, statement_constants, statement_nodes}
 use Rattle.f77_syntax.specs.Parsing.{IsAdmitted, IsRefused}
 use Rattle.f77_syntax.proofs.Clip.{statement_names_clip, statement_constants_clip, statement_nodes_clip, statement_kept}
 

@@ -1,13 +1,11 @@
 -- More calls read the same, once they are enough: so the readers meet their own equations.
-use Rattle.std.proofs.Common.{arith, ◌-◌, zero-add, ◌≡◌, ◌<◌, ◌≤◌, ◌+◌, ℕ, zero, suc, length, length-append, List, [], ◌∷◌, ◌++◌, Bool, true, false, cond, refl, Option, Some, None, ap, sym, ◌∙◌}
+use Rattle.std.proofs.Common.{arith, ◌-◌, zero-add, ◌≡◌, ◌<◌, ◌≤◌, ◌+◌, ℕ, zero, suc, length, length-append, List, [], ◌∷◌, Bool, true, false, cond, refl, Option, Some, None, ap, sym, ◌∙◌}
 use Rattle.std.specs.Prelude.{codes, ◌==◌, ◌&&◌, nat_le}
 use Rattle.f77_syntax.specs.declared.operator.Operator.{Operator}
-use Rattle.f77_syntax.specs.declared.operator.Sign.{Sign}
-use Rattle.f77_syntax.specs.declared.operator.Sign.TheVariants.{Plus, Minus}
-use Rattle.f77_syntax.specs.Operator.{symbol, level, left_level, right_level}
-use Rattle.f77_syntax.specs.Tree.{Tree, Trees}
+use Rattle.f77_syntax.specs.Operator.{level, left_level, right_level}
+use Rattle.f77_syntax.specs.Tree.{Tree}
 use Rattle.f77_syntax.specs.Grammar.{is_name, is_number}
-use Rattle.f77_syntax.specs.Reading.{◌>>=◌, strip, word, past_word, operator_at, Readers, closed, group_at, signed_at, negated_at, dotted_by, dotted_at, named_at, word_at, start_at, expr_at, climb_on, climb_at, more_at, items_at, within, reading}
+use Rattle.f77_syntax.specs.Reading.{◌>>=◌, strip, word, past_word, operator_at, Readers, dotted_by, dotted_at, named_at, word_at, start_at, expr_at, climb_on, climb_at, more_at, items_at, within, reading}
 use Rattle.f77_syntax.proofs.Steps.{strip_is}
 use Rattle.f77_syntax.proofs.Sound.{Sound, sound_within, Starts}
 use Rattle.f77_syntax.proofs.Sound as sound

@@ -1,5 +1,5 @@
 -- Cards that are read one by one.
-use Rattle.std.proofs.Common.{◌≡◌, ◌≢◌, ◌⊎◌, inl, inr, ℕ, List, [], ◌∷◌, ◌++◌, length, true, refl, ap, sym, ◌∙◌, subst, Option, Some, None, Ok, Err, append_assoc}
+use Rattle.std.proofs.Common.{◌≡◌, ◌≢◌, ◌⊎◌, inl, inr, List, [], ◌∷◌, ◌++◌, true, ap, sym, ◌∙◌, subst, Option, Some, None, Ok, Err, append_assoc}
 use Rattle.std.specs.Prelude.{Result, MatchResult, IfOk, IfErr, map}
 use Rattle.std.proofs.lemmas.List.{append-nil, map-append}
 use Rattle.f77_source.specs.Card.{CardFields}

@@ -1,10 +1,10 @@
 -- Keeping a tree changes no limit, and within the limits it changes nothing.
-use Rattle.std.proofs.Common.{arith, ◌≡◌, ◌≤◌, ◌<◌, ◌+◌, ℕ, Bool, true, false, refl, ap, sym, ◌∙◌}
-use Rattle.std.specs.Prelude.{min, nat_le, ◌&&◌}
+use Rattle.std.proofs.Common.{arith, ◌≡◌, ℕ, Bool, true, false, refl, ap}
+use Rattle.std.specs.Prelude.{nat_le}
 use Rattle.std.proofs.lemmas.Bool.Decides.{nat_tests}
 use Rattle.f77_syntax.specs.Tree.{Tree, Trees, Statement}
 use Rattle.f77_syntax.specs.View.{clipped, clip, clip_all, clip_statement}
-use Rattle.f77_syntax.specs.Limits.{short_names, all_short_names, small_constants, all_small_constants, nodes, all_nodes, is_short, statement_names, statement_constants, statement_nodes}
+use Rattle.f77_syntax.specs.Limits.{short_names, all_short_names, small_constants, all_small_constants, nodes, all_nodes, statement_names, statement_constants, statement_nodes}
 use Rattle.f77_syntax.proofs.Steps.{and_true}
 
 mutual

@@ -1,12 +1,12 @@
 -- What is spelled is read, whatever follows that does not go on with it.
-use Rattle.std.proofs.Common.{arith, ◌≡◌, ◌⊎◌, inl, inr, ◌<◌, ◌≤◌, ◌+◌, ℕ, zero, suc, length, List, [], ◌∷◌, ◌++◌, Bool, true, false, cond, refl, Option, Some, None, ap, sym, ◌∙◌, append_assoc, subst}
+use Rattle.std.proofs.Common.{arith, ◌≡◌, ◌⊎◌, inl, inr, ◌<◌, ◌≤◌, ◌+◌, ℕ, length, List, [], ◌∷◌, ◌++◌, Bool, true, false, cond, refl, Option, Some, None, ap, sym, ◌∙◌, append_assoc, subst}
 use Rattle.std.proofs.lemmas.List.{append-nil}
-use Rattle.std.specs.Prelude.{codes, ◌==◌, ◌&&◌, ◌||◌, nat_le, nat_lt, if◌then◌else◌}
+use Rattle.std.specs.Prelude.{codes, ◌==◌, ◌||◌, nat_le, nat_lt, if◌then◌else◌}
 use Rattle.std.specs.List.{list_all}
 use Rattle.std.specs.Str.Parse.{digits_value}
 use Rattle.std.proofs.lemmas.Bool.{le-leb}
 use Rattle.std.proofs.lemmas.Bool.Decides.{nat_tests}
-use Rattle.std.proofs.lemmas.Option.{same_Some, none-some}
+use Rattle.std.proofs.lemmas.Option.{same_Some}
 use Rattle.f77_syntax.specs.declared.operator.Operator.{Operator}
 use Rattle.f77_syntax.specs.declared.operator.Operator.TheVariants.{Equivalent, NotEquivalent, Or, And, Less, LessOrEqual, Equal, NotEqual, GreaterOrEqual, Greater, Add, Subtract, Multiply, Divide, Power}
 use Rattle.f77_syntax.specs.declared.operator.Sign.{Sign}
@@ -16,7 +16,7 @@ use Rattle.f77_syntax.specs.Tree.{Tree, Trees}
 use Rattle.f77_syntax.specs.Intrinsic.{function_name, function_named}
 use Rattle.f77_syntax.proofs.Functions.{function_found, function_is_name, not_function}
 use Rattle.f77_syntax.specs.Grammar.{Spells, SpellsReference, SpellsAll, is_call, truth_text, is_letter, is_digit, is_word, is_name, is_number}
-use Rattle.f77_syntax.specs.Reading.{◌>>=◌, strip, word, past_word, operator_at, Readers, closed, group_at, signed_at, negated_at, dotted_at, listed_by, listed, named_at, word_at, start_at, expr_at, climb_on, climb_at, more_at, items_at, reading}
+use Rattle.f77_syntax.specs.Reading.{◌>>=◌, word, past_word, operator_at, listed_by, listed, named_at, word_at, start_at, expr_at, climb_on, climb_at, items_at, reading}
 use Rattle.f77_syntax.proofs.Steps.{and_true}
 use Rattle.f77_syntax.proofs.Words.{EndsWord, word_front, past_word_front}
 use Rattle.f77_syntax.proofs.Shorter.{name_long, number_long}

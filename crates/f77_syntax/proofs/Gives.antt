@@ -1,10 +1,10 @@
 -- What the parser's functions give, from what they call.
-use Rattle.std.proofs.Common.{arith, ◌≡◌, ◌<◌, ◌≤◌, ◌+◌, ℕ, zero, suc, length, length-append, List, [], ◌∷◌, ◌++◌, Bool, true, false, cond, refl, Option, Some, None, ap, sym, ◌∙◌, subst, Result, Ok, Err}
+use Rattle.std.proofs.Common.{arith, ◌≡◌, ◌<◌, ℕ, length, length-append, List, [], ◌∷◌, ◌++◌, Bool, true, false, cond, refl, Option, Some, None, ap, sym, ◌∙◌, subst, Result, Ok, Err}
 use Rattle.std.specs.Prelude.{codes, ◌==◌, ◌&&◌, nat_le, IfOk, option_map, Box, map}
 use Rattle.std.specs.Borrow.{Bor}
 use Rattle.std.specs.declared.alloc.Global.{Global}
 use Rattle.std.proofs.lemmas.Option.{same_Some, none-some}
-use Rattle.std.proofs.lemmas.Bool.{leb-true, eqb-true}
+use Rattle.std.proofs.lemmas.Bool.{eqb-true}
 use Rattle.f77_syntax.specs.declared.fault.ReadError.{ReadError}
 use Rattle.f77_syntax.specs.declared.fault.ReadError.TheVariants.{Memory, Unknown}
 use Rattle.f77_syntax.specs.declared.operator.Operator.{Operator}
@@ -12,7 +12,7 @@ use Rattle.f77_syntax.specs.declared.operator.Sign.{Sign}
 use Rattle.f77_syntax.specs.declared.operator.Sign.TheVariants.{Plus, Minus}
 use Rattle.f77_syntax.specs.declared.tree.Expr.{Expr}
 use Rattle.f77_syntax.specs.declared.tree.Expr.TheViews as views
-use Rattle.f77_syntax.specs.Operator.{symbol, level, left_level, right_level}
+use Rattle.f77_syntax.specs.Operator.{level, left_level, right_level}
 use Rattle.std.specs.Str.Parse.{digits_value}
 use Rattle.std.proofs.lemmas.List.{map-append}
 use Rattle.f77_syntax.specs.declared.tree.Ref.{Ref}
@@ -21,12 +21,12 @@ use Rattle.f77_syntax.specs.declared.intrinsic.Intrinsic.{Intrinsic}
 use Rattle.f77_syntax.specs.Intrinsic.{function_named}
 use Rattle.f77_syntax.specs.Grammar.{is_name, is_number}
 use Rattle.f77_syntax.specs.Tree.{Tree, Trees}
-use Rattle.f77_syntax.specs.View.{tree_of, trees, clip, clip_all, clipped, Fails, Gives, IsTree, IsStart, IsList}
-use Rattle.f77_syntax.specs.Reading.{◌>>=◌, strip, word, past_word, operator_at, Readers, after, close_at, closed, group_at, signed_at, negated_at, dotted_at, listed_by, listed, named_at, word_at, start_at, expr_at, climb_on, climb_at, more_at, items_at, reading}
-use Rattle.f77_syntax.proofs.Steps.{along, bind_ok, and_true, guarded}
+use Rattle.f77_syntax.specs.View.{tree_of, trees, clip, clip_all, clipped, Fails, Gives, IsTree, IsStart}
+use Rattle.f77_syntax.specs.Reading.{◌>>=◌, strip, word, past_word, operator_at, after, close_at, closed, group_at, signed_at, negated_at, dotted_at, listed_by, listed, named_at, word_at, start_at, expr_at, climb_on, climb_at, more_at, items_at, reading}
+use Rattle.f77_syntax.proofs.Steps.{guarded}
 use Rattle.f77_syntax.proofs.Sound.{Sound, sound_reading}
 use Rattle.f77_syntax.proofs.Sound as sound
-use Rattle.f77_syntax.proofs.Shorter.{Shorter, shorter, spelled_long}
+use Rattle.f77_syntax.proofs.Shorter.{shorter, spelled_long}
 use Rattle.f77_syntax.proofs.Agree.{reading_expr, reading_climb, reading_items}
 use Rattle.f77_syntax.proofs.Views.{number_view, truth_view, signed_view, not_view, binary_view, reference_view}
 use Rattle.f77_syntax.proofs.Loops.{Climbing, Listing, before}

@@ -1,5 +1,5 @@
 -- What the loops of the parser keep.
-use Rattle.std.proofs.Common.{◌≡◌, ◌<◌, ◌≤◌, ℕ, length, List, [], ◌∷◌, Option, Some}
+use Rattle.std.proofs.Common.{◌≡◌, ◌<◌, ◌≤◌, ℕ, length, List, [], ◌∷◌, Some}
 use Rattle.std.specs.Prelude.{map}
 use Rattle.f77_syntax.specs.declared.tree.Expr.{Expr}
 use Rattle.f77_syntax.specs.Reading.{reading, ◌>>=◌}

@@ -1,11 +1,11 @@
 -- Trying operators in turn.
-use Rattle.std.proofs.Common.{arith, ◌≡◌, ◌<◌, ◌+◌, ℕ, suc, zero, length, List, [], ◌∷◌, drop, get_or, refl, Option, Some, None, ap, sym, ◌∙◌, add-one, drop-cons, true, false}
+use Rattle.std.proofs.Common.{◌≡◌, ◌<◌, ◌+◌, ℕ, length, List, drop, get_or, refl, Option, Some, None, sym, add-one, drop-cons, true, false}
 use Rattle.std.specs.Prelude.{nat_eq, take, option_map, IfSome}
 use Rattle.std.specs.Borrow.{Bor}
 use lib.Pointwise.{pointwise}
 use Rattle.f77_syntax.specs.declared.operator.Operator.{Operator}
 use Rattle.f77_syntax.specs.Operator.{symbol}
-use Rattle.f77_syntax.specs.Reading.{strip, first_operator, operators, operator_at}
+use Rattle.f77_syntax.specs.Reading.{strip, first_operator, operator_at}
 use Rattle.f77_syntax.proofs.Steps.{strip_same, strip_other}
 use Rattle.f77_syntax.proofs.Shorter.{operator_shorter}
 

@@ -1,15 +1,15 @@
 -- What follows an expression, an operator or a list is shorter than what it was read from.
-use Rattle.std.proofs.Common.{arith, ◌≡◌, ◌<◌, ◌≤◌, ◌+◌, ℕ, zero, suc, length, length-append, List, [], ◌∷◌, ◌++◌, Bool, true, false, refl, Option, Some, ap}
+use Rattle.std.proofs.Common.{arith, ◌≡◌, ◌<◌, ◌≤◌, ℕ, length, length-append, List, [], ◌∷◌, ◌++◌, true, false, Some, ap}
 use Rattle.std.specs.Prelude.{codes}
 use Rattle.f77_syntax.specs.declared.operator.Operator.{Operator}
 use Rattle.f77_syntax.specs.declared.operator.Operator.TheVariants.{Equivalent, NotEquivalent, Or, And, Less, LessOrEqual, Equal, NotEqual, GreaterOrEqual, Greater, Add, Subtract, Multiply, Divide, Power}
-use Rattle.f77_syntax.specs.Operator.{symbol, sign_symbol}
+use Rattle.f77_syntax.specs.Operator.{symbol}
 use Rattle.f77_syntax.specs.Tree.{Tree, Trees}
 use Rattle.f77_syntax.specs.Intrinsic.{function_name}
 use Rattle.f77_syntax.specs.Grammar.{Spells, SpellsReference, SpellsAll, is_name, is_number}
-use Rattle.f77_syntax.specs.Reading.{Readers, operator_at, word, past_word, within, reading}
+use Rattle.f77_syntax.specs.Reading.{Readers, operator_at, word, past_word}
 use Rattle.f77_syntax.proofs.Words.{word_whole}
-use Rattle.f77_syntax.proofs.Sound.{Sound, Fronts, FrontsAll, operator_is}
+use Rattle.f77_syntax.proofs.Sound.{Sound, operator_is}
 
 pub symbol_long : (op : Operator) → 0 < length (symbol op)
 symbol_long Equivalent = omega arith

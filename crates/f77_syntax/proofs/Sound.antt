@@ -1,5 +1,5 @@
 -- What is read is spelled so.
-use Rattle.std.proofs.Common.{arith, ◌≡◌, ◌⊎◌, inl, inr, ℕ, zero, suc, length, ◌≤◌, List, [], ◌∷◌, ◌++◌, Bool, true, false, cond, subst, refl, Option, Some, None, ap, sym, ◌∙◌, append_assoc}
+use Rattle.std.proofs.Common.{arith, ◌≡◌, inl, inr, ℕ, zero, suc, length, ◌≤◌, List, [], ◌∷◌, ◌++◌, Bool, true, false, cond, subst, refl, Option, Some, None, ap, sym, ◌∙◌, append_assoc}
 use Rattle.std.specs.Prelude.{◌==◌, ◌&&◌, nat_le, codes}
 use Rattle.std.proofs.lemmas.Option.{same_Some, none-some}
 use Rattle.std.proofs.lemmas.Bool.{eqb-true, leb-true}

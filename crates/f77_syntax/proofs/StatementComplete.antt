@@ -1,18 +1,17 @@
 -- A statement that is spelled is read so, and a text spells one statement at most.
-use Rattle.std.proofs.Common.{arith, ◌≡◌, ℕ, zero, suc, ◌+◌, ◌-◌, ◌<◌, ◌≤◌, length, List, [], ◌∷◌, ◌++◌, Bool, true, false, cond, subst, refl, Option, Some, None, ap, sym, ◌∙◌, append_assoc, append-nil, take, drop, get_or, length-append}
-use Rattle.std.specs.Prelude.{◌==◌, ◌||◌, codes}
-use Rattle.std.specs.Str.{bytes_eq}
+use Rattle.std.proofs.Common.{arith, ◌≡◌, ℕ, ◌-◌, length, List, [], ◌∷◌, ◌++◌, Bool, true, false, refl, Some, ap, sym, ◌∙◌, append_assoc, append-nil, length-append}
+use Rattle.std.specs.Prelude.{◌==◌, ◌||◌}
 use Rattle.std.specs.List.{All, list_all, list_any, slice_split, join_with_byte}
 use Rattle.std.proofs.lemmas.Option.{same_Some}
 use Rattle.std.proofs.lemmas.Bool.Decides.{nat_tests}
 use Rattle.std.proofs.lemmas.List.{take_at, get_or_at}
 use Rattle.std.proofs.lemmas.List.Elements.{All-nil, All-cons}
-use Rattle.std.proofs.lemmas.List.Folds.{list_any-append, list_any_none}
+use Rattle.std.proofs.lemmas.List.Folds.{list_any-append}
 use Rattle.std.proofs.lemmas.List.Splits.{slice_split_at, slice_split_none}
 use Rattle.f77_syntax.specs.Tree.{Tree, Trees, Statement}
-use Rattle.f77_syntax.specs.Grammar.{Spells, SpellsReference, SpellsAll, SpellsStatement, is_word, is_letter, is_name}
-use Rattle.f77_syntax.specs.Reading.{◌>>=◌, strip, word, past_word, after, close_at, reading}
-use Rattle.f77_syntax.specs.Statement.{is_comma, is_equals, ended, reference_behind, reference_at, value_at, assign_at, names_at, before_close, arguments_at, subroutine_at, keyword_by, statement_at}
+use Rattle.f77_syntax.specs.Grammar.{Spells, SpellsReference, SpellsStatement, is_word, is_name}
+use Rattle.f77_syntax.specs.Reading.{word, past_word}
+use Rattle.f77_syntax.specs.Statement.{is_comma, is_equals, reference_at, assign_at, names_at, before_close, subroutine_at, statement_at}
 use Rattle.f77_syntax.proofs.Steps.{and_true}
 use Rattle.f77_syntax.proofs.Words.{word_front, past_word_front}
 use Rattle.f77_syntax.proofs.Shorter.{name_long}

@@ -1,23 +1,22 @@
 -- What the readers of statements give, from what they call.
-use Rattle.std.proofs.Common.{arith, ◌≡◌, ◌≢◌, ◌⊎◌, inl, inr, ℕ, zero, suc, ◌-◌, ◌<◌, ◌≤◌, length, List, [], ◌∷◌, ◌++◌, Bool, true, false, cond, subst, refl, Option, Some, None, ap, sym, ◌∙◌, append_assoc, append-nil}
-use Rattle.std.specs.Prelude.{◌==◌, ◌&&◌, map, codes}
+use Rattle.std.proofs.Common.{arith, ◌≡◌, ◌⊎◌, inl, inr, ℕ, length, List, [], ◌∷◌, ◌++◌, Bool, true, false, cond, subst, refl, Option, Some, None, ap, sym, ◌∙◌, append_assoc, append-nil}
+use Rattle.std.specs.Prelude.{◌==◌, map, codes}
 use Rattle.std.specs.Str.{bytes_eq}
-use Rattle.std.specs.List.{All, list_all, list_any, slice_split, onto_first}
+use Rattle.std.specs.List.{list_all, list_any, slice_split, onto_first}
 use Rattle.std.proofs.lemmas.Option.{none-some}
 use Rattle.std.proofs.lemmas.Bool.Decides.{nat_tests}
 use Rattle.std.proofs.lemmas.Bool.{eqb-true}
 use Rattle.std.proofs.lemmas.List.Folds.{list_all-append}
 use Rattle.std.proofs.lemmas.List.Splits.{slice_split-cons_yes, slice_split-cons_no, slice_split_at, slice_split_none}
 use Rattle.f77_syntax.specs.declared.fault.ReadError.{ReadError}
-use Rattle.f77_syntax.specs.declared.fault.ReadError.TheVariants.{Memory, Unknown}
 use Rattle.f77_syntax.specs.declared.tree.Expr.{Expr}
 use Rattle.f77_syntax.specs.declared.tree.Ref.{Ref}
 use Rattle.f77_syntax.specs.Tree.{Tree, Trees, Statement}
-use Rattle.f77_syntax.specs.Grammar.{is_word, is_letter, is_name}
+use Rattle.f77_syntax.specs.Grammar.{is_word, is_name}
 use Rattle.f77_syntax.specs.Reading.{◌>>=◌, strip, word, past_word, after, close_at, reading}
 use Rattle.f77_syntax.specs.Statement.{is_comma, ended, reference_behind, reference_at, value_at, assign_at, names_at, before_close, arguments_at, subroutine_at, is_equals, statement_at}
 use Rattle.f77_syntax.specs.View.{tree_of, trees, place_of, clip, clip_all, clip_statement, Fails}
-use Rattle.f77_syntax.proofs.Steps.{guarded, and_true}
+use Rattle.f77_syntax.proofs.Steps.{and_true}
 use Rattle.f77_syntax.proofs.Words.{word_whole}
 use Rattle.f77_syntax.proofs.Complete.{name_words}
 use Rattle.f77_syntax.proofs.Views.{ref_view}

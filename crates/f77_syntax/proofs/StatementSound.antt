@@ -1,5 +1,5 @@
 -- A statement that is read is spelled so.
-use Rattle.std.proofs.Common.{arith, ◌≡◌, ◌⊎◌, inl, inr, ℕ, zero, suc, ◌+◌, ◌-◌, ◌<◌, ◌≤◌, length, List, [], ◌∷◌, ◌++◌, Bool, true, false, cond, subst, refl, Option, Some, None, ap, sym, ◌∙◌, append_assoc, append-nil, take, drop, get_or}
+use Rattle.std.proofs.Common.{arith, ◌≡◌, inl, inr, ℕ, ◌+◌, ◌-◌, ◌<◌, length, List, [], ◌∷◌, ◌++◌, true, cond, subst, refl, Option, Some, None, ap, sym, ◌∙◌, append_assoc, append-nil, take, get_or}
 use Rattle.std.specs.Prelude.{◌==◌, codes}
 use Rattle.std.specs.Str.{bytes_eq}
 use Rattle.std.specs.List.{list_all, list_any, slice_split, join_with_byte}
@@ -8,8 +8,8 @@ use Rattle.std.proofs.lemmas.Bool.{eqb-true}
 use Rattle.std.proofs.lemmas.Slice.Eq.{bytes_eq-Decides}
 use Rattle.std.proofs.lemmas.List.{take-append-drop, drop_more, drop_all, nil_from_length}
 use Rattle.std.proofs.lemmas.List.Splits.{join_with_byte-slice_split}
-use Rattle.f77_syntax.specs.Tree.{Tree, Trees, Statement}
-use Rattle.f77_syntax.specs.Grammar.{Spells, SpellsReference, SpellsAll, SpellsStatement, is_name}
+use Rattle.f77_syntax.specs.Tree.{Trees, Statement}
+use Rattle.f77_syntax.specs.Grammar.{SpellsReference, SpellsStatement, is_name}
 use Rattle.f77_syntax.specs.Reading.{◌>>=◌, strip, word, past_word, after, close_at, reading}
 use Rattle.f77_syntax.specs.Statement.{is_comma, is_equals, ended, reference_behind, reference_at, value_at, assign_at, names_at, before_close, arguments_at, subroutine_at, keyword_by, statement_at}
 use Rattle.f77_syntax.proofs.Steps.{along, bind_ok, chosen, guarded, strip_is}

@@ -1,5 +1,5 @@
 -- The tree of each form of expression.
-use Rattle.std.specs.Prelude.{◌≡◌, ℕ, List, [], ◌∷◌, map, Bool, Box, Vec}
+use Rattle.std.specs.Prelude.{◌≡◌, ℕ, List, map, Bool, Box, Vec}
 use Rattle.f77_syntax.specs.declared.intrinsic.Intrinsic.{Intrinsic}
 use Rattle.std.proofs.Common.{ap, sym, ◌∙◌}
 use Rattle.std.specs.declared.alloc.Global.{Global}
@@ -11,7 +11,7 @@ use Rattle.f77_syntax.specs.declared.tree.Expr.TheVariants.{Number, Truth, rolls
 use Rattle.f77_syntax.specs.declared.tree.Expr.TheViews as views
 use Rattle.f77_syntax.specs.declared.tree.Expr.TheOpen.{Expr-F}
 use Rattle.f77_syntax.specs.declared.tree.Expr.TheFolds.{fold-roll-Expr, fold_out-Ref}
-use Rattle.f77_syntax.specs.Tree.{Tree, Trees}
+use Rattle.f77_syntax.specs.Tree.{Tree}
 use Rattle.f77_syntax.specs.View.{trees, expr_step, ref_step, tree_of, place_of}
 
 pub number_view : (n : ℕ) → tree_of (Number n) ≡ Tree.Number n

@@ -1,6 +1,5 @@
 -- The letters and digits at the front of a text.
-use Rattle.std.proofs.Common.{cond, ◌≡◌, ℕ, List, [], ◌∷◌, ◌++◌, Bool, true, false, refl, ap, Option, Some, None}
-use Rattle.std.specs.Prelude.{◌&&◌}
+use Rattle.std.proofs.Common.{cond, ◌≡◌, ℕ, List, [], ◌∷◌, ◌++◌, Bool, true, false, refl, ap}
 use Rattle.std.specs.List.{list_all}
 use Rattle.f77_syntax.proofs.Steps.{and_true}
 use Rattle.f77_syntax.specs.Grammar.{is_word}

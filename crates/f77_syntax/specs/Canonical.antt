@@ -4,7 +4,7 @@ use Rattle.std.specs.Fmt.{decimal}
 use Rattle.f77_syntax.specs.Operator.{symbol, sign_symbol, level, left_level, right_level}
 use Rattle.f77_syntax.specs.Intrinsic.{function_name}
 use Rattle.f77_syntax.specs.Grammar.{is_name, is_call, truth_text}
-use Rattle.f77_syntax.specs.Tree.{Tree, Trees}
+use Rattle.f77_syntax.specs.Tree.{Tree, Trees, Statement}
 
 -- the level of a tree's own form
 abbrev pub own_level : Tree → ℕ
@@ -55,3 +55,15 @@ abbrev mutual
   pub FormedAll : Trees → Type 0
   FormedAll Trees.None = Unit {0}
   FormedAll (Trees.Then t ts) = Formed t × FormedAll ts
+
+-- this character before the first name, and a comma before each other
+abbrev pub names_text : ℕ → List (List ℕ) → List ℕ
+names_text c [] = []
+names_text c (name ∷ names) = c ∷ (name ++ names_text 44 names)
+
+-- The canonical text of a statement, with one blank behind a keyword that something follows.
+abbrev pub statement_text : Statement → List ℕ
+statement_text (Statement.Subroutine name []) = codes "SUBROUTINE " ++ name
+statement_text (Statement.Subroutine name (n ∷ names)) = codes "SUBROUTINE " ++ (name ++ (names_text 40 (n ∷ names) ++ 41 ∷ []))
+statement_text (Statement.Assign name items t) = (name ++ list_text items) ++ (61 ∷ text_of t)
+statement_text Statement.End = codes "END"

@@ -18,14 +18,14 @@ pub enum Intrinsic {
 
 impl Intrinsic {
     /// Its name.
-    pub fn name(self) -> &'static [u8]
+    pub fn name(self) -> &'static str
         ensures { result.now ≡ functions.function_name self }
     {
         match self {
-            Intrinsic::Mod => b"MOD",
-            Intrinsic::Iabs => b"IABS",
-            Intrinsic::Min0 => b"MIN0",
-            Intrinsic::Max0 => b"MAX0",
+            Intrinsic::Mod => "MOD",
+            Intrinsic::Iabs => "IABS",
+            Intrinsic::Min0 => "MIN0",
+            Intrinsic::Max0 => "MAX0",
         }
     }
 
@@ -34,16 +34,16 @@ impl Intrinsic {
     pub fn named(name: &[u8]) -> Option<Intrinsic>
         ensures { result ≡ functions.function_named name.now }
     {
-        if name == Intrinsic::Mod.name() {
+        if name == Intrinsic::Mod.name().as_bytes() {
             return Some(Intrinsic::Mod);
         }
-        if name == Intrinsic::Iabs.name() {
+        if name == Intrinsic::Iabs.name().as_bytes() {
             return Some(Intrinsic::Iabs);
         }
-        if name == Intrinsic::Min0.name() {
+        if name == Intrinsic::Min0.name().as_bytes() {
             return Some(Intrinsic::Min0);
         }
-        if name == Intrinsic::Max0.name() {
+        if name == Intrinsic::Max0.name().as_bytes() {
             return Some(Intrinsic::Max0);
         }
         None

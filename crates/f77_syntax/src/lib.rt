@@ -1,4 +1,4 @@
-//! The statements of the FORTRAN 77 subset as trees: the grammar, the reader and the printer of expressions.
+//! The statements of the FORTRAN 77 subset as trees: the grammar, the reader and the printer.
 #![tactic(auto)]
 
 mod expression;
@@ -25,6 +25,6 @@ pub use intrinsic::Intrinsic;
 pub use name::Name;
 pub use operator::{Operator, Sign};
 pub use parsing::parse;
-pub use print::print_expression;
+pub use print::{print_expression, print_stmt};
 pub use program::{Line, Program};
 pub use tree::{Expr, Ref, Stmt};

@@ -42,7 +42,7 @@ pub(crate) fn is_too_deep(text: &[u8]) -> bool
 fn is_short(name: &Name) -> bool
     ensures { result ≡ is_short name.now }
 {
-    name.as_slice().len() <= LONGEST_NAME
+    name.as_str().len() <= LONGEST_NAME
 }
 
 fn are_short(names: &[Name]) -> bool

@@ -1,6 +1,6 @@
 //! Names.
 
-ghost use Rattle.std.specs.Prelude.{◌≡◌, List, ℕ, true, IfOk};
+ghost use Rattle.std.specs.Prelude.{◌≡◌, List, ℕ, true, IfOk, string_bytes};
 ghost use Rattle.f77_syntax.specs.Grammar.{is_name};
 
 use std::alloc::{AllocError, Global};
@@ -9,15 +9,15 @@ use std::marker::Model;
 /// A name: letters and digits, the first of them a letter.
 #[derive(Drop)]
 pub struct Name {
-    letters: Vec<u8>,
+    letters: String,
 }
 
 impl Model for Name {
     ghost Value = { List ℕ };
 
-    ghost view = { λ n. n.letters.items };
+    ghost view = { λ n. string_bytes n.letters };
 
-    ghost invariant = { λ n. is_name n.letters.items ≡ true };
+    ghost invariant = { λ n. is_name (string_bytes n.letters) ≡ true };
 }
 
 impl Name {
@@ -26,15 +26,17 @@ impl Name {
         requires { is_name letters.now ≡ true }
         ensures { IfOk result (λ name. name ≡ letters.now) }
     {
-        Ok(Name {
-            letters: Vec::from_slice(alloc, letters)?,
-        })
+        let mut text = String::new(alloc);
+        for c in letters {
+            text.push(char::from(*c))?;
+        }
+        Ok(Name { letters: text })
     }
 
     /// Its letters and digits.
-    pub fn as_slice(&self) -> &[u8]
+    pub fn as_str(&self) -> &str
         ensures { result.now ≡ self.now }
     {
-        self.letters.as_slice()
+        self.letters.as_str()
     }
 }

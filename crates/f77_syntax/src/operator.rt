@@ -32,25 +32,25 @@ pub enum Sign {
 
 impl Operator {
     /// Its text.
-    pub fn symbol(self) -> &'static [u8]
+    pub fn symbol(self) -> &'static str
         ensures { result.now ≡ levels.symbol self }
     {
         match self {
-            Operator::Equivalent => b".EQV.",
-            Operator::NotEquivalent => b".NEQV.",
-            Operator::Or => b".OR.",
-            Operator::And => b".AND.",
-            Operator::Less => b".LT.",
-            Operator::LessOrEqual => b".LE.",
-            Operator::Equal => b".EQ.",
-            Operator::NotEqual => b".NE.",
-            Operator::GreaterOrEqual => b".GE.",
-            Operator::Greater => b".GT.",
-            Operator::Add => b"+",
-            Operator::Subtract => b"-",
-            Operator::Multiply => b"*",
-            Operator::Divide => b"/",
-            Operator::Power => b"**",
+            Operator::Equivalent => ".EQV.",
+            Operator::NotEquivalent => ".NEQV.",
+            Operator::Or => ".OR.",
+            Operator::And => ".AND.",
+            Operator::Less => ".LT.",
+            Operator::LessOrEqual => ".LE.",
+            Operator::Equal => ".EQ.",
+            Operator::NotEqual => ".NE.",
+            Operator::GreaterOrEqual => ".GE.",
+            Operator::Greater => ".GT.",
+            Operator::Add => "+",
+            Operator::Subtract => "-",
+            Operator::Multiply => "*",
+            Operator::Divide => "/",
+            Operator::Power => "**",
         }
     }
 

@@ -1,11 +1,14 @@
 //! Printing expressions in their canonical form.
 
-ghost use Rattle.std.specs.Prelude.{◌≡◌, ◌++◌, OnOk, IfOk, map};
+ghost use Rattle.std.specs.Prelude.{◌≡◌, ◌<◌, ◌++◌, OnOk, IfOk, IfErr, map, string_bytes};
+ghost use Rattle.f77_syntax.specs.Tree.{Statement};
 ghost use Rattle.f77_syntax.specs.Grammar.{Spells};
 ghost use Rattle.f77_syntax.specs.Canonical as canonical;
-ghost use Rattle.f77_syntax.specs.View.{tree_of, trees};
+ghost use Rattle.f77_syntax.specs.View.{tree_of, trees, statement_of};
 
-use crate::tree::Expr;
+use crate::fault::SyntaxFault;
+use crate::name::Name;
+use crate::tree::{Expr, Stmt};
 use std::alloc::{AllocError, Global};
 
 /// The level of an expression's own form.
@@ -21,24 +24,24 @@ fn own_level(expr: &Expr) -> u8
 }
 
 /// The canonical text of an expression, which reads back.
-pub fn print_expression(alloc: Global, expr: &Expr) -> Result<Vec<u8>, AllocError>
-    ensures text { IfOk result (λ text. text.items ≡ canonical.text_of (tree_of expr.now)) }
-    ensures back { IfOk result (λ text. canonical.Formed (tree_of expr.now) → Spells 1 text.items (tree_of expr.now)) }
+pub fn print_expression(alloc: Global, expr: &Expr) -> Result<String, AllocError>
+    ensures text { IfOk result (λ text. string_bytes text ≡ canonical.text_of (tree_of expr.now)) }
+    ensures back { IfOk result (λ text. canonical.Formed (tree_of expr.now) → Spells 1 (string_bytes text) (tree_of expr.now)) }
 {
-    let mut out = Vec::new(alloc);
+    let mut out = String::new(alloc);
     form(alloc, &mut out, expr)?;
     Ok(out)
 }
 
 /// Writes an operand, in parentheses where its level is below the wanted one.
 #[cycle(printer)]
-fn operand(alloc: Global, out: &mut Vec<u8>, wanted: u8, expr: &Expr) -> Result<(), AllocError>
-    ensures { OnOk result (out.new.items ≡ out.old.items ++ canonical.operand wanted (canonical.own_level (tree_of expr.now)) (canonical.text_of (tree_of expr.now))) }
+fn operand(alloc: Global, out: &mut String, wanted: u8, expr: &Expr) -> Result<(), AllocError>
+    ensures { OnOk result (string_bytes out.new ≡ string_bytes out.old ++ canonical.operand wanted (canonical.own_level (tree_of expr.now)) (canonical.text_of (tree_of expr.now))) }
 {
     if own_level(expr) < wanted {
-        out.push(b'(')?;
+        out.push('(')?;
         form(alloc, out, expr)?;
-        out.push(b')')?;
+        out.push(')')?;
         Ok(())
     } else {
         form(alloc, out, expr)
@@ -46,36 +49,36 @@ fn operand(alloc: Global, out: &mut Vec<u8>, wanted: u8, expr: &Expr) -> Result<
 }
 
 #[cycle(printer)]
-fn form(alloc: Global, out: &mut Vec<u8>, expr: &Expr) -> Result<(), AllocError>
-    ensures { OnOk result (out.new.items ≡ out.old.items ++ canonical.text_of (tree_of expr.now)) }
+fn form(alloc: Global, out: &mut String, expr: &Expr) -> Result<(), AllocError>
+    ensures { OnOk result (string_bytes out.new ≡ string_bytes out.old ++ canonical.text_of (tree_of expr.now)) }
 {
     match expr {
         Expr::Number(n) => {
             let text = n.to_string(alloc)?;
-            out.extend_from_slice(text.as_bytes())?;
+            out.push_str(text.as_str())?;
             Ok(())
         }
-        Expr::Truth(true) => out.extend_from_slice(b".TRUE."),
-        Expr::Truth(false) => out.extend_from_slice(b".FALSE."),
+        Expr::Truth(true) => out.push_str(".TRUE."),
+        Expr::Truth(false) => out.push_str(".FALSE."),
         Expr::Reference(place) => {
-            out.extend_from_slice(place.name.as_slice())?;
+            out.push_str(place.name.as_str())?;
             list(alloc, out, &place.subscripts)
         }
         Expr::Call(function, arguments) => {
-            out.extend_from_slice(function.name())?;
+            out.push_str(function.name())?;
             list(alloc, out, arguments)
         }
         Expr::Signed(sign, inner) => {
-            out.push(sign.symbol())?;
+            out.push(char::from(sign.symbol()))?;
             operand(alloc, out, 7, inner)
         }
         Expr::Not(inner) => {
-            out.extend_from_slice(b".NOT.")?;
+            out.push_str(".NOT.")?;
             operand(alloc, out, 5, inner)
         }
         Expr::Binary(op, left, right) => {
             operand(alloc, out, op.left_level(), left)?;
-            out.extend_from_slice(op.symbol())?;
+            out.push_str(op.symbol())?;
             operand(alloc, out, op.right_level(), right)
         }
     }
@@ -83,32 +86,80 @@ fn form(alloc: Global, out: &mut Vec<u8>, expr: &Expr) -> Result<(), AllocError>
 
 /// Writes expressions in parentheses, joined by commas, and nothing where there are none.
 #[cycle(printer)]
-fn list(alloc: Global, out: &mut Vec<u8>, items: &[Expr]) -> Result<(), AllocError>
-    ensures { OnOk result (out.new.items ≡ out.old.items ++ canonical.list_text (trees (map tree_of items.now))) }
+fn list(alloc: Global, out: &mut String, items: &[Expr]) -> Result<(), AllocError>
+    ensures { OnOk result (string_bytes out.new ≡ string_bytes out.old ++ canonical.list_text (trees (map tree_of items.now))) }
 {
     if items.is_empty() {
         return Ok(());
     }
     separated(alloc, out, b'(', items)?;
-    out.push(b')')?;
+    out.push(')')?;
     Ok(())
 }
 
 /// Writes expressions, this character before the first and a comma before each other.
 #[cycle(printer)]
-fn separated(
-    alloc: Global,
-    out: &mut Vec<u8>,
-    opening: u8,
-    items: &[Expr],
-) -> Result<(), AllocError>
-    ensures { OnOk result (out.new.items ≡ out.old.items ++ canonical.rest_text opening (trees (map tree_of items.now))) }
+fn separated(alloc: Global, out: &mut String, opening: u8, items: &[Expr]) -> Result<(), AllocError>
+    requires { opening < 128 }
+    ensures { OnOk result (string_bytes out.new ≡ string_bytes out.old ++ canonical.rest_text opening (trees (map tree_of items.now))) }
 {
     let mut before = opening;
     for item in items {
-        out.push(before)?;
+        out.push(char::from(before))?;
         form(alloc, out, item)?;
         before = b',';
     }
     Ok(())
+}
+
+/// Writes names, a parenthesis before the first and a comma before each other.
+fn names(out: &mut String, names: &[Name]) -> Result<(), AllocError>
+    ensures { OnOk result (string_bytes out.new ≡ string_bytes out.old ++ canonical.names_text 40 names.now) }
+{
+    let mut before = b'(';
+    for name in names {
+        out.push(char::from(before))?;
+        out.push_str(name.as_str())?;
+        before = b',';
+    }
+    Ok(())
+}
+
+/// Writes the statement SUBROUTINE.
+fn subroutine(out: &mut String, name: &Name, arguments: &[Name]) -> Result<(), AllocError>
+    ensures { OnOk result (string_bytes out.new ≡ string_bytes out.old ++ canonical.statement_text (Statement.Subroutine name.now arguments.now)) }
+{
+    out.push_str("SUBROUTINE ")?;
+    out.push_str(name.as_str())?;
+    if arguments.is_empty() {
+        return Ok(());
+    }
+    names(out, arguments)?;
+    out.push(')')?;
+    Ok(())
+}
+
+fn statement(alloc: Global, out: &mut String, stmt: &Stmt) -> Result<(), AllocError>
+    ensures { OnOk result (string_bytes out.new ≡ string_bytes out.old ++ canonical.statement_text (statement_of stmt.now)) }
+{
+    match stmt {
+        Stmt::Subroutine { name, arguments } => subroutine(out, name, arguments),
+        Stmt::Assign { target, value } => {
+            out.push_str(target.name.as_str())?;
+            list(alloc, out, &target.subscripts)?;
+            out.push('=')?;
+            form(alloc, out, value)
+        }
+        Stmt::End => out.push_str("END"),
+    }
+}
+
+/// The canonical text of a statement.
+pub fn print_stmt(alloc: Global, stmt: &Stmt) -> Result<String, SyntaxFault>
+    ensures text { IfOk result (λ text. string_bytes text ≡ canonical.statement_text (statement_of stmt.now)) }
+    ensures refused { IfErr result (λ fault. fault ≡ SyntaxFault.Memory) }
+{
+    let mut out = String::new(alloc);
+    statement(alloc, &mut out, stmt)?;
+    Ok(out)
 }

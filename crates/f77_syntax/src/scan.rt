@@ -120,7 +120,7 @@ fn first_operator<'a>(operators: &[Operator], text: &'a [u8]) -> Option<(Operato
     ensures { option_map (λ x. (x.0, x.1.now)) result ≡ reading.first_operator operators.now text.now }
 {
     for op in operators {
-        if let Some(rest) = text.strip_prefix(op.symbol()) {
+        if let Some(rest) = text.strip_prefix(op.symbol().as_bytes()) {
             return Some((*op, rest));
         }
     }

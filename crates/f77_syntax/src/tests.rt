@@ -1,11 +1,11 @@
 //! Statements and programs, from the rules of the standard and of the limits.
 
-use crate::{Expr, Stmt, parse, print_expression};
+use crate::{parse, print_stmt};
 use f77_source::{Card, read_form};
 use std::test::Fail;
 
-/// The right side of the program's second statement in its canonical form, or the fault.
-fn right_side(rt: &impl AllocGlobal, statement: &str) -> Result<String, Fail> {
+/// The program's second statement in its canonical form, or the fault.
+fn shown(rt: &impl AllocGlobal, statement: &str) -> Result<String, Fail> {
     let alloc = rt.alloc();
     let mut text = String::new(alloc);
     let mut cards = Vec::new(alloc);
@@ -15,21 +15,15 @@ fn right_side(rt: &impl AllocGlobal, statement: &str) -> Result<String, Fail> {
     match parse(alloc, &cards) {
         Ok(program) => {
             if let Some(line) = program.line(2) {
-                if let Stmt::Assign { value, .. } = &line.stmt {
-                    write_expression(rt, &mut text, value)?;
+                match print_stmt(alloc, &line.stmt) {
+                    Ok(statement) => text.push_str(statement.as_str())?,
+                    Err(fault) => write!(text, "{fault:?}")?,
                 }
             }
         }
         Err(fault) => write!(text, "{fault:?}")?,
     }
     Ok(text)
-}
-
-fn write_expression(rt: &impl AllocGlobal, text: &mut String, value: &Expr) -> Result<(), Fail> {
-    for byte in &print_expression(rt.alloc(), value)? {
-        text.push(char::from(*byte))?;
-    }
-    Ok(())
 }
 
 /// Text before, this text so many times, text behind.
@@ -51,27 +45,27 @@ fn repeated(
 #[test]
 fn reads_and_writes_expressions(rt: HostRuntime) -> Result<(), Fail> {
     for (statement, want) in [
-        ("K=I-(J-K)", "I-(J-K)"),
-        ("K=(-I)**J", "(-I)**J"),
-        ("K=I**J**K", "I**J**K"),
-        ("K=(I**J)**K", "(I**J)**K"),
-        ("K=-I**2", "-I**2"),
-        ("K=-(I+J)*K", "-(I+J)*K"),
-        ("K=((I))+(J*K)", "I+J*K"),
-        ("K=+I", "+I"),
-        ("K=I-J-K", "I-J-K"),
-        ("P=(P.EQV.Q).EQV.(Q.EQV.P)", "P.EQV.Q.EQV.(Q.EQV.P)"),
-        ("P=.NOT.(.NOT.Q)", ".NOT.(.NOT.Q)"),
-        ("P=.TRUE..AND..FALSE..OR.P", ".TRUE..AND..FALSE..OR.P"),
-        ("P=I.LT.J.AND.J.GE.1", "I.LT.J.AND.J.GE.1"),
-        ("K=M(I,J)+MOD(I,3)", "M(I,J)+MOD(I,3)"),
-        ("MOD(I)=1", "1"),
-        ("END=END+1", "END+1"),
-        ("K=007", "7"),
-        ("K=2147483647", "2147483647"),
+        ("K=I-(J-K)", "K=I-(J-K)"),
+        ("K=(-I)**J", "K=(-I)**J"),
+        ("K=I**J**K", "K=I**J**K"),
+        ("K=(I**J)**K", "K=(I**J)**K"),
+        ("K=-I**2", "K=-I**2"),
+        ("K=-(I+J)*K", "K=-(I+J)*K"),
+        ("K=((I))+(J*K)", "K=I+J*K"),
+        ("K=+I", "K=+I"),
+        ("K=I-J-K", "K=I-J-K"),
+        ("P=(P.EQV.Q).EQV.(Q.EQV.P)", "P=P.EQV.Q.EQV.(Q.EQV.P)"),
+        ("P=.NOT.(.NOT.Q)", "P=.NOT.(.NOT.Q)"),
+        ("P=.TRUE..AND..FALSE..OR.P", "P=.TRUE..AND..FALSE..OR.P"),
+        ("P=I.LT.J.AND.J.GE.1", "P=I.LT.J.AND.J.GE.1"),
+        ("K=M(I,J)+MOD(I,3)", "K=M(I,J)+MOD(I,3)"),
+        ("MOD(I)=1", "MOD(I)=1"),
+        ("END=END+1", "END=END+1"),
+        ("K=007", "K=7"),
+        ("K=2147483647", "K=2147483647"),
     ] {
-        let shown = right_side(&rt, statement)?;
-        assert_eq!(rt; shown.as_str(), want, "{statement}");
+        let text = shown(&rt, statement)?;
+        assert_eq!(rt; text.as_str(), want, "{statement}");
     }
     Ok(())
 }
@@ -93,8 +87,8 @@ fn refuses_statements(rt: HostRuntime) -> Result<(), Fail> {
         ("SUBROUTINEB", "Unknown(2)"),
         ("END", "AfterEnd(3)"),
     ] {
-        let shown = right_side(&rt, statement)?;
-        assert_eq!(rt; shown.as_str(), want, "{statement}");
+        let text = shown(&rt, statement)?;
+        assert_eq!(rt; text.as_str(), want, "{statement}");
     }
     Ok(())
 }
@@ -103,21 +97,20 @@ fn refuses_statements(rt: HostRuntime) -> Result<(), Fail> {
 fn keeps_the_limits(rt: HostRuntime) -> Result<(), Fail> {
     let front = repeated(&rt, "K=", 40, "(", "I")?;
     let deep = repeated(&rt, front.as_str(), 40, ")", "")?;
-    assert_eq!(rt; right_side(&rt, deep.as_str())?.as_str(), "I");
+    assert_eq!(rt; shown(&rt, deep.as_str())?.as_str(), "K=I");
     let front = repeated(&rt, "K=", 41, "(", "I")?;
     let deep = repeated(&rt, front.as_str(), 41, ")", "")?;
-    assert_eq!(rt; right_side(&rt, deep.as_str())?.as_str(), "TooDeep(2)");
+    assert_eq!(rt; shown(&rt, deep.as_str())?.as_str(), "TooDeep(2)");
 
     let many = repeated(&rt, "K=I", 98, "+I", "")?;
-    let value = repeated(&rt, "I", 98, "+I", "")?;
-    assert_eq!(rt; right_side(&rt, many.as_str())?.as_str(), value.as_str());
+    assert_eq!(rt; shown(&rt, many.as_str())?.as_str(), many.as_str());
     let many = repeated(&rt, "K=I", 99, "+I", "")?;
-    assert_eq!(rt; right_side(&rt, many.as_str())?.as_str(), "TooLong(2)");
+    assert_eq!(rt; shown(&rt, many.as_str())?.as_str(), "TooLong(2)");
 
     let long = repeated(&rt, "K=", 1317, "0", "1")?;
-    assert_eq!(rt; right_side(&rt, long.as_str())?.as_str(), "1");
+    assert_eq!(rt; shown(&rt, long.as_str())?.as_str(), "K=1");
     let long = repeated(&rt, "K=", 1318, "0", "1")?;
-    assert_eq!(rt; right_side(&rt, long.as_str())?.as_str(), "TooLong(2)");
+    assert_eq!(rt; shown(&rt, long.as_str())?.as_str(), "TooLong(2)");
     Ok(())
 }
 

@@ -1,12 +1,12 @@
-use Rattle.std.proofs.Common.{arith, rules, ◌∷◌, ◌++◌, [], ◌≡◌, length, sym, ◌∙◌, true, false, refl, ap}
+use Rattle.std.proofs.Common.{arith, ◌∷◌, ◌≡◌, sym, ◌∙◌, true, false, refl, ap}
 use Rattle.std.specs.Prelude.{codes, ◌==◌, Some, ◌&&◌, nat_le}
 use Rattle.std.proofs.lemmas.Result.{err_from_is_err_and}
 use Rattle.std.proofs.lemmas.Bool.{le-leb}
 use Rattle.std.proofs.lemmas.Bool.Decides.{nat_tests}
 use Rattle.f77_syntax.specs.Operator.{level, left_level}
-use Rattle.f77_syntax.specs.Reading.{reading, start_at, word_at, group_at}
+use Rattle.f77_syntax.specs.Reading.{reading, start_at}
 use Rattle.f77_syntax.proofs.Steps.{strip_same, strip_other}
-use Rattle.f77_syntax.proofs.Gives.{start_none, start_along, after_is, alone_at, last_at, expr_fails, expr_shorter, start_shorter, climbing_starts, climb_fails, climbing_goes_on, ends_alone, ends_before, start_empty, start_group, start_plus, start_minus, start_dot, start_word, group_whole, signed_whole, negated_whole, true_whole, false_whole, dotted_not, dotted_none, gives_along, number_whole, scalar_whole, scalar_end, scalar_before, listed_whole, list_fails, list_goes_on, list_ends, ends_list, no_comma}
+use Rattle.f77_syntax.proofs.Gives.{start_none, start_along, after_is, alone_at, last_at, expr_fails, start_shorter, climbing_starts, climb_fails, climbing_goes_on, ends_alone, ends_before, start_group, start_plus, start_minus, start_dot, start_word, group_whole, signed_whole, negated_whole, true_whole, false_whole, number_whole, scalar_whole, listed_whole, list_fails, list_goes_on, list_ends}
 use Rattle.f77_syntax.proofs.expression.+parser.Goals as goal
 
 pub expression-returns-in_err-left-clause-found : goal.expression-returns-in_err-left-clause-found

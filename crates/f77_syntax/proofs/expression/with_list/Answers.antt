@@ -1,6 +1,6 @@
-use Rattle.std.proofs.Common.{◌≡◌, ap, ◌∙◌, sym, ℕ, List}
+use Rattle.std.proofs.Common.{ap, ◌∙◌, sym, ℕ, List}
 use Rattle.std.specs.Prelude.{map}
-use Rattle.f77_syntax.specs.Tree.{Tree, Trees}
+use Rattle.f77_syntax.specs.Tree.{Tree}
 use Rattle.f77_syntax.specs.Reading.{listed_by}
 use Rattle.f77_syntax.specs.View.{tree_of, trees}
 use Rattle.f77_syntax.proofs.Views.{reference_view}

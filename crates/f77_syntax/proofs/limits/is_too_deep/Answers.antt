@@ -1,5 +1,4 @@
-use Rattle.std.proofs.Common.{arith, ◌≡◌, ◌≤◌, ◌+◌, ℕ, take, refl, sym, cond, rules}
-use Rattle.f77_syntax.specs.Limits.{count, most_open}
+use Rattle.std.proofs.Common.{arith, ◌+◌, refl, sym}
 use Rattle.f77_syntax.proofs.Counts.{count_none, flat_none, few_step, flat_step, opened_step, closed_step}
 use Rattle.f77_syntax.proofs.limits.is_too_deep.Goals as goal
 

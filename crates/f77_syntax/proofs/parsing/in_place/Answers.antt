@@ -1,4 +1,4 @@
-use Rattle.std.proofs.Common.{◌≡◌, inl, inr, refl, sym, ◌∙◌, subst, ap}
+use Rattle.std.proofs.Common.{inr, sym, ◌∙◌, subst, ap}
 use Rattle.std.proofs.lemmas.Result.{err_from_is_err_and}
 use Rattle.f77_syntax.specs.Parsing.{IsAdmitted}
 use Rattle.f77_syntax.specs.Group.{may_stand}

@@ -1,4 +1,4 @@
-use Rattle.std.proofs.Common.{◌≡◌, ◌++◌, List, drop, None}
+use Rattle.std.proofs.Common.{◌++◌, List, drop, None}
 use Rattle.std.specs.Prelude.{map}
 use Rattle.f77_syntax.specs.declared.fault.SyntaxFault.{SyntaxFault}
 use Rattle.f77_syntax.specs.Parsing.{AreLines, IsFirstFault, LineFields, line_of}

@@ -1,4 +1,4 @@
-use Rattle.std.proofs.Common.{◌≡◌, inr, refl, sym, ◌∙◌, subst}
+use Rattle.std.proofs.Common.{inr, refl, sym, ◌∙◌, subst}
 use Rattle.std.proofs.lemmas.Option.{none-some}
 use Rattle.f77_syntax.specs.View.{Fails}
 use Rattle.f77_syntax.specs.Statement.{statement_at}

@@ -1,5 +1,5 @@
-use Rattle.std.proofs.Common.{◌≡◌, true, false, refl, sym, ◌∙◌, ap, length}
-use Rattle.std.specs.Prelude.{Some, ◌==◌}
+use Rattle.std.proofs.Common.{◌≡◌, true, false, sym, length}
+use Rattle.std.specs.Prelude.{◌==◌}
 use Rattle.std.proofs.lemmas.Result.{err_from_is_err_and}
 use Rattle.f77_syntax.proofs.StatementGives.{assign_fails_target, assign_no_equals, assign_fails_value, assign_more, assign_whole}
 use Rattle.f77_syntax.proofs.statement.assignment.Goals as goal

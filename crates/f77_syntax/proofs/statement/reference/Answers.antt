@@ -4,7 +4,7 @@ use Rattle.f77_syntax.specs.declared.tree.Expr.{Expr}
 use Rattle.f77_syntax.specs.View.{tree_of, trees}
 use Rattle.std.proofs.lemmas.Result.{err_from_is_err_and}
 use Rattle.f77_syntax.specs.Grammar.{is_name}
-use Rattle.f77_syntax.specs.Reading.{word, past_word, after}
+use Rattle.f77_syntax.specs.Reading.{after}
 use Rattle.f77_syntax.proofs.StatementGives.{reference_none, reference_scalar, reference_fails_items, reference_fails_close, reference_element, reference_whole}
 use Rattle.f77_syntax.proofs.statement.reference.Goals as goal
 
