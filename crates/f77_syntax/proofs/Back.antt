@@ -1,35 +1,37 @@
 -- The canonical text of a tree spells it.
-use Rattle.std.proofs.Common.{arith, ◌≡◌, ◌<◌, ◌≤◌, ◌^◌, ◌+◌, ◌%◌, ℕ, List, [], ◌∷◌, ◌++◌, Bool, true, false, cond, refl, sym, subst}
-use Rattle.std.specs.Prelude.{nat_lt}
-use Rattle.std.specs.List.{list_all}
+use Rattle.std.proofs.Common.{arith, ◌≡◌, ◌<◌, ◌≤◌, ◌^◌, ◌+◌, ◌%◌, ℕ, List, [], ◌∷◌, ◌++◌, Bool, true, false, cond, refl, ap, sym, subst}
+use Rattle.std.specs.Prelude.{nat_lt, nat_le, ◌&&◌, not, codes}
+use Rattle.std.specs.List.{list_all, join_with_byte}
 use Rattle.std.specs.Fmt.{decimal}
 use Rattle.std.specs.Str.Parse.{digits_value}
-use Rattle.std.proofs.lemmas.Bool.{ltb-false}
+use Rattle.std.proofs.lemmas.Bool.{ltb-false, leb-true}
 use Rattle.std.proofs.lemmas.List.{append-nil}
 use Rattle.std.proofs.lemmas.Fmt.{decimal_by_steps, decimal_is_IsNumeral}
 use Rattle.std.proofs.lemmas.Bool.Decides.{nat_tests}
-use Rattle.f77_syntax.proofs.Steps.{and_true}
+use Rattle.f77_syntax.proofs.Steps.{and_true, not_true}
 use Rattle.f77_syntax.specs.declared.operator.Operator.{Operator}
 use Rattle.f77_syntax.specs.declared.operator.Operator.TheVariants.{Equivalent, NotEquivalent, Or, And, Less, LessOrEqual, Equal, NotEqual, GreaterOrEqual, Greater, Add, Subtract, Multiply, Divide, Power}
 use Rattle.f77_syntax.specs.Operator.{level, left_level, right_level}
-use Rattle.f77_syntax.specs.Tree.{Tree, Trees}
-use Rattle.f77_syntax.specs.Grammar.{Spells, SpellsReference, SpellsAll, is_name, is_digit, is_number}
-use Rattle.f77_syntax.specs.Canonical.{own_level, operand, text_of, list_text, rest_text, Formed, FormedAll}
+use Rattle.f77_syntax.specs.Tree.{Tree, Trees, Statement}
+use Rattle.f77_syntax.specs.Grammar.{Spells, SpellsReference, SpellsAll, SpellsStatement, is_name, is_call, is_digit, is_number}
+use Rattle.f77_syntax.specs.Canonical.{own_level, operand, text_of, list_text, rest_text, names_text}
+use Rattle.f77_syntax.specs.Formed.{is_reference, is_some_list, formed, all_formed, statement_formed}
+use Rattle.f77_syntax.specs.Limits.{small_constants, all_small_constants, statement_constants}
 
-digit_is : (d : ℕ) → d < 10 → is_digit (48 + d) ≡ true
+pub digit_is : (d : ℕ) → d < 10 → is_digit (48 + d) ≡ true
 digit_is d h = grind (arith, nat_tests)
 
-mod_lt : (m : ℕ) → m % 10 < 10
+pub mod_lt : (m : ℕ) → m % 10 < 10
 mod_lt m = omega arith
 
-one_digit : (n : ℕ) → n < 10 → is_number ((48 + n) ∷ []) ≡ true
+pub one_digit : (n : ℕ) → n < 10 → is_number ((48 + n) ∷ []) ≡ true
 one_digit n h = rw (digit_is n h) refl
 
 digits_more : (ds : List ℕ) (c : ℕ) → list_all is_digit ds ≡ true → is_digit c ≡ true → list_all is_digit (ds ++ c ∷ []) ≡ true
 digits_more [] c p h = rw h refl
 digits_more (d ∷ ds) c p h = let (first, others) = and_true (is_digit d) (list_all is_digit ds) p in rw first (digits_more ds c others h)
 
-one_more : (ds : List ℕ) (c : ℕ) → is_number ds ≡ true → is_digit c ≡ true → is_number (ds ++ c ∷ []) ≡ true
+pub one_more : (ds : List ℕ) (c : ℕ) → is_number ds ≡ true → is_digit c ≡ true → is_number (ds ++ c ∷ []) ≡ true
 one_more [] c p h = cc
 one_more (d ∷ ds) c p h = digits_more (d ∷ ds) c p h
 
@@ -37,7 +39,7 @@ decimal_number : (n : ℕ) → n < 2 ^ 64 → (is_number (decimal n) ≡ true) �
 decimal_number n h = (decimal_by_steps (λ m ds. is_number ds ≡ true) one_digit (λ m ds k p. one_more ds (48 + m % 10) p (digit_is (m % 10) (mod_lt m))) n h, (decimal_is_IsNumeral n h).1)
 
 -- in parentheses, or of a level that may stand there
-as_operand : (w own : ℕ) (text : List ℕ) (t : Tree) → ((v : ℕ) → v ≤ own → Spells v text t) → 1 ≤ own → Spells w (operand w own text) t
+pub as_operand : (w own : ℕ) (text : List ℕ) (t : Tree) → ((v : ℕ) → v ≤ own → Spells v text t) → 1 ≤ own → Spells w (operand w own text) t
 as_operand w own text t p h = step (nat_lt own w) refl
   where
     step : (b : Bool) → nat_lt own w ≡ b → Spells w (cond b (40 ∷ (text ++ 41 ∷ [])) text) t
@@ -61,7 +63,7 @@ level_low Multiply = omega arith
 level_low Divide = omega arith
 level_low Power = omega arith
 
-own_low : (t : Tree) → 1 ≤ own_level t
+pub own_low : (t : Tree) → 1 ≤ own_level t
 own_low (Tree.Number n) = omega arith
 own_low (Tree.Truth b) = omega arith
 own_low (Tree.Reference name items) = omega arith
@@ -70,26 +72,82 @@ own_low (Tree.Signed sign t) = omega arith
 own_low (Tree.Not t) = omega arith
 own_low (Tree.Binary op a b) = level_low op
 
+-- a constant that a program may have
+small : (n : ℕ) → nat_le n 2147483647 ≡ true → n < 2 ^ 64
+small n h = let k = leb-true n 2147483647 h in omega arith
+
+pub reference_formed : (name : List ℕ) (items : Trees) → (is_reference name items && all_formed items) ≡ true
+    → (is_name name ≡ true) × (is_call name items ≡ false) × (all_formed items ≡ true)
+unfolding is_reference
+reference_formed name items h =
+    let (first, rest) = and_true (is_name name && not (is_call name items)) (all_formed items) h in
+    let (second, third) = and_true (is_name name) (not (is_call name items)) first in
+    (second, not_true (is_call name items) third, rest)
+
+pub no_call : ¬ ((is_some_list Trees.None && all_formed Trees.None) ≡ true)
+unfolding is_some_list
+no_call h = cc
+
+pub call_formed : (t : Tree) (ts : Trees) → (is_some_list (Trees.Then t ts) && all_formed (Trees.Then t ts)) ≡ true → (formed t ≡ true) × (all_formed ts ≡ true)
+unfolding is_some_list
+call_formed t ts h = and_true (formed t) (all_formed ts) h
+
 mutual
-  pub back : (t : Tree) → Formed t → (v : ℕ) → v ≤ own_level t → Spells v (text_of t) t
-  back (Tree.Number n) f v h = let d = decimal_number n f in subst (λ m. Spells v (decimal n) (Tree.Number m)) d.1 (Spells.number d.0)
-  back (Tree.Truth b) f v h = Spells.truth b
-  back (Tree.Reference name items) f v h = Spells.reference f.1 (back_reference items name f.0 f.2)
-  back (Tree.Call g Trees.None) f v h = absurd (f.0 refl)
-  back (Tree.Call g (Trees.Then t ts)) f v h = Spells.call g (back_all ts (text_of t) t (back t f.1.0 1 (own_low t)) f.1.1)
-  back (Tree.Signed sign t) f v h = Spells.signed sign h (as_operand 7 (own_level t) (text_of t) t (back t f) (own_low t))
-  back (Tree.Not t) f v h = Spells.negated h (as_operand 5 (own_level t) (text_of t) t (back t f) (own_low t))
-  back (Tree.Binary op a b) f v h =
-      Spells.binary op h (as_operand (left_level op) (own_level a) (text_of a) a (back a f.0) (own_low a))
-      (as_operand (right_level op) (own_level b) (text_of b) b (back b f.1) (own_low b))
+  pub back : (t : Tree) → formed t ≡ true → small_constants t ≡ true → (v : ℕ) → v ≤ own_level t → Spells v (text_of t) t
+  back (Tree.Number n) f k v h = let d = decimal_number n (small n k) in subst (λ m. Spells v (decimal n) (Tree.Number m)) d.1 (Spells.number d.0)
+  back (Tree.Truth b) f k v h = Spells.truth b
+  back (Tree.Reference name items) f k v h =
+      let (is, other, all) = reference_formed name items f in Spells.reference other (back_reference items name is all k)
+  back (Tree.Call g Trees.None) f k v h = absurd (no_call f)
+  back (Tree.Call g (Trees.Then t ts)) f k v h =
+      let (first, others) = call_formed t ts f in
+      let (small_first, small_others) = and_true (small_constants t) (all_small_constants ts) k in
+      Spells.call g (back_all ts (text_of t) t (back t first small_first 1 (own_low t)) others small_others)
+  back (Tree.Signed sign t) f k v h = Spells.signed sign h (as_operand 7 (own_level t) (text_of t) t (back t f k) (own_low t))
+  back (Tree.Not t) f k v h = Spells.negated h (as_operand 5 (own_level t) (text_of t) t (back t f k) (own_low t))
+  back (Tree.Binary op a b) f k v h =
+      let (first, second) = and_true (formed a) (formed b) f in
+      let (small_first, small_second) = and_true (small_constants a) (small_constants b) k in
+      Spells.binary op h (as_operand (left_level op) (own_level a) (text_of a) a (back a first small_first) (own_low a))
+      (as_operand (right_level op) (own_level b) (text_of b) b (back b second small_second) (own_low b))
 
-  pub back_reference : (items : Trees) (name : List ℕ) → is_name name ≡ true → FormedAll items → SpellsReference (name ++ list_text items) name items
-  back_reference Trees.None name n f = subst (λ z. SpellsReference z name Trees.None) (sym (append-nil name)) (SpellsReference.scalar n)
-  back_reference (Trees.Then t ts) name n f = SpellsReference.element n (back_all ts (text_of t) t (back t f.0 1 (own_low t)) f.1)
+  pub back_reference : (items : Trees) (name : List ℕ) → is_name name ≡ true → all_formed items ≡ true → all_small_constants items ≡ true
+      → SpellsReference (name ++ list_text items) name items
+  back_reference Trees.None name n f k = subst (λ z. SpellsReference z name Trees.None) (sym (append-nil name)) (SpellsReference.scalar n)
+  back_reference (Trees.Then t ts) name n f k =
+      let (first, others) = and_true (formed t) (all_formed ts) f in
+      let (small_first, small_others) = and_true (small_constants t) (all_small_constants ts) k in
+      SpellsReference.element n (back_all ts (text_of t) t (back t first small_first 1 (own_low t)) others small_others)
 
-  back_all : (ts : Trees) (x : List ℕ) (t : Tree) → Spells 1 x t → FormedAll ts → SpellsAll (x ++ rest_text 44 ts) (Trees.Then t ts)
-  back_all Trees.None x t p f = subst (λ z. SpellsAll z (Trees.Then t Trees.None)) (sym (append-nil x)) (SpellsAll.last p)
-  back_all (Trees.Then u us) x t p f = SpellsAll.more p (back_all us (text_of u) u (back u f.0 1 (own_low u)) f.1)
+  back_all : (ts : Trees) (x : List ℕ) (t : Tree) → Spells 1 x t → all_formed ts ≡ true → all_small_constants ts ≡ true
+      → SpellsAll (x ++ rest_text 44 ts) (Trees.Then t ts)
+  back_all Trees.None x t p f k = subst (λ z. SpellsAll z (Trees.Then t Trees.None)) (sym (append-nil x)) (SpellsAll.last p)
+  back_all (Trees.Then u us) x t p f k =
+      let (first, others) = and_true (formed u) (all_formed us) f in
+      let (small_first, small_others) = and_true (small_constants u) (all_small_constants us) k in
+      SpellsAll.more p (back_all us (text_of u) u (back u first small_first 1 (own_low u)) others small_others)
 
-pub back_whole : (t : Tree) (text : List ℕ) → text ≡ text_of t → Formed t → Spells 1 text t
-back_whole t text e f = subst (λ z. Spells 1 z t) (sym e) (back t f 1 (own_low t))
+-- names joined by commas
+joined : (n : List ℕ) (names : List (List ℕ)) → join_with_byte 44 (n ∷ names) ≡ n ++ names_text 44 names
+joined n [] = sym (append-nil n)
+joined n (m ∷ names) = ap (λ z. n ++ 44 ∷ z) (joined m names)
+
+-- the canonical text of a statement without its blanks
+abbrev pub bare_text : Statement → List ℕ
+bare_text (Statement.Subroutine name []) = codes "SUBROUTINE" ++ name
+bare_text (Statement.Subroutine name (n ∷ names)) = codes "SUBROUTINE" ++ (name ++ (names_text 40 (n ∷ names) ++ 41 ∷ []))
+bare_text (Statement.Assign name items t) = (name ++ list_text items) ++ (61 ∷ text_of t)
+bare_text Statement.End = codes "END"
+
+pub back_statement : (s : Statement) → statement_formed s ≡ true → statement_constants s ≡ true → SpellsStatement (bare_text s) s
+back_statement (Statement.Subroutine name []) f k = SpellsStatement.subroutine (and_true (is_name name) true f).0
+back_statement (Statement.Subroutine name (n ∷ names)) f k =
+    let (first, others) = and_true (is_name name) (list_all is_name (n ∷ names)) f in
+    subst (λ z. SpellsStatement (codes "SUBROUTINE" ++ (name ++ (40 ∷ (z ++ 41 ∷ [])))) (Statement.Subroutine name (n ∷ names))) (joined n names)
+    (SpellsStatement.subroutine_of (n ∷ names) first others)
+back_statement (Statement.Assign name items t) f k =
+    let (is, rest) = and_true (is_name name) (all_formed items && formed t) f in
+    let (all, value) = and_true (all_formed items) (formed t) rest in
+    let (small_all, small_value) = and_true (all_small_constants items) (small_constants t) k in
+    SpellsStatement.assign (back_reference items name is all small_all) (back t value small_value 1 (own_low t))
+back_statement Statement.End f k = SpellsStatement.end

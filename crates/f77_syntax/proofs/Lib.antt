@@ -10,9 +10,12 @@ mod Gives
 mod Loops
 mod Numbers
 mod Operators
-mod Whole
 mod Back
-mod Printing
+mod Forming
+mod Plain
+mod Order
+mod ReadAgain
+mod Texts
 mod StatementSound
 mod StatementComplete
 mod StatementGives

@@ -3,7 +3,7 @@ use Rattle.std.proofs.Common.{◌≡◌, ◌⊎◌, inl, inr, ℕ, List, [], ◌
 use Rattle.std.proofs.lemmas.Option.{same_Some, none-some}
 use Rattle.std.proofs.lemmas.Bool.{eqb-true}
 use Rattle.f77_syntax.specs.Reading.{◌>>=◌, strip}
-use Rattle.std.specs.Prelude.{◌==◌, ◌&&◌, nat_eq, length, take, drop}
+use Rattle.std.specs.Prelude.{◌==◌, ◌&&◌, not, nat_eq, length, take, drop}
 use lib.Pointwise.{pointwise}
 
 -- what holds of the value that is given, holds of the value that is found
@@ -26,6 +26,10 @@ guarded false x z e = absurd (none-some z e)
 pub and_true : (a b : Bool) → (a && b) ≡ true → (a ≡ true) × (b ≡ true)
 and_true true b e = (refl, e)
 and_true false b e = cc
+
+pub not_true : (a : Bool) → not a ≡ true → a ≡ false
+not_true true e = cc
+not_true false e = refl
 
 pub strip_is : (p s r : List ℕ) → strip p s ≡ Some r → s ≡ p ++ r
 strip_is [] s r e = same_Some s r e

@@ -1,9 +1,9 @@
 -- The canonical text of a tree.
-use Rattle.std.specs.Prelude.{◌≡◌, ◌≢◌, ◌<◌, ◌^◌, true, false, ℕ, List, [], ◌∷◌, ◌++◌, nat_lt, if◌then◌else◌, codes}
+use Rattle.std.specs.Prelude.{ℕ, List, [], ◌∷◌, ◌++◌, nat_lt, if◌then◌else◌, codes}
 use Rattle.std.specs.Fmt.{decimal}
 use Rattle.f77_syntax.specs.Operator.{symbol, sign_symbol, level, left_level, right_level}
 use Rattle.f77_syntax.specs.Intrinsic.{function_name}
-use Rattle.f77_syntax.specs.Grammar.{is_name, is_call, truth_text}
+use Rattle.f77_syntax.specs.Grammar.{truth_text}
 use Rattle.f77_syntax.specs.Tree.{Tree, Trees, Statement}
 
 -- the level of a tree's own form
@@ -40,21 +40,6 @@ abbrev mutual
   pub rest_text : ℕ → Trees → List ℕ
   rest_text c Trees.None = []
   rest_text c (Trees.Then t ts) = c ∷ (text_of t ++ rest_text 44 ts)
-
--- names are names, and constants are those that a program can keep
-abbrev mutual
-  pub Formed : Tree → Type 0
-  Formed (Tree.Number n) = n < 2 ^ 64
-  Formed (Tree.Truth b) = Unit {0}
-  Formed (Tree.Reference name items) = (is_name name ≡ true) × (is_call name items ≡ false) × FormedAll items
-  Formed (Tree.Call f items) = (items ≢ Trees.None) × FormedAll items
-  Formed (Tree.Signed sign t) = Formed t
-  Formed (Tree.Not t) = Formed t
-  Formed (Tree.Binary op a b) = Formed a × Formed b
-
-  pub FormedAll : Trees → Type 0
-  FormedAll Trees.None = Unit {0}
-  FormedAll (Trees.Then t ts) = Formed t × FormedAll ts
 
 -- this character before the first name, and a comma before each other
 abbrev pub names_text : ℕ → List (List ℕ) → List ℕ

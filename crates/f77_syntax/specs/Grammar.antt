@@ -77,3 +77,7 @@ pub data SpellsStatement : List ℕ → Statement → Type 0 where
   assign : {x y name : List ℕ} {items : Trees} {t : Tree} → SpellsReference x name items → Spells 1 y t
       → SpellsStatement (x ++ (61 ∷ y)) (Statement.Assign name items t)
   end : SpellsStatement (codes "END") Statement.End
+
+-- some text spells the statement
+abbrev pub IsFormed : Statement → Type 0
+IsFormed s = (text : List ℕ) × SpellsStatement text s

@@ -2,6 +2,7 @@ pub mod Intrinsic
 pub mod Operator
 pub mod Tree
 pub mod Grammar
+pub mod Formed
 pub mod Canonical
 pub mod Reading
 pub mod View
@@ -9,3 +10,4 @@ pub mod Statement
 pub mod Limits
 pub mod Group
 pub mod Parsing
+pub mod Printing

@@ -3,7 +3,7 @@ use Rattle.std.specs.Prelude.{◌≡◌, ◌≢◌, ℕ, zero, suc, ◌≤◌, �
 use Rattle.std.specs.List.{slice_get}
 use Rattle.f77_source.specs.Card.{CardFields}
 use Rattle.f77_syntax.specs.Tree.{Statement}
-use Rattle.f77_syntax.specs.Grammar.{SpellsStatement}
+use Rattle.f77_syntax.specs.Grammar.{SpellsStatement, IsFormed}
 use Rattle.f77_syntax.specs.Limits.{most_characters, most_nodes, IsTooDeep, statement_names, statement_constants, statement_nodes}
 use Rattle.f77_syntax.specs.Group.{group_of, may_stand}
 use Rattle.f77_syntax.specs.View.{statement_of}
@@ -81,15 +81,15 @@ pub data IsFirstFault : Option Group → List CardFields → SyntaxFault → Typ
       → IsAdmitted card.text s → may_stand before (group_of s) ≡ true → IsFirstFault (Some (group_of s)) cards fault
       → IsFirstFault before (card ∷ cards) fault
 
--- some text spells the statement
-abbrev pub IsFormed : Statement → Type 0
-IsFormed s = (text : List ℕ) × SpellsStatement text s
+-- the line may stand behind a statement of this group, or first, and some text spells its statement
+abbrev pub MayFollow : Option Group → LineFields → Type 0
+MayFollow before line = (may_stand before (group_of line.stmt) ≡ true) × IsFormed line.stmt
 
 -- Formed statements in order, behind a statement of this group or from the start on, to the end.
 pub data IsProgram : Option Group → List LineFields → Type 0 where
   finished : IsProgram (Some End) []
-  next : {before : Option Group} {line : LineFields} {lines : List LineFields} → may_stand before (group_of line.stmt) ≡ true
-      → IsFormed line.stmt → IsProgram (Some (group_of line.stmt)) lines → IsProgram before (line ∷ lines)
+  next : {before : Option Group} {line : LineFields} {lines : List LineFields} → MayFollow before line
+      → IsProgram (Some (group_of line.stmt)) lines → IsProgram before (line ∷ lines)
 
 -- lines are numbered from 1
 abbrev pub line_at : List Line → ℕ → Option Line

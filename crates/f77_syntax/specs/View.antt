@@ -73,11 +73,6 @@ IsStart x a = (tree_of x.0 ≡ clip a.0) × (x.1 ≡ a.1) × (x.2.now ≡ a.2)
 abbrev pub IsList : Vec Expr Global × Bor (List ℕ) → Trees × List ℕ → Type 0
 IsList x a = (trees (map tree_of x.0.items) ≡ clip_all a.0) × (x.1.now ≡ a.1)
 
--- the value, or this error
-abbrev pub Unless : {X E : Type 0} → Result X E → E → (X → Type 0) → Type 0
-Unless (Ok x) e P = P x
-Unless (Err f) e P = f ≡ e
-
 -- a statement of the program
 abbrev pub statement_of : Stmt → Statement
 statement_of (Subroutine name arguments) = Statement.Subroutine name arguments.items

@@ -2,10 +2,8 @@
 
 ghost use Rattle.std.specs.Prelude.{◌≡◌, ◌<◌, true, length, map, codes, IfOk, option_map};
 ghost use Rattle.f77_syntax.specs.Reading.{reading, close_at, after, word, past_word, start_at, group_at, signed_at, negated_at, dotted_at, word_at, listed};
-ghost use Rattle.f77_syntax.specs.Grammar.{Spells, is_name};
-ghost use Rattle.f77_syntax.specs.Tree.{Tree};
-ghost use Rattle.f77_syntax.specs.declared.fault.ReadError.TheVariants.{Memory};
-ghost use Rattle.f77_syntax.specs.View.{tree_of, trees, clip, Unless, Gives, IsTree, IsStart, IsList};
+ghost use Rattle.f77_syntax.specs.Grammar.{is_name};
+ghost use Rattle.f77_syntax.specs.View.{tree_of, trees, Gives, IsTree, IsStart, IsList};
 
 use crate::fault::ReadError;
 use crate::intrinsic::Intrinsic;
@@ -14,20 +12,6 @@ use crate::operator::Sign;
 use crate::scan::{is_name, is_number, next_operator, number, split_word};
 use crate::tree::{Expr, Ref};
 use std::alloc::{AllocError, Global};
-
-/// The expression that the text spells.
-pub fn whole_expression(alloc: Global, text: &[u8]) -> Result<Expr, ReadError>
-    // What is read is spelled so.
-    ensures found { IfOk result (λ e. (t : Tree) × Spells 1 text.now t × (tree_of e ≡ clip t)) }
-    // What is spelled is read so, unless memory runs out.
-    ensures only { (t : Tree) → Spells 1 text.now t → Unless result Memory (λ e. tree_of e ≡ clip t) }
-{
-    let (expr, rest) = expression(alloc, 1, text)?;
-    if !rest.is_empty() {
-        return Err(ReadError::Unknown);
-    }
-    Ok(expr)
-}
 
 /// Reads an expression of the wanted level or a tighter one, and what follows it.
 #[cycle(parser)]

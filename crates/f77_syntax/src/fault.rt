@@ -7,9 +7,9 @@ ghost use Rattle.f77_syntax.specs.declared.fault.SyntaxFault.TheVariants as faul
 use std::alloc::{AllocError, AllocFailed};
 use thiserror::Error;
 
-/// What a reader answers where it gives no value.
+/// Why a reader gives no value: memory ran out, or the text spells none.
 #[derive(Debug, Drop)]
-pub enum ReadError {
+pub(crate) enum ReadError {
     Memory,
     Unknown,
 }

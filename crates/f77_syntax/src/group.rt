@@ -1,8 +1,9 @@
 //! The groups of statements, and where each may stand.
 
-ghost use Rattle.std.specs.Prelude.{◌≡◌};
+ghost use Rattle.std.specs.Prelude.{◌≡◌, ◌≢◌, true, false, Some};
 ghost use Rattle.f77_syntax.specs.Group.{group_of, may_stand};
 ghost use Rattle.f77_syntax.specs.View.{statement_of};
+ghost use Rattle.f77_syntax.specs.declared.group.Group.TheVariants as Group;
 
 use crate::tree::Stmt;
 
@@ -41,4 +42,12 @@ impl Group {
             Some(_) => self != Group::Subroutine,
         }
     }
+}
+
+/// Whether END was the last.
+pub(crate) fn is_end(before: Option<Group>) -> bool
+    ensures yes { result ≡ true → before ≡ Some Group.End }
+    ensures no { result ≡ false → before ≢ Some Group.End }
+{
+    matches!(before, Some(Group::End))
 }

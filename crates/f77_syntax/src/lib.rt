@@ -1,8 +1,10 @@
 //! The statements of the FORTRAN 77 subset as trees: the grammar, the reader and the printer.
 #![tactic(auto)]
 
+mod canonical;
 mod expression;
 mod fault;
+mod formed;
 mod group;
 mod intrinsic;
 pub mod law;
@@ -10,7 +12,7 @@ mod limits;
 mod name;
 mod operator;
 mod parsing;
-mod print;
+mod printing;
 mod program;
 mod scan;
 mod statement;
@@ -18,13 +20,13 @@ mod statement;
 mod tests;
 mod tree;
 
-pub use expression::whole_expression;
-pub use fault::{ReadError, SyntaxFault};
+pub use canonical::print_stmt;
+pub use fault::SyntaxFault;
 pub use group::Group;
 pub use intrinsic::Intrinsic;
 pub use name::Name;
 pub use operator::{Operator, Sign};
 pub use parsing::parse;
-pub use print::{print_expression, print_stmt};
+pub use printing::print;
 pub use program::{Line, Program};
-pub use tree::{Expr, Ref, Stmt};
+pub use tree::{Expr, Kind, Ref, Stmt};

@@ -11,7 +11,7 @@ use crate::tree::{Expr, Stmt};
 
 const MOST_OPEN: usize = 40;
 
-const LONGEST_NAME: usize = 6;
+pub(crate) const LONGEST_NAME: usize = 6;
 
 const LARGEST: u32 = 2_147_483_647;
 

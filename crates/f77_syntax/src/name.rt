@@ -1,12 +1,17 @@
 //! Names.
 
-ghost use Rattle.std.specs.Prelude.{◌≡◌, List, ℕ, true, IfOk, string_bytes};
-ghost use Rattle.f77_syntax.specs.Grammar.{is_name};
+ghost use Rattle.std.specs.Prelude.{◌≡◌, ◌&&◌, List, ℕ, Some, None, if◌then◌else◌, true, IfOk, string_bytes};
+ghost use Rattle.f77_syntax.specs.Grammar as grammar;
+ghost use Rattle.f77_syntax.specs.Limits as limits;
 
+use crate::limits::LONGEST_NAME;
+use crate::scan::is_name;
 use std::alloc::{AllocError, Global};
 use std::marker::Model;
 
-/// A name: letters and digits, the first of them a letter.
+/// A symbolic name (ANSI X3.9-1978, 2.2): letters and digits, the first of them a letter.
+///
+/// It has 1 to 6 characters, but for one that a reader holds before its length is tested.
 #[derive(Drop)]
 pub struct Name {
     letters: String,
@@ -17,13 +22,13 @@ impl Model for Name {
 
     ghost view = { λ n. string_bytes n.letters };
 
-    ghost invariant = { λ n. is_name (string_bytes n.letters) ≡ true };
+    ghost invariant = { λ n. grammar.is_name (string_bytes n.letters) ≡ true };
 }
 
 impl Name {
     /// The name that is written so.
     pub(crate) fn copy_of(alloc: Global, letters: &[u8]) -> Result<Name, AllocError>
-        requires { is_name letters.now ≡ true }
+        requires { grammar.is_name letters.now ≡ true }
         ensures { IfOk result (λ name. name ≡ letters.now) }
     {
         let mut text = String::new(alloc);
@@ -33,9 +38,20 @@ impl Name {
         Ok(Name { letters: text })
     }
 
+    /// The name that is written so, where it is 1 to 6 letters and digits and the first is a letter.
+    pub fn new(alloc: Global, letters: &str) -> Result<Option<Name>, AllocError>
+        ensures { IfOk result (λ name. name ≡ (if grammar.is_name letters.now && limits.is_short letters.now then Some letters.now else None)) }
+    {
+        if !is_name(letters.as_bytes()) || letters.len() > LONGEST_NAME {
+            return Ok(None);
+        }
+        Ok(Some(Name::copy_of(alloc, letters.as_bytes())?))
+    }
+
     /// Its letters and digits.
     pub fn as_str(&self) -> &str
-        ensures { result.now ≡ self.now }
+        ensures letters { result.now ≡ self.now }
+        ensures name { grammar.is_name self.now ≡ true }
     {
         self.letters.as_str()
     }

@@ -10,7 +10,7 @@ ghost use Rattle.f77_syntax.specs.View.{statement_of, clip_statement};
 ghost use Rattle.f77_syntax.specs.declared.group.Group.TheVariants.{End};
 
 use crate::fault::{ReadError, SyntaxFault};
-use crate::group::Group;
+use crate::group::{Group, is_end};
 use crate::limits::{is_too_deep, statement_constants, statement_names, statement_nodes};
 use crate::program::{Line, Program};
 use crate::statement::statement;
@@ -58,13 +58,6 @@ pub(crate) fn admitted(alloc: Global, line: u32, text: &[u8]) -> Result<Stmt, Sy
         return Err(SyntaxFault::TooLong(line));
     }
     Ok(stmt)
-}
-
-fn is_end(before: Option<Group>) -> bool
-    ensures yes { result ≡ true → before ≡ Some End }
-    ensures no { result ≡ false → before ≢ Some End }
-{
-    matches!(before, Some(Group::End))
 }
 
 fn misplaced(before: Option<Group>, line: u32) -> SyntaxFault

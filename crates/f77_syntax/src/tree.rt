@@ -5,6 +5,15 @@ use crate::name::Name;
 use crate::operator::{Operator, Sign};
 use std::alloc::Global;
 
+/// The type of a value (ANSI X3.9-1978, section 4).
+#[derive(Clone, Copy, Debug, PartialEq, Eq)]
+pub enum Kind {
+    /// INTEGER (4.3).
+    Integer,
+    /// LOGICAL (4.7).
+    Logical,
+}
+
 /// An expression (ANSI X3.9-1978, section 6).
 #[cycle(tree)]
 #[derive(Drop)]

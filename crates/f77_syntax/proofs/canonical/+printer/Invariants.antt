@@ -2,7 +2,7 @@ use Rattle.std.proofs.Common.{◌≡◌, ◌<◌, ◌++◌, drop, string_bytes}
 use Rattle.std.specs.Prelude.{map}
 use Rattle.f77_syntax.specs.Canonical.{rest_text}
 use Rattle.f77_syntax.specs.View.{tree_of, trees}
-use Rattle.f77_syntax.proofs.print.+printer.Given as goal
+use Rattle.f77_syntax.proofs.canonical.+printer.Given as goal
 
 -- what is written, and then the text of the other items, is the text of them all
 abbrev pub invariant-separated-loop-item : goal.invariant-separated-loop-item

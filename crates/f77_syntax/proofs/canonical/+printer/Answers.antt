@@ -1,6 +1,6 @@
 use Rattle.std.proofs.Common.{string_bytes}
-use Rattle.f77_syntax.proofs.Printing.{list_whole}
-use Rattle.f77_syntax.proofs.print.+printer.Goals as goal
+use Rattle.f77_syntax.proofs.Texts.{list_whole}
+use Rattle.f77_syntax.proofs.canonical.+printer.Goals as goal
 
 pub list-returns : goal.list-returns
 unfolding lib.Utf8.encode

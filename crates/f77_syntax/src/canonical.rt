@@ -1,8 +1,10 @@
-//! Printing expressions in their canonical form.
+//! Canonical texts of statements.
 
-ghost use Rattle.std.specs.Prelude.{◌≡◌, ◌<◌, ◌++◌, OnOk, IfOk, IfErr, map, string_bytes};
+ghost use Rattle.std.specs.Prelude.{◌≡◌, ◌<◌, ◌++◌, true, OnOk, IfOk, IfErr, map, string_bytes};
+ghost use Rattle.f77_source.specs.Law.{squeezed};
 ghost use Rattle.f77_syntax.specs.Tree.{Statement};
-ghost use Rattle.f77_syntax.specs.Grammar.{Spells};
+ghost use Rattle.f77_syntax.specs.Grammar.{SpellsStatement, IsFormed};
+ghost use Rattle.f77_syntax.specs.Limits.{statement_constants};
 ghost use Rattle.f77_syntax.specs.Canonical as canonical;
 ghost use Rattle.f77_syntax.specs.View.{tree_of, trees, statement_of};
 
@@ -23,90 +25,76 @@ fn own_level(expr: &Expr) -> u8
     }
 }
 
-/// The canonical text of an expression, which reads back.
-pub fn print_expression(alloc: Global, expr: &Expr) -> Result<String, AllocError>
-    ensures text { IfOk result (λ text. string_bytes text ≡ canonical.text_of (tree_of expr.now)) }
-    ensures back { IfOk result (λ text. canonical.Formed (tree_of expr.now) → Spells 1 (string_bytes text) (tree_of expr.now)) }
-{
-    let mut out = String::new(alloc);
-    form(alloc, &mut out, expr)?;
-    Ok(out)
-}
-
 /// Writes an operand, in parentheses where its level is below the wanted one.
 #[cycle(printer)]
-fn operand(alloc: Global, out: &mut String, wanted: u8, expr: &Expr) -> Result<(), AllocError>
+fn operand(out: &mut String, wanted: u8, expr: &Expr) -> Result<(), AllocError>
     ensures { OnOk result (string_bytes out.new ≡ string_bytes out.old ++ canonical.operand wanted (canonical.own_level (tree_of expr.now)) (canonical.text_of (tree_of expr.now))) }
 {
     if own_level(expr) < wanted {
         out.push('(')?;
-        form(alloc, out, expr)?;
+        form(out, expr)?;
         out.push(')')?;
         Ok(())
     } else {
-        form(alloc, out, expr)
+        form(out, expr)
     }
 }
 
 #[cycle(printer)]
-fn form(alloc: Global, out: &mut String, expr: &Expr) -> Result<(), AllocError>
+fn form(out: &mut String, expr: &Expr) -> Result<(), AllocError>
     ensures { OnOk result (string_bytes out.new ≡ string_bytes out.old ++ canonical.text_of (tree_of expr.now)) }
 {
     match expr {
-        Expr::Number(n) => {
-            let text = n.to_string(alloc)?;
-            out.push_str(text.as_str())?;
-            Ok(())
-        }
+        Expr::Number(n) => write!(out, "{n}"),
         Expr::Truth(true) => out.push_str(".TRUE."),
         Expr::Truth(false) => out.push_str(".FALSE."),
         Expr::Reference(place) => {
             out.push_str(place.name.as_str())?;
-            list(alloc, out, &place.subscripts)
+            list(out, &place.subscripts)
         }
         Expr::Call(function, arguments) => {
             out.push_str(function.name())?;
-            list(alloc, out, arguments)
+            list(out, arguments)
         }
         Expr::Signed(sign, inner) => {
             out.push(char::from(sign.symbol()))?;
-            operand(alloc, out, 7, inner)
+            operand(out, 7, inner)
         }
         Expr::Not(inner) => {
             out.push_str(".NOT.")?;
-            operand(alloc, out, 5, inner)
+            operand(out, 5, inner)
         }
         Expr::Binary(op, left, right) => {
-            operand(alloc, out, op.left_level(), left)?;
+            operand(out, op.left_level(), left)?;
             out.push_str(op.symbol())?;
-            operand(alloc, out, op.right_level(), right)
+            operand(out, op.right_level(), right)
         }
     }
 }
 
 /// Writes expressions in parentheses, joined by commas, and nothing where there are none.
 #[cycle(printer)]
-fn list(alloc: Global, out: &mut String, items: &[Expr]) -> Result<(), AllocError>
+fn list(out: &mut String, items: &[Expr]) -> Result<(), AllocError>
     ensures { OnOk result (string_bytes out.new ≡ string_bytes out.old ++ canonical.list_text (trees (map tree_of items.now))) }
 {
     if items.is_empty() {
         return Ok(());
     }
-    separated(alloc, out, b'(', items)?;
+    separated(out, b'(', items)?;
     out.push(')')?;
     Ok(())
 }
 
 /// Writes expressions, this character before the first and a comma before each other.
 #[cycle(printer)]
-fn separated(alloc: Global, out: &mut String, opening: u8, items: &[Expr]) -> Result<(), AllocError>
+fn separated(out: &mut String, opening: u8, items: &[Expr]) -> Result<(), AllocError>
     requires { opening < 128 }
     ensures { OnOk result (string_bytes out.new ≡ string_bytes out.old ++ canonical.rest_text opening (trees (map tree_of items.now))) }
 {
     let mut before = opening;
     for item in items {
         out.push(char::from(before))?;
-        form(alloc, out, item)?;
+        form(out, item)?;
         before = b',';
     }
     Ok(())
@@ -139,27 +127,31 @@ fn subroutine(out: &mut String, name: &Name, arguments: &[Name]) -> Result<(), A
     Ok(())
 }
 
-fn statement(alloc: Global, out: &mut String, stmt: &Stmt) -> Result<(), AllocError>
+fn statement(out: &mut String, stmt: &Stmt) -> Result<(), AllocError>
     ensures { OnOk result (string_bytes out.new ≡ string_bytes out.old ++ canonical.statement_text (statement_of stmt.now)) }
 {
     match stmt {
         Stmt::Subroutine { name, arguments } => subroutine(out, name, arguments),
         Stmt::Assign { target, value } => {
             out.push_str(target.name.as_str())?;
-            list(alloc, out, &target.subscripts)?;
+            list(out, &target.subscripts)?;
             out.push('=')?;
-            form(alloc, out, value)
+            form(out, value)
         }
         Stmt::End => out.push_str("END"),
     }
 }
 
-/// The canonical text of a statement.
+/// The canonical text of a statement: one blank behind a keyword that something follows, no other blank, and parentheses
+/// exactly where the levels of operands ask for them (ANSI X3.9-1978, 6.5).
 pub fn print_stmt(alloc: Global, stmt: &Stmt) -> Result<String, SyntaxFault>
     ensures text { IfOk result (λ text. string_bytes text ≡ canonical.statement_text (statement_of stmt.now)) }
+    // Without its blanks it spells the statement.
+    ensures back { IfOk result (λ text. IsFormed (statement_of stmt.now) → statement_constants (statement_of stmt.now) ≡ true
+        → SpellsStatement (squeezed (string_bytes text)) (statement_of stmt.now)) }
     ensures refused { IfErr result (λ fault. fault ≡ SyntaxFault.Memory) }
 {
     let mut out = String::new(alloc);
-    statement(alloc, &mut out, stmt)?;
+    statement(&mut out, stmt)?;
     Ok(out)
 }

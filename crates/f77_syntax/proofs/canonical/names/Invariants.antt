@@ -1,6 +1,6 @@
 use Rattle.std.proofs.Common.{◌≡◌, ◌<◌, ◌++◌, drop, string_bytes}
 use Rattle.f77_syntax.specs.Canonical.{names_text}
-use Rattle.f77_syntax.proofs.print.names.Given as goal
+use Rattle.f77_syntax.proofs.canonical.names.Given as goal
 
 -- what is written, and then the text of the other names, is the text of them all
 abbrev pub invariant-loop-name : goal.invariant-loop-name

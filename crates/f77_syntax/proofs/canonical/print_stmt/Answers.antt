@@ -1,0 +1,12 @@
+use Rattle.std.proofs.Common.{◌≡◌, rules, string_bytes, sym, subst}
+use Rattle.f77_source.specs.Law.{squeezed}
+use Rattle.f77_syntax.specs.Canonical.{statement_text}
+use Rattle.f77_syntax.specs.Grammar.{SpellsStatement}
+use Rattle.f77_syntax.specs.View.{statement_of}
+use Rattle.f77_syntax.proofs.Plain.{reads_back}
+use Rattle.f77_syntax.proofs.canonical.print_stmt.Goals as goal
+
+pub returns-clause-back : goal.returns-clause-back
+returns-clause-back c f k =
+    let e : string_bytes c.statement.new.out ≡ statement_text (statement_of c.args.stmt.now) = search rules in
+    subst (λ z. SpellsStatement (squeezed z) (statement_of c.args.stmt.now)) (sym e) (reads_back (statement_of c.args.stmt.now) f k)

@@ -1,0 +1,33 @@
+-- Which trees some text spells, told from the tree alone: constants are of any size.
+use Rattle.std.specs.Prelude.{ℕ, List, Bool, true, false, ◌&&◌, not}
+use Rattle.std.specs.List.{list_all}
+use Rattle.f77_syntax.specs.Tree.{Tree, Trees, Statement}
+use Rattle.f77_syntax.specs.Grammar.{is_name, is_call}
+
+unfoldable pub is_some_list : Trees → Bool
+is_some_list Trees.None = false
+is_some_list (Trees.Then t ts) = true
+
+-- a function's name with a list behind it is no reference
+unfoldable pub is_reference : List ℕ → Trees → Bool
+is_reference name items = is_name name && not (is_call name items)
+
+-- names are names, and a call has arguments
+abbrev mutual
+  pub formed : Tree → Bool
+  formed (Tree.Number n) = true
+  formed (Tree.Truth b) = true
+  formed (Tree.Reference name items) = is_reference name items && all_formed items
+  formed (Tree.Call f items) = is_some_list items && all_formed items
+  formed (Tree.Signed sign t) = formed t
+  formed (Tree.Not t) = formed t
+  formed (Tree.Binary op a b) = formed a && formed b
+
+  pub all_formed : Trees → Bool
+  all_formed Trees.None = true
+  all_formed (Trees.Then t ts) = formed t && all_formed ts
+
+abbrev pub statement_formed : Statement → Bool
+statement_formed (Statement.Subroutine name names) = is_name name && list_all is_name names
+statement_formed (Statement.Assign name items t) = is_name name && (all_formed items && formed t)
+statement_formed Statement.End = true

@@ -1,0 +1,96 @@
+//! Statements that some text spells.
+
+ghost use Rattle.std.specs.Prelude.{◌≡◌, ◌&&◌, not, true, false, map};
+ghost use Rattle.std.specs.List.{list_all};
+ghost use Rattle.f77_syntax.specs.Grammar as grammar;
+ghost use Rattle.f77_syntax.specs.Grammar.{IsFormed};
+ghost use Rattle.f77_syntax.specs.Formed as forms;
+ghost use Rattle.f77_syntax.specs.View.{tree_of, trees, statement_of};
+
+use crate::intrinsic::Intrinsic;
+use crate::name::Name;
+use crate::scan::is_name;
+use crate::tree::{Expr, Stmt};
+
+fn is_named(name: &Name) -> bool
+    ensures { result ≡ grammar.is_name name.now }
+{
+    is_name(name.as_str().as_bytes())
+}
+
+fn are_named(names: &[Name]) -> bool
+    ensures { result ≡ list_all grammar.is_name names.now }
+{
+    names.iter().all(|name| is_named(name))
+}
+
+#[tactic(auto, using(crate::proofs::Forming::some_items))]
+fn is_some_list(items: &[Expr]) -> bool
+    ensures { result ≡ forms.is_some_list (trees (map tree_of items.now)) }
+{
+    !items.is_empty()
+}
+
+/// Whether a name with this list behind it is a call in an expression.
+#[tactic(auto, using(crate::proofs::Forming::called, crate::proofs::Forming::not_called))]
+fn is_call(name: &Name, items: &[Expr]) -> bool
+    ensures { result ≡ grammar.is_call name.now (trees (map tree_of items.now)) }
+{
+    is_some_list(items) && Intrinsic::named(name.as_str().as_bytes()).is_some()
+}
+
+#[tactic(auto, unfolding(crate::specs::Formed::is_reference))]
+fn is_reference(name: &Name, items: &[Expr]) -> bool
+    ensures { result ≡ forms.is_reference name.now (trees (map tree_of items.now)) }
+{
+    is_named(name) && !is_call(name, items)
+}
+
+#[cycle(formed)]
+fn formed(expr: &Expr) -> bool
+    ensures { result ≡ forms.formed (tree_of expr.now) }
+{
+    match expr {
+        Expr::Number(_) | Expr::Truth(_) => true,
+        Expr::Reference(place) => is_reference(&place.name, &place.subscripts)
+            && all_formed(&place.subscripts),
+        Expr::Call(_, arguments) => is_some_list(arguments) && all_formed(arguments),
+        Expr::Signed(_, inner) | Expr::Not(inner) => formed(inner),
+        Expr::Binary(_, left, right) => formed(left) && formed(right),
+    }
+}
+
+#[cycle(formed)]
+fn all_formed(items: &[Expr]) -> bool
+    ensures { result ≡ forms.all_formed (trees (map tree_of items.now)) }
+{
+    for item in items {
+        if !formed(item) {
+            return false;
+        }
+    }
+    true
+}
+
+fn statement_formed(stmt: &Stmt) -> bool
+    ensures { result ≡ forms.statement_formed (statement_of stmt.now) }
+{
+    match stmt {
+        Stmt::Subroutine { name, arguments } => is_named(name) && are_named(arguments),
+        Stmt::Assign { target, value } => {
+            is_named(&target.name) && all_formed(&target.subscripts) && formed(value)
+        }
+        Stmt::End => true,
+    }
+}
+
+impl Stmt {
+    /// Whether some text spells the statement, names and constants of any length and size allowed.
+    #[tactic(auto, using(crate::proofs::Forming::formed_spelled, crate::proofs::Forming::not_formed))]
+    pub fn is_formed(&self) -> bool
+        ensures formed { result ≡ true → IsFormed (statement_of self.now) }
+        ensures unformed { result ≡ false → ¬ (IsFormed (statement_of self.now)) }
+    {
+        statement_formed(self)
+    }
+}
