@@ -12,6 +12,7 @@ use Rattle.f77_syntax.specs.View.{statement_of}
 use Rattle.f77_syntax.specs.Tree.{Statement}
 use Rattle.f77_syntax.specs.Group.{group_of, may_stand}
 use Rattle.f77_syntax.specs.Parsing.{IsAdmitted, LineFields, line_of, line_with, AreLines, IsFirstFault, IsProgram, unfinished}
+use Rattle.f77_syntax.proofs.Forming.{spelled_is_formed}
 use Rattle.f77_syntax.proofs.Exact.{either_lines_or_fault, one_fault, one_program}
 
 -- the line of one more card
@@ -33,7 +34,7 @@ more_faults all cards others card last g s first p may same keeps fault is =
 
 pub are_program : {before : Option Group} {cards : List CardFields} {lines : List LineFields} → AreLines before cards lines → IsProgram before lines
 are_program AreLines.finished = IsProgram.finished
-are_program (AreLines.next {card = card} s p may rest) = IsProgram.next (may, (card.text, p.spells)) (are_program rest)
+are_program (AreLines.next {card = card} s p may rest) = IsProgram.next (may, spelled_is_formed p.spells) (are_program rest)
 
 pub end_lines : (all rest : List CardFields) (last : Option Group) (lines : List LineFields) → rest ≡ [] → last ≡ Some End
     → ((more : List LineFields) → AreLines last rest more → AreLines None all (lines ++ more)) → AreLines None all lines

@@ -324,7 +324,7 @@ binary_read w op x y a b h other left right =
     }
 
 -- neither a comma nor a closing parenthesis is an operator
-ends_item : (c : ℕ) (rest : List ℕ) → (c ≡ 41) ⊎ (c ≡ 44) → front_level (c ∷ rest) < 1
+pub ends_item : (c : ℕ) (rest : List ℕ) → (c ≡ 41) ⊎ (c ≡ 44) → front_level (c ∷ rest) < 1
 unfolding front_level operator_at
 ends_item c rest (inl e) = rw e (omega arith)
 ends_item c rest (inr e) = rw e (omega arith)

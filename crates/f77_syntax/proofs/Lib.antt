@@ -16,9 +16,11 @@ mod Plain
 mod Order
 mod ReadAgain
 mod Texts
+mod Outside
 mod StatementSound
 mod StatementComplete
 mod StatementGives
+mod BranchGives
 mod Counts
 mod Clip
 mod Admit

@@ -1,12 +1,13 @@
 -- Canonical texts hold no character that reading changes, but for the blanks behind keywords.
 use Rattle.std.proofs.Common.{arith, ◌≡◌, ◌≤◌, ◌<◌, ◌/◌, ◌%◌, ℕ, zero, suc, length, List, [], ◌∷◌, ◌++◌, Bool, true, false, cond, refl, ap, sym, subst, ◌∙◌, append_assoc}
-use Rattle.std.specs.Prelude.{nat_le, nat_lt, ◌==◌, ◌&&◌, not, codes, filter}
+use Rattle.std.specs.Prelude.{nat_le, nat_lt, ◌==◌, ◌&&◌, not, codes, filter, map, Option, Some, None}
 use Rattle.std.specs.List.{list_all}
 use Rattle.std.specs.Char.{to_ascii_uppercase}
 use Rattle.std.specs.Fmt.{decimal, digits, digits_onto, digit_glyph}
 use Rattle.std.proofs.lemmas.Bool.Decides.{nat_tests}
 use Rattle.std.proofs.lemmas.List.Folds.{list_all-append}
-use Rattle.std.proofs.lemmas.List.{length-map}
+use Rattle.std.proofs.lemmas.List.{length-map, map-append}
+use Rattle.std.proofs.lemmas.List.Elements.{filter-append}
 use Rattle.f77_source.specs.Line.{is_blank}
 use Rattle.f77_source.specs.Law.{squeezed}
 use Rattle.f77_source.specs.Write.{is_printable, piece}
@@ -19,9 +20,9 @@ use Rattle.f77_syntax.specs.declared.intrinsic.Intrinsic.TheVariants.{Mod, Iabs,
 use Rattle.f77_syntax.specs.Operator.{symbol, sign_symbol, left_level, right_level}
 use Rattle.f77_syntax.specs.Intrinsic.{function_name}
 use Rattle.f77_syntax.specs.Tree.{Tree, Trees, Statement}
-use Rattle.f77_syntax.specs.Grammar.{SpellsStatement, IsFormed, is_letter, is_word, is_name, truth_text}
-use Rattle.f77_syntax.specs.Canonical.{own_level, operand, text_of, list_text, rest_text, names_text, statement_text}
-use Rattle.f77_syntax.specs.Formed.{formed, all_formed, statement_formed}
+use Rattle.f77_syntax.specs.Grammar.{SpellsStatement, IsFormed, IsUnmutated, is_letter, is_word, is_name, truth_text}
+use Rattle.f77_syntax.specs.Canonical.{own_level, operand, text_of, list_text, rest_text, names_text, step_text, statement_text}
+use Rattle.f77_syntax.specs.Formed.{formed, all_formed, step_formed, is_action, statement_formed}
 use Rattle.f77_syntax.proofs.Steps.{and_true, not_true}
 use Rattle.f77_syntax.proofs.Forming.{is_formed}
 use Rattle.f77_syntax.specs.Limits.{statement_constants}
@@ -183,6 +184,36 @@ printable_plain [] h = refl
 printable_plain (c ∷ text) h =
     let (first, others) = and_true (is_plain c) (list_all is_plain text) h in rw (prints c first, printable_plain text others) refl
 
+-- the parts of a text are read one by one
+squeezed-append : (x y : List ℕ) → squeezed (x ++ y) ≡ squeezed x ++ squeezed y
+squeezed-append x y =
+    ap (map to_ascii_uppercase) (filter-append (λ c. not (is_blank c)) x y)
+    ∙ map-append to_ascii_uppercase (filter (λ c. not (is_blank c)) x) (filter (λ c. not (is_blank c)) y)
+
+behind_plain : (x y z : List ℕ) → IsPlain x → squeezed y ≡ z → squeezed (x ++ y) ≡ x ++ z
+behind_plain x y z h e = squeezed-append x y ∙ rw (squeezed_plain x h, e) refl
+
+pub printable_both : (x y : List ℕ) → list_all is_printable x ≡ true → list_all is_printable y ≡ true → list_all is_printable (x ++ y) ≡ true
+printable_both x y h k = list_all-append is_printable x y ∙ rw (h, k) refl
+
+plain_labels : (l m n : ℕ) → IsPlain (decimal l ++ (44 ∷ (decimal m ++ (44 ∷ decimal n))))
+plain_labels l m n =
+    both (decimal l) (44 ∷ (decimal m ++ (44 ∷ decimal n))) (plain_decimal l) (both (decimal m) (44 ∷ decimal n) (plain_decimal m) (plain_decimal n))
+
+plain_step : (c : Option Tree) → step_formed c ≡ true → IsPlain (step_text c)
+plain_step None f = refl
+plain_step (Some t) f = plain_text t f
+
+-- the DO variable and the parameters
+plain_range : (name : List ℕ) (a b : Tree) (c : Option Tree) → (is_name name && (formed a && (formed b && step_formed c))) ≡ true
+    → IsPlain (name ++ (61 ∷ (text_of a ++ (44 ∷ (text_of b ++ step_text c)))))
+plain_range name a b c f =
+    let (is, rest) = and_true (is_name name) (formed a && (formed b && step_formed c)) f in
+    let (first, others) = and_true (formed a) (formed b && step_formed c) rest in
+    let (second, third) = and_true (formed b) (step_formed c) others in
+    both name (61 ∷ (text_of a ++ (44 ∷ (text_of b ++ step_text c)))) (plain_name name is)
+    (both (text_of a) (44 ∷ (text_of b ++ step_text c)) (plain_text a first) (both (text_of b) (step_text c) (plain_text b second) (plain_step c third)))
+
 -- a statement's text without its blanks
 pub squeezed_statement : (s : Statement) → statement_formed s ≡ true → squeezed (statement_text s) ≡ bare_text s
 squeezed_statement (Statement.Subroutine name []) f =
@@ -191,6 +222,25 @@ squeezed_statement (Statement.Subroutine name (n ∷ names)) f =
     let (is, all) = and_true (is_name name) (list_all is_name (n ∷ names)) f in
     ap (λ z. codes "SUBROUTINE" ++ z) (squeezed_plain (behind name (n ∷ names)) (plain_behind name (n ∷ names) is all))
 squeezed_statement (Statement.Assign name items t) f = squeezed_plain (statement_text (Statement.Assign name items t)) (plain_assign name items t f)
+squeezed_statement (Statement.Goto label) f = ap (λ z. codes "GOTO" ++ z) (squeezed_plain (decimal label) (plain_decimal label))
+squeezed_statement (Statement.ArithIf t l m n) f =
+    ap (λ z. codes "IF(" ++ z) (behind_plain (text_of t) (codes ") " ++ (decimal l ++ (44 ∷ (decimal m ++ (44 ∷ decimal n))))) _ (plain_text t f)
+    (ap (λ z. 41 ∷ z) (squeezed_plain (decimal l ++ (44 ∷ (decimal m ++ (44 ∷ decimal n)))) (plain_labels l m n))))
+squeezed_statement (Statement.LogicalIf t s) f =
+    let (test, rest) = and_true (formed t) (is_action s && statement_formed s) f in
+    let (is, inner) = and_true (is_action s) (statement_formed s) rest in
+    ap (λ z. codes "IF(" ++ z) (behind_plain (text_of t) (codes ") " ++ statement_text s) _ (plain_text t test) (ap (λ z. 41 ∷ z) (squeezed_statement s inner)))
+squeezed_statement (Statement.BlockIf t) f = ap (λ z. codes "IF(" ++ z) (behind_plain (text_of t) (codes ") THEN") (codes ")THEN") (plain_text t f) refl)
+squeezed_statement (Statement.ElseIf t) f = ap (λ z. codes "ELSEIF(" ++ z) (behind_plain (text_of t) (codes ") THEN") (codes ")THEN") (plain_text t f) refl)
+squeezed_statement Statement.Else f = refl
+squeezed_statement Statement.EndIf f = refl
+squeezed_statement (Statement.Loop label name a b c) f =
+    ap (λ z. codes "DO" ++ z) (behind_plain (decimal label) (32 ∷ (name ++ (61 ∷ (text_of a ++ (44 ∷ (text_of b ++ step_text c)))))) _ (plain_decimal label)
+    (squeezed_plain (name ++ (61 ∷ (text_of a ++ (44 ∷ (text_of b ++ step_text c))))) (plain_range name a b c f)))
+squeezed_statement Statement.Continue f = refl
+squeezed_statement Statement.Return f = refl
+squeezed_statement Statement.Stop f = refl
+squeezed_statement Statement.Trap f = refl
 squeezed_statement Statement.End f = refl
 
 pub printable_statement : (s : Statement) → statement_formed s ≡ true → list_all is_printable (statement_text s) ≡ true
@@ -199,6 +249,25 @@ printable_statement (Statement.Subroutine name (n ∷ names)) f =
     let (is, all) = and_true (is_name name) (list_all is_name (n ∷ names)) f in
     printable_plain (behind name (n ∷ names)) (plain_behind name (n ∷ names) is all)
 printable_statement (Statement.Assign name items t) f = printable_plain (statement_text (Statement.Assign name items t)) (plain_assign name items t f)
+printable_statement (Statement.Goto label) f = printable_plain (decimal label) (plain_decimal label)
+printable_statement (Statement.ArithIf t l m n) f =
+    printable_both (text_of t) (codes ") " ++ (decimal l ++ (44 ∷ (decimal m ++ (44 ∷ decimal n))))) (printable_plain (text_of t) (plain_text t f))
+    (printable_plain (decimal l ++ (44 ∷ (decimal m ++ (44 ∷ decimal n)))) (plain_labels l m n))
+printable_statement (Statement.LogicalIf t s) f =
+    let (test, rest) = and_true (formed t) (is_action s && statement_formed s) f in
+    let (is, inner) = and_true (is_action s) (statement_formed s) rest in
+    printable_both (text_of t) (codes ") " ++ statement_text s) (printable_plain (text_of t) (plain_text t test)) (printable_statement s inner)
+printable_statement (Statement.BlockIf t) f = printable_both (text_of t) (codes ") THEN") (printable_plain (text_of t) (plain_text t f)) refl
+printable_statement (Statement.ElseIf t) f = printable_both (text_of t) (codes ") THEN") (printable_plain (text_of t) (plain_text t f)) refl
+printable_statement Statement.Else f = refl
+printable_statement Statement.EndIf f = refl
+printable_statement (Statement.Loop label name a b c) f =
+    printable_both (decimal label) (32 ∷ (name ++ (61 ∷ (text_of a ++ (44 ∷ (text_of b ++ step_text c)))))) (printable_plain (decimal label) (plain_decimal label))
+    (printable_plain (name ++ (61 ∷ (text_of a ++ (44 ∷ (text_of b ++ step_text c))))) (plain_range name a b c f))
+printable_statement Statement.Continue f = refl
+printable_statement Statement.Return f = refl
+printable_statement Statement.Stop f = refl
+printable_statement Statement.Trap f = refl
 printable_statement Statement.End f = refl
 
 -- the first piece of a text is not blank where its first character is not
@@ -215,6 +284,18 @@ statement_starts (Statement.Subroutine name (n ∷ names)) f = refl
 statement_starts (Statement.Assign name items t) f =
     let (is, rest) = and_true (is_name name) (all_formed items && formed t) f in
     rw (append_assoc name (list_text items) (61 ∷ text_of t)) (starts_named name (list_text items ++ (61 ∷ text_of t)) is)
+statement_starts (Statement.Goto label) f = refl
+statement_starts (Statement.ArithIf t l m n) f = refl
+statement_starts (Statement.LogicalIf t s) f = refl
+statement_starts (Statement.BlockIf t) f = refl
+statement_starts (Statement.ElseIf t) f = refl
+statement_starts Statement.Else f = refl
+statement_starts Statement.EndIf f = refl
+statement_starts (Statement.Loop label name a b c) f = refl
+statement_starts Statement.Continue f = refl
+statement_starts Statement.Return f = refl
+statement_starts Statement.Stop f = refl
+statement_starts Statement.Trap f = refl
 statement_starts Statement.End f = refl
 
 filter_short : (p : ℕ → Bool) (text : List ℕ) → length (filter p text) ≤ length text
@@ -228,7 +309,7 @@ filter_short p (c ∷ text) = step (p c) (filter_short p text)
 pub squeezed_short : (text : List ℕ) → length (squeezed text) ≤ length text
 squeezed_short text = omega (arith, length-map (filter (λ c. not (is_blank c)) text) to_ascii_uppercase, filter_short (λ c. not (is_blank c)) text)
 
-pub reads_back : (s : Statement) → IsFormed s → statement_constants s ≡ true → SpellsStatement (squeezed (statement_text s)) s
-reads_back s f k =
+pub reads_back : (s : Statement) → IsFormed s → IsUnmutated s → statement_constants s ≡ true → SpellsStatement (squeezed (statement_text s)) s
+reads_back s f u k =
     let formed = is_formed s f in
-    subst (λ z. SpellsStatement z s) (sym (squeezed_statement s formed)) (back_statement s formed k)
+    subst (λ z. SpellsStatement z s) (sym (squeezed_statement s formed)) (back_statement s u formed k)

@@ -95,7 +95,7 @@ admitted : (line : LineFields) → IsFormed line.stmt → KeepsLimits line.stmt 
 admitted line f k e = record {
   characters = let few = few_lines (card_of line) (printable_statement line.stmt (is_formed line.stmt f)) e in omega (arith, squeezed_short (statement_text line.stmt));
   flat = k.flat;
-  spells = reads_back line.stmt f k.constants;
+  spells = reads_back line.stmt f k.unmutated k.constants;
   names = k.names;
   constants = k.constants;
   nodes = k.nodes;

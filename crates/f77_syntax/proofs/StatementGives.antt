@@ -14,7 +14,8 @@ use Rattle.f77_syntax.specs.declared.tree.Ref.{Ref}
 use Rattle.f77_syntax.specs.Tree.{Tree, Trees, Statement}
 use Rattle.f77_syntax.specs.Grammar.{is_word, is_name}
 use Rattle.f77_syntax.specs.Reading.{◌>>=◌, strip, word, past_word, after, close_at, reading}
-use Rattle.f77_syntax.specs.Statement.{is_comma, ended, reference_behind, reference_at, value_at, assign_at, names_at, before_close, arguments_at, subroutine_at, is_equals, statement_at}
+use Rattle.f77_syntax.specs.Assignment.{ended, reference_behind, reference_at, value_at, assign_at}
+use Rattle.f77_syntax.specs.Subroutine.{is_comma, names_at, before_close, arguments_at, subroutine_at}
 use Rattle.f77_syntax.specs.View.{tree_of, trees, place_of, clip, clip_all, clip_statement, Fails}
 use Rattle.f77_syntax.proofs.Steps.{and_true}
 use Rattle.f77_syntax.proofs.Words.{word_whole}
@@ -232,20 +233,3 @@ pub subroutine_whole : (s rest behind inner name : List ℕ) (x arguments : List
     → (t : Statement) × (subroutine_at s ≡ Some t) × (Statement.Subroutine name arguments ≡ clip_statement t)
 subroutine_whole s rest behind inner name x arguments n is h c found same named =
     (Statement.Subroutine (word s) x, subroutine_list s rest behind n is h ∙ rw (c, found) refl, rw (same, named) refl)
-
--- statements
-pub statement_assign : (s : List ℕ) → list_any is_equals s ≡ true → statement_at s ≡ assign_at s
-unfolding statement_at
-statement_assign s h = rw h refl
-
-pub statement_subroutine : (s r : List ℕ) → list_any is_equals s ≡ false → strip (codes "SUBROUTINE") s ≡ Some r → statement_at s ≡ subroutine_at r
-unfolding statement_at
-statement_subroutine s r h k = rw (h, k) refl
-
-pub statement_end : (s : List ℕ) → list_any is_equals s ≡ false → strip (codes "SUBROUTINE") s ≡ None → bytes_eq s (codes "END") ≡ true → statement_at s ≡ Some Statement.End
-unfolding statement_at
-statement_end s h k e = rw (h, k, e) refl
-
-pub statement_none : (s : List ℕ) → list_any is_equals s ≡ false → strip (codes "SUBROUTINE") s ≡ None → bytes_eq s (codes "END") ≡ false → statement_at s ≡ None
-unfolding statement_at
-statement_none s h k e = rw (h, k, e) refl

@@ -31,6 +31,10 @@ pub not_true : (a : Bool) → not a ≡ true → a ≡ false
 not_true true e = cc
 not_true false e = refl
 
+pub not_false : (a : Bool) → not a ≡ false → a ≡ true
+not_false true e = refl
+not_false false e = cc
+
 pub strip_is : (p s r : List ℕ) → strip p s ≡ Some r → s ≡ p ++ r
 strip_is [] s r e = same_Some s r e
 strip_is (c ∷ p) [] r e = absurd (none-some r e)

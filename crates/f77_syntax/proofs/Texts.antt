@@ -28,3 +28,7 @@ some_arguments old mid named list new name (n ∷ arguments) b is some e f g h =
     ∙ append_assoc (old ++ (codes "SUBROUTINE " ++ name)) (names_text 40 (n ∷ arguments)) (41 ∷ [])
     ∙ append_assoc old (codes "SUBROUTINE " ++ name) (names_text 40 (n ∷ arguments) ++ 41 ∷ [])
     ∙ ap (λ z. old ++ z) (append_assoc (codes "SUBROUTINE ") name (names_text 40 (n ∷ arguments) ++ 41 ∷ []))
+
+-- one part behind another
+pub before_rest : (new v w part rest : List ℕ) → new ≡ w ++ rest → w ≡ v ++ part → new ≡ v ++ (part ++ rest)
+before_rest new v w part rest e f = e ∙ ap (λ z. z ++ rest) f ∙ append_assoc v part rest

@@ -1,5 +1,5 @@
 -- The tree of each form of expression.
-use Rattle.std.specs.Prelude.{◌≡◌, ℕ, List, map, Bool, Box, Vec}
+use Rattle.std.specs.Prelude.{◌≡◌, ℕ, List, map, Bool, Option, option_map, Box, Vec}
 use Rattle.f77_syntax.specs.declared.intrinsic.Intrinsic.{Intrinsic}
 use Rattle.std.proofs.Common.{ap, sym, ◌∙◌}
 use Rattle.std.specs.declared.alloc.Global.{Global}
@@ -11,8 +11,14 @@ use Rattle.f77_syntax.specs.declared.tree.Expr.TheVariants.{Number, Truth, rolls
 use Rattle.f77_syntax.specs.declared.tree.Expr.TheViews as views
 use Rattle.f77_syntax.specs.declared.tree.Expr.TheOpen.{Expr-F}
 use Rattle.f77_syntax.specs.declared.tree.Expr.TheFolds.{fold-roll-Expr, fold_out-Ref}
-use Rattle.f77_syntax.specs.Tree.{Tree}
-use Rattle.f77_syntax.specs.View.{trees, expr_step, ref_step, tree_of, place_of}
+use Rattle.f77_syntax.specs.declared.tree.Stmt.{Stmt}
+use Rattle.f77_syntax.specs.declared.tree.Stmt.TheVariants.{rolls-Subroutine, rolls-Assign, rolls-ArithIf, rolls-LogicalIf, rolls-BlockIf, rolls-ElseIf, rolls-Else, rolls-Loop}
+use Rattle.f77_syntax.specs.declared.tree.Stmt.TheVariants as forms
+use Rattle.f77_syntax.specs.declared.tree.Stmt.TheViews as boxed
+use Rattle.f77_syntax.specs.declared.tree.Stmt.TheOpen.{Stmt-F}
+use Rattle.f77_syntax.specs.declared.tree.Stmt.TheFolds.{fold-roll-Stmt}
+use Rattle.f77_syntax.specs.Tree.{Tree, Statement}
+use Rattle.f77_syntax.specs.View.{trees, expr_step, ref_step, stmt_step, tree_of, place_of, statement_of}
 
 pub number_view : (n : ℕ) → tree_of (Number n) ≡ Tree.Number n
 number_view n = ap tree_of (sym (rolls-Number n)) ∙ fold-roll-Expr Tree (List ℕ × List Tree) expr_step ref_step (Expr-F.Number n)
@@ -39,3 +45,30 @@ reference_view r =
 
 pub ref_view : (r : Ref) → place_of r ≡ (r.name, map tree_of r.subscripts.items)
 ref_view r = fold_out-Ref Tree (List ℕ × List Tree) expr_step ref_step r
+
+-- the statement of each form
+pub subroutine_view : (name : List ℕ) (arguments : Vec (List ℕ) Global) → statement_of (forms.Subroutine name arguments) ≡ Statement.Subroutine name arguments.items
+subroutine_view name arguments = ap statement_of (sym (rolls-Subroutine name arguments)) ∙ fold-roll-Stmt Statement stmt_step (Stmt-F.Subroutine name arguments)
+
+pub assign_view : (target : Ref) (value : Expr) → statement_of (forms.Assign target value) ≡ Statement.Assign (place_of target).0 (trees (place_of target).1) (tree_of value)
+assign_view target value = ap statement_of (sym (rolls-Assign target value)) ∙ fold-roll-Stmt Statement stmt_step (Stmt-F.Assign target value)
+
+pub arithmetic_view : (value : Expr) (l m n : ℕ) → statement_of (forms.ArithIf value l m n) ≡ Statement.ArithIf (tree_of value) l m n
+arithmetic_view value l m n = ap statement_of (sym (rolls-ArithIf value l m n)) ∙ fold-roll-Stmt Statement stmt_step (Stmt-F.ArithIf value l m n)
+
+pub logical_view : (condition : Expr) (a : Box Stmt Global) → statement_of (boxed.LogicalIf condition a) ≡ Statement.LogicalIf (tree_of condition) (statement_of a.value)
+logical_view condition a = ap statement_of (sym (rolls-LogicalIf condition a)) ∙ fold-roll-Stmt Statement stmt_step (Stmt-F.LogicalIf condition a)
+
+pub block_view : (condition : Expr) → statement_of (forms.BlockIf condition) ≡ Statement.BlockIf (tree_of condition)
+block_view condition = ap statement_of (sym (rolls-BlockIf condition)) ∙ fold-roll-Stmt Statement stmt_step (Stmt-F.BlockIf condition)
+
+pub else_if_view : (condition : Expr) → statement_of (forms.ElseIf condition) ≡ Statement.ElseIf (tree_of condition)
+else_if_view condition = ap statement_of (sym (rolls-ElseIf condition)) ∙ fold-roll-Stmt Statement stmt_step (Stmt-F.ElseIf condition)
+
+pub loop_view : (label : ℕ) (variable : List ℕ) (first last : Expr) (step : Option Expr)
+    → statement_of (forms.Loop label variable first last step) ≡ Statement.Loop label variable (tree_of first) (tree_of last) (option_map tree_of step)
+loop_view label variable first last step =
+    ap statement_of (sym (rolls-Loop label variable first last step)) ∙ fold-roll-Stmt Statement stmt_step (Stmt-F.Loop label variable first last step)
+
+pub else_view : statement_of forms.Else ≡ Statement.Else
+else_view = ap statement_of (sym rolls-Else) ∙ fold-roll-Stmt Statement stmt_step Stmt-F.Else

@@ -1,5 +1,5 @@
 -- The canonical text of a tree.
-use Rattle.std.specs.Prelude.{ℕ, List, [], ◌∷◌, ◌++◌, nat_lt, if◌then◌else◌, codes}
+use Rattle.std.specs.Prelude.{ℕ, List, [], ◌∷◌, ◌++◌, nat_lt, if◌then◌else◌, codes, Option, Some, None}
 use Rattle.std.specs.Fmt.{decimal}
 use Rattle.f77_syntax.specs.Operator.{symbol, sign_symbol, level, left_level, right_level}
 use Rattle.f77_syntax.specs.Intrinsic.{function_name}
@@ -46,9 +46,27 @@ abbrev pub names_text : ℕ → List (List ℕ) → List ℕ
 names_text c [] = []
 names_text c (name ∷ names) = c ∷ (name ++ names_text 44 names)
 
+-- a comma and the text, where there is one
+abbrev pub step_text : Option Tree → List ℕ
+step_text None = []
+step_text (Some t) = 44 ∷ text_of t
+
 -- The canonical text of a statement, with one blank behind a keyword that something follows.
 abbrev pub statement_text : Statement → List ℕ
 statement_text (Statement.Subroutine name []) = codes "SUBROUTINE " ++ name
 statement_text (Statement.Subroutine name (n ∷ names)) = codes "SUBROUTINE " ++ (name ++ (names_text 40 (n ∷ names) ++ 41 ∷ []))
 statement_text (Statement.Assign name items t) = (name ++ list_text items) ++ (61 ∷ text_of t)
+statement_text (Statement.Goto label) = codes "GO TO " ++ decimal label
+statement_text (Statement.ArithIf t l m n) = codes "IF (" ++ (text_of t ++ (codes ") " ++ (decimal l ++ (44 ∷ (decimal m ++ (44 ∷ decimal n))))))
+statement_text (Statement.LogicalIf t s) = codes "IF (" ++ (text_of t ++ (codes ") " ++ statement_text s))
+statement_text (Statement.BlockIf t) = codes "IF (" ++ (text_of t ++ codes ") THEN")
+statement_text (Statement.ElseIf t) = codes "ELSE IF (" ++ (text_of t ++ codes ") THEN")
+statement_text Statement.Else = codes "ELSE"
+statement_text Statement.EndIf = codes "END IF"
+statement_text (Statement.Loop label name a b c) =
+    codes "DO " ++ (decimal label ++ (32 ∷ (name ++ (61 ∷ (text_of a ++ (44 ∷ (text_of b ++ step_text c)))))))
+statement_text Statement.Continue = codes "CONTINUE"
+statement_text Statement.Return = codes "RETURN"
+statement_text Statement.Stop = codes "STOP"
+statement_text Statement.Trap = codes "TRAP"
 statement_text Statement.End = codes "END"

@@ -7,6 +7,18 @@ use Rattle.f77_syntax.specs.Tree.{Statement}
 abbrev pub group_of : Statement → Group
 group_of (Statement.Subroutine name names) = Subroutine
 group_of (Statement.Assign name items t) = Executable
+group_of (Statement.Goto label) = Executable
+group_of (Statement.ArithIf t l m n) = Executable
+group_of (Statement.LogicalIf t s) = Executable
+group_of (Statement.BlockIf t) = Executable
+group_of (Statement.ElseIf t) = Executable
+group_of Statement.Else = Executable
+group_of Statement.EndIf = Executable
+group_of (Statement.Loop label name a b c) = Executable
+group_of Statement.Continue = Executable
+group_of Statement.Return = Executable
+group_of Statement.Stop = Executable
+group_of Statement.Trap = Executable
 group_of Statement.End = End
 
 -- A statement of the second group may stand behind one of the first, and behind none where it is the first: SUBROUTINE

@@ -6,6 +6,12 @@ pub mod Formed
 pub mod Canonical
 pub mod Reading
 pub mod View
+pub mod Classification
+pub mod Assignment
+pub mod Label
+pub mod Condition
+pub mod Subroutine
+pub mod DoLoop
 pub mod Statement
 pub mod Limits
 pub mod Group

@@ -6,6 +6,7 @@ use Rattle.f77_source.specs.Read.{AreCards, lines}
 use Rattle.f77_source.specs.Law.{squeezed}
 use Rattle.f77_source.specs.Write.{written, is_bad_label, continuation_count}
 use Rattle.f77_syntax.specs.Tree.{Statement}
+use Rattle.f77_syntax.specs.Grammar.{IsUnmutated}
 use Rattle.f77_syntax.specs.Canonical.{statement_text}
 use Rattle.f77_syntax.specs.Limits.{most_nodes, IsTooDeep, statement_names, statement_constants, statement_nodes}
 use Rattle.f77_syntax.specs.Parsing.{LineFields, AreLines}
@@ -43,8 +44,9 @@ told (NotAscii line) = Memory
 told (Tab line) = Memory
 told (LooseContinuation line) = Memory
 
--- the limits of a statement, that on the length of its text aside
+-- a statement of an unmutated program, and its limits, that on the length of its text aside
 pub record KeepsLimits (s : Statement) : Type 0 where
+  pub unmutated : IsUnmutated s
   pub flat : ¬ (IsTooDeep (squeezed (statement_text s)))
   pub names : statement_names s ≡ true
   pub constants : statement_constants s ≡ true

@@ -9,7 +9,7 @@ use Rattle.f77_syntax.specs.declared.intrinsic.Intrinsic.{Intrinsic}
 use Rattle.f77_syntax.specs.Intrinsic.{function_named}
 use Rattle.f77_syntax.specs.Operator.{symbol, level, left_level, right_level}
 use Rattle.f77_syntax.specs.Tree.{Tree, Trees}
-use Rattle.f77_syntax.specs.Grammar.{is_word, is_name, is_number}
+use Rattle.f77_syntax.specs.Grammar.{is_digit, is_word, is_name, is_number}
 
 infixl 10 ◌>>=◌
 abbrev pub ◌>>=◌ : {A B : Type 0} → Option A → (A → Option B) → Option B
@@ -29,6 +29,15 @@ word (c ∷ s) = if is_word c then c ∷ word s else []
 abbrev pub past_word : List ℕ → List ℕ
 past_word [] = []
 past_word (c ∷ s) = if is_word c then past_word s else c ∷ s
+
+-- the digits at the front, and what follows them
+abbrev pub digits : List ℕ → List ℕ
+digits [] = []
+digits (c ∷ s) = if is_digit c then c ∷ digits s else []
+
+abbrev pub past_digits : List ℕ → List ℕ
+past_digits [] = []
+past_digits (c ∷ s) = if is_digit c then past_digits s else c ∷ s
 
 -- each operator, one before those whose text begins its own
 abbrev pub operators : List Operator

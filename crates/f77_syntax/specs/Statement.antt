@@ -1,58 +1,82 @@
--- Reading a statement: an assignment where there is an equals sign, and else by its keyword.
-use Rattle.std.specs.Prelude.{ℕ, ◌-◌, ◌==◌, List, [], ◌∷◌, length, take, Option, Some, None, Bool, if◌then◌else◌, codes, slice_index}
-use Rattle.std.specs.List.{list_any, list_all, slice_split}
+-- Reading a statement: by its class, and where the class says no more by its keyword.
+use Rattle.std.specs.Prelude.{ℕ, ◌==◌, List, [], ◌∷◌, length, Option, Some, None, Bool, true, false, if◌then◌else◌, codes}
 use Rattle.std.specs.Str.{bytes_eq}
-use Rattle.f77_syntax.specs.Grammar.{is_name}
-use Rattle.f77_syntax.specs.Tree.{Trees, Statement}
-use Rattle.f77_syntax.specs.Reading.{◌>>=◌, strip, word, past_word, after, close_at, reading}
+use Rattle.f77_syntax.specs.Grammar.{is_digit}
+use Rattle.f77_syntax.specs.Tree.{Tree, Statement}
+use Rattle.f77_syntax.specs.Formed.{is_action}
+use Rattle.f77_syntax.specs.Reading.{◌>>=◌, strip}
+use Rattle.f77_syntax.specs.Assignment.{assign_at}
+use Rattle.f77_syntax.specs.Label.{last_label}
+use Rattle.f77_syntax.specs.Condition.{arithmetic_at, condition_at}
+use Rattle.f77_syntax.specs.Subroutine.{subroutine_at}
+use Rattle.f77_syntax.specs.DoLoop.{loop_at}
+use Rattle.f77_syntax.specs.Classification.{class_of}
+use Rattle.f77_syntax.specs.declared.classification.Class.{Class}
+use Rattle.f77_syntax.specs.declared.classification.Class.TheVariants.{If, Loop, Assignment, Keyword}
 
-abbrev pub is_equals : ℕ → Bool
-is_equals c = c == 61
+-- GO TO, and the statements of one keyword alone
+unfoldable pub word_statement : List ℕ → Option Statement
+word_statement s =
+    if bytes_eq s (codes "CONTINUE") then Some Statement.Continue
+    else (if bytes_eq s (codes "RETURN") then Some Statement.Return
+    else (if bytes_eq s (codes "STOP") then Some Statement.Stop
+    else (if bytes_eq s (codes "ENDIF") then Some Statement.EndIf
+    else (if bytes_eq s (codes "END") then Some Statement.End
+    else None))))
 
-abbrev pub is_comma : ℕ → Bool
-is_comma c = c == 44
+abbrev pub goto_by : List ℕ → Option (List ℕ) → Option Statement
+goto_by s (Some r) = last_label r >>= λ l. Some (Statement.Goto l)
+goto_by s None = word_statement s
 
--- the value, where nothing stands behind it
-abbrev pub ended : {A : Type 0} → A → List ℕ → Option A
-ended x rest = if length rest == 0 then Some x else None
+unfoldable pub simple_at : List ℕ → Option Statement
+simple_at s = goto_by s (strip (codes "GOTO") s)
 
--- a name with its subscripts, and what follows
-abbrev pub reference_behind : List ℕ → List ℕ → Option (List ℕ × Trees × List ℕ)
-reference_behind name [] = Some (name, Trees.None, [])
-reference_behind name (c ∷ r) =
-    if c == 40 then (reading.items r >>= λ x. close_at x.1 >>= λ z. Some (name, x.0, z))
-    else Some (name, Trees.None, c ∷ r)
+abbrev pub actions_only : Statement → Option Statement
+actions_only s = if is_action s then Some s else None
 
-unfoldable pub reference_at : List ℕ → Option (List ℕ × Trees × List ℕ)
-reference_at s = if is_name (word s) then reference_behind (word s) (past_word s) else None
+unfoldable pub simple_action_at : List ℕ → Option Statement
+simple_action_at s = simple_at s >>= actions_only
 
--- what stands behind the equals sign
-abbrev pub value_at : List ℕ → Trees → List ℕ → Option Statement
-value_at name items y = reading.expr 1 y >>= λ v. ended (Statement.Assign name items v.0) v.1
+-- a statement that may stand in a logical IF
+abbrev pub action_by : Class → List ℕ → Option Statement
+action_by If s = condition_at s >>= λ x. arithmetic_at x.0 x.1
+action_by Loop s = None
+action_by Assignment s = assign_at s
+action_by Keyword s = simple_action_at s
 
-unfoldable pub assign_at : List ℕ → Option Statement
-assign_at s = reference_at s >>= λ x. after 61 x.2 >>= λ y. value_at x.0 x.1 y
+unfoldable pub action_at : List ℕ → Option Statement
+action_at s = action_by (class_of s) s
 
--- names joined by commas, or nothing
-unfoldable pub names_at : List ℕ → Option (List (List ℕ))
-names_at s = if length s == 0 then Some [] else (if list_all is_name (slice_split is_comma s) then Some (slice_split is_comma s) else None)
+abbrev pub begins_digit : List ℕ → Bool
+begins_digit [] = false
+begins_digit (c ∷ s) = is_digit c
 
--- what stands before the closing parenthesis that ends the text
-abbrev pub before_close : List ℕ → Option (List ℕ)
-before_close s = if slice_index s (length s - 1) == 41 then Some (take (length s - 1) s) else None
+-- what stands behind the condition of an IF
+unfoldable pub branch_at : Tree → List ℕ → Option Statement
+branch_at t s =
+    if bytes_eq s (codes "THEN") then Some (Statement.BlockIf t)
+    else (if begins_digit s then arithmetic_at t s
+    else (action_at s >>= λ a. Some (Statement.LogicalIf t a)))
 
-abbrev pub arguments_at : List ℕ → List ℕ → Option Statement
-arguments_at name [] = Some (Statement.Subroutine name [])
-arguments_at name (c ∷ r) =
-    if c == 40 then (before_close r >>= λ s. names_at s >>= λ names. Some (Statement.Subroutine name names))
-    else None
+-- what stands behind the keyword ELSE
+unfoldable pub else_at : List ℕ → Option Statement
+else_at s =
+    if length s == 0 then Some Statement.Else
+    else (condition_at s >>= λ x. if bytes_eq x.1 (codes "THEN") then Some (Statement.ElseIf x.0) else None)
 
-unfoldable pub subroutine_at : List ℕ → Option Statement
-subroutine_at s = if is_name (word s) then arguments_at (word s) (past_word s) else None
+abbrev pub keyword_by : List ℕ → Option (List ℕ) → Option (List ℕ) → Option Statement
+keyword_by s (Some r) other = subroutine_at r
+keyword_by s None (Some r) = else_at r
+keyword_by s None None = simple_at s
 
-abbrev pub keyword_by : List ℕ → Option (List ℕ) → Option Statement
-keyword_by s (Some r) = subroutine_at r
-keyword_by s None = if bytes_eq s (codes "END") then Some Statement.End else None
+unfoldable pub keyword_at : List ℕ → Option Statement
+keyword_at s = keyword_by s (strip (codes "SUBROUTINE") s) (strip (codes "ELSE") s)
+
+abbrev pub statement_by : Class → List ℕ → Option Statement
+statement_by If s = condition_at s >>= λ x. branch_at x.0 x.1
+statement_by Loop s = loop_at s
+statement_by Assignment s = assign_at s
+statement_by Keyword s = keyword_at s
 
 unfoldable pub statement_at : List ℕ → Option Statement
-statement_at s = if list_any is_equals s then assign_at s else keyword_by s (strip (codes "SUBROUTINE") s)
+statement_at s = statement_by (class_of s) s

@@ -1,5 +1,5 @@
 -- Expressions as trees, apart from where they lie in memory. Parentheses leave no trace.
-use Rattle.std.specs.Prelude.{ℕ, List, Bool}
+use Rattle.std.specs.Prelude.{ℕ, List, Bool, Option}
 use Rattle.f77_syntax.specs.declared.intrinsic.Intrinsic.{Intrinsic}
 use Rattle.f77_syntax.specs.declared.operator.Operator.{Operator}
 use Rattle.f77_syntax.specs.declared.operator.Sign.{Sign}
@@ -23,4 +23,16 @@ mutual
 pub data Statement : Type 0 where
   Subroutine : List ℕ → List (List ℕ) → Statement
   Assign : List ℕ → Trees → Tree → Statement
+  Goto : ℕ → Statement
+  ArithIf : Tree → ℕ → ℕ → ℕ → Statement
+  LogicalIf : Tree → Statement → Statement
+  BlockIf : Tree → Statement
+  ElseIf : Tree → Statement
+  Else : Statement
+  EndIf : Statement
+  Loop : ℕ → List ℕ → Tree → Tree → Option Tree → Statement
+  Continue : Statement
+  Return : Statement
+  Stop : Statement
+  Trap : Statement
   End : Statement

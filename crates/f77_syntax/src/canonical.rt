@@ -1,9 +1,9 @@
 //! Canonical texts of statements.
 
-ghost use Rattle.std.specs.Prelude.{◌≡◌, ◌<◌, ◌++◌, true, OnOk, IfOk, IfErr, map, string_bytes};
+ghost use Rattle.std.specs.Prelude.{◌≡◌, ◌<◌, ◌++◌, true, OnOk, IfOk, IfErr, map, option_map, string_bytes};
 ghost use Rattle.f77_source.specs.Law.{squeezed};
 ghost use Rattle.f77_syntax.specs.Tree.{Statement};
-ghost use Rattle.f77_syntax.specs.Grammar.{SpellsStatement, IsFormed};
+ghost use Rattle.f77_syntax.specs.Grammar.{SpellsStatement, IsFormed, IsUnmutated};
 ghost use Rattle.f77_syntax.specs.Limits.{statement_constants};
 ghost use Rattle.f77_syntax.specs.Canonical as canonical;
 ghost use Rattle.f77_syntax.specs.View.{tree_of, trees, statement_of};
@@ -127,6 +127,55 @@ fn subroutine(out: &mut String, name: &Name, arguments: &[Name]) -> Result<(), A
     Ok(())
 }
 
+/// Writes the third parameter of a DO, where there is one.
+fn third(out: &mut String, step: &Option<Expr>) -> Result<(), AllocError>
+    ensures { OnOk result (string_bytes out.new ≡ string_bytes out.old ++ canonical.step_text (option_map tree_of step.now)) }
+{
+    match step {
+        None => Ok(()),
+        Some(step) => {
+            out.push(',')?;
+            form(out, step)
+        }
+    }
+}
+
+/// Writes the label, the DO variable and the parameters of a DO.
+fn range(
+    out: &mut String,
+    label: u32,
+    variable: &Name,
+    first: &Expr,
+    last: &Expr,
+    step: &Option<Expr>,
+) -> Result<(), AllocError>
+    ensures { OnOk result (string_bytes out.new ≡ string_bytes out.old
+        ++ canonical.statement_text (Statement.Loop label variable.now (tree_of first.now) (tree_of last.now) (option_map tree_of step.now))) }
+{
+    write!(out, "DO {label} ")?;
+    out.push_str(variable.as_str())?;
+    out.push('=')?;
+    form(out, first)?;
+    out.push(',')?;
+    form(out, last)?;
+    third(out, step)?;
+    Ok(())
+}
+
+/// Writes a keyword, a condition in parentheses, and what follows.
+fn condition(
+    out: &mut String,
+    keyword: &str,
+    condition: &Expr,
+    rest: &str,
+) -> Result<(), AllocError>
+    ensures { OnOk result (string_bytes out.new ≡ string_bytes out.old ++ (keyword.now ++ (canonical.text_of (tree_of condition.now) ++ rest.now))) }
+{
+    out.push_str(keyword)?;
+    form(out, condition)?;
+    out.push_str(rest)
+}
+
 fn statement(out: &mut String, stmt: &Stmt) -> Result<(), AllocError>
     ensures { OnOk result (string_bytes out.new ≡ string_bytes out.old ++ canonical.statement_text (statement_of stmt.now)) }
 {
@@ -138,6 +187,38 @@ fn statement(out: &mut String, stmt: &Stmt) -> Result<(), AllocError>
             out.push('=')?;
             form(out, value)
         }
+        Stmt::Goto { label } => write!(out, "GO TO {label}"),
+        Stmt::ArithIf {
+            value,
+            negative,
+            zero,
+            positive,
+        } => {
+            condition(out, "IF (", value, ") ")?;
+            write!(out, "{negative},{zero},{positive}")
+        }
+        Stmt::LogicalIf {
+            condition: test,
+            statement: inner,
+        } => {
+            condition(out, "IF (", test, ") ")?;
+            statement(out, inner)
+        }
+        Stmt::BlockIf { condition: test } => condition(out, "IF (", test, ") THEN"),
+        Stmt::ElseIf { condition: test } => condition(out, "ELSE IF (", test, ") THEN"),
+        Stmt::Else => out.push_str("ELSE"),
+        Stmt::EndIf => out.push_str("END IF"),
+        Stmt::Loop {
+            label,
+            variable,
+            first,
+            last,
+            step,
+        } => range(out, *label, variable, first, last, step),
+        Stmt::Continue => out.push_str("CONTINUE"),
+        Stmt::Return => out.push_str("RETURN"),
+        Stmt::Stop => out.push_str("STOP"),
+        Stmt::Trap => out.push_str("TRAP"),
         Stmt::End => out.push_str("END"),
     }
 }
@@ -147,7 +228,7 @@ fn statement(out: &mut String, stmt: &Stmt) -> Result<(), AllocError>
 pub fn print_stmt(alloc: Global, stmt: &Stmt) -> Result<String, SyntaxFault>
     ensures text { IfOk result (λ text. string_bytes text ≡ canonical.statement_text (statement_of stmt.now)) }
     // Without its blanks it spells the statement.
-    ensures back { IfOk result (λ text. IsFormed (statement_of stmt.now) → statement_constants (statement_of stmt.now) ≡ true
+    ensures back { IfOk result (λ text. IsFormed (statement_of stmt.now) → IsUnmutated (statement_of stmt.now) → statement_constants (statement_of stmt.now) ≡ true
         → SpellsStatement (squeezed (string_bytes text)) (statement_of stmt.now)) }
     ensures refused { IfErr result (λ fault. fault ≡ SyntaxFault.Memory) }
 {

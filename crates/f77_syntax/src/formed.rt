@@ -1,6 +1,6 @@
 //! Statements that some text spells.
 
-ghost use Rattle.std.specs.Prelude.{◌≡◌, ◌&&◌, not, true, false, map};
+ghost use Rattle.std.specs.Prelude.{◌≡◌, ◌&&◌, not, true, false, map, option_map};
 ghost use Rattle.std.specs.List.{list_all};
 ghost use Rattle.f77_syntax.specs.Grammar as grammar;
 ghost use Rattle.f77_syntax.specs.Grammar.{IsFormed};
@@ -72,6 +72,15 @@ fn all_formed(items: &[Expr]) -> bool
     true
 }
 
+fn step_formed(step: &Option<Expr>) -> bool
+    ensures { result ≡ forms.step_formed (option_map tree_of step.now) }
+{
+    match step {
+        None => true,
+        Some(step) => formed(step),
+    }
+}
+
 fn statement_formed(stmt: &Stmt) -> bool
     ensures { result ≡ forms.statement_formed (statement_of stmt.now) }
 {
@@ -80,11 +89,54 @@ fn statement_formed(stmt: &Stmt) -> bool
         Stmt::Assign { target, value } => {
             is_named(&target.name) && all_formed(&target.subscripts) && formed(value)
         }
-        Stmt::End => true,
+        Stmt::ArithIf { value, .. } => formed(value),
+        Stmt::LogicalIf {
+            condition,
+            statement,
+        } => formed(condition) && statement.is_action() && statement_formed(statement),
+        Stmt::BlockIf { condition } | Stmt::ElseIf { condition } => formed(condition),
+        Stmt::Loop {
+            variable,
+            first,
+            last,
+            step,
+            ..
+        } => is_named(variable) && formed(first) && formed(last) && step_formed(step),
+        Stmt::Goto { .. }
+        | Stmt::Else
+        | Stmt::EndIf
+        | Stmt::Continue
+        | Stmt::Return
+        | Stmt::Stop
+        | Stmt::Trap
+        | Stmt::End => true,
     }
 }
 
 impl Stmt {
+    /// Whether it may stand in a logical IF (11.5): it is no declaration, no DO, and no block IF or logical IF, nor END.
+    pub fn is_action(&self) -> bool
+        ensures { result ≡ forms.is_action (statement_of self.now) }
+    {
+        match self {
+            Stmt::Assign { .. }
+            | Stmt::Goto { .. }
+            | Stmt::ArithIf { .. }
+            | Stmt::Continue
+            | Stmt::Return
+            | Stmt::Stop
+            | Stmt::Trap => true,
+            Stmt::Subroutine { .. }
+            | Stmt::LogicalIf { .. }
+            | Stmt::BlockIf { .. }
+            | Stmt::ElseIf { .. }
+            | Stmt::Else
+            | Stmt::EndIf
+            | Stmt::Loop { .. }
+            | Stmt::End => false,
+        }
+    }
+
     /// Whether some text spells the statement, names and constants of any length and size allowed.
     #[tactic(auto, using(crate::proofs::Forming::formed_spelled, crate::proofs::Forming::not_formed))]
     pub fn is_formed(&self) -> bool

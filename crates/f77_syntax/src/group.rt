@@ -25,7 +25,19 @@ impl Stmt {
     {
         match self {
             Stmt::Subroutine { .. } => Group::Subroutine,
-            Stmt::Assign { .. } => Group::Executable,
+            Stmt::Assign { .. }
+            | Stmt::Goto { .. }
+            | Stmt::ArithIf { .. }
+            | Stmt::LogicalIf { .. }
+            | Stmt::BlockIf { .. }
+            | Stmt::ElseIf { .. }
+            | Stmt::Else
+            | Stmt::EndIf
+            | Stmt::Loop { .. }
+            | Stmt::Continue
+            | Stmt::Return
+            | Stmt::Stop
+            | Stmt::Trap => Group::Executable,
             Stmt::End => Group::End,
         }
     }

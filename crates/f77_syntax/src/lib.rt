@@ -1,12 +1,17 @@
 //! The statements of the FORTRAN 77 subset as trees: the grammar, the reader and the printer.
 #![tactic(auto)]
 
+mod assignment;
 mod canonical;
+mod classification;
+mod condition;
+mod do_loop;
 mod expression;
 mod fault;
 mod formed;
 mod group;
 mod intrinsic;
+mod label;
 pub mod law;
 mod limits;
 mod name;
@@ -16,11 +21,13 @@ mod printing;
 mod program;
 mod scan;
 mod statement;
+mod subroutine;
 #[cfg(test)]
 mod tests;
 mod tree;
 
 pub use canonical::print_stmt;
+pub use classification::Class;
 pub use fault::SyntaxFault;
 pub use group::Group;
 pub use intrinsic::Intrinsic;

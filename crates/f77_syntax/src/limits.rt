@@ -1,6 +1,6 @@
 //! The limits of a statement.
 
-ghost use Rattle.std.specs.Prelude.{◌≡◌, ◌≤◌, ◌+◌, length, true, false, map, min, if◌then◌else◌};
+ghost use Rattle.std.specs.Prelude.{◌≡◌, ◌≤◌, ◌+◌, length, true, false, map, min, if◌then◌else◌, option_map};
 ghost use Rattle.std.specs.List.{list_all};
 ghost use Rattle.f77_syntax.specs.Limits as limits;
 ghost use Rattle.f77_syntax.specs.Limits.{IsTooDeep, is_short, all_short_names, all_small_constants, all_nodes};
@@ -129,6 +129,15 @@ fn all_nodes(items: &[Expr]) -> u32
     sum
 }
 
+fn step_names(step: &Option<Expr>) -> bool
+    ensures { result ≡ limits.of_step limits.short_names (option_map tree_of step.now) }
+{
+    match step {
+        None => true,
+        Some(step) => short_names(step),
+    }
+}
+
 /// Whether each name of the statement has six characters at most.
 pub(crate) fn statement_names(stmt: &Stmt) -> bool
     ensures { result ≡ limits.statement_names (statement_of stmt.now) }
@@ -138,18 +147,82 @@ pub(crate) fn statement_names(stmt: &Stmt) -> bool
         Stmt::Assign { target, value } => {
             is_short(&target.name) && all_short_names(&target.subscripts) && short_names(value)
         }
-        Stmt::End => true,
+        Stmt::ArithIf { value, .. } => short_names(value),
+        Stmt::LogicalIf {
+            condition,
+            statement,
+        } => short_names(condition) && statement_names(statement),
+        Stmt::BlockIf { condition } | Stmt::ElseIf { condition } => short_names(condition),
+        Stmt::Loop {
+            variable,
+            first,
+            last,
+            step,
+            ..
+        } => is_short(variable) && short_names(first) && short_names(last) && step_names(step),
+        _ => true,
     }
 }
 
-/// Whether each constant of the statement is one that INTEGER has.
+fn is_label(label: u32) -> bool
+    ensures { result ≡ limits.is_label label }
+{
+    (1..=99999).contains(&label)
+}
+
+fn step_constants(step: &Option<Expr>) -> bool
+    ensures { result ≡ limits.of_step limits.small_constants (option_map tree_of step.now) }
+{
+    match step {
+        None => true,
+        Some(step) => small_constants(step),
+    }
+}
+
+/// Whether each constant of the statement is one that INTEGER has, and each label 1 to 99999.
 pub(crate) fn statement_constants(stmt: &Stmt) -> bool
     ensures { result ≡ limits.statement_constants (statement_of stmt.now) }
 {
     match stmt {
-        Stmt::Assign { target, value } => all_small_constants(&target.subscripts)
-            && small_constants(value),
-        Stmt::Subroutine { .. } | Stmt::End => true,
+        Stmt::Assign { target, value } => {
+            all_small_constants(&target.subscripts) && small_constants(value)
+        }
+        Stmt::Goto { label } => is_label(*label),
+        Stmt::ArithIf {
+            value,
+            negative,
+            zero,
+            positive,
+        } => {
+            small_constants(value) && is_label(*negative) && is_label(*zero) && is_label(*positive)
+        }
+        Stmt::LogicalIf {
+            condition,
+            statement,
+        } => small_constants(condition) && statement_constants(statement),
+        Stmt::BlockIf { condition } | Stmt::ElseIf { condition } => small_constants(condition),
+        Stmt::Loop {
+            label,
+            first,
+            last,
+            step,
+            ..
+        } => {
+            is_label(*label)
+                && small_constants(first)
+                && small_constants(last)
+                && step_constants(step)
+        }
+        _ => true,
+    }
+}
+
+fn step_nodes(step: &Option<Expr>) -> u32
+    ensures { result ≡ min (limits.step_nodes (option_map tree_of step.now)) 4294967295 }
+{
+    match step {
+        None => 0,
+        Some(step) => nodes(step),
     }
 }
 
@@ -167,6 +240,26 @@ pub(crate) fn statement_nodes(stmt: &Stmt) -> u32
                 .saturating_add(nodes(value))
                 .saturating_add(1)
         }
-        Stmt::End => 1,
+        Stmt::Goto { .. } => 2,
+        Stmt::ArithIf { value, .. } => nodes(value).saturating_add(4),
+        Stmt::LogicalIf {
+            condition,
+            statement,
+        } => nodes(condition)
+            .saturating_add(statement_nodes(statement))
+            .saturating_add(1),
+        Stmt::BlockIf { condition } | Stmt::ElseIf { condition } => nodes(condition).saturating_add(
+            1,
+        ),
+        Stmt::Loop {
+            first,
+            last,
+            step,
+            ..
+        } => nodes(first)
+            .saturating_add(nodes(last))
+            .saturating_add(step_nodes(step))
+            .saturating_add(3),
+        _ => 1,
     }
 }

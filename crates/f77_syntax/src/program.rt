@@ -3,6 +3,7 @@
 ghost use Rattle.std.specs.Prelude.{◌≡◌, List, None, true, false, map, option_map, IfOk, IfSome, IsOk, IsSome, IsNone};
 ghost use Rattle.std.specs.Coded.{codes};
 ghost use Rattle.f77_syntax.specs.contracts.tree.Expr as expr;
+ghost use Rattle.f77_syntax.specs.contracts.tree.Stmt as stmt;
 ghost use Rattle.f77_syntax.specs.Parsing.{IsProgram, MayFollow, line_of, line_at};
 ghost use Rattle.f77_syntax.specs.declared.program.Line.{Line};
 
@@ -28,7 +29,7 @@ pub struct Program {
 impl Model for Program {
     ghost Value = { List Line };
 
-    ghost coded = { Prim.hlevel (codes, expr.the_row.coded) };
+    ghost coded = { Prim.hlevel (codes, expr.the_row.coded, stmt.the_row.coded) };
 
     ghost view = { λ p. p.lines.items };
 

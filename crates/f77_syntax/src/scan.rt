@@ -5,7 +5,7 @@ ghost use Rattle.std.specs.Str.Parse.{digits_value};
 ghost use Rattle.f77_syntax.specs.Grammar as grammar;
 ghost use Rattle.f77_syntax.specs.Reading as reading;
 ghost use Rattle.std.specs.List.{list_all};
-ghost use Rattle.f77_syntax.specs.Reading.{word, past_word, operator_at};
+ghost use Rattle.f77_syntax.specs.Reading.{word, past_word, digits, past_digits, operator_at};
 ghost use Rattle.f77_syntax.specs.View.{clipped};
 
 use crate::operator::Operator;
@@ -54,6 +54,19 @@ pub(crate) fn split_word(text: &[u8]) -> (&[u8], &[u8])
 {
     for (i, c) in text.iter().enumerate() {
         if !is_word(*c) {
+            return text.split_at(i);
+        }
+    }
+    text.split_at(text.len())
+}
+
+/// The digits at the front, and what follows them.
+pub(crate) fn split_digits(text: &[u8]) -> (&[u8], &[u8])
+    ensures front { result.0.now ≡ digits text.now }
+    ensures back { result.1.now ≡ past_digits text.now }
+{
+    for (i, c) in text.iter().enumerate() {
+        if !is_digit(*c) {
             return text.split_at(i);
         }
     }

@@ -1,133 +1,152 @@
 //! Statements read from texts.
 
-ghost use Rattle.std.specs.Prelude.{◌≡◌, length, option_map};
-ghost use Rattle.std.specs.List.{list_any};
-ghost use Rattle.f77_syntax.specs.Statement.{
-  is_equals,
-  reference_at,
-  assign_at,
-  names_at,
-  before_close,
-  subroutine_at,
-  statement_at,
-};
-ghost use Rattle.f77_syntax.specs.View.{Gives, IsStatement, IsReference, AreNames};
+ghost use Rattle.std.specs.Prelude.{◌≡◌, option_map};
+ghost use Rattle.f77_syntax.specs.Statement as reading;
+ghost use Rattle.f77_syntax.specs.Statement.{simple_at, simple_action_at, action_at, branch_at, else_at, keyword_at, statement_at};
+ghost use Rattle.f77_syntax.specs.Tree.{Tree};
+ghost use Rattle.f77_syntax.specs.View.{tree_of, clip, statement_of, Gives, IsStatement};
 
-use crate::expression::{after_byte, closed, expression, list};
+use crate::assignment::assignment;
+use crate::classification::{Class, class_of};
+use crate::condition::{arithmetic, condition};
+use crate::do_loop::loop_statement;
 use crate::fault::ReadError;
-use crate::name::Name;
-use crate::scan::{is_name, split_word};
-use crate::tree::{Ref, Stmt};
+use crate::label::last_label;
+use crate::subroutine::subroutine;
+use crate::tree::{Expr, Stmt};
 use std::alloc::Global;
 
-fn has_equals(text: &[u8]) -> bool
-    ensures { result ≡ list_any is_equals text.now }
+/// A statement of one keyword alone.
+#[tactic(auto, unfolding(crate::specs::Statement::word_statement))]
+fn word_statement(text: &[u8]) -> Option<Stmt>
+    ensures { option_map statement_of result ≡ reading.word_statement text.now }
 {
-    text.iter().any(|c| *c == b'=')
-}
-
-/// Reads a name with its subscripts, and what follows.
-fn reference(alloc: Global, text: &[u8]) -> Result<(Ref, &[u8]), ReadError>
-    ensures { Gives IsReference result (reference_at text.now) }
-{
-    let (front, rest) = split_word(text);
-    if !is_name(front) {
-        return Err(ReadError::Unknown);
+    if text == b"CONTINUE".as_slice() {
+        return Some(Stmt::Continue);
     }
-    let name = Name::copy_of(alloc, front)?;
-    let Some(inner) = after_byte(rest, b'(') else {
-        let subscripts = Vec::new(alloc);
-        return Ok((Ref { name, subscripts }, rest));
-    };
-    let (subscripts, after) = list(alloc, inner)?;
-    let rest = closed(after)?;
-    Ok((Ref { name, subscripts }, rest))
-}
-
-fn assignment(alloc: Global, text: &[u8]) -> Result<Stmt, ReadError>
-    ensures { Gives IsStatement result (assign_at text.now) }
-{
-    let (target, behind) = reference(alloc, text)?;
-    let Some(rest) = after_byte(behind, b'=') else {
-        return Err(ReadError::Unknown);
-    };
-    let (value, end) = expression(alloc, 1, rest)?;
-    if !end.is_empty() {
-        return Err(ReadError::Unknown);
+    if text == b"RETURN".as_slice() {
+        return Some(Stmt::Return);
     }
-    Ok(Stmt::Assign { target, value })
-}
-
-/// Reads names joined by commas, or nothing.
-fn names(alloc: Global, text: &[u8]) -> Result<Vec<Name>, ReadError>
-    ensures { Gives AreNames result (names_at text.now) }
-{
-    let mut names = Vec::new(alloc);
-    if text.is_empty() {
-        return Ok(names);
+    if text == b"STOP".as_slice() {
+        return Some(Stmt::Stop);
     }
-    let mut rest = text;
-    loop {
-        let (front, behind) = split_word(rest);
-        if !is_name(front) {
-            return Err(ReadError::Unknown);
-        }
-        names.push(Name::copy_of(alloc, front)?)?;
-        if behind.is_empty() {
-            return Ok(names);
-        }
-        let Some(next) = after_byte(behind, b',') else {
-            return Err(ReadError::Unknown);
-        };
-        rest = next;
+    if text == b"ENDIF".as_slice() {
+        return Some(Stmt::EndIf);
     }
-}
-
-/// What stands before the closing parenthesis that ends the text.
-fn without_close(text: &[u8]) -> Option<&[u8]>
-    ensures { option_map (λ front. front.now) result ≡ before_close text.now }
-{
-    if !text.is_empty() && text[text.len() - 1] == b')' {
-        return Some(&text[..text.len() - 1]);
+    if text == b"END".as_slice() {
+        return Some(Stmt::End);
     }
     None
 }
 
-/// Reads what follows the keyword SUBROUTINE.
-fn subroutine(alloc: Global, text: &[u8]) -> Result<Stmt, ReadError>
-    ensures { Gives IsStatement result (subroutine_at text.now) }
+/// A GO TO, or a statement of one keyword alone.
+#[tactic(auto, unfolding(crate::specs::Statement::simple_at))]
+fn simple(text: &[u8]) -> Option<Stmt>
+    ensures { option_map statement_of result ≡ simple_at text.now }
 {
-    let (front, rest) = split_word(text);
-    if !is_name(front) {
-        return Err(ReadError::Unknown);
-    }
-    let name = Name::copy_of(alloc, front)?;
-    if rest.is_empty() {
-        let arguments = Vec::new(alloc);
-        return Ok(Stmt::Subroutine { name, arguments });
-    }
-    let Some(behind) = after_byte(rest, b'(') else {
-        return Err(ReadError::Unknown);
+    let Some(rest) = text.strip_prefix(b"GOTO") else {
+        return word_statement(text);
     };
-    let Some(inner) = without_close(behind) else {
-        return Err(ReadError::Unknown);
-    };
-    let arguments = names(alloc, inner)?;
-    Ok(Stmt::Subroutine { name, arguments })
+    let label = last_label(rest)?;
+    Some(Stmt::Goto { label })
 }
 
-/// Reads a statement.
-pub(crate) fn statement(alloc: Global, text: &[u8]) -> Result<Stmt, ReadError>
-    ensures { Gives IsStatement result (statement_at text.now) }
+/// The same, where it may stand in a logical IF.
+#[tactic(auto, unfolding(crate::specs::Statement::simple_action_at))]
+fn simple_action(text: &[u8]) -> Option<Stmt>
+    ensures { option_map statement_of result ≡ simple_action_at text.now }
 {
-    if has_equals(text) {
-        return assignment(alloc, text);
+    let stmt = simple(text)?;
+    if !stmt.is_action() {
+        return None;
     }
+    Some(stmt)
+}
+
+/// Reads a statement that may stand in a logical IF.
+#[tactic(auto, unfolding(crate::specs::Statement::action_at))]
+fn action(alloc: Global, text: &[u8]) -> Result<Stmt, ReadError>
+    ensures { Gives IsStatement result (action_at text.now) }
+{
+    match class_of(text) {
+        Class::If => {
+            let (value, rest) = condition(alloc, text)?;
+            arithmetic(value, rest)
+        }
+        Class::Loop => Err(ReadError::Unknown),
+        Class::Assignment => assignment(alloc, text),
+        Class::Keyword => simple_action(text).ok_or(ReadError::Unknown),
+    }
+}
+
+fn begins_digit(text: &[u8]) -> bool
+    ensures { result ≡ reading.begins_digit text.now }
+{
+    match text.first() {
+        None => false,
+        Some(c) => c.is_ascii_digit(),
+    }
+}
+
+/// Reads what stands behind the condition of an IF.
+#[tactic(auto, unfolding(crate::specs::Statement::branch_at))]
+fn branch(alloc: Global, condition: Expr, text: &[u8]) -> Result<Stmt, ReadError>
+    ensures { (t : Tree) → tree_of condition ≡ clip t → Gives IsStatement result (branch_at t text.now) }
+{
+    if text == b"THEN".as_slice() {
+        return Ok(Stmt::BlockIf { condition });
+    }
+    if begins_digit(text) {
+        return arithmetic(condition, text);
+    }
+    let statement = Box::new(alloc, action(alloc, text)?)?;
+    Ok(Stmt::LogicalIf {
+        condition,
+        statement,
+    })
+}
+
+/// Reads what stands behind the keyword ELSE.
+#[tactic(auto, unfolding(crate::specs::Statement::else_at))]
+fn otherwise(alloc: Global, text: &[u8]) -> Result<Stmt, ReadError>
+    ensures { Gives IsStatement result (else_at text.now) }
+{
+    if text.is_empty() {
+        return Ok(Stmt::Else);
+    }
+    let (condition, rest) = condition(alloc, text)?;
+    if rest != b"THEN".as_slice() {
+        return Err(ReadError::Unknown);
+    }
+    Ok(Stmt::ElseIf { condition })
+}
+
+/// Reads a statement by its keyword.
+#[tactic(auto, unfolding(crate::specs::Statement::keyword_at))]
+fn keyword(alloc: Global, text: &[u8]) -> Result<Stmt, ReadError>
+    ensures { Gives IsStatement result (keyword_at text.now) }
+{
     if let Some(rest) = text.strip_prefix(b"SUBROUTINE") {
         return subroutine(alloc, rest);
     }
-    if text == b"END".as_slice() {
-        return Ok(Stmt::End);
+    if let Some(rest) = text.strip_prefix(b"ELSE") {
+        return otherwise(alloc, rest);
     }
-    Err(ReadError::Unknown)
+    simple(text).ok_or(ReadError::Unknown)
+}
+
+/// Reads a statement.
+#[tactic(auto, unfolding(crate::specs::Statement::statement_at))]
+pub(crate) fn statement(alloc: Global, text: &[u8]) -> Result<Stmt, ReadError>
+    ensures { Gives IsStatement result (statement_at text.now) }
+{
+    match class_of(text) {
+        Class::If => {
+            let (condition, rest) = condition(alloc, text)?;
+            branch(alloc, condition, rest)
+        }
+        Class::Loop => loop_statement(alloc, text),
+        Class::Assignment => assignment(alloc, text),
+        Class::Keyword => keyword(alloc, text),
+    }
 }

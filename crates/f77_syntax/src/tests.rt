@@ -71,6 +71,41 @@ fn reads_and_writes_expressions(rt: HostRuntime) -> Result<(), Fail> {
 }
 
 #[test]
+fn reads_and_writes_statements(rt: HostRuntime) -> Result<(), Fail> {
+    for (statement, want) in [
+        ("GOTO10", "GO TO 10"),
+        ("GOTO00010", "GO TO 10"),
+        ("IF(I-J)10,20,30", "IF (I-J) 10,20,30"),
+        ("IF(I.GT.0)K=1", "IF (I.GT.0) K=1"),
+        ("IF(P)GOTO5", "IF (P) GO TO 5"),
+        ("IF(P)IF(I-J)1,2,3", "IF (P) IF (I-J) 1,2,3"),
+        ("IF(P)IF(Q)=3", "IF (P) IF(Q)=3"),
+        ("IF(P)THEN=1", "IF (P) THEN=1"),
+        ("IF(P)THEN", "IF (P) THEN"),
+        ("IF(I)=3", "IF(I)=3"),
+        ("IF(I,J)=3", "IF(I,J)=3"),
+        ("ELSEIF(P)THEN", "ELSE IF (P) THEN"),
+        ("ELSE", "ELSE"),
+        ("ELSE=2", "ELSE=2"),
+        ("ENDIF", "END IF"),
+        ("DO10I=1,N", "DO 10 I=1,N"),
+        ("DO10,I=1,N", "DO 10 I=1,N"),
+        ("DO10I=1,N,2", "DO 10 I=1,N,2"),
+        ("DO10I=M(1,2),N", "DO 10 I=M(1,2),N"),
+        ("DO10I=1", "DO10I=1"),
+        ("DO10I=M(1,2)", "DO10I=M(1,2)"),
+        ("CONTINUE", "CONTINUE"),
+        ("RETURN", "RETURN"),
+        ("RETURN=1", "RETURN=1"),
+        ("STOP", "STOP"),
+    ] {
+        let text = shown(&rt, statement)?;
+        assert_eq!(rt; text.as_str(), want, "{statement}");
+    }
+    Ok(())
+}
+
+#[test]
 fn refuses_statements(rt: HostRuntime) -> Result<(), Fail> {
     for (statement, want) in [
         ("K=I**-J", "Unknown(2)"),
@@ -84,6 +119,19 @@ fn refuses_statements(rt: HostRuntime) -> Result<(), Fail> {
         ("K=ABCDEFG+2147483648", "BadName(2)"),
         ("K=ABCDEFG+", "Unknown(2)"),
         ("SUBROUTINEB=1", "BadName(2)"),
+        ("IF(I.GT.0)IF(J.GT.0)K=1", "Unknown(2)"),
+        ("IF(P)", "Unknown(2)"),
+        ("IF(P)ELSE", "Unknown(2)"),
+        ("IF(P)DO10I=1,2", "Unknown(2)"),
+        ("IF(I)1,2", "Unknown(2)"),
+        ("GOTO(10,20),I", "Unknown(2)"),
+        ("GOTO00", "BadConstant(2)"),
+        ("GOTO000010", "BadConstant(2)"),
+        ("IF(I)1,2,0", "BadConstant(2)"),
+        ("DO0I=1,2", "BadConstant(2)"),
+        ("DO10I=1,2,3,4", "Unknown(2)"),
+        ("DOI=1,2", "Unknown(2)"),
+        ("TRAP", "Unknown(2)"),
         ("SUBROUTINEB", "Unknown(2)"),
         ("END", "AfterEnd(3)"),
     ] {

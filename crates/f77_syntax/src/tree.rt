@@ -42,13 +42,63 @@ pub struct Ref {
     pub subscripts: Vec<Expr>,
 }
 
-/// A statement (ANSI X3.9-1978, section 7).
+/// A statement (ANSI X3.9-1978, section 7). Labels are 1 to 99999.
 #[derive(Drop)]
 pub enum Stmt {
     /// SUBROUTINE with the unit's name and its dummy arguments, in order (15.6).
-    Subroutine { name: Name, arguments: Vec<Name> },
+    Subroutine {
+        name: Name,
+        arguments: Vec<Name>,
+    },
     /// An assignment to a variable or an array element (section 10).
-    Assign { target: Ref, value: Expr },
+    Assign {
+        target: Ref,
+        value: Expr,
+    },
+    /// An unconditional GO TO (11.1).
+    Goto {
+        label: u32,
+    },
+    /// An arithmetic IF, with the labels for a negative, a zero and a positive value (11.4).
+    ArithIf {
+        value: Expr,
+        negative: u32,
+        zero: u32,
+        positive: u32,
+    },
+    /// A logical IF and the statement that it may execute (11.5).
+    LogicalIf {
+        condition: Expr,
+        statement: Box<Stmt>,
+    },
+    /// A block IF (11.6).
+    BlockIf {
+        condition: Expr,
+    },
+    /// ELSE IF (11.7).
+    ElseIf {
+        condition: Expr,
+    },
+    /// ELSE (11.8).
+    Else,
+    /// END IF (11.9).
+    EndIf,
+    /// DO with the label of its terminal statement, its DO variable and parameters (11.10).
+    Loop {
+        label: u32,
+        variable: Name,
+        first: Expr,
+        last: Expr,
+        step: Option<Expr>,
+    },
+    /// CONTINUE (11.11).
+    Continue,
+    /// RETURN (15.8).
+    Return,
+    /// STOP (11.12).
+    Stop,
+    /// What a mutant has in place of a statement, to be told when it is executed.
+    Trap,
     /// END (11.13).
     End,
 }

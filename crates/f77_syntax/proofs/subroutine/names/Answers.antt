@@ -5,7 +5,7 @@ use Rattle.std.proofs.lemmas.Bool.{eqb-true}
 use Rattle.f77_syntax.specs.Grammar.{is_name}
 use Rattle.f77_syntax.specs.Reading.{after}
 use Rattle.f77_syntax.proofs.StatementGives.{names_empty, names_other, names_no_comma, naming_goes_on, naming_ends}
-use Rattle.f77_syntax.proofs.statement.names.Goals as goal
+use Rattle.f77_syntax.proofs.subroutine.names.Goals as goal
 
 pub returns-then-is_empty : goal.returns-then-is_empty
 returns-then-is_empty c =

@@ -1,6 +1,6 @@
 use Rattle.std.proofs.Common.{length}
 use Rattle.f77_syntax.proofs.StatementGives.{Naming}
-use Rattle.f77_syntax.proofs.statement.names.Given as goal
+use Rattle.f77_syntax.proofs.subroutine.names.Given as goal
 
 abbrev pub invariant-loop-front : goal.invariant-loop-front
 invariant-loop-front l = Naming l.names.items l.rest l.text

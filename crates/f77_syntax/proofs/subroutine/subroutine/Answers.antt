@@ -4,8 +4,9 @@ use Rattle.std.proofs.lemmas.Result.{err_from_is_err_and}
 use Rattle.std.proofs.lemmas.List.{nil_from_length}
 use Rattle.std.proofs.lemmas.Bool.{eqb-true}
 use Rattle.f77_syntax.specs.Grammar.{is_name}
+use Rattle.f77_syntax.proofs.Views.{subroutine_view}
 use Rattle.f77_syntax.proofs.StatementGives.{subroutine_none, subroutine_bare, subroutine_other, subroutine_open, subroutine_fails, subroutine_whole}
-use Rattle.f77_syntax.proofs.statement.subroutine.Goals as goal
+use Rattle.f77_syntax.proofs.subroutine.subroutine.Goals as goal
 
 pub returns-then-not-is_name : goal.returns-then-not-is_name
 returns-then-not-is_name c =
@@ -17,8 +18,9 @@ returns-then-is_empty c =
     let n : is_name c.split_word.result.0.now ≡ true = cc in
     let none : (length c.split_word.result.1.now == 0) ≡ true = cc in
     let empty = nil_from_length c.split_word.result.1.now (eqb-true (length c.split_word.result.1.now) 0 none) in
-    subroutine_bare c.args.text.now _ (ap is_name (sym c.split_word.ensures.front) ∙ n) (sym c.split_word.ensures.back ∙ empty)
-    (c.in_ok-name.ensures ∙ c.split_word.ensures.front) _ c.new-arguments.ensures.items
+    let w = subroutine_bare c.args.text.now _ (ap is_name (sym c.split_word.ensures.front) ∙ n) (sym c.split_word.ensures.back ∙ empty)
+    (c.in_ok-name.ensures ∙ c.split_word.ensures.front) _ c.new-arguments.ensures.items in
+    (w.0, w.1, subroutine_view c.in_ok-name.name c.new-arguments.result ∙ w.2)
 
 pub returns-in_default : goal.returns-in_default
 returns-in_default c =
@@ -43,5 +45,6 @@ pub returns : goal.returns
 returns c =
     let n : is_name c.split_word.result.0.now ≡ true = cc in
     let g = c.in_ok-arguments.ensures in
-    subroutine_whole c.args.text.now c.split_word.result.1.now c.in-Some.behind.now c.in-Some-without_close.inner.now _ g.0 _ (ap is_name (sym c.split_word.ensures.front) ∙ n) c.split_word.ensures.back
-    (sym c.in-Some.ensures) (sym c.in-Some-without_close.ensures) g.1 g.2 (c.in_ok-name.ensures ∙ c.split_word.ensures.front)
+    let w = subroutine_whole c.args.text.now c.split_word.result.1.now c.in-Some.behind.now c.in-Some-without_close.inner.now _ g.0 _ (ap is_name (sym c.split_word.ensures.front) ∙ n) c.split_word.ensures.back
+    (sym c.in-Some.ensures) (sym c.in-Some-without_close.ensures) g.1 g.2 (c.in_ok-name.ensures ∙ c.split_word.ensures.front) in
+    (w.0, w.1, subroutine_view c.in_ok-name.name c.in_ok-arguments.arguments ∙ w.2)

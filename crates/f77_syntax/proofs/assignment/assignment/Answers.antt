@@ -1,8 +1,9 @@
-use Rattle.std.proofs.Common.{◌≡◌, true, false, sym, length}
+use Rattle.std.proofs.Common.{◌≡◌, true, false, sym, ◌∙◌, length}
 use Rattle.std.specs.Prelude.{◌==◌}
 use Rattle.std.proofs.lemmas.Result.{err_from_is_err_and}
+use Rattle.f77_syntax.proofs.Views.{assign_view}
 use Rattle.f77_syntax.proofs.StatementGives.{assign_fails_target, assign_no_equals, assign_fails_value, assign_more, assign_whole}
-use Rattle.f77_syntax.proofs.statement.assignment.Goals as goal
+use Rattle.f77_syntax.proofs.assignment.assignment.Goals as goal
 
 pub returns-in_err-target : goal.returns-in_err-target
 returns-in_err-target c =
@@ -32,5 +33,6 @@ returns c =
     let g = c.in_ok-target.ensures in
     let h = c.in_ok-value.ensures.found in
     let none : (length c.in_ok-value.end.now == 0) ≡ true = cc in
-    assign_whole c.args.text.now c.in_ok-target.behind.now c.in-Some.rest.now c.in_ok-value.end.now g.0 h.0 c.in_ok-target.target c.in_ok-value.value
-    g.1 g.2.0 g.2.1 g.2.2 (sym c.in-Some.ensures) h.1 h.2.0 h.2.1 none
+    let w = assign_whole c.args.text.now c.in_ok-target.behind.now c.in-Some.rest.now c.in_ok-value.end.now g.0 h.0 c.in_ok-target.target c.in_ok-value.value
+    g.1 g.2.0 g.2.1 g.2.2 (sym c.in-Some.ensures) h.1 h.2.0 h.2.1 none in
+    (w.0, w.1, assign_view c.in_ok-target.target c.in_ok-value.value ∙ w.2)

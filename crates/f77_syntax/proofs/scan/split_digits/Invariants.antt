@@ -1,0 +1,9 @@
+use Rattle.std.proofs.Common.{◌≡◌, ◌++◌, take, drop}
+use Rattle.f77_syntax.specs.Reading.{digits, past_digits}
+use Rattle.f77_syntax.proofs.scan.split_digits.Given as goal
+
+abbrev pub invariant-loop-i : goal.invariant-loop-i
+invariant-loop-i l = record {
+  front : digits l.text ≡ take l.i l.text ++ digits (drop l.i l.text);
+  back : past_digits l.text ≡ past_digits (drop l.i l.text);
+}

@@ -1,0 +1,75 @@
+//! What a statement is, from its text as a whole.
+
+ghost use Rattle.std.specs.Prelude.{◌≡◌, ◌<◌, option_map};
+ghost use Rattle.f77_syntax.specs.Classification as classification;
+ghost use Rattle.f77_syntax.specs.Classification.{behind, class_of};
+
+/// The class of a statement: how it is told from the others (ANSI X3.9-1978, 3.3).
+#[derive(Clone, Copy, Debug, PartialEq, Eq)]
+pub enum Class {
+    /// An arithmetic, a logical or a block IF.
+    If,
+    /// A DO.
+    Loop,
+    /// An assignment.
+    Assignment,
+    /// What its keyword says.
+    Keyword,
+}
+
+/// How many parentheses are open behind this character.
+fn deeper(depth: usize, c: u8) -> usize
+    requires { depth < 9223372036854775808 }
+    ensures { result ≡ classification.deeper depth c }
+{
+    match c {
+        b'(' => depth + 1,
+        b')' => depth.saturating_sub(1),
+        _ => depth,
+    }
+}
+
+/// What follows the first such character outside parentheses.
+pub(crate) fn behind(byte: u8, text: &[u8]) -> Option<&[u8]>
+    ensures { option_map (λ rest. rest.now) result ≡ behind byte 0 text.now }
+{
+    let mut depth: usize = 0;
+    for (index, c) in text.iter().enumerate() {
+        if depth == 0 && *c == byte {
+            return Some(&text[index + 1..]);
+        }
+        depth = deeper(depth, *c);
+    }
+    None
+}
+
+/// Whether the text begins with `IF(` and the character after the matching parenthesis is no `=`.
+#[tactic(auto, unfolding(crate::specs::Classification::begins_if))]
+fn begins_if(text: &[u8]) -> bool
+    ensures { result ≡ classification.begins_if text.now }
+{
+    let Some(inner) = text.strip_prefix(b"IF(") else {
+        return false;
+    };
+    let Some(rest) = behind(b')', inner) else {
+        return false;
+    };
+    rest.first() != Some(&b'=')
+}
+
+/// The class of the statement that a text spells, if it spells one.
+#[tactic(auto, unfolding(crate::specs::Classification::class_of))]
+pub(crate) fn class_of(text: &[u8]) -> Class
+    ensures { result ≡ class_of text.now }
+{
+    if begins_if(text) {
+        return Class::If;
+    }
+    let Some(value) = behind(b'=', text) else {
+        return Class::Keyword;
+    };
+    if behind(b',', value).is_some() {
+        return Class::Loop;
+    }
+    Class::Assignment
+}

@@ -1,0 +1,40 @@
+//! The condition of an IF, and the labels of an arithmetic IF, read from texts.
+
+ghost use Rattle.f77_syntax.specs.Condition.{arithmetic_at, condition_at};
+ghost use Rattle.std.specs.Prelude.{◌≡◌};
+ghost use Rattle.f77_syntax.specs.Tree.{Tree};
+ghost use Rattle.f77_syntax.specs.View.{tree_of, clip, Gives, IsTree, IsStatement};
+
+use crate::expression::{closed, expression};
+use crate::fault::ReadError;
+use crate::label::labels;
+use crate::tree::{Expr, Stmt};
+use std::alloc::Global;
+
+/// Reads `IF(`, an expression and `)`, and what follows.
+pub(crate) fn condition(alloc: Global, text: &[u8]) -> Result<(Expr, &[u8]), ReadError>
+    ensures { Gives IsTree result (condition_at text.now) }
+{
+    let Some(inner) = text.strip_prefix(b"IF(") else {
+        return Err(ReadError::Unknown);
+    };
+    let (condition, rest) = expression(alloc, 1, inner)?;
+    let rest = closed(rest)?;
+    Ok((condition, rest))
+}
+
+/// Reads the labels of an arithmetic IF.
+#[tactic(auto, unfolding(crate::specs::Condition::arithmetic_at))]
+pub(crate) fn arithmetic(value: Expr, text: &[u8]) -> Result<Stmt, ReadError>
+    ensures { (t : Tree) → tree_of value ≡ clip t → Gives IsStatement result (arithmetic_at t text.now) }
+{
+    let Some((negative, zero, positive)) = labels(text) else {
+        return Err(ReadError::Unknown);
+    };
+    Ok(Stmt::ArithIf {
+        value,
+        negative,
+        zero,
+        positive,
+    })
+}

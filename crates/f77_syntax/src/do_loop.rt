@@ -1,0 +1,88 @@
+//! DO statements read from texts.
+
+ghost use Rattle.std.specs.Prelude.{◌≡◌};
+ghost use Rattle.f77_syntax.specs.DoLoop as loops;
+ghost use Rattle.f77_syntax.specs.DoLoop.{range_at, step_at, parameters_at, loop_at};
+ghost use Rattle.f77_syntax.specs.View.{Gives, IsStatement, IsRange, IsStep};
+
+use crate::expression::{after_byte, expression};
+use crate::fault::ReadError;
+use crate::label::label;
+use crate::name::Name;
+use crate::scan::{is_name, split_word};
+use crate::tree::{Expr, Stmt};
+use std::alloc::Global;
+
+/// The text without a comma at the front.
+fn past_comma(text: &[u8]) -> &[u8]
+    ensures { result.now ≡ loops.past_comma text.now }
+{
+    match after_byte(text, b',') {
+        Some(rest) => rest,
+        None => text,
+    }
+}
+
+/// Reads the label and the DO variable, and what follows the equals sign.
+fn range(alloc: Global, text: &[u8]) -> Result<(u32, Name, &[u8]), ReadError>
+    ensures { Gives IsRange result (range_at text.now) }
+{
+    let Some((label, behind)) = label(text) else {
+        return Err(ReadError::Unknown);
+    };
+    let (front, rest) = split_word(past_comma(behind));
+    if !is_name(front) {
+        return Err(ReadError::Unknown);
+    }
+    let Some(parameters) = after_byte(rest, b'=') else {
+        return Err(ReadError::Unknown);
+    };
+    Ok((label, Name::copy_of(alloc, front)?, parameters))
+}
+
+/// Reads the third parameter, where there is one.
+fn step(alloc: Global, text: &[u8]) -> Result<Option<Expr>, ReadError>
+    ensures { Gives IsStep result (step_at text.now) }
+{
+    if text.is_empty() {
+        return Ok(None);
+    }
+    let Some(rest) = after_byte(text, b',') else {
+        return Err(ReadError::Unknown);
+    };
+    let (step, end) = expression(alloc, 1, rest)?;
+    if !end.is_empty() {
+        return Err(ReadError::Unknown);
+    }
+    Ok(Some(step))
+}
+
+/// Reads the parameters of a DO with this label and DO variable.
+fn parameters(alloc: Global, label: u32, variable: Name, text: &[u8]) -> Result<Stmt, ReadError>
+    ensures { Gives IsStatement result (parameters_at label variable text.now) }
+{
+    let (first, behind) = expression(alloc, 1, text)?;
+    let Some(rest) = after_byte(behind, b',') else {
+        return Err(ReadError::Unknown);
+    };
+    let (last, rest) = expression(alloc, 1, rest)?;
+    let step = step(alloc, rest)?;
+    Ok(Stmt::Loop {
+        label,
+        variable,
+        first,
+        last,
+        step,
+    })
+}
+
+/// Reads a DO statement.
+pub(crate) fn loop_statement(alloc: Global, text: &[u8]) -> Result<Stmt, ReadError>
+    ensures { Gives IsStatement result (loop_at text.now) }
+{
+    let Some(rest) = text.strip_prefix(b"DO") else {
+        return Err(ReadError::Unknown);
+    };
+    let (label, variable, rest) = range(alloc, rest)?;
+    parameters(alloc, label, variable, rest)
+}
