@@ -1,6 +1,6 @@
 -- The canonical text of a tree spells it.
 use Rattle.std.proofs.Common.{arith, ◌≡◌, ◌<◌, ◌≤◌, ◌^◌, ◌+◌, ◌%◌, ℕ, List, [], ◌∷◌, ◌++◌, Bool, true, false, cond, refl, ap, sym, subst}
-use Rattle.std.specs.Prelude.{nat_lt, nat_le, ◌&&◌, not, codes, length, Option, Some, None}
+use Rattle.std.specs.Prelude.{nat_lt, nat_le, ◌&&◌, not, codes, length, Option, Some, None, option_map}
 use Rattle.std.specs.List.{list_all, join_with_byte}
 use Rattle.std.specs.Fmt.{decimal}
 use Rattle.std.specs.Str.Parse.{digits_value}
@@ -13,7 +13,7 @@ use Rattle.f77_syntax.specs.declared.operator.Operator.{Operator}
 use Rattle.f77_syntax.specs.declared.operator.Operator.TheVariants.{Equivalent, NotEquivalent, Or, And, Less, LessOrEqual, Equal, NotEqual, GreaterOrEqual, Greater, Add, Subtract, Multiply, Divide, Power}
 use Rattle.f77_syntax.specs.Operator.{level, left_level, right_level}
 use Rattle.f77_syntax.specs.Tree.{Tree, Trees, Statement}
-use Rattle.f77_syntax.specs.Grammar.{Spells, SpellsReference, SpellsAll, SpellsAction, SpellsStatement, IsUnmutated, in_text, is_name, is_call, is_digit, is_number, label_number}
+use Rattle.f77_syntax.specs.Grammar.{Spells, SpellsReference, SpellsAll, SpellsAction, SpellsStatement, IsUnmutated, in_text, tree_in_text, trees_in_text, is_name, is_call, is_digit, is_number, label_number}
 use Rattle.f77_syntax.specs.Canonical.{own_level, operand, text_of, list_text, rest_text, names_text, step_text}
 use Rattle.f77_syntax.specs.Formed.{is_reference, is_some_list, formed, all_formed, step_formed, is_action, statement_formed}
 use Rattle.f77_syntax.specs.Limits.{is_label, of_step, small_constants, all_small_constants, statement_constants}
@@ -71,6 +71,7 @@ own_low (Tree.Call f items) = omega arith
 own_low (Tree.Signed sign t) = omega arith
 own_low (Tree.Not t) = omega arith
 own_low (Tree.Binary op a b) = level_low op
+own_low (Tree.ZeroPush t) = omega arith
 
 -- a constant that a program may have
 small : (n : ℕ) → nat_le n 2147483647 ≡ true → n < 2 ^ 64
@@ -93,39 +94,52 @@ unfolding is_some_list
 call_formed t ts h = and_true (formed t) (all_formed ts) h
 
 mutual
-  pub back : (t : Tree) → formed t ≡ true → small_constants t ≡ true → (v : ℕ) → v ≤ own_level t → Spells v (text_of t) t
-  back (Tree.Number n) f k v h = let d = decimal_number n (small n k) in subst (λ m. Spells v (decimal n) (Tree.Number m)) d.1 (Spells.number d.0)
-  back (Tree.Truth b) f k v h = Spells.truth b
-  back (Tree.Reference name items) f k v h =
-      let (is, other, all) = reference_formed name items f in Spells.reference other (back_reference items name is all k)
-  back (Tree.Call g Trees.None) f k v h = absurd (no_call f)
-  back (Tree.Call g (Trees.Then t ts)) f k v h =
+  pub back : (t : Tree) → tree_in_text t ≡ t → formed t ≡ true → small_constants t ≡ true → (v : ℕ) → v ≤ own_level t → Spells v (text_of t) t
+  back (Tree.Number n) u f k v h = let d = decimal_number n (small n k) in subst (λ m. Spells v (decimal n) (Tree.Number m)) d.1 (Spells.number d.0)
+  back (Tree.Truth b) u f k v h = Spells.truth b
+  back (Tree.Reference name items) u f k v h =
+      let (is, other, all) = reference_formed name items f in
+      let same : trees_in_text items ≡ items = cc in
+      Spells.reference other (back_reference items name same is all k)
+  back (Tree.Call g Trees.None) u f k v h = absurd (no_call f)
+  back (Tree.Call g (Trees.Then t ts)) u f k v h =
       let (first, others) = call_formed t ts f in
       let (small_first, small_others) = and_true (small_constants t) (all_small_constants ts) k in
-      Spells.call g (back_all ts (text_of t) t (back t first small_first 1 (own_low t)) others small_others)
-  back (Tree.Signed sign t) f k v h = Spells.signed sign h (as_operand 7 (own_level t) (text_of t) t (back t f k) (own_low t))
-  back (Tree.Not t) f k v h = Spells.negated h (as_operand 5 (own_level t) (text_of t) t (back t f k) (own_low t))
-  back (Tree.Binary op a b) f k v h =
+      let one : tree_in_text t ≡ t = cc in
+      let more : trees_in_text ts ≡ ts = cc in
+      Spells.call g (back_all ts (text_of t) t (back t one first small_first 1 (own_low t)) more others small_others)
+  back (Tree.Signed sign t) u f k v h =
+      let same : tree_in_text t ≡ t = cc in Spells.signed sign h (as_operand 7 (own_level t) (text_of t) t (back t same f k) (own_low t))
+  back (Tree.Not t) u f k v h =
+      let same : tree_in_text t ≡ t = cc in Spells.negated h (as_operand 5 (own_level t) (text_of t) t (back t same f k) (own_low t))
+  back (Tree.Binary op a b) u f k v h =
       let (first, second) = and_true (formed a) (formed b) f in
       let (small_first, small_second) = and_true (small_constants a) (small_constants b) k in
-      Spells.binary op h (as_operand (left_level op) (own_level a) (text_of a) a (back a first small_first) (own_low a))
-      (as_operand (right_level op) (own_level b) (text_of b) b (back b second small_second) (own_low b))
+      let one : tree_in_text a ≡ a = cc in
+      let two : tree_in_text b ≡ b = cc in
+      Spells.binary op h (as_operand (left_level op) (own_level a) (text_of a) a (back a one first small_first) (own_low a))
+      (as_operand (right_level op) (own_level b) (text_of b) b (back b two second small_second) (own_low b))
+  back (Tree.ZeroPush t) u f k v h = cc
 
-  pub back_reference : (items : Trees) (name : List ℕ) → is_name name ≡ true → all_formed items ≡ true → all_small_constants items ≡ true
+  pub back_reference : (items : Trees) (name : List ℕ) → trees_in_text items ≡ items → is_name name ≡ true → all_formed items ≡ true → all_small_constants items ≡ true
       → SpellsReference (name ++ list_text items) name items
-  back_reference Trees.None name n f k = subst (λ z. SpellsReference z name Trees.None) (sym (append-nil name)) (SpellsReference.scalar n)
-  back_reference (Trees.Then t ts) name n f k =
+  back_reference Trees.None name u n f k = subst (λ z. SpellsReference z name Trees.None) (sym (append-nil name)) (SpellsReference.scalar n)
+  back_reference (Trees.Then t ts) name u n f k =
       let (first, others) = and_true (formed t) (all_formed ts) f in
       let (small_first, small_others) = and_true (small_constants t) (all_small_constants ts) k in
-      SpellsReference.element n (back_all ts (text_of t) t (back t first small_first 1 (own_low t)) others small_others)
+      let one : tree_in_text t ≡ t = cc in
+      let more : trees_in_text ts ≡ ts = cc in
+      SpellsReference.element n (back_all ts (text_of t) t (back t one first small_first 1 (own_low t)) more others small_others)
 
-  back_all : (ts : Trees) (x : List ℕ) (t : Tree) → Spells 1 x t → all_formed ts ≡ true → all_small_constants ts ≡ true
+  back_all : (ts : Trees) (x : List ℕ) (t : Tree) → Spells 1 x t → trees_in_text ts ≡ ts → all_formed ts ≡ true → all_small_constants ts ≡ true
       → SpellsAll (x ++ rest_text 44 ts) (Trees.Then t ts)
-  back_all Trees.None x t p f k = subst (λ z. SpellsAll z (Trees.Then t Trees.None)) (sym (append-nil x)) (SpellsAll.last p)
-  back_all (Trees.Then u us) x t p f k =
-      let (first, others) = and_true (formed u) (all_formed us) f in
-      let (small_first, small_others) = and_true (small_constants u) (all_small_constants us) k in
-      SpellsAll.more p (back_all us (text_of u) u (back u first small_first 1 (own_low u)) others small_others)
+  back_all Trees.None x t p u f k = subst (λ z. SpellsAll z (Trees.Then t Trees.None)) (sym (append-nil x)) (SpellsAll.last p)
+  back_all (Trees.Then t ts) x s p u f k =
+      let (first, others) = and_true (formed t) (all_formed ts) f in
+      let (small_first, small_others) = and_true (small_constants t) (all_small_constants ts) k in
+      let one : tree_in_text t ≡ t = cc in
+      let more : trees_in_text ts ≡ ts = cc in
+      SpellsAll.more p (back_all ts (text_of t) t (back t one first small_first 1 (own_low t)) more others small_others)
 
 -- names joined by commas
 joined : (n : List ℕ) (names : List (List ℕ)) → join_with_byte 44 (n ∷ names) ≡ n ++ names_text 44 names
@@ -166,8 +180,8 @@ bare_text Statement.Stop = codes "STOP"
 bare_text Statement.Trap = codes "TRAP"
 bare_text Statement.End = codes "END"
 
-back_small : (t : Tree) → formed t ≡ true → small_constants t ≡ true → Spells 1 (text_of t) t
-back_small t f k = back t f k 1 (own_low t)
+back_small : (t : Tree) → tree_in_text t ≡ t → formed t ≡ true → small_constants t ≡ true → Spells 1 (text_of t) t
+back_small t u f k = back t u f k 1 (own_low t)
 
 back_action : (s : Statement) → IsUnmutated s → is_action s ≡ true → statement_formed s ≡ true → statement_constants s ≡ true → SpellsAction (bare_text s) s
 back_action (Statement.Subroutine name names) u i f k = cc
@@ -175,14 +189,17 @@ back_action (Statement.Assign name items t) u i f k =
     let (is, rest) = and_true (is_name name) (all_formed items && formed t) f in
     let (all, value) = and_true (all_formed items) (formed t) rest in
     let (small_all, small_value) = and_true (all_small_constants items) (small_constants t) k in
-    SpellsAction.assign (back_reference items name is all small_all) (back_small t value small_value)
+    let one : trees_in_text items ≡ items = cc in
+    let two : tree_in_text t ≡ t = cc in
+    SpellsAction.assign (back_reference items name one is all small_all) (back_small t two value small_value)
 back_action (Statement.Goto label) u i f k =
     subst (λ n. SpellsAction (codes "GOTO" ++ decimal label) (Statement.Goto n)) (label_back label k) (SpellsAction.go_to (decimal label) (label_row label k))
 back_action (Statement.ArithIf t l m n) u i f k =
     let (value, labels) = and_true (small_constants t) (is_label l && (is_label m && is_label n)) k in
     let (first, others) = and_true (is_label l) (is_label m && is_label n) labels in
     let (second, third) = and_true (is_label m) (is_label n) others in
-    let p = SpellsAction.arithmetic_if (decimal l) (decimal m) (decimal n) (back_small t f value) (label_row l first) (label_row m second) (label_row n third) in
+    let same : tree_in_text t ≡ t = cc in
+    let p = SpellsAction.arithmetic_if (decimal l) (decimal m) (decimal n) (back_small t same f value) (label_row l first) (label_row m second) (label_row n third) in
     rw (label_back l first, label_back m second, label_back n third) at p
 back_action (Statement.LogicalIf t s) u i f k = cc
 back_action (Statement.BlockIf t) u i f k = cc
@@ -197,13 +214,14 @@ back_action Statement.Trap u i f k = cc
 back_action Statement.End u i f k = cc
 
 back_loop : (label : ℕ) (name : List ℕ) (a b : Tree) (c : Option Tree) → is_label label ≡ true → is_name name ≡ true → Spells 1 (text_of a) a → Spells 1 (text_of b) b
-    → step_formed c ≡ true → of_step small_constants c ≡ true → SpellsStatement (bare_text (Statement.Loop label name a b c)) (Statement.Loop label name a b c)
-back_loop label name a b None l n p q f k =
+    → option_map tree_in_text c ≡ c → step_formed c ≡ true → of_step small_constants c ≡ true → SpellsStatement (bare_text (Statement.Loop label name a b c)) (Statement.Loop label name a b c)
+back_loop label name a b None l n p q u f k =
     let r = SpellsStatement.loop {name = name} (decimal label) false (label_row label l) n p q in
     let e : text_of b ++ [] ≡ text_of b = append-nil (text_of b) in
     rw e (rw (label_back label l) at r)
-back_loop label name a b (Some c) l n p q f k =
-    let r = SpellsStatement.loop_by {name = name} (decimal label) false (label_row label l) n p q (back_small c f k) in rw (label_back label l) at r
+back_loop label name a b (Some c) l n p q u f k =
+    let same : tree_in_text c ≡ c = cc in
+    let r = SpellsStatement.loop_by {name = name} (decimal label) false (label_row label l) n p q (back_small c same f k) in rw (label_back label l) at r
 
 pub back_statement : (s : Statement) → IsUnmutated s → statement_formed s ≡ true → statement_constants s ≡ true → SpellsStatement (bare_text s) s
 back_statement (Statement.Subroutine name []) u f k = SpellsStatement.subroutine (and_true (is_name name) true f).0
@@ -219,9 +237,10 @@ back_statement (Statement.LogicalIf t s) u f k =
     let (is, inner) = and_true (is_action s) (statement_formed s) rest in
     let (small_test, small_inner) = and_true (small_constants t) (statement_constants s) k in
     let unmutated : in_text s ≡ s = cc in
-    SpellsStatement.logical_if (back_small t test small_test) (back_action s unmutated is inner small_inner)
-back_statement (Statement.BlockIf t) u f k = SpellsStatement.block_if (back_small t f k)
-back_statement (Statement.ElseIf t) u f k = SpellsStatement.else_if (back_small t f k)
+    let same : tree_in_text t ≡ t = cc in
+    SpellsStatement.logical_if (back_small t same test small_test) (back_action s unmutated is inner small_inner)
+back_statement (Statement.BlockIf t) u f k = let same : tree_in_text t ≡ t = cc in SpellsStatement.block_if (back_small t same f k)
+back_statement (Statement.ElseIf t) u f k = let same : tree_in_text t ≡ t = cc in SpellsStatement.else_if (back_small t same f k)
 back_statement Statement.Else u f k = SpellsStatement.otherwise
 back_statement Statement.EndIf u f k = SpellsStatement.end_if
 back_statement (Statement.Loop label name a b c) u f k =
@@ -231,7 +250,10 @@ back_statement (Statement.Loop label name a b c) u f k =
     let (one, small) = and_true (is_label label) (small_constants a && (small_constants b && of_step small_constants c)) k in
     let (small_first, small_others) = and_true (small_constants a) (small_constants b && of_step small_constants c) small in
     let (small_second, small_third) = and_true (small_constants b) (of_step small_constants c) small_others in
-    back_loop label name a b c one is (back_small a first small_first) (back_small b second small_second) third small_third
+    let u_first : tree_in_text a ≡ a = cc in
+    let u_second : tree_in_text b ≡ b = cc in
+    let u_third : option_map tree_in_text c ≡ c = cc in
+    back_loop label name a b c one is (back_small a u_first first small_first) (back_small b u_second second small_second) u_third third small_third
 back_statement Statement.Continue u f k = SpellsStatement.action SpellsAction.go_on
 back_statement Statement.Return u f k = SpellsStatement.action SpellsAction.return
 back_statement Statement.Stop u f k = SpellsStatement.action SpellsAction.stop

@@ -16,6 +16,7 @@ mutual
   names_clip (Tree.Signed sign t) = names_clip t
   names_clip (Tree.Not t) = names_clip t
   names_clip (Tree.Binary op a b) = rw (names_clip a) (rw (names_clip b) refl)
+  names_clip (Tree.ZeroPush t) = names_clip t
 
   all_names_clip : (ts : Trees) → all_short_names (clip_all ts) ≡ all_short_names ts
   all_names_clip Trees.None = refl
@@ -37,6 +38,7 @@ mutual
   constants_clip (Tree.Signed sign t) = constants_clip t
   constants_clip (Tree.Not t) = constants_clip t
   constants_clip (Tree.Binary op a b) = rw (constants_clip a) (rw (constants_clip b) refl)
+  constants_clip (Tree.ZeroPush t) = constants_clip t
 
   all_constants_clip : (ts : Trees) → all_small_constants (clip_all ts) ≡ all_small_constants ts
   all_constants_clip Trees.None = refl
@@ -51,6 +53,7 @@ mutual
   nodes_clip (Tree.Signed sign t) = rw (nodes_clip t) refl
   nodes_clip (Tree.Not t) = rw (nodes_clip t) refl
   nodes_clip (Tree.Binary op a b) = rw (nodes_clip a) (rw (nodes_clip b) refl)
+  nodes_clip (Tree.ZeroPush t) = rw (nodes_clip t) refl
 
   all_nodes_clip : (ts : Trees) → all_nodes (clip_all ts) ≡ all_nodes ts
   all_nodes_clip Trees.None = refl
@@ -68,6 +71,7 @@ mutual
   kept (Tree.Signed sign t) h = rw (kept t h) refl
   kept (Tree.Not t) h = rw (kept t h) refl
   kept (Tree.Binary op a b) h = let (l, r) = and_true (small_constants a) (small_constants b) h in rw (kept a l) (rw (kept b r) refl)
+  kept (Tree.ZeroPush t) h = rw (kept t h) refl
 
   all_kept : (ts : Trees) → all_small_constants ts ≡ true → clip_all ts ≡ ts
   all_kept Trees.None h = refl

@@ -1,6 +1,6 @@
 -- Some text spells a tree exactly where the tree is formed.
 use Rattle.std.proofs.Common.{arith, ◌≡◌, ◌≤◌, ◌+◌, ◌/◌, ◌%◌, ℕ, zero, suc, length, List, [], ◌∷◌, ◌++◌, Bool, true, false, refl, sym, ◌∙◌, subst}
-use Rattle.std.specs.Prelude.{◌==◌, ◌&&◌, not, nat_le, is_some, codes, map, Option, Some, None}
+use Rattle.std.specs.Prelude.{◌==◌, ◌&&◌, not, nat_le, is_some, codes, map, Option, Some, None, option_map}
 use Rattle.std.specs.List.{list_all}
 use Rattle.std.specs.Str.Parse.{digits_value}
 use Rattle.std.specs.Char.{digit_value}
@@ -9,12 +9,13 @@ use Rattle.std.proofs.lemmas.Fmt.{length-decimal-le}
 use Rattle.std.proofs.lemmas.Bool.{eqb-true, le-leb, leb-true}
 use Rattle.std.proofs.lemmas.Bool.Decides.{nat_tests}
 use Rattle.std.proofs.lemmas.Int.Digits.{digits_value_push}
+use Rattle.f77_syntax.specs.declared.intrinsic.Intrinsic.TheVariants.{Iabs}
 use Rattle.f77_syntax.specs.Operator.{symbol, sign_symbol, left_level, right_level}
 use Rattle.f77_syntax.specs.Intrinsic.{function_name, function_named}
 use Rattle.f77_syntax.specs.declared.tree.Expr.{Expr}
 use Rattle.f77_syntax.specs.Tree.{Tree, Trees, Statement}
 use Rattle.f77_syntax.specs.View.{tree_of, trees}
-use Rattle.f77_syntax.specs.Grammar.{Spells, SpellsReference, SpellsAll, SpellsAction, SpellsStatement, IsFormed, in_text, label_number, label_in_text, is_name, is_call, is_number, truth_text}
+use Rattle.f77_syntax.specs.Grammar.{Spells, SpellsReference, SpellsAll, SpellsAction, SpellsStatement, IsFormed, in_text, tree_in_text, trees_in_text, label_number, label_in_text, is_name, is_call, is_number, truth_text}
 use Rattle.f77_syntax.specs.Canonical.{own_level, operand}
 use Rattle.f77_syntax.specs.Formed.{is_some_list, is_reference, formed, all_formed, step_formed, is_action, statement_formed}
 use Rattle.f77_syntax.proofs.Steps.{and_true}
@@ -74,7 +75,44 @@ spelled_formed (SpellsStatement.loop row comma h n p q) = rw (n, tree_formed p, 
 spelled_formed (SpellsStatement.loop_by row comma h n p q r) = rw (n, tree_formed p, tree_formed q, tree_formed r) refl
 spelled_formed SpellsStatement.end = refl
 
--- what stands for a statement in a text is formed where it is
+-- what stands for a tree in a text is formed where it is
+call_in_text : (name : List ℕ) (items : Trees) → is_call name (trees_in_text items) ≡ is_call name items
+call_in_text name Trees.None = refl
+call_in_text name (Trees.Then t ts) = refl
+
+reference_in_text : (name : List ℕ) (items : Trees) → is_reference name (trees_in_text items) ≡ is_reference name items
+unfolding is_reference
+reference_in_text name items = rw (call_in_text name items) refl
+
+list_in_text : (items : Trees) → is_some_list (trees_in_text items) ≡ is_some_list items
+unfolding is_some_list
+list_in_text Trees.None = refl
+list_in_text (Trees.Then t ts) = refl
+
+one_call : (b : Bool) (t : Tree) → formed t ≡ b → formed (Tree.Call Iabs (Trees.Then t Trees.None)) ≡ b
+unfolding is_some_list
+one_call true t e = rw e refl
+one_call false t e = rw e refl
+
+mutual
+  tree_in_text_formed : (t : Tree) → formed (tree_in_text t) ≡ formed t
+  tree_in_text_formed (Tree.Number n) = refl
+  tree_in_text_formed (Tree.Truth b) = refl
+  tree_in_text_formed (Tree.Reference name items) = rw (reference_in_text name items, trees_in_text_formed items) refl
+  tree_in_text_formed (Tree.Call f items) = rw (list_in_text items, trees_in_text_formed items) refl
+  tree_in_text_formed (Tree.Signed sign t) = tree_in_text_formed t
+  tree_in_text_formed (Tree.Not t) = tree_in_text_formed t
+  tree_in_text_formed (Tree.Binary op a b) = rw (tree_in_text_formed a, tree_in_text_formed b) refl
+  tree_in_text_formed (Tree.ZeroPush t) = one_call (formed t) (tree_in_text t) (tree_in_text_formed t)
+
+  trees_in_text_formed : (ts : Trees) → all_formed (trees_in_text ts) ≡ all_formed ts
+  trees_in_text_formed Trees.None = refl
+  trees_in_text_formed (Trees.Then t ts) = rw (tree_in_text_formed t, trees_in_text_formed ts) refl
+
+step_in_text_formed : (c : Option Tree) → step_formed (option_map tree_in_text c) ≡ step_formed c
+step_in_text_formed None = refl
+step_in_text_formed (Some t) = tree_in_text_formed t
+
 in_text_action : (s : Statement) → is_action (in_text s) ≡ is_action s
 in_text_action (Statement.Subroutine name names) = refl
 in_text_action (Statement.Assign name items t) = refl
@@ -94,15 +132,15 @@ in_text_action Statement.End = refl
 
 in_text_formed : (s : Statement) → statement_formed (in_text s) ≡ statement_formed s
 in_text_formed (Statement.Subroutine name names) = refl
-in_text_formed (Statement.Assign name items t) = refl
+in_text_formed (Statement.Assign name items t) = rw (trees_in_text_formed items, tree_in_text_formed t) refl
 in_text_formed (Statement.Goto label) = refl
-in_text_formed (Statement.ArithIf t l m n) = refl
-in_text_formed (Statement.LogicalIf t s) = rw (in_text_action s, in_text_formed s) refl
-in_text_formed (Statement.BlockIf t) = refl
-in_text_formed (Statement.ElseIf t) = refl
+in_text_formed (Statement.ArithIf t l m n) = tree_in_text_formed t
+in_text_formed (Statement.LogicalIf t s) = rw (tree_in_text_formed t, in_text_action s, in_text_formed s) refl
+in_text_formed (Statement.BlockIf t) = tree_in_text_formed t
+in_text_formed (Statement.ElseIf t) = tree_in_text_formed t
 in_text_formed Statement.Else = refl
 in_text_formed Statement.EndIf = refl
-in_text_formed (Statement.Loop label name a b c) = refl
+in_text_formed (Statement.Loop label name a b c) = rw (tree_in_text_formed a, tree_in_text_formed b, step_in_text_formed c) refl
 in_text_formed Statement.Continue = refl
 in_text_formed Statement.Return = refl
 in_text_formed Statement.Stop = refl
@@ -121,44 +159,53 @@ numeral (suc k) n h =
 abbrev pub Texts : Tree → Type 0
 Texts t = (text : List ℕ) × ((v : ℕ) → v ≤ own_level t → Spells v text t)
 
+one_argument : (t : Tree) → Texts t → Texts (Tree.Call Iabs (Trees.Then t Trees.None))
+one_argument t p = (function_name Iabs ++ (40 ∷ (p.0 ++ 41 ∷ [])), λ v h. Spells.call Iabs (SpellsAll.last (p.1 1 (own_low t))))
+
 -- what is formed, some text spells
 mutual
-  text_for : (t : Tree) → formed t ≡ true → Texts t
+  text_for : (t : Tree) → formed t ≡ true → Texts (tree_in_text t)
   text_for (Tree.Number n) f =
       let (text, is, value) = numeral n n (omega arith) in (text, λ v h. subst (λ m. Spells v text (Tree.Number m)) value (Spells.number is))
   text_for (Tree.Truth b) f = (truth_text b, λ v h. Spells.truth b)
   text_for (Tree.Reference name items) f =
       let (is, other, all) = reference_formed name items f in
-      let (text, p) = reference_for items name is all in (text, λ v h. Spells.reference other p)
+      let (text, p) = reference_for items name is all in
+      (text, λ v h. Spells.reference (call_in_text name items ∙ other) p)
   text_for (Tree.Call g Trees.None) f = absurd (no_call f)
   text_for (Tree.Call g (Trees.Then t ts)) f =
       let (first, others) = call_formed t ts f in
-      let (text, p) = list_for ts t (text_for t first) others in (function_name g ++ (40 ∷ (text ++ 41 ∷ [])), λ v h. Spells.call g p)
+      let (text, p) = list_for ts (tree_in_text t) (text_for t first) others in (function_name g ++ (40 ∷ (text ++ 41 ∷ [])), λ v h. Spells.call g p)
   text_for (Tree.Signed sign t) f =
       let (text, p) = text_for t f in
-      (sign_symbol sign ∷ operand 7 (own_level t) text, λ v h. Spells.signed sign h (as_operand 7 (own_level t) text t p (own_low t)))
+      let own = own_level (tree_in_text t) in
+      (sign_symbol sign ∷ operand 7 own text, λ v h. Spells.signed sign h (as_operand 7 own text (tree_in_text t) p (own_low (tree_in_text t))))
   text_for (Tree.Not t) f =
       let (text, p) = text_for t f in
-      (codes ".NOT." ++ operand 5 (own_level t) text, λ v h. Spells.negated h (as_operand 5 (own_level t) text t p (own_low t)))
+      let own = own_level (tree_in_text t) in
+      (codes ".NOT." ++ operand 5 own text, λ v h. Spells.negated h (as_operand 5 own text (tree_in_text t) p (own_low (tree_in_text t))))
   text_for (Tree.Binary op a b) f =
       let (first, second) = and_true (formed a) (formed b) f in
       let (x, p) = text_for a first in
-      let (y, q) = text_for b second in (
-        operand (left_level op) (own_level a) x ++ (symbol op ++ operand (right_level op) (own_level b) y),
-        λ v h. Spells.binary op h (as_operand (left_level op) (own_level a) x a p (own_low a)) (as_operand (right_level op) (own_level b) y b q (own_low b)),
+      let (y, q) = text_for b second in
+      let one = own_level (tree_in_text a) in
+      let two = own_level (tree_in_text b) in (
+        operand (left_level op) one x ++ (symbol op ++ operand (right_level op) two y),
+        λ v h. Spells.binary op h (as_operand (left_level op) one x (tree_in_text a) p (own_low (tree_in_text a))) (as_operand (right_level op) two y (tree_in_text b) q (own_low (tree_in_text b))),
       )
+  text_for (Tree.ZeroPush t) f = one_argument (tree_in_text t) (text_for t f)
 
-  reference_for : (items : Trees) (name : List ℕ) → is_name name ≡ true → all_formed items ≡ true → (text : List ℕ) × SpellsReference text name items
+  reference_for : (items : Trees) (name : List ℕ) → is_name name ≡ true → all_formed items ≡ true → (text : List ℕ) × SpellsReference text name (trees_in_text items)
   reference_for Trees.None name n f = (name, SpellsReference.scalar n)
   reference_for (Trees.Then t ts) name n f =
       let (first, others) = and_true (formed t) (all_formed ts) f in
-      let (text, p) = list_for ts t (text_for t first) others in (name ++ (40 ∷ (text ++ 41 ∷ [])), SpellsReference.element n p)
+      let (text, p) = list_for ts (tree_in_text t) (text_for t first) others in (name ++ (40 ∷ (text ++ 41 ∷ [])), SpellsReference.element n p)
 
-  list_for : (ts : Trees) (t : Tree) → Texts t → all_formed ts ≡ true → (text : List ℕ) × SpellsAll text (Trees.Then t ts)
+  list_for : (ts : Trees) (t : Tree) → Texts t → all_formed ts ≡ true → (text : List ℕ) × SpellsAll text (Trees.Then t (trees_in_text ts))
   list_for Trees.None t first f = (first.0, SpellsAll.last (first.1 1 (own_low t)))
   list_for (Trees.Then u us) t first f =
       let (next, rest) = and_true (formed u) (all_formed us) f in
-      let (more, q) = list_for us u (text_for u next) rest in
+      let (more, q) = list_for us (tree_in_text u) (text_for u next) rest in
       (first.0 ++ (44 ∷ more), SpellsAll.more (first.1 1 (own_low t)) q)
 
 -- digits for any label
@@ -189,21 +236,21 @@ IsAction s = (text : List ℕ) × SpellsAction text s
 goto_for : (label : ℕ) → IsAction (Statement.Goto (label_in_text label))
 goto_for label = let (row, is, e) = label_for label in (codes "GOTO" ++ row, subst (λ z. SpellsAction (codes "GOTO" ++ row) (Statement.Goto z)) e (SpellsAction.go_to row is))
 
-assign_for : (name : List ℕ) (items : Trees) (t : Tree) → statement_formed (Statement.Assign name items t) ≡ true → IsAction (Statement.Assign name items t)
+assign_for : (name : List ℕ) (items : Trees) (t : Tree) → statement_formed (Statement.Assign name items t) ≡ true → IsAction (in_text (Statement.Assign name items t))
 assign_for name items t f =
     let (is, rest) = and_true (is_name name) (all_formed items && formed t) f in
     let (all, value) = and_true (all_formed items) (formed t) rest in
     let (x, p) = reference_for items name is all in
     let (y, q) = text_for t value in
-    (x ++ (61 ∷ y), SpellsAction.assign p (q 1 (own_low t)))
+    (x ++ (61 ∷ y), SpellsAction.assign p (q 1 (own_low (tree_in_text t))))
 
-arithmetic_for : (t : Tree) (l m n : ℕ) → formed t ≡ true → IsAction (Statement.ArithIf t (label_in_text l) (label_in_text m) (label_in_text n))
+arithmetic_for : (t : Tree) (l m n : ℕ) → formed t ≡ true → IsAction (in_text (Statement.ArithIf t l m n))
 arithmetic_for t l m n f =
     let (x, p) = text_for t f in
     let (i, one, first) = label_for l in
     let (j, two, second) = label_for m in
     let (k, three, third) = label_for n in
-    let r = SpellsAction.arithmetic_if i j k (p 1 (own_low t)) one two three in
+    let r = SpellsAction.arithmetic_if i j k (p 1 (own_low (tree_in_text t))) one two three in
     (codes "IF(" ++ (x ++ (41 ∷ (i ++ (44 ∷ (j ++ (44 ∷ k)))))), rw (first, second, third) at r)
 
 action_for : (s : Statement) → is_action s ≡ true → statement_formed s ≡ true → IsAction (in_text s)
@@ -232,31 +279,31 @@ loop_for label name a b None n f g h =
     let (x, p) = text_for a f in
     let (y, q) = text_for b g in
     let (row, is, e) = label_for label in
-    let r = SpellsStatement.loop {name = name} row false is n (p 1 (own_low a)) (q 1 (own_low b)) in
+    let r = SpellsStatement.loop {name = name} row false is n (p 1 (own_low (tree_in_text a))) (q 1 (own_low (tree_in_text b))) in
     (codes "DO" ++ (row ++ (name ++ (61 ∷ (x ++ (44 ∷ y))))), rw e at r)
 loop_for label name a b (Some c) n f g h =
     let (x, p) = text_for a f in
     let (y, q) = text_for b g in
     let (z, r) = text_for c h in
     let (row, is, e) = label_for label in
-    let s = SpellsStatement.loop_by {name = name} row false is n (p 1 (own_low a)) (q 1 (own_low b)) (r 1 (own_low c)) in
+    let s = SpellsStatement.loop_by {name = name} row false is n (p 1 (own_low (tree_in_text a))) (q 1 (own_low (tree_in_text b))) (r 1 (own_low (tree_in_text c))) in
     (codes "DO" ++ (row ++ (name ++ (61 ∷ (x ++ (44 ∷ (y ++ (44 ∷ z))))))), rw e at s)
 
 pub formed_spelled : (s : Statement) → statement_formed s ≡ true → IsFormed s
 formed_spelled (Statement.Subroutine name []) f = (codes "SUBROUTINE" ++ name, SpellsStatement.subroutine (and_true (is_name name) true f).0)
 formed_spelled (Statement.Subroutine name (n ∷ names)) f =
     let (first, others) = and_true (is_name name) (list_all is_name (n ∷ names)) f in (_, SpellsStatement.subroutine_of (n ∷ names) first others)
-formed_spelled (Statement.Assign name items t) f = as_statement (Statement.Assign name items t) (assign_for name items t f)
+formed_spelled (Statement.Assign name items t) f = as_statement (in_text (Statement.Assign name items t)) (assign_for name items t f)
 formed_spelled (Statement.Goto label) f = as_statement (Statement.Goto (label_in_text label)) (goto_for label)
-formed_spelled (Statement.ArithIf t l m n) f = as_statement (Statement.ArithIf t (label_in_text l) (label_in_text m) (label_in_text n)) (arithmetic_for t l m n f)
+formed_spelled (Statement.ArithIf t l m n) f = as_statement (in_text (Statement.ArithIf t l m n)) (arithmetic_for t l m n f)
 formed_spelled (Statement.LogicalIf t s) f =
     let (test, rest) = and_true (formed t) (is_action s && statement_formed s) f in
     let (is, inner) = and_true (is_action s) (statement_formed s) rest in
     let (x, p) = text_for t test in
     let (y, q) = action_for s is inner in
-    (codes "IF(" ++ (x ++ (41 ∷ y)), SpellsStatement.logical_if (p 1 (own_low t)) q)
-formed_spelled (Statement.BlockIf t) f = let (x, p) = text_for t f in (codes "IF(" ++ (x ++ codes ")THEN"), SpellsStatement.block_if (p 1 (own_low t)))
-formed_spelled (Statement.ElseIf t) f = let (x, p) = text_for t f in (codes "ELSEIF(" ++ (x ++ codes ")THEN"), SpellsStatement.else_if (p 1 (own_low t)))
+    (codes "IF(" ++ (x ++ (41 ∷ y)), SpellsStatement.logical_if (p 1 (own_low (tree_in_text t))) q)
+formed_spelled (Statement.BlockIf t) f = let (x, p) = text_for t f in (codes "IF(" ++ (x ++ codes ")THEN"), SpellsStatement.block_if (p 1 (own_low (tree_in_text t))))
+formed_spelled (Statement.ElseIf t) f = let (x, p) = text_for t f in (codes "ELSEIF(" ++ (x ++ codes ")THEN"), SpellsStatement.else_if (p 1 (own_low (tree_in_text t))))
 formed_spelled Statement.Else f = (codes "ELSE", SpellsStatement.otherwise)
 formed_spelled Statement.EndIf f = (codes "ENDIF", SpellsStatement.end_if)
 formed_spelled (Statement.Loop label name a b c) f =

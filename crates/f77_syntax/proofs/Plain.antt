@@ -126,6 +126,7 @@ mutual
       both (operand (left_level op) (own_level a) (text_of a)) (symbol op ++ operand (right_level op) (own_level b) (text_of b))
       (plain_operand (left_level op) (own_level a) (text_of a) (plain_text a first))
       (both (symbol op) (operand (right_level op) (own_level b) (text_of b)) (plain_symbol op) (plain_operand (right_level op) (own_level b) (text_of b) (plain_text b second)))
+  plain_text (Tree.ZeroPush t) f = both (codes "ZPUSH(") (text_of t ++ 41 ∷ []) refl (both (text_of t) (41 ∷ []) (plain_text t f) refl)
 
   plain_list : (items : Trees) → all_formed items ≡ true → IsPlain (list_text items)
   plain_list Trees.None f = refl

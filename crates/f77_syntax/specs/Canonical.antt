@@ -15,6 +15,7 @@ own_level (Tree.Call f items) = 9
 own_level (Tree.Signed sign t) = 6
 own_level (Tree.Not t) = 4
 own_level (Tree.Binary op a b) = level op
+own_level (Tree.ZeroPush t) = 9
 
 -- an operand, in parentheses exactly where its level is below the wanted one
 abbrev pub operand : ℕ → ℕ → List ℕ → List ℕ
@@ -30,6 +31,7 @@ abbrev mutual
   text_of (Tree.Not t) = codes ".NOT." ++ operand 5 (own_level t) (text_of t)
   text_of (Tree.Binary op a b) =
       operand (left_level op) (own_level a) (text_of a) ++ (symbol op ++ operand (right_level op) (own_level b) (text_of b))
+  text_of (Tree.ZeroPush t) = codes "ZPUSH(" ++ (text_of t ++ 41 ∷ [])
 
   -- a list in parentheses, and nothing where there is none
   pub list_text : Trees → List ℕ

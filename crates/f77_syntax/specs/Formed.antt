@@ -22,6 +22,7 @@ abbrev mutual
   formed (Tree.Signed sign t) = formed t
   formed (Tree.Not t) = formed t
   formed (Tree.Binary op a b) = formed a && formed b
+  formed (Tree.ZeroPush t) = formed t
 
   pub all_formed : Trees → Bool
   all_formed Trees.None = true

@@ -1,9 +1,10 @@
 -- Which blank-free texts spell which expressions (ANSI X3.9-1978, sections 5 and 6). Names and constants are of any
 -- length here.
-use Rattle.std.specs.Prelude.{◌≡◌, ℕ, ◌≤◌, List, [], ◌∷◌, ◌++◌, length, Bool, true, false, ◌&&◌, ◌||◌, nat_le, if◌then◌else◌, Option, Some, None, is_some, codes}
+use Rattle.std.specs.Prelude.{◌≡◌, ℕ, ◌≤◌, List, [], ◌∷◌, ◌++◌, length, Bool, true, false, ◌&&◌, ◌||◌, nat_le, if◌then◌else◌, Option, Some, None, option_map, is_some, codes}
 use Rattle.std.specs.List.{list_all, join_with_byte}
 use Rattle.std.specs.Str.Parse.{digits_value}
 use Rattle.f77_syntax.specs.declared.intrinsic.Intrinsic.{Intrinsic}
+use Rattle.f77_syntax.specs.declared.intrinsic.Intrinsic.TheVariants.{Iabs}
 use Rattle.f77_syntax.specs.declared.operator.Operator.{Operator}
 use Rattle.f77_syntax.specs.declared.operator.Sign.{Sign}
 use Rattle.f77_syntax.specs.Intrinsic.{function_name, function_named}
@@ -111,22 +112,38 @@ pub data SpellsStatement : List ℕ → Statement → Type 0 where
       (Statement.Loop (label_number row) name a b (Some c))
   end : SpellsStatement (codes "END") Statement.End
 
--- a label as a text may spell it: any that is out of range is the least one
+-- A label as a text may spell it: any that is out of range is the least one.
 abbrev pub label_in_text : ℕ → ℕ
 label_in_text n = if nat_le n 99999 then n else 100000
 
--- A statement as a text may spell it, sizes aside: what only mutants have is taken as what stands there in a text.
+-- An expression as a text may spell it: IABS stands for what only mutants have.
+abbrev mutual
+  pub tree_in_text : Tree → Tree
+  tree_in_text (Tree.Number n) = Tree.Number n
+  tree_in_text (Tree.Truth b) = Tree.Truth b
+  tree_in_text (Tree.Reference name items) = Tree.Reference name (trees_in_text items)
+  tree_in_text (Tree.Call f items) = Tree.Call f (trees_in_text items)
+  tree_in_text (Tree.Signed sign t) = Tree.Signed sign (tree_in_text t)
+  tree_in_text (Tree.Not t) = Tree.Not (tree_in_text t)
+  tree_in_text (Tree.Binary op a b) = Tree.Binary op (tree_in_text a) (tree_in_text b)
+  tree_in_text (Tree.ZeroPush t) = Tree.Call Iabs (Trees.Then (tree_in_text t) Trees.None)
+
+  pub trees_in_text : Trees → Trees
+  trees_in_text Trees.None = Trees.None
+  trees_in_text (Trees.Then t ts) = Trees.Then (tree_in_text t) (trees_in_text ts)
+
+-- A statement as a text may spell it, sizes aside: CONTINUE stands for what only mutants have.
 abbrev pub in_text : Statement → Statement
 in_text (Statement.Subroutine name names) = Statement.Subroutine name names
-in_text (Statement.Assign name items t) = Statement.Assign name items t
+in_text (Statement.Assign name items t) = Statement.Assign name (trees_in_text items) (tree_in_text t)
 in_text (Statement.Goto label) = Statement.Goto (label_in_text label)
-in_text (Statement.ArithIf t l m n) = Statement.ArithIf t (label_in_text l) (label_in_text m) (label_in_text n)
-in_text (Statement.LogicalIf t s) = Statement.LogicalIf t (in_text s)
-in_text (Statement.BlockIf t) = Statement.BlockIf t
-in_text (Statement.ElseIf t) = Statement.ElseIf t
+in_text (Statement.ArithIf t l m n) = Statement.ArithIf (tree_in_text t) (label_in_text l) (label_in_text m) (label_in_text n)
+in_text (Statement.LogicalIf t s) = Statement.LogicalIf (tree_in_text t) (in_text s)
+in_text (Statement.BlockIf t) = Statement.BlockIf (tree_in_text t)
+in_text (Statement.ElseIf t) = Statement.ElseIf (tree_in_text t)
 in_text Statement.Else = Statement.Else
 in_text Statement.EndIf = Statement.EndIf
-in_text (Statement.Loop label name a b c) = Statement.Loop (label_in_text label) name a b c
+in_text (Statement.Loop label name a b c) = Statement.Loop (label_in_text label) name (tree_in_text a) (tree_in_text b) (option_map tree_in_text c)
 in_text Statement.Continue = Statement.Continue
 in_text Statement.Return = Statement.Return
 in_text Statement.Stop = Statement.Stop

@@ -38,6 +38,7 @@ abbrev mutual
   short_names (Tree.Signed sign t) = short_names t
   short_names (Tree.Not t) = short_names t
   short_names (Tree.Binary op a b) = short_names a && short_names b
+  short_names (Tree.ZeroPush t) = short_names t
 
   pub all_short_names : Trees → Bool
   all_short_names Trees.None = true
@@ -52,6 +53,7 @@ abbrev mutual
   small_constants (Tree.Signed sign t) = small_constants t
   small_constants (Tree.Not t) = small_constants t
   small_constants (Tree.Binary op a b) = small_constants a && small_constants b
+  small_constants (Tree.ZeroPush t) = small_constants t
 
   pub all_small_constants : Trees → Bool
   all_small_constants Trees.None = true
@@ -67,6 +69,7 @@ abbrev mutual
   nodes (Tree.Signed sign t) = 1 + nodes t
   nodes (Tree.Not t) = 1 + nodes t
   nodes (Tree.Binary op a b) = 1 + (nodes a + nodes b)
+  nodes (Tree.ZeroPush t) = 1 + nodes t
 
   pub all_nodes : Trees → ℕ
   all_nodes Trees.None = 0

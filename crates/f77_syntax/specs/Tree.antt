@@ -1,4 +1,4 @@
--- Expressions as trees, apart from where they lie in memory. Parentheses leave no trace.
+-- Expressions and statements as trees, apart from where they lie in memory. Parentheses leave no trace.
 use Rattle.std.specs.Prelude.{ℕ, List, Bool, Option}
 use Rattle.f77_syntax.specs.declared.intrinsic.Intrinsic.{Intrinsic}
 use Rattle.f77_syntax.specs.declared.operator.Operator.{Operator}
@@ -13,6 +13,7 @@ mutual
     Signed : Sign → Tree → Tree
     Not : Tree → Tree
     Binary : Operator → Tree → Tree → Tree
+    ZeroPush : Tree → Tree
 
   -- subscripts or arguments
   pub data Trees : Type 0 where

@@ -26,6 +26,7 @@ expr_step (Expr-F.Call f items) = Tree.Call f (trees items.items)
 expr_step (Expr-F.Signed s t) = Tree.Signed s t.value
 expr_step (Expr-F.Not t) = Tree.Not t.value
 expr_step (Expr-F.Binary op a b) = Tree.Binary op a.value b.value
+expr_step (Expr-F.ZeroPush t) = Tree.ZeroPush t.value
 
 abbrev pub ref_step : Ref-F Tree (List ℕ × List Tree) → List ℕ × List Tree
 ref_step r = (r.name, r.subscripts.items)
@@ -49,6 +50,7 @@ abbrev mutual
   clip (Tree.Signed sign t) = Tree.Signed sign (clip t)
   clip (Tree.Not t) = Tree.Not (clip t)
   clip (Tree.Binary op a b) = Tree.Binary op (clip a) (clip b)
+  clip (Tree.ZeroPush t) = Tree.ZeroPush (clip t)
 
   pub clip_all : Trees → Trees
   clip_all Trees.None = Trees.None

@@ -18,7 +18,11 @@ fn own_level(expr: &Expr) -> u8
     ensures { result ≡ canonical.own_level (tree_of expr.now) }
 {
     match expr {
-        Expr::Number(_) | Expr::Truth(_) | Expr::Reference(_) | Expr::Call(_, _) => 9,
+        Expr::Number(_)
+        | Expr::Truth(_)
+        | Expr::Reference(_)
+        | Expr::Call(_, _)
+        | Expr::ZeroPush(_) => 9,
         Expr::Signed(_, _) => 6,
         Expr::Not(_) => 4,
         Expr::Binary(op, _, _) => op.level(),
@@ -68,6 +72,11 @@ fn form(out: &mut String, expr: &Expr) -> Result<(), AllocError>
             operand(out, op.left_level(), left)?;
             out.push_str(op.symbol())?;
             operand(out, op.right_level(), right)
+        }
+        Expr::ZeroPush(inner) => {
+            out.push_str("ZPUSH(")?;
+            form(out, inner)?;
+            out.push_str(")")
         }
     }
 }

@@ -55,7 +55,7 @@ fn formed(expr: &Expr) -> bool
         Expr::Reference(place) => is_reference(&place.name, &place.subscripts)
             && all_formed(&place.subscripts),
         Expr::Call(_, arguments) => is_some_list(arguments) && all_formed(arguments),
-        Expr::Signed(_, inner) | Expr::Not(inner) => formed(inner),
+        Expr::Signed(_, inner) | Expr::Not(inner) | Expr::ZeroPush(inner) => formed(inner),
         Expr::Binary(_, left, right) => formed(left) && formed(right),
     }
 }

@@ -60,7 +60,7 @@ fn short_names(expr: &Expr) -> bool
         Expr::Number(_) | Expr::Truth(_) => true,
         Expr::Reference(place) => is_short(&place.name) && all_short_names(&place.subscripts),
         Expr::Call(_, arguments) => all_short_names(arguments),
-        Expr::Signed(_, inner) | Expr::Not(inner) => short_names(inner),
+        Expr::Signed(_, inner) | Expr::Not(inner) | Expr::ZeroPush(inner) => short_names(inner),
         Expr::Binary(_, left, right) => short_names(left) && short_names(right),
     }
 }
@@ -87,7 +87,7 @@ fn small_constants(expr: &Expr) -> bool
         Expr::Truth(_) => true,
         Expr::Reference(place) => all_small_constants(&place.subscripts),
         Expr::Call(_, arguments) => all_small_constants(arguments),
-        Expr::Signed(_, inner) | Expr::Not(inner) => small_constants(inner),
+        Expr::Signed(_, inner) | Expr::Not(inner) | Expr::ZeroPush(inner) => small_constants(inner),
         Expr::Binary(_, left, right) => small_constants(left) && small_constants(right),
     }
 }
@@ -113,7 +113,9 @@ fn nodes(expr: &Expr) -> u32
         Expr::Number(_) | Expr::Truth(_) => 1,
         Expr::Reference(place) => all_nodes(&place.subscripts).saturating_add(1),
         Expr::Call(_, arguments) => all_nodes(arguments).saturating_add(1),
-        Expr::Signed(_, inner) | Expr::Not(inner) => nodes(inner).saturating_add(1),
+        Expr::Signed(_, inner) | Expr::Not(inner) | Expr::ZeroPush(inner) => nodes(
+            inner,
+        ).saturating_add(1),
         Expr::Binary(_, left, right) => nodes(left).saturating_add(nodes(right)).saturating_add(1),
     }
 }

@@ -271,12 +271,21 @@ fn makes_names(rt: HostRuntime) -> Result<(), Fail> {
     Ok(())
 }
 
-/// The lines 7 to 9: SUBROUTINE A with so many dummy arguments, K = a value under this label, END.
+/// K = the value.
+fn assign(rt: &impl AllocGlobal, value: Expr) -> Result<Stmt, Fail> {
+    let target = Ref {
+        name: name(rt, "K")?,
+        subscripts: Vec::new(rt.alloc()),
+    };
+    Ok(Stmt::Assign { target, value })
+}
+
+/// The lines 7 to 9: SUBROUTINE A with so many dummy arguments, a statement under this label, END.
 fn lines(
     rt: &impl AllocGlobal,
     arguments: usize,
     label: Option<u32>,
-    value: Expr,
+    second: Stmt,
 ) -> Result<Vec<Line>, Fail> {
     let alloc = rt.alloc();
     let mut dummies = Vec::new(alloc);
@@ -287,10 +296,6 @@ fn lines(
         name: name(rt, "A")?,
         arguments: dummies,
     };
-    let target = Ref {
-        name: name(rt, "K")?,
-        subscripts: Vec::new(alloc),
-    };
     let mut lines = Vec::new(alloc);
     lines.push(Line {
         label: None,
@@ -299,7 +304,7 @@ fn lines(
     })?;
     lines.push(Line {
         label,
-        stmt: Stmt::Assign { target, value },
+        stmt: second,
         line: 8,
     })?;
     lines.push(Line {
@@ -329,17 +334,61 @@ fn makes_programs_of_lines(rt: HostRuntime) -> Result<(), Fail> {
         (0, Some(100000), "BadConstant(8)"),
         (654, Some(0), "TooLong(7)"),
     ] {
-        let made = lines(&rt, arguments, label, Expr::Number(1))?;
+        let made = lines(&rt, arguments, label, assign(&rt, Expr::Number(1))?)?;
         assert_eq!(rt; printed(&rt, made)?.as_str(), want, "{arguments} {label:?}");
     }
+    Ok(())
+}
+
+#[test]
+fn makes_programs_of_trees(rt: HostRuntime) -> Result<(), Fail> {
     let mut arguments = Vec::new(rt.alloc());
     arguments.push(Expr::Number(1))?;
-    let call = Expr::Reference(Ref {
+    let function = Ref {
         name: name(&rt, "MOD")?,
         subscripts: arguments,
-    });
-    assert_eq!(rt; printed(&rt, lines(&rt, 0, None, call)?)?.as_str(), "None");
-    let empty = Expr::Call(Intrinsic::Mod, Vec::new(rt.alloc()));
-    assert_eq!(rt; printed(&rt, lines(&rt, 0, None, empty)?)?.as_str(), "None");
+    };
+    for (value, want) in [
+        (Expr::Reference(function), "None"),
+        (Expr::Call(Intrinsic::Mod, Vec::new(rt.alloc())), "None"),
+        (
+            Expr::ZeroPush(Box::new(rt.alloc(), Expr::Number(1))?),
+            "      SUBROUTINE A\n      K=ZPUSH(1)\n      END\n",
+        ),
+    ] {
+        let made = lines(&rt, 0, None, assign(&rt, value)?)?;
+        assert_eq!(rt; printed(&rt, made)?.as_str(), want);
+    }
+    Ok(())
+}
+
+#[test]
+fn makes_programs_of_mutants(rt: HostRuntime) -> Result<(), Fail> {
+    let alloc = rt.alloc();
+    for (inner, want) in [
+        (
+            Stmt::Trap,
+            "      SUBROUTINE A\n      IF (.TRUE.) TRAP\n      END\n",
+        ),
+        (
+            Stmt::Goto { label: 100000 },
+            "      SUBROUTINE A\n      IF (.TRUE.) GO TO 100000\n      END\n",
+        ),
+        (Stmt::Else, "None"),
+        (
+            Stmt::LogicalIf {
+                condition: Expr::Truth(false),
+                statement: Box::new(alloc, Stmt::Stop)?,
+            },
+            "None",
+        ),
+    ] {
+        let second = Stmt::LogicalIf {
+            condition: Expr::Truth(true),
+            statement: Box::new(alloc, inner)?,
+        };
+        let made = lines(&rt, 0, None, second)?;
+        assert_eq!(rt; printed(&rt, made)?.as_str(), want);
+    }
     Ok(())
 }

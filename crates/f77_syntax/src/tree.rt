@@ -32,6 +32,8 @@ pub enum Expr {
     Not(Box<Expr>),
     /// An operator between its operands.
     Binary(Operator, Box<Expr>, Box<Expr>),
+    /// What a mutant has in place of an INTEGER expression, to be told where it is zero.
+    ZeroPush(Box<Expr>),
 }
 
 /// A name, with the subscripts that follow it.
