@@ -4,11 +4,12 @@ use Rattle.std.specs.Prelude.{min}
 use Rattle.f77_syntax.specs.declared.fault.SyntaxFault.{SyntaxFault}
 use Rattle.f77_syntax.specs.declared.fault.SyntaxFault.TheVariants.{Memory, Unknown, BadName, BadConstant, TooLong}
 use Rattle.f77_syntax.specs.Tree.{Statement}
-use Rattle.f77_syntax.specs.Grammar.{SpellsStatement}
-use Rattle.f77_syntax.specs.View.{clip_statement}
-use Rattle.f77_syntax.specs.Limits.{most_characters, IsTooDeep, statement_names, statement_constants, statement_nodes}
+use Rattle.f77_syntax.specs.StatementGrammar.{SpellsStatement}
+use Rattle.f77_syntax.specs.StatementView.{clip_statement}
+use Rattle.f77_syntax.specs.Limits.{most_characters, IsTooDeep}
+use Rattle.f77_syntax.specs.StatementLimits.{statement_names, statement_constants, statement_nodes}
 use Rattle.f77_syntax.specs.Parsing.{IsAdmitted, IsRefused}
-use Rattle.f77_syntax.proofs.Clip.{statement_names_clip, statement_constants_clip, statement_nodes_clip, statement_kept}
+use Rattle.f77_syntax.proofs.StatementClip.{statement_names_clip, statement_constants_clip, statement_nodes_clip, statement_kept}
 
 -- a text within the limits on texts, and the statement that was kept of it
 pub record Kept (text : List ℕ) (got : Statement) : Type 0 where

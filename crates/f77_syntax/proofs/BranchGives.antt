@@ -1,6 +1,6 @@
 -- What the readers of IF and DO statements give, from what they call.
 use Rattle.std.proofs.Common.{arith, ◌≡◌, ◌≤◌, ◌<◌, ◌+◌, ◌-◌, ◌^◌, ℕ, length, List, [], ◌∷◌, ◌++◌, Bool, true, false, cond, subst, refl, Option, Some, None, ap, sym, ◌∙◌, take, drop, get_or}
-use Rattle.std.specs.Prelude.{◌==◌, ◌&&◌, nat_le, codes, option_map, Box, Result, Ok, Err, ok_or}
+use Rattle.std.specs.Prelude.{◌==◌, ◌&&◌, nat_le, codes, option_map, map, Box, Vec, Result, Ok, Err, ok_or}
 use Rattle.std.specs.declared.alloc.Global.{Global}
 use Rattle.std.specs.Str.{bytes_eq}
 use Rattle.std.specs.List.{list_all}
@@ -18,8 +18,9 @@ use Rattle.f77_syntax.specs.declared.tree.Expr.{Expr}
 use Rattle.f77_syntax.specs.declared.tree.Stmt.{Stmt}
 use Rattle.f77_syntax.specs.declared.tree.Stmt.TheVariants as forms
 use Rattle.f77_syntax.specs.declared.tree.Stmt.TheViews as boxed
-use Rattle.f77_syntax.specs.Tree.{Tree, Statement}
-use Rattle.f77_syntax.specs.Grammar.{is_digit, is_number, is_name, label_number}
+use Rattle.f77_syntax.specs.Tree.{Tree, DeclFields, GroupFields, Statement}
+use Rattle.f77_syntax.specs.Grammar.{is_digit, is_number, is_name}
+use Rattle.f77_syntax.specs.StatementGrammar.{label_number}
 use Rattle.f77_syntax.specs.Reading.{◌>>=◌, strip, word, past_word, after, close_at, reading}
 use Rattle.f77_syntax.specs.Assignment.{ended}
 use Rattle.f77_syntax.specs.Label.{label_at, last_label, labels_at}
@@ -28,11 +29,18 @@ use Rattle.f77_syntax.specs.DoLoop.{past_comma, range_at, step_at, parameters_at
 use Rattle.f77_syntax.specs.Classification.{behind, class_of}
 use Rattle.f77_syntax.specs.Formed.{is_action}
 use Rattle.f77_syntax.specs.declared.classification.Class.TheVariants.{Keyword}
-use Rattle.f77_syntax.specs.Statement.{word_statement, goto_by, simple_at, actions_only, simple_action_at, action_at, begins_digit, branch_at, else_at, keyword_at}
-use Rattle.f77_syntax.specs.View.{tree_of, clip, clipped, statement_of, clip_statement, Fails, Gives, IsStatement}
+use Rattle.f77_syntax.specs.Statement.{word_statement, goto_by, simple_at, actions_only, simple_action_at, action_at, begins_digit, branch_at, else_at, declared_at, dimension_at, preset_at, specification_at}
+use Rattle.f77_syntax.specs.View.{tree_of, clip, clipped, Fails, Gives}
+use Rattle.f77_syntax.specs.StatementView.{statement_of, clip_statement, IsStatement}
 use Rattle.f77_syntax.proofs.Steps.{and_true, along, bind_ok, guarded}
-use Rattle.f77_syntax.proofs.Views.{arithmetic_view, logical_view, block_view, else_if_view, loop_view}
+use Rattle.f77_syntax.proofs.Views.{declare_view, dimension_view, preset_view, arithmetic_view, logical_view, block_view, else_if_view, loop_view}
 use Rattle.f77_syntax.proofs.Gives.{fails_bind, after_is}
+use Rattle.f77_syntax.specs.declared.tree.Kind.{Kind}
+use Rattle.f77_syntax.specs.declared.declaration.Decl.{Decl}
+use Rattle.f77_syntax.specs.declared.data.DataGroup.{DataGroup}
+use Rattle.f77_syntax.specs.Declaration.{decl_of, clip_decl, declarations_at, all_bounded}
+use Rattle.f77_syntax.specs.Data.{data_group_of, clip_group, groups_at}
+use Rattle.f77_syntax.proofs.DeclarationForms.{all_bounded_clip}
 
 -- an optional statement without constants as an answer
 pub given : (o : Option Stmt) (p : Option Statement) → option_map statement_of o ≡ p → ((u : Statement) → p ≡ Some u → clip_statement u ≡ u) → Gives IsStatement (ok_or o Unknown) p
@@ -72,9 +80,39 @@ pub action_keyword : (s : List ℕ) → class_of s ≡ Keyword → action_at s �
 unfolding action_at
 action_keyword s e = rw e refl
 
-pub keyword_simple : (s : List ℕ) → strip (codes "SUBROUTINE") s ≡ None → strip (codes "ELSE") s ≡ None → keyword_at s ≡ simple_at s
-unfolding keyword_at
-keyword_simple s e f = rw (e, f) refl
+pub specification_simple : (s : List ℕ) → strip (codes "INTEGER") s ≡ None → strip (codes "LOGICAL") s ≡ None → strip (codes "DIMENSION") s ≡ None → strip (codes "DATA") s ≡ None
+    → specification_at s ≡ simple_at s
+unfolding specification_at
+specification_simple s e f g h = rw (e, f, g, h) refl
+
+module _ (s : List ℕ) (e : strip (codes "INTEGER") s ≡ None) (f : strip (codes "LOGICAL") s ≡ None) where
+  pub specification_dimension : (r : List ℕ) → strip (codes "DIMENSION") s ≡ Some r → specification_at s ≡ dimension_at r
+  unfolding specification_at
+  specification_dimension r g = rw (e, f, g) refl
+
+  pub specification_preset : (r : List ℕ) → strip (codes "DIMENSION") s ≡ None → strip (codes "DATA") s ≡ Some r → specification_at s ≡ preset_at r
+  unfolding specification_at
+  specification_preset r g h = rw (e, f, g, h) refl
+
+-- declarations and DATA
+pub declared_whole : (kind : Kind) (s : List ℕ) (items : Vec Decl Global) (ds : List DeclFields) → declarations_at s ≡ Some ds → map decl_of items.items ≡ map clip_decl ds
+    → (u : Statement) × (declared_at kind s ≡ Some u) × (statement_of (forms.Declare kind items) ≡ clip_statement u)
+declared_whole kind s items ds e same = (Statement.Declare kind ds, rw e refl, declare_view kind items ∙ ap (Statement.Declare kind) same)
+
+pub dimension_none : (s : List ℕ) (items : Vec Decl Global) (ds : List DeclFields) → declarations_at s ≡ Some ds → map decl_of items.items ≡ map clip_decl ds
+    → all_bounded (map decl_of items.items) ≡ false → dimension_at s ≡ None
+dimension_none s items ds e same none =
+    let bare : all_bounded ds ≡ false = sym (all_bounded_clip ds) ∙ ap all_bounded (sym same) ∙ none in rw (e, bare) refl
+
+pub dimension_whole : (s : List ℕ) (items : Vec Decl Global) (ds : List DeclFields) → declarations_at s ≡ Some ds → map decl_of items.items ≡ map clip_decl ds
+    → all_bounded (map decl_of items.items) ≡ true → (u : Statement) × (dimension_at s ≡ Some u) × (statement_of (forms.Dimension items) ≡ clip_statement u)
+dimension_whole s items ds e same all =
+    let bounded : all_bounded ds ≡ true = sym (all_bounded_clip ds) ∙ ap all_bounded (sym same) ∙ all in
+    (Statement.Dimension ds, rw (e, bounded) refl, dimension_view items ∙ ap Statement.Dimension same)
+
+pub preset_whole : (s : List ℕ) (groups : Vec DataGroup Global) (gs : List GroupFields) → groups_at s ≡ Some gs → map data_group_of groups.items ≡ map clip_group gs
+    → (u : Statement) × (preset_at s ≡ Some u) × (statement_of (forms.Preset groups) ≡ clip_statement u)
+preset_whole s groups gs e same = (Statement.Preset gs, rw e refl, preset_view groups ∙ ap Statement.Preset same)
 
 -- what follows a character that is found
 pub behind_here : (b : ℕ) (text : List ℕ) (i d : ℕ) → behind b 0 text ≡ behind b d (drop i text) → i < length text

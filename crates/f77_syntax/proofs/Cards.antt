@@ -8,11 +8,11 @@ use Rattle.f77_syntax.specs.declared.fault.SyntaxFault.TheVariants.{Memory}
 use Rattle.f77_syntax.specs.declared.group.Group.{Group}
 use Rattle.f77_syntax.specs.declared.group.Group.TheVariants.{End}
 use Rattle.f77_syntax.specs.declared.program.Line.{Line}
-use Rattle.f77_syntax.specs.View.{statement_of}
+use Rattle.f77_syntax.specs.StatementView.{statement_of}
 use Rattle.f77_syntax.specs.Tree.{Statement}
 use Rattle.f77_syntax.specs.Group.{group_of, may_stand}
 use Rattle.f77_syntax.specs.Parsing.{IsAdmitted, LineFields, line_of, line_with, AreLines, IsFirstFault, IsProgram, unfinished}
-use Rattle.f77_syntax.proofs.Forming.{spelled_is_formed}
+use Rattle.f77_syntax.proofs.StatementForming.{spelled_is_formed}
 use Rattle.f77_syntax.proofs.Exact.{either_lines_or_fault, one_fault, one_program}
 
 -- the line of one more card

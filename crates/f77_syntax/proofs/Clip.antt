@@ -3,12 +3,14 @@ use Rattle.std.proofs.Common.{arith, ◌≡◌, ℕ, Bool, true, false, refl, ap
 use Rattle.std.specs.Prelude.{nat_le, ◌&&◌, Option, Some, None, option_map}
 use Rattle.std.proofs.lemmas.Bool.Decides.{nat_tests}
 use Rattle.f77_syntax.specs.Tree.{Tree, Trees, Statement}
-use Rattle.f77_syntax.specs.View.{clipped, clip, clip_all, clip_statement}
-use Rattle.f77_syntax.specs.Limits.{is_label, of_step, step_nodes, short_names, all_short_names, small_constants, all_small_constants, nodes, all_nodes, statement_names, statement_constants, statement_nodes}
+use Rattle.f77_syntax.specs.View.{clipped, clip, clip_all}
+use Rattle.f77_syntax.specs.StatementView.{clip_statement}
+use Rattle.f77_syntax.specs.StatementLimits.{is_label, of_step, step_nodes, statement_names, statement_constants, statement_nodes}
+use Rattle.f77_syntax.specs.Limits.{short_names, all_short_names, small_constants, all_small_constants, nodes, all_nodes}
 use Rattle.f77_syntax.proofs.Steps.{and_true}
 
 mutual
-  names_clip : (t : Tree) → short_names (clip t) ≡ short_names t
+  pub names_clip : (t : Tree) → short_names (clip t) ≡ short_names t
   names_clip (Tree.Number n) = refl
   names_clip (Tree.Truth b) = refl
   names_clip (Tree.Reference name items) = rw (all_names_clip items) refl
@@ -18,11 +20,11 @@ mutual
   names_clip (Tree.Binary op a b) = rw (names_clip a) (rw (names_clip b) refl)
   names_clip (Tree.ZeroPush t) = names_clip t
 
-  all_names_clip : (ts : Trees) → all_short_names (clip_all ts) ≡ all_short_names ts
+  pub all_names_clip : (ts : Trees) → all_short_names (clip_all ts) ≡ all_short_names ts
   all_names_clip Trees.None = refl
   all_names_clip (Trees.Then t ts) = rw (names_clip t) (rw (all_names_clip ts) refl)
 
-constant_clip : (n : ℕ) → nat_le (clipped n) 2147483647 ≡ nat_le n 2147483647
+pub constant_clip : (n : ℕ) → nat_le (clipped n) 2147483647 ≡ nat_le n 2147483647
 constant_clip n = either (nat_le n 2147483647) refl
   where
     either : (b : Bool) → nat_le n 2147483647 ≡ b → nat_le (clipped n) 2147483647 ≡ b
@@ -30,7 +32,7 @@ constant_clip n = either (nat_le n 2147483647) refl
     either false e = grind (arith, nat_tests)
 
 mutual
-  constants_clip : (t : Tree) → small_constants (clip t) ≡ small_constants t
+  pub constants_clip : (t : Tree) → small_constants (clip t) ≡ small_constants t
   constants_clip (Tree.Number n) = constant_clip n
   constants_clip (Tree.Truth b) = refl
   constants_clip (Tree.Reference name items) = all_constants_clip items
@@ -40,12 +42,12 @@ mutual
   constants_clip (Tree.Binary op a b) = rw (constants_clip a) (rw (constants_clip b) refl)
   constants_clip (Tree.ZeroPush t) = constants_clip t
 
-  all_constants_clip : (ts : Trees) → all_small_constants (clip_all ts) ≡ all_small_constants ts
+  pub all_constants_clip : (ts : Trees) → all_small_constants (clip_all ts) ≡ all_small_constants ts
   all_constants_clip Trees.None = refl
   all_constants_clip (Trees.Then t ts) = rw (constants_clip t) (rw (all_constants_clip ts) refl)
 
 mutual
-  nodes_clip : (t : Tree) → nodes (clip t) ≡ nodes t
+  pub nodes_clip : (t : Tree) → nodes (clip t) ≡ nodes t
   nodes_clip (Tree.Number n) = refl
   nodes_clip (Tree.Truth b) = refl
   nodes_clip (Tree.Reference name items) = rw (all_nodes_clip items) refl
@@ -55,15 +57,15 @@ mutual
   nodes_clip (Tree.Binary op a b) = rw (nodes_clip a) (rw (nodes_clip b) refl)
   nodes_clip (Tree.ZeroPush t) = rw (nodes_clip t) refl
 
-  all_nodes_clip : (ts : Trees) → all_nodes (clip_all ts) ≡ all_nodes ts
+  pub all_nodes_clip : (ts : Trees) → all_nodes (clip_all ts) ≡ all_nodes ts
   all_nodes_clip Trees.None = refl
   all_nodes_clip (Trees.Then t ts) = rw (nodes_clip t) (rw (all_nodes_clip ts) refl)
 
-small_clipped : (n : ℕ) → nat_le n 2147483647 ≡ true → clipped n ≡ n
+pub small_clipped : (n : ℕ) → nat_le n 2147483647 ≡ true → clipped n ≡ n
 small_clipped n e = grind (arith, nat_tests)
 
 mutual
-  kept : (t : Tree) → small_constants t ≡ true → clip t ≡ t
+  pub kept : (t : Tree) → small_constants t ≡ true → clip t ≡ t
   kept (Tree.Number n) h = ap Tree.Number (small_clipped n h)
   kept (Tree.Truth b) h = refl
   kept (Tree.Reference name items) h = rw (all_kept items h) refl
@@ -73,97 +75,6 @@ mutual
   kept (Tree.Binary op a b) h = let (l, r) = and_true (small_constants a) (small_constants b) h in rw (kept a l) (rw (kept b r) refl)
   kept (Tree.ZeroPush t) h = rw (kept t h) refl
 
-  all_kept : (ts : Trees) → all_small_constants ts ≡ true → clip_all ts ≡ ts
+  pub all_kept : (ts : Trees) → all_small_constants ts ≡ true → clip_all ts ≡ ts
   all_kept Trees.None h = refl
   all_kept (Trees.Then t ts) h = let (l, r) = and_true (small_constants t) (all_small_constants ts) h in rw (kept t l) (rw (all_kept ts r) refl)
-
-step_names_clip : (c : Option Tree) → of_step short_names (option_map clip c) ≡ of_step short_names c
-step_names_clip None = refl
-step_names_clip (Some t) = names_clip t
-
-step_constants_clip : (c : Option Tree) → of_step small_constants (option_map clip c) ≡ of_step small_constants c
-step_constants_clip None = refl
-step_constants_clip (Some t) = constants_clip t
-
-step_nodes_clip : (c : Option Tree) → step_nodes (option_map clip c) ≡ step_nodes c
-step_nodes_clip None = refl
-step_nodes_clip (Some t) = nodes_clip t
-
-step_kept : (c : Option Tree) → of_step small_constants c ≡ true → option_map clip c ≡ c
-step_kept None h = refl
-step_kept (Some t) h = ap Some (kept t h)
-
-pub statement_names_clip : (s : Statement) → statement_names (clip_statement s) ≡ statement_names s
-statement_names_clip (Statement.Subroutine name names) = refl
-statement_names_clip (Statement.Assign name items t) = rw (all_names_clip items, names_clip t) refl
-statement_names_clip (Statement.Goto label) = refl
-statement_names_clip (Statement.ArithIf t l m n) = names_clip t
-statement_names_clip (Statement.LogicalIf t s) = rw (names_clip t, statement_names_clip s) refl
-statement_names_clip (Statement.BlockIf t) = names_clip t
-statement_names_clip (Statement.ElseIf t) = names_clip t
-statement_names_clip Statement.Else = refl
-statement_names_clip Statement.EndIf = refl
-statement_names_clip (Statement.Loop label name a b c) = rw (names_clip a, names_clip b, step_names_clip c) refl
-statement_names_clip Statement.Continue = refl
-statement_names_clip Statement.Return = refl
-statement_names_clip Statement.Stop = refl
-statement_names_clip Statement.Trap = refl
-statement_names_clip Statement.End = refl
-
-pub statement_constants_clip : (s : Statement) → statement_constants (clip_statement s) ≡ statement_constants s
-statement_constants_clip (Statement.Subroutine name names) = refl
-statement_constants_clip (Statement.Assign name items t) = rw (all_constants_clip items, constants_clip t) refl
-statement_constants_clip (Statement.Goto label) = refl
-statement_constants_clip (Statement.ArithIf t l m n) = rw (constants_clip t) refl
-statement_constants_clip (Statement.LogicalIf t s) = rw (constants_clip t, statement_constants_clip s) refl
-statement_constants_clip (Statement.BlockIf t) = constants_clip t
-statement_constants_clip (Statement.ElseIf t) = constants_clip t
-statement_constants_clip Statement.Else = refl
-statement_constants_clip Statement.EndIf = refl
-statement_constants_clip (Statement.Loop label name a b c) = rw (constants_clip a, constants_clip b, step_constants_clip c) refl
-statement_constants_clip Statement.Continue = refl
-statement_constants_clip Statement.Return = refl
-statement_constants_clip Statement.Stop = refl
-statement_constants_clip Statement.Trap = refl
-statement_constants_clip Statement.End = refl
-
-pub statement_nodes_clip : (s : Statement) → statement_nodes (clip_statement s) ≡ statement_nodes s
-statement_nodes_clip (Statement.Subroutine name names) = refl
-statement_nodes_clip (Statement.Assign name items t) = rw (all_nodes_clip items, nodes_clip t) refl
-statement_nodes_clip (Statement.Goto label) = refl
-statement_nodes_clip (Statement.ArithIf t l m n) = rw (nodes_clip t) refl
-statement_nodes_clip (Statement.LogicalIf t s) = rw (nodes_clip t, statement_nodes_clip s) refl
-statement_nodes_clip (Statement.BlockIf t) = rw (nodes_clip t) refl
-statement_nodes_clip (Statement.ElseIf t) = rw (nodes_clip t) refl
-statement_nodes_clip Statement.Else = refl
-statement_nodes_clip Statement.EndIf = refl
-statement_nodes_clip (Statement.Loop label name a b c) = rw (nodes_clip a, nodes_clip b, step_nodes_clip c) refl
-statement_nodes_clip Statement.Continue = refl
-statement_nodes_clip Statement.Return = refl
-statement_nodes_clip Statement.Stop = refl
-statement_nodes_clip Statement.Trap = refl
-statement_nodes_clip Statement.End = refl
-
-pub statement_kept : (s : Statement) → statement_constants s ≡ true → clip_statement s ≡ s
-statement_kept (Statement.Subroutine name names) h = refl
-statement_kept (Statement.Assign name items t) h =
-    let (l, r) = and_true (all_small_constants items) (small_constants t) h in rw (all_kept items l, kept t r) refl
-statement_kept (Statement.Goto label) h = refl
-statement_kept (Statement.ArithIf t l m n) h =
-    let (first, labels) = and_true (small_constants t) (is_label l && (is_label m && is_label n)) h in rw (kept t first) refl
-statement_kept (Statement.LogicalIf t s) h =
-    let (first, rest) = and_true (small_constants t) (statement_constants s) h in rw (kept t first, statement_kept s rest) refl
-statement_kept (Statement.BlockIf t) h = rw (kept t h) refl
-statement_kept (Statement.ElseIf t) h = rw (kept t h) refl
-statement_kept Statement.Else h = refl
-statement_kept Statement.EndIf h = refl
-statement_kept (Statement.Loop label name a b c) h =
-    let (one, rest) = and_true (is_label label) (small_constants a && (small_constants b && of_step small_constants c)) h in
-    let (first, others) = and_true (small_constants a) (small_constants b && of_step small_constants c) rest in
-    let (second, third) = and_true (small_constants b) (of_step small_constants c) others in
-    rw (kept a first, kept b second, step_kept c third) refl
-statement_kept Statement.Continue h = refl
-statement_kept Statement.Return h = refl
-statement_kept Statement.Stop h = refl
-statement_kept Statement.Trap h = refl
-statement_kept Statement.End h = refl

@@ -3,10 +3,10 @@ use Rattle.std.proofs.Common.{arith, ◌≡◌, ◌≢◌, ◌⊎◌, inl, inr, 
 use Rattle.f77_source.specs.Card.{CardFields}
 use Rattle.f77_syntax.specs.declared.fault.SyntaxFault.{SyntaxFault}
 use Rattle.f77_syntax.specs.declared.group.Group.{Group}
-use Rattle.f77_syntax.specs.declared.group.Group.TheVariants.{End}
+use Rattle.f77_syntax.specs.declared.group.Group.TheVariants.{Subroutine, Declaration, Data, Executable, End}
 use Rattle.f77_syntax.specs.Tree.{Statement}
 use Rattle.f77_syntax.specs.Group.{group_of, may_stand}
-use Rattle.f77_syntax.specs.Limits.{statement_names, statement_constants, statement_nodes}
+use Rattle.f77_syntax.specs.StatementLimits.{statement_names, statement_constants, statement_nodes}
 use Rattle.f77_syntax.specs.declared.fault.SyntaxFault.TheVariants.{Memory, AfterEnd}
 use Rattle.f77_syntax.specs.Parsing.{IsAdmitted, IsRefused, LineFields, line_with, AreLines, IsFirstFault, misplaced}
 use Rattle.f77_syntax.proofs.StatementComplete.{one_statement}
@@ -28,14 +28,22 @@ not_refused p (IsRefused.nodes h flat spells good well many) =
     let k = p.nodes in
     let e = ap statement_nodes (one_statement spells p.spells) in absurd (omega arith)
 
+-- nothing stands behind END
+pub none_behind_end : (g : Group) → may_stand (Some End) g ≡ false
+none_behind_end Subroutine = refl
+none_behind_end Declaration = refl
+none_behind_end Data = refl
+none_behind_end Executable = refl
+none_behind_end End = refl
+
 stands_not_behind_end : {A : Type 0} (before : Option Group) (g : Group) → may_stand before g ≡ true → before ≡ Some End → A
-stands_not_behind_end before g h e = never (may_stand before g) h (ap (λ z. may_stand z g) e)
+stands_not_behind_end before g h e = never (may_stand before g) h (ap (λ z. may_stand z g) e ∙ none_behind_end g)
 
 -- no cards are both
 pub either_lines_or_fault : {before : Option Group} {cards : List CardFields} {lines : List LineFields} {fault : SyntaxFault} {A : Type 0}
     → AreLines before cards lines → IsFirstFault before cards fault → A
 either_lines_or_fault AreLines.finished (IsFirstFault.unended h) = absurd (h refl)
-either_lines_or_fault {before = before} (AreLines.next s p h rest) IsFirstFault.behind_end = never (may_stand (Some End) (group_of s)) h refl
+either_lines_or_fault {before = before} (AreLines.next s p h rest) IsFirstFault.behind_end = never (may_stand (Some End) (group_of s)) h (none_behind_end (group_of s))
 either_lines_or_fault (AreLines.next s p h rest) (IsFirstFault.refused e r) = not_refused p r
 either_lines_or_fault {before = before} (AreLines.next s p h rest) (IsFirstFault.out_of_place e q out) =
     never _ h (ap (λ z. may_stand before (group_of z)) (same_admitted p q) ∙ out)
@@ -82,7 +90,7 @@ same_refused (IsRefused.nodes x xflat xspells xname xconstant xnodes) (IsRefused
 
 first_is_later : {before : Option Group} {card : CardFields} {cards : List CardFields} {f : SyntaxFault} {s : Statement}
     → IsAdmitted card.text s → may_stand before (group_of s) ≡ true → IsFirstFault before (card ∷ cards) f → IsFirstFault (Some (group_of s)) cards f
-first_is_later {s = s} p h IsFirstFault.behind_end = never (may_stand (Some End) (group_of s)) h refl
+first_is_later {s = s} p h IsFirstFault.behind_end = never (may_stand (Some End) (group_of s)) h (none_behind_end (group_of s))
 first_is_later p h (IsFirstFault.refused e r) = not_refused p r
 first_is_later {before = before} p h (IsFirstFault.out_of_place e q out) = never _ h (ap (λ z. may_stand before (group_of z)) (same_admitted p q) ∙ out)
 first_is_later {cards = cards} {f = f} p h (IsFirstFault.later q may fault) = subst (λ z. IsFirstFault (Some (group_of z)) cards f) (same_admitted q p) fault
@@ -92,7 +100,7 @@ one_fault (IsFirstFault.unended h) (IsFirstFault.unended k) = refl
 one_fault IsFirstFault.behind_end IsFirstFault.behind_end = refl
 one_fault IsFirstFault.behind_end (IsFirstFault.refused k r) = absurd (k refl)
 one_fault IsFirstFault.behind_end (IsFirstFault.out_of_place k q out) = absurd (k refl)
-one_fault IsFirstFault.behind_end (IsFirstFault.later {s = s} q may fault) = never (may_stand (Some End) (group_of s)) may refl
+one_fault IsFirstFault.behind_end (IsFirstFault.later {s = s} q may fault) = never (may_stand (Some End) (group_of s)) may (none_behind_end (group_of s))
 one_fault (IsFirstFault.refused h r) IsFirstFault.behind_end = absurd (h refl)
 one_fault (IsFirstFault.refused h r) (IsFirstFault.refused k q) = same_refused r q
 one_fault (IsFirstFault.refused h r) (IsFirstFault.out_of_place k q out) = not_refused q r

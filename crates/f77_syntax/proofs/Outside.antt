@@ -16,7 +16,8 @@ use Rattle.f77_syntax.specs.declared.intrinsic.Intrinsic.TheVariants.{Mod, Iabs,
 use Rattle.f77_syntax.specs.Operator.{symbol, sign_symbol}
 use Rattle.f77_syntax.specs.Intrinsic.{function_name}
 use Rattle.f77_syntax.specs.Tree.{Tree, Trees, Statement}
-use Rattle.f77_syntax.specs.Grammar.{Spells, SpellsReference, SpellsAll, is_word, is_digit, is_name, is_number, truth_text, optional_comma}
+use Rattle.f77_syntax.specs.Grammar.{Spells, SpellsReference, SpellsAll, is_word, is_digit, is_name, is_number, truth_text}
+use Rattle.f77_syntax.specs.StatementGrammar.{optional_comma}
 use Rattle.f77_syntax.specs.Reading.{◌>>=◌, strip, word, past_word}
 use Rattle.f77_syntax.specs.Classification.{deeper, behind, begins_with, no_equals, begins_if, class_behind, class_of}
 use Rattle.f77_syntax.specs.declared.classification.Class.TheVariants.{If, Loop, Assignment, Keyword}

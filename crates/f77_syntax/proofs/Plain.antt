@@ -20,13 +20,13 @@ use Rattle.f77_syntax.specs.declared.intrinsic.Intrinsic.TheVariants.{Mod, Iabs,
 use Rattle.f77_syntax.specs.Operator.{symbol, sign_symbol, left_level, right_level}
 use Rattle.f77_syntax.specs.Intrinsic.{function_name}
 use Rattle.f77_syntax.specs.Tree.{Tree, Trees, Statement}
-use Rattle.f77_syntax.specs.Grammar.{SpellsStatement, IsFormed, IsUnmutated, is_letter, is_word, is_name, truth_text}
+use Rattle.f77_syntax.specs.StatementGrammar.{SpellsStatement, IsFormed, IsUnmutated}
+use Rattle.f77_syntax.specs.Grammar.{is_letter, is_word, is_name, truth_text}
 use Rattle.f77_syntax.specs.Canonical.{own_level, operand, text_of, list_text, rest_text, names_text, step_text, statement_text}
 use Rattle.f77_syntax.specs.Formed.{formed, all_formed, step_formed, is_action, statement_formed}
 use Rattle.f77_syntax.proofs.Steps.{and_true, not_true}
-use Rattle.f77_syntax.proofs.Forming.{is_formed}
-use Rattle.f77_syntax.specs.Limits.{statement_constants}
-use Rattle.f77_syntax.proofs.Back.{bare_text, back_statement, reference_formed, no_call, call_formed}
+use Rattle.f77_syntax.specs.StatementLimits.{statement_constants}
+use Rattle.f77_syntax.proofs.Back.{reference_formed, no_call, call_formed}
 
 -- no blank and no lower-case letter, but printable
 abbrev pub is_plain : ℕ → Bool
@@ -38,15 +38,15 @@ IsPlain text = list_all is_plain text ≡ true
 pub both : (x y : List ℕ) → IsPlain x → IsPlain y → IsPlain (x ++ y)
 both x y h k = list_all-append is_plain x y ∙ rw (h, k) refl
 
-plain_word : (c : ℕ) → is_word c ≡ true → is_plain c ≡ true
+pub plain_word : (c : ℕ) → is_word c ≡ true → is_plain c ≡ true
 plain_word c h = grind (arith, nat_tests)
 
-plain_words : (text : List ℕ) → list_all is_word text ≡ true → IsPlain text
+pub plain_words : (text : List ℕ) → list_all is_word text ≡ true → IsPlain text
 plain_words [] h = refl
 plain_words (c ∷ text) h =
     let (first, others) = and_true (is_word c) (list_all is_word text) h in rw (plain_word c first, plain_words text others) refl
 
-plain_letter : (c : ℕ) → is_letter c ≡ true → is_plain c ≡ true
+pub plain_letter : (c : ℕ) → is_letter c ≡ true → is_plain c ≡ true
 plain_letter c h = grind (arith, nat_tests)
 
 pub plain_name : (name : List ℕ) → is_name name ≡ true → IsPlain name
@@ -55,10 +55,10 @@ plain_name (c ∷ text) h =
     let (first, others) = and_true (is_letter c) (list_all is_word text) h in rw (plain_letter c first, plain_words text others) refl
 
 -- the text of any number is digits
-plain_glyph : (n : ℕ) → is_plain (digit_glyph false (n % 10)) ≡ true
+pub plain_glyph : (n : ℕ) → is_plain (digit_glyph false (n % 10)) ≡ true
 plain_glyph n = let h : n % 10 < 10 = omega arith in grind (arith, nat_tests)
 
-plain_digits : (k n : ℕ) (acc : List ℕ) → IsPlain acc → IsPlain (digits_onto k 10 false n acc)
+pub plain_digits : (k n : ℕ) (acc : List ℕ) → IsPlain acc → IsPlain (digits_onto k 10 false n acc)
 plain_digits zero n acc h = h
 plain_digits (suc k) n acc h = step (n / 10 == 0) (rw (plain_glyph n, h) refl) (plain_digits k (n / 10) (digit_glyph false (n % 10) ∷ acc) (rw (plain_glyph n, h) refl))
   where
@@ -67,15 +67,15 @@ plain_digits (suc k) n acc h = step (n / 10 == 0) (rw (plain_glyph n, h) refl) (
     step true p q = p
     step false p q = q
 
-plain_decimal : (n : ℕ) → IsPlain (decimal n)
+pub plain_decimal : (n : ℕ) → IsPlain (decimal n)
 unfolding digits
 plain_decimal n = plain_digits 64 n [] refl
 
-plain_truth : (b : Bool) → IsPlain (truth_text b)
+pub plain_truth : (b : Bool) → IsPlain (truth_text b)
 plain_truth true = refl
 plain_truth false = refl
 
-plain_symbol : (op : Operator) → IsPlain (symbol op)
+pub plain_symbol : (op : Operator) → IsPlain (symbol op)
 plain_symbol Equivalent = refl
 plain_symbol NotEquivalent = refl
 plain_symbol Or = refl
@@ -92,17 +92,17 @@ plain_symbol Multiply = refl
 plain_symbol Divide = refl
 plain_symbol Power = refl
 
-plain_sign : (sign : Sign) → is_plain (sign_symbol sign) ≡ true
+pub plain_sign : (sign : Sign) → is_plain (sign_symbol sign) ≡ true
 plain_sign Plus = refl
 plain_sign Minus = refl
 
-plain_function : (f : Intrinsic) → IsPlain (function_name f)
+pub plain_function : (f : Intrinsic) → IsPlain (function_name f)
 plain_function Mod = refl
 plain_function Iabs = refl
 plain_function Min0 = refl
 plain_function Max0 = refl
 
-plain_operand : (w own : ℕ) (text : List ℕ) → IsPlain text → IsPlain (operand w own text)
+pub plain_operand : (w own : ℕ) (text : List ℕ) → IsPlain text → IsPlain (operand w own text)
 plain_operand w own text h = step (nat_lt own w)
   where
     step : (b : Bool) → IsPlain (cond b (40 ∷ (text ++ 41 ∷ [])) text)
@@ -128,47 +128,24 @@ mutual
       (both (symbol op) (operand (right_level op) (own_level b) (text_of b)) (plain_symbol op) (plain_operand (right_level op) (own_level b) (text_of b) (plain_text b second)))
   plain_text (Tree.ZeroPush t) f = both (codes "ZPUSH(") (text_of t ++ 41 ∷ []) refl (both (text_of t) (41 ∷ []) (plain_text t f) refl)
 
-  plain_list : (items : Trees) → all_formed items ≡ true → IsPlain (list_text items)
+  pub plain_list : (items : Trees) → all_formed items ≡ true → IsPlain (list_text items)
   plain_list Trees.None f = refl
   plain_list (Trees.Then t ts) f =
       let (first, others) = and_true (formed t) (all_formed ts) f in
       both (text_of t ++ rest_text 44 ts) (41 ∷ []) (both (text_of t) (rest_text 44 ts) (plain_text t first) (plain_rest ts others)) refl
 
-  plain_rest : (ts : Trees) → all_formed ts ≡ true → IsPlain (rest_text 44 ts)
+  pub plain_rest : (ts : Trees) → all_formed ts ≡ true → IsPlain (rest_text 44 ts)
   plain_rest Trees.None f = refl
   plain_rest (Trees.Then t ts) f =
       let (first, others) = and_true (formed t) (all_formed ts) f in
       both (text_of t) (rest_text 44 ts) (plain_text t first) (plain_rest ts others)
-
-plain_names : (c : ℕ) (names : List (List ℕ)) → is_plain c ≡ true → list_all is_name names ≡ true → IsPlain (names_text c names)
-plain_names c [] h f = refl
-plain_names c (n ∷ names) h f =
-    let (first, others) = and_true (is_name n) (list_all is_name names) f in
-    rw h (both n (names_text 44 names) (plain_name n first) (plain_names 44 names refl others))
-
--- behind the keyword SUBROUTINE
-abbrev pub behind : List ℕ → List (List ℕ) → List ℕ
-behind name [] = name
-behind name (n ∷ names) = name ++ (names_text 40 (n ∷ names) ++ 41 ∷ [])
-
-pub plain_behind : (name : List ℕ) (names : List (List ℕ)) → is_name name ≡ true → list_all is_name names ≡ true → IsPlain (behind name names)
-plain_behind name [] h f = plain_name name h
-plain_behind name (n ∷ names) h f =
-    both name (names_text 40 (n ∷ names) ++ 41 ∷ []) (plain_name name h) (both (names_text 40 (n ∷ names)) (41 ∷ []) (plain_names 40 (n ∷ names) refl f) refl)
-
-pub plain_assign : (name : List ℕ) (items : Trees) (t : Tree) → statement_formed (Statement.Assign name items t) ≡ true
-    → IsPlain (statement_text (Statement.Assign name items t))
-plain_assign name items t f =
-    let (is, rest) = and_true (is_name name) (all_formed items && formed t) f in
-    let (all, value) = and_true (all_formed items) (formed t) rest in
-    both (name ++ list_text items) (61 ∷ text_of t) (both name (list_text items) (plain_name name is) (plain_list items all)) (plain_text t value)
 
 -- a plain text is read as it is
 module _ (c : ℕ) (h : is_plain c ≡ true) where
   pub not_blank : not (is_blank c) ≡ true
   not_blank = grind (arith, nat_tests)
 
-  stays : to_ascii_uppercase c ≡ c
+  pub stays : to_ascii_uppercase c ≡ c
   stays = grind (arith, nat_tests)
 
   pub prints : is_printable c ≡ true
@@ -186,120 +163,18 @@ printable_plain (c ∷ text) h =
     let (first, others) = and_true (is_plain c) (list_all is_plain text) h in rw (prints c first, printable_plain text others) refl
 
 -- the parts of a text are read one by one
-squeezed-append : (x y : List ℕ) → squeezed (x ++ y) ≡ squeezed x ++ squeezed y
+pub squeezed-append : (x y : List ℕ) → squeezed (x ++ y) ≡ squeezed x ++ squeezed y
 squeezed-append x y =
     ap (map to_ascii_uppercase) (filter-append (λ c. not (is_blank c)) x y)
     ∙ map-append to_ascii_uppercase (filter (λ c. not (is_blank c)) x) (filter (λ c. not (is_blank c)) y)
 
-behind_plain : (x y z : List ℕ) → IsPlain x → squeezed y ≡ z → squeezed (x ++ y) ≡ x ++ z
+pub behind_plain : (x y z : List ℕ) → IsPlain x → squeezed y ≡ z → squeezed (x ++ y) ≡ x ++ z
 behind_plain x y z h e = squeezed-append x y ∙ rw (squeezed_plain x h, e) refl
 
 pub printable_both : (x y : List ℕ) → list_all is_printable x ≡ true → list_all is_printable y ≡ true → list_all is_printable (x ++ y) ≡ true
 printable_both x y h k = list_all-append is_printable x y ∙ rw (h, k) refl
 
-plain_labels : (l m n : ℕ) → IsPlain (decimal l ++ (44 ∷ (decimal m ++ (44 ∷ decimal n))))
-plain_labels l m n =
-    both (decimal l) (44 ∷ (decimal m ++ (44 ∷ decimal n))) (plain_decimal l) (both (decimal m) (44 ∷ decimal n) (plain_decimal m) (plain_decimal n))
-
-plain_step : (c : Option Tree) → step_formed c ≡ true → IsPlain (step_text c)
-plain_step None f = refl
-plain_step (Some t) f = plain_text t f
-
--- the DO variable and the parameters
-plain_range : (name : List ℕ) (a b : Tree) (c : Option Tree) → (is_name name && (formed a && (formed b && step_formed c))) ≡ true
-    → IsPlain (name ++ (61 ∷ (text_of a ++ (44 ∷ (text_of b ++ step_text c)))))
-plain_range name a b c f =
-    let (is, rest) = and_true (is_name name) (formed a && (formed b && step_formed c)) f in
-    let (first, others) = and_true (formed a) (formed b && step_formed c) rest in
-    let (second, third) = and_true (formed b) (step_formed c) others in
-    both name (61 ∷ (text_of a ++ (44 ∷ (text_of b ++ step_text c)))) (plain_name name is)
-    (both (text_of a) (44 ∷ (text_of b ++ step_text c)) (plain_text a first) (both (text_of b) (step_text c) (plain_text b second) (plain_step c third)))
-
--- a statement's text without its blanks
-pub squeezed_statement : (s : Statement) → statement_formed s ≡ true → squeezed (statement_text s) ≡ bare_text s
-squeezed_statement (Statement.Subroutine name []) f =
-    ap (λ z. codes "SUBROUTINE" ++ z) (squeezed_plain name (plain_name name (and_true (is_name name) true f).0))
-squeezed_statement (Statement.Subroutine name (n ∷ names)) f =
-    let (is, all) = and_true (is_name name) (list_all is_name (n ∷ names)) f in
-    ap (λ z. codes "SUBROUTINE" ++ z) (squeezed_plain (behind name (n ∷ names)) (plain_behind name (n ∷ names) is all))
-squeezed_statement (Statement.Assign name items t) f = squeezed_plain (statement_text (Statement.Assign name items t)) (plain_assign name items t f)
-squeezed_statement (Statement.Goto label) f = ap (λ z. codes "GOTO" ++ z) (squeezed_plain (decimal label) (plain_decimal label))
-squeezed_statement (Statement.ArithIf t l m n) f =
-    ap (λ z. codes "IF(" ++ z) (behind_plain (text_of t) (codes ") " ++ (decimal l ++ (44 ∷ (decimal m ++ (44 ∷ decimal n))))) _ (plain_text t f)
-    (ap (λ z. 41 ∷ z) (squeezed_plain (decimal l ++ (44 ∷ (decimal m ++ (44 ∷ decimal n)))) (plain_labels l m n))))
-squeezed_statement (Statement.LogicalIf t s) f =
-    let (test, rest) = and_true (formed t) (is_action s && statement_formed s) f in
-    let (is, inner) = and_true (is_action s) (statement_formed s) rest in
-    ap (λ z. codes "IF(" ++ z) (behind_plain (text_of t) (codes ") " ++ statement_text s) _ (plain_text t test) (ap (λ z. 41 ∷ z) (squeezed_statement s inner)))
-squeezed_statement (Statement.BlockIf t) f = ap (λ z. codes "IF(" ++ z) (behind_plain (text_of t) (codes ") THEN") (codes ")THEN") (plain_text t f) refl)
-squeezed_statement (Statement.ElseIf t) f = ap (λ z. codes "ELSEIF(" ++ z) (behind_plain (text_of t) (codes ") THEN") (codes ")THEN") (plain_text t f) refl)
-squeezed_statement Statement.Else f = refl
-squeezed_statement Statement.EndIf f = refl
-squeezed_statement (Statement.Loop label name a b c) f =
-    ap (λ z. codes "DO" ++ z) (behind_plain (decimal label) (32 ∷ (name ++ (61 ∷ (text_of a ++ (44 ∷ (text_of b ++ step_text c)))))) _ (plain_decimal label)
-    (squeezed_plain (name ++ (61 ∷ (text_of a ++ (44 ∷ (text_of b ++ step_text c))))) (plain_range name a b c f)))
-squeezed_statement Statement.Continue f = refl
-squeezed_statement Statement.Return f = refl
-squeezed_statement Statement.Stop f = refl
-squeezed_statement Statement.Trap f = refl
-squeezed_statement Statement.End f = refl
-
-pub printable_statement : (s : Statement) → statement_formed s ≡ true → list_all is_printable (statement_text s) ≡ true
-printable_statement (Statement.Subroutine name []) f = printable_plain name (plain_name name (and_true (is_name name) true f).0)
-printable_statement (Statement.Subroutine name (n ∷ names)) f =
-    let (is, all) = and_true (is_name name) (list_all is_name (n ∷ names)) f in
-    printable_plain (behind name (n ∷ names)) (plain_behind name (n ∷ names) is all)
-printable_statement (Statement.Assign name items t) f = printable_plain (statement_text (Statement.Assign name items t)) (plain_assign name items t f)
-printable_statement (Statement.Goto label) f = printable_plain (decimal label) (plain_decimal label)
-printable_statement (Statement.ArithIf t l m n) f =
-    printable_both (text_of t) (codes ") " ++ (decimal l ++ (44 ∷ (decimal m ++ (44 ∷ decimal n))))) (printable_plain (text_of t) (plain_text t f))
-    (printable_plain (decimal l ++ (44 ∷ (decimal m ++ (44 ∷ decimal n)))) (plain_labels l m n))
-printable_statement (Statement.LogicalIf t s) f =
-    let (test, rest) = and_true (formed t) (is_action s && statement_formed s) f in
-    let (is, inner) = and_true (is_action s) (statement_formed s) rest in
-    printable_both (text_of t) (codes ") " ++ statement_text s) (printable_plain (text_of t) (plain_text t test)) (printable_statement s inner)
-printable_statement (Statement.BlockIf t) f = printable_both (text_of t) (codes ") THEN") (printable_plain (text_of t) (plain_text t f)) refl
-printable_statement (Statement.ElseIf t) f = printable_both (text_of t) (codes ") THEN") (printable_plain (text_of t) (plain_text t f)) refl
-printable_statement Statement.Else f = refl
-printable_statement Statement.EndIf f = refl
-printable_statement (Statement.Loop label name a b c) f =
-    printable_both (decimal label) (32 ∷ (name ++ (61 ∷ (text_of a ++ (44 ∷ (text_of b ++ step_text c)))))) (printable_plain (decimal label) (plain_decimal label))
-    (printable_plain (name ++ (61 ∷ (text_of a ++ (44 ∷ (text_of b ++ step_text c))))) (plain_range name a b c f))
-printable_statement Statement.Continue f = refl
-printable_statement Statement.Return f = refl
-printable_statement Statement.Stop f = refl
-printable_statement Statement.Trap f = refl
-printable_statement Statement.End f = refl
-
--- the first piece of a text is not blank where its first character is not
-starts : (c : ℕ) (text : List ℕ) → not (is_blank c) ≡ true → not (list_all is_blank (piece (c ∷ text) 0)) ≡ true
-starts c text h = rw (not_true (is_blank c) h) refl
-
-starts_named : (name rest : List ℕ) → is_name name ≡ true → not (list_all is_blank (piece (name ++ rest) 0)) ≡ true
-starts_named [] rest h = cc
-starts_named (c ∷ text) rest h = starts c (text ++ rest) (not_blank c (plain_letter c (and_true (is_letter c) (list_all is_word text) h).0))
-
-pub statement_starts : (s : Statement) → statement_formed s ≡ true → not (list_all is_blank (piece (statement_text s) 0)) ≡ true
-statement_starts (Statement.Subroutine name []) f = refl
-statement_starts (Statement.Subroutine name (n ∷ names)) f = refl
-statement_starts (Statement.Assign name items t) f =
-    let (is, rest) = and_true (is_name name) (all_formed items && formed t) f in
-    rw (append_assoc name (list_text items) (61 ∷ text_of t)) (starts_named name (list_text items ++ (61 ∷ text_of t)) is)
-statement_starts (Statement.Goto label) f = refl
-statement_starts (Statement.ArithIf t l m n) f = refl
-statement_starts (Statement.LogicalIf t s) f = refl
-statement_starts (Statement.BlockIf t) f = refl
-statement_starts (Statement.ElseIf t) f = refl
-statement_starts Statement.Else f = refl
-statement_starts Statement.EndIf f = refl
-statement_starts (Statement.Loop label name a b c) f = refl
-statement_starts Statement.Continue f = refl
-statement_starts Statement.Return f = refl
-statement_starts Statement.Stop f = refl
-statement_starts Statement.Trap f = refl
-statement_starts Statement.End f = refl
-
-filter_short : (p : ℕ → Bool) (text : List ℕ) → length (filter p text) ≤ length text
+pub filter_short : (p : ℕ → Bool) (text : List ℕ) → length (filter p text) ≤ length text
 filter_short p [] = omega arith
 filter_short p (c ∷ text) = step (p c) (filter_short p text)
   where
@@ -309,8 +184,3 @@ filter_short p (c ∷ text) = step (p c) (filter_short p text)
 
 pub squeezed_short : (text : List ℕ) → length (squeezed text) ≤ length text
 squeezed_short text = omega (arith, length-map (filter (λ c. not (is_blank c)) text) to_ascii_uppercase, filter_short (λ c. not (is_blank c)) text)
-
-pub reads_back : (s : Statement) → IsFormed s → IsUnmutated s → statement_constants s ≡ true → SpellsStatement (squeezed (statement_text s)) s
-reads_back s f u k =
-    let formed = is_formed s f in
-    subst (λ z. SpellsStatement z s) (sym (squeezed_statement s formed)) (back_statement s u formed k)

@@ -12,13 +12,14 @@ use Rattle.f77_source.specs.declared.fault.FormFault.TheVariants.{BadLabel, TooM
 use Rattle.f77_syntax.specs.declared.fault.SyntaxFault.{SyntaxFault}
 use Rattle.f77_syntax.specs.declared.fault.SyntaxFault.TheVariants.{Memory, BadConstant, TooLong}
 use Rattle.f77_syntax.specs.declared.group.Group.{Group}
-use Rattle.f77_syntax.specs.Grammar.{IsFormed}
+use Rattle.f77_syntax.specs.StatementGrammar.{IsFormed}
 use Rattle.f77_syntax.specs.Canonical.{statement_text}
 use Rattle.f77_syntax.specs.Formed.{statement_formed}
 use Rattle.f77_syntax.specs.Parsing.{IsAdmitted, LineFields, AreLines, IsProgram, line_with}
 use Rattle.f77_syntax.specs.Printing.{card_of, printed, print_fault, print_faults, told, KeepsLimits, AreAlike, unnumbered, ReadsBack}
-use Rattle.f77_syntax.proofs.Forming.{is_formed}
-use Rattle.f77_syntax.proofs.Plain.{printable_statement, statement_starts, squeezed_short, reads_back}
+use Rattle.f77_syntax.proofs.StatementForming.{is_formed}
+use Rattle.f77_syntax.proofs.StatementPlain.{printable_statement, statement_starts, reads_back}
+use Rattle.f77_syntax.proofs.Plain.{squeezed_short}
 
 -- each statement is one that some text spells
 abbrev pub AreFormed : List LineFields → Type 0

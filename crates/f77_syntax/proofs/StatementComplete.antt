@@ -11,7 +11,8 @@ use Rattle.std.proofs.lemmas.List.Elements.{All-nil, All-cons}
 use Rattle.std.proofs.lemmas.List.Folds.{list_any-append}
 use Rattle.std.proofs.lemmas.List.Splits.{slice_split_at, slice_split_none}
 use Rattle.f77_syntax.specs.Tree.{Tree, Trees, Statement}
-use Rattle.f77_syntax.specs.Grammar.{Spells, SpellsReference, SpellsAction, SpellsStatement, optional_comma, is_letter, is_digit, is_word, is_number, is_name, label_number}
+use Rattle.f77_syntax.specs.Grammar.{Spells, SpellsReference, is_letter, is_digit, is_word, is_number, is_name}
+use Rattle.f77_syntax.specs.StatementGrammar.{SpellsAction, SpellsStatement, optional_comma, label_number}
 use Rattle.f77_syntax.specs.Reading.{◌>>=◌, strip, word, past_word, digits, past_digits, after, reading}
 use Rattle.f77_syntax.specs.Assignment.{ended, reference_at, assign_at}
 use Rattle.f77_syntax.specs.Subroutine.{is_comma, names_at, before_close, subroutine_at}
@@ -19,32 +20,24 @@ use Rattle.f77_syntax.specs.Label.{label_at, last_label, label_comma, labels_at}
 use Rattle.f77_syntax.specs.Condition.{arithmetic_at, condition_at}
 use Rattle.f77_syntax.specs.DoLoop.{past_comma, range_at, step_at, parameters_at, loop_at}
 use Rattle.f77_syntax.specs.Classification.{behind, begins_with, begins_if, class_of, statement_class}
-use Rattle.f77_syntax.specs.Statement.{word_statement, simple_at, simple_action_at, action_at, begins_digit, branch_at, else_at, keyword_at, statement_at}
+use Rattle.f77_syntax.specs.Statement.{word_statement, simple_at, simple_action_at, action_at, begins_digit, branch_at, else_at, specification_at, keyword_at, statement_at}
 use Rattle.f77_syntax.specs.declared.classification.Class.TheVariants.{If, Loop, Assignment, Keyword}
 use Rattle.f77_syntax.proofs.Steps.{and_true}
 use Rattle.f77_syntax.proofs.Words.{word_front, past_word_front}
 use Rattle.f77_syntax.proofs.Shorter.{name_long}
 use Rattle.f77_syntax.proofs.Complete.{name_words, complete, complete_all, operand_read, ends_item, whole}
 use Rattle.f77_syntax.proofs.Outside.{no_equals_sign, if_class, assign_class, loop_class, keyword_class, pass, pass_quiet, quiet_number, equals_other}
-
-abbrev is_equals : ℕ → Bool
-is_equals c = c == 61
-
--- a text of letters and digits has no comma and no equals sign
-word_plain : (c : ℕ) → is_word c ≡ true → ((c == 44) ≡ false) × ((c == 61) ≡ false)
-word_plain c h = (grind (arith, nat_tests), grind (arith, nat_tests))
-
-pub words_no_comma : (s : List ℕ) → list_all is_word s ≡ true → All (λ x. is_comma x ≡ false) s
-words_no_comma [] h = All-nil (λ x. is_comma x ≡ false)
-words_no_comma (c ∷ s) h =
-    let (first, others) = and_true (is_word c) (list_all is_word s) h in
-    All-cons (λ x. is_comma x ≡ false) c s (word_plain c first).0 (words_no_comma s others)
-
-words_no_equals : (s : List ℕ) → list_all is_word s ≡ true → list_any is_equals s ≡ false
-words_no_equals [] h = refl
-words_no_equals (c ∷ s) h =
-    let (first, others) = and_true (is_word c) (list_all is_word s) h in
-    rw (word_plain c first).1 (words_no_equals s others)
+use Rattle.f77_syntax.proofs.WordTexts.{is_equals, words_no_comma, words_no_equals}
+use Rattle.f77_syntax.specs.StatementGrammar.{kind_keyword}
+use Rattle.f77_syntax.specs.Tree.{DeclFields, GroupFields}
+use Rattle.f77_syntax.specs.Declaration.{SpellsDecls, all_bounded}
+use Rattle.f77_syntax.specs.Data.{SpellsGroups}
+use Rattle.f77_syntax.specs.declared.tree.Kind.{Kind}
+use Rattle.f77_syntax.specs.declared.tree.Kind.TheVariants.{Integer, Logical}
+use Rattle.f77_syntax.proofs.DeclarationTexts.{declarations_read}
+use Rattle.f77_syntax.proofs.DataTexts.{groups_read}
+use Rattle.f77_syntax.proofs.DeclarationForms.{declaration_no_equals}
+use Rattle.f77_syntax.proofs.DataForms.{data_no_equals}
 
 -- names joined by commas
 joined_no_equals : (names : List (List ℕ)) → list_all is_name names ≡ true → list_any is_equals (join_with_byte 44 names) ≡ false
@@ -302,9 +295,33 @@ arguments_no_equals name names n all =
     list_any-append is_equals name (40 ∷ (join_with_byte 44 names ++ 41 ∷ []))
     ∙ rw (words_no_equals name (name_words name n), list_any-append is_equals (join_with_byte 44 names) (41 ∷ []), joined_no_equals names all) refl
 
+-- declarations and DATA
+declare_class : (kind : Kind) {text : List ℕ} {ds : List DeclFields} → SpellsDecls text ds → class_of (kind_keyword kind ++ text) ≡ Keyword
+declare_class Integer {text = text} p = keyword_class (codes "INTEGER" ++ text) refl (no_equals_sign (codes "INTEGER" ++ text) 0 (declaration_no_equals p))
+declare_class Logical {text = text} p = keyword_class (codes "LOGICAL" ++ text) refl (no_equals_sign (codes "LOGICAL" ++ text) 0 (declaration_no_equals p))
+
+dimension_class : {text : List ℕ} {ds : List DeclFields} → SpellsDecls text ds → class_of (codes "DIMENSION" ++ text) ≡ Keyword
+dimension_class {text = text} p = keyword_class (codes "DIMENSION" ++ text) refl (no_equals_sign (codes "DIMENSION" ++ text) 0 (declaration_no_equals p))
+
+preset_class : {text : List ℕ} {gs : List GroupFields} → SpellsGroups text gs → class_of (codes "DATA" ++ text) ≡ Keyword
+preset_class {text = text} p = keyword_class (codes "DATA" ++ text) refl (no_equals_sign (codes "DATA" ++ text) 0 (data_no_equals p))
+
+declare_read : (kind : Kind) {text : List ℕ} {ds : List DeclFields} → SpellsDecls text ds → statement_at (kind_keyword kind ++ text) ≡ Some (Statement.Declare kind ds)
+unfolding statement_at keyword_at specification_at
+declare_read Integer p = rw (declare_class Integer p, declarations_read p) refl
+declare_read Logical p = rw (declare_class Logical p, declarations_read p) refl
+
+dimension_read : {text : List ℕ} {ds : List DeclFields} → SpellsDecls text ds → all_bounded ds ≡ true → statement_at (codes "DIMENSION" ++ text) ≡ Some (Statement.Dimension ds)
+unfolding statement_at keyword_at specification_at
+dimension_read p h = rw (dimension_class p, declarations_read p, h) refl
+
+preset_read : {text : List ℕ} {gs : List GroupFields} → SpellsGroups text gs → statement_at (codes "DATA" ++ text) ≡ Some (Statement.Preset gs)
+unfolding statement_at keyword_at specification_at
+preset_read p = rw (preset_class p, groups_read p) refl
+
 -- a statement that may stand in a logical IF, by itself
 alone_read : {s : List ℕ} {u : Statement} → SpellsAction s u → statement_at s ≡ Some u
-unfolding statement_at keyword_at class_of begins_if simple_at word_statement
+unfolding statement_at keyword_at specification_at class_of begins_if simple_at word_statement
 alone_read (SpellsAction.assign r p) = rw (assign_class r p) (assign_read r p)
 alone_read (SpellsAction.go_to row n) = rw (goto_class row n, last_label_read row n) refl
 alone_read (SpellsAction.arithmetic_if l m n p h i j) =
@@ -315,12 +332,15 @@ alone_read SpellsAction.stop = refl
 
 -- what is spelled is read
 pub statement_read : {s : List ℕ} {u : Statement} → SpellsStatement s u → statement_at s ≡ Some u
-unfolding statement_at keyword_at else_at class_of begins_if simple_at word_statement branch_at
+unfolding statement_at keyword_at specification_at else_at class_of begins_if simple_at word_statement branch_at
 statement_read (SpellsStatement.action p) = alone_read p
 statement_read (SpellsStatement.subroutine {name = name} n) =
     subroutine_whole_read name (Statement.Subroutine name []) (words_no_equals name (name_words name n)) (subroutine_read name n)
 statement_read (SpellsStatement.subroutine_of {name = name} names n all) =
     subroutine_whole_read (name ++ (40 ∷ (join_with_byte 44 names ++ 41 ∷ []))) (Statement.Subroutine name names) (arguments_no_equals name names n all) (subroutine_of_read name names n all)
+statement_read (SpellsStatement.declare kind p) = declare_read kind p
+statement_read (SpellsStatement.dimension p h) = dimension_read p h
+statement_read (SpellsStatement.preset p) = preset_read p
 statement_read (SpellsStatement.logical_if {y = y} {t = t} p q) = rw (if_class p y (letter_begins y (action_begins q)).0, condition_read p y) (logical_read t q)
 statement_read (SpellsStatement.block_if p) = rw (if_class p (codes "THEN") refl, condition_read p (codes "THEN")) refl
 statement_read (SpellsStatement.else_if p) = else_if_read p
@@ -352,6 +372,9 @@ class_agrees (SpellsStatement.subroutine {name = name} n) =
 class_agrees (SpellsStatement.subroutine_of {name = name} names n all) =
     keyword_class (codes "SUBROUTINE" ++ (name ++ (40 ∷ (join_with_byte 44 names ++ 41 ∷ [])))) refl
     (no_equals_sign (codes "SUBROUTINE" ++ (name ++ (40 ∷ (join_with_byte 44 names ++ 41 ∷ [])))) 0 (arguments_no_equals name names n all))
+class_agrees (SpellsStatement.declare kind p) = declare_class kind p
+class_agrees (SpellsStatement.dimension p h) = dimension_class p
+class_agrees (SpellsStatement.preset p) = preset_class p
 class_agrees (SpellsStatement.logical_if {y = y} p q) = if_class p y (letter_begins y (action_begins q)).0
 class_agrees (SpellsStatement.block_if p) = if_class p (codes "THEN") refl
 class_agrees (SpellsStatement.else_if {x = x} p) = keyword_class (codes "ELSEIF(" ++ (x ++ codes ")THEN")) refl (pass 61 refl equals_other p (codes ")THEN") 1)

@@ -16,13 +16,14 @@ use Rattle.f77_syntax.specs.Grammar.{is_word, is_name}
 use Rattle.f77_syntax.specs.Reading.{◌>>=◌, strip, word, past_word, after, close_at, reading}
 use Rattle.f77_syntax.specs.Assignment.{ended, reference_behind, reference_at, value_at, assign_at}
 use Rattle.f77_syntax.specs.Subroutine.{is_comma, names_at, before_close, arguments_at, subroutine_at}
-use Rattle.f77_syntax.specs.View.{tree_of, trees, place_of, clip, clip_all, clip_statement, Fails}
+use Rattle.f77_syntax.specs.View.{tree_of, trees, place_of, clip, clip_all, Fails}
+use Rattle.f77_syntax.specs.StatementView.{clip_statement}
 use Rattle.f77_syntax.proofs.Steps.{and_true}
 use Rattle.f77_syntax.proofs.Words.{word_whole}
 use Rattle.f77_syntax.proofs.Complete.{name_words}
 use Rattle.f77_syntax.proofs.Views.{ref_view}
 use Rattle.f77_syntax.proofs.Gives.{fails_bind, after_is}
-use Rattle.f77_syntax.proofs.StatementComplete.{words_no_comma}
+use Rattle.f77_syntax.proofs.WordTexts.{words_no_comma}
 
 -- references
 pub reference_none : (s : List ℕ) → is_name (word s) ≡ false → reference_at s ≡ None

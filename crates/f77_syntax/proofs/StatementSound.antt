@@ -9,7 +9,8 @@ use Rattle.std.proofs.lemmas.Slice.Eq.{bytes_eq-Decides}
 use Rattle.std.proofs.lemmas.List.{take-append-drop, drop_more, drop_all, nil_from_length}
 use Rattle.std.proofs.lemmas.List.Splits.{join_with_byte-slice_split}
 use Rattle.f77_syntax.specs.Tree.{Tree, Trees, Statement}
-use Rattle.f77_syntax.specs.Grammar.{Spells, SpellsReference, SpellsAction, SpellsStatement, optional_comma, is_digit, is_number, is_name, label_number}
+use Rattle.f77_syntax.specs.Grammar.{Spells, SpellsReference, is_digit, is_number, is_name}
+use Rattle.f77_syntax.specs.StatementGrammar.{SpellsAction, SpellsStatement, optional_comma, label_number}
 use Rattle.f77_syntax.specs.Reading.{◌>>=◌, strip, word, past_word, digits, past_digits, after, close_at, reading}
 use Rattle.f77_syntax.specs.Assignment.{ended, reference_behind, reference_at, value_at, assign_at}
 use Rattle.f77_syntax.specs.Subroutine.{is_comma, names_at, before_close, arguments_at, subroutine_at}
@@ -18,69 +19,20 @@ use Rattle.f77_syntax.specs.Condition.{arithmetic_at, condition_at}
 use Rattle.f77_syntax.specs.DoLoop.{past_comma, range_at, step_at, parameters_at, loop_at}
 use Rattle.f77_syntax.specs.Formed.{is_action}
 use Rattle.f77_syntax.specs.Classification.{class_of}
-use Rattle.f77_syntax.specs.Statement.{word_statement, goto_by, simple_at, actions_only, simple_action_at, action_by, action_at, begins_digit, branch_at, else_at, keyword_by, keyword_at, statement_by, statement_at}
+use Rattle.f77_syntax.specs.Statement.{word_statement, goto_by, simple_at, actions_only, simple_action_at, action_by, action_at, begins_digit, branch_at, else_at, declared_at, dimension_at, preset_at, specification_by, specification_at, keyword_by, keyword_at, statement_by, statement_at}
 use Rattle.f77_syntax.specs.declared.classification.Class.{Class}
 use Rattle.f77_syntax.specs.declared.classification.Class.TheVariants.{If, Loop, Assignment, Keyword}
 use Rattle.f77_syntax.proofs.Steps.{along, bind_ok, chosen, guarded, strip_is}
 use Rattle.f77_syntax.proofs.Words.{word_whole}
 use Rattle.f77_syntax.proofs.Sound.{sound_reading, close_is}
-
--- nothing stands behind
-pub ended_is : {A : Type 0} (x : A) (rest : List ℕ) (y : A) → ended x rest ≡ Some y → (x ≡ y) × (rest ≡ [])
-ended_is x [] y e = (same_Some x y e, refl)
-ended_is x (c ∷ rest) y e = absurd (let h = guarded (length (c ∷ rest) == 0) (Some x) y e in let z = eqb-true (length (c ∷ rest)) 0 h.0 in omega arith)
-
-pub after_is : (b : ℕ) (s r : List ℕ) → after b s ≡ Some r → s ≡ b ∷ r
-after_is b [] r e = absurd (none-some r e)
-after_is b (c ∷ s) r e =
-    let (same, found) = guarded (c == b) (Some s) r e in
-    let head : c ≡ b = eqb-true c b same in
-    let tail : s ≡ r = same_Some s r found in
-    cc
-
--- a front of s spells the reference, and rest follows it
-pub record FrontsReference (s : List ℕ) (x : List ℕ × Trees × List ℕ) : Type 0 where
-  pub text : List ℕ
-  pub is : s ≡ text ++ x.2
-  pub spells : SpellsReference text x.0 x.1
-
-reference_behind_is : (name r : List ℕ) (x : List ℕ × Trees × List ℕ) → is_name name ≡ true → reference_behind name r ≡ Some x → FrontsReference (name ++ r) x
-reference_behind_is name [] x n e = along (FrontsReference (name ++ [])) (name, Trees.None, []) x e (record { text = name; is = refl; spells = SpellsReference.scalar n })
-reference_behind_is name (c ∷ r) x n e =
-    elim (chosen (c == 40) (reading.items r >>= λ y. close_at y.1 >>= λ z. Some (name, y.0, z)) (Some (name, Trees.None, c ∷ r)) (Some x) e) [
-      | inl p ↦
-          let (y, inner, more) = bind_ok (reading.items r) (λ y. close_at y.1 >>= λ z. Some (name, y.0, z)) x p.1 in
-          let (z, close, end) = bind_ok (close_at y.1) (λ z. Some (name, y.0, z)) x more in
-          let front = sound_reading.items r y inner in
-          let open_is : c ≡ 40 = eqb-true c 40 p.0 in
-          along (FrontsReference (name ++ (c ∷ r))) (name, y.0, z) x end (record {
-            text = name ++ (40 ∷ (front.text ++ 41 ∷ []));
-            is = ap (λ v. name ++ (v ∷ r)) open_is
-                ∙ ap (λ v. name ++ (40 ∷ v)) (front.is ∙ ap (λ v. front.text ++ v) (close_is y.1 z close) ∙ sym (append_assoc front.text (41 ∷ []) z))
-                ∙ sym (append_assoc name (40 ∷ (front.text ++ 41 ∷ [])) z);
-            spells = SpellsReference.element n front.spells;
-          })
-      | inr p ↦ along (FrontsReference (name ++ (c ∷ r))) (name, Trees.None, c ∷ r) x p.1 (record { text = name; is = refl; spells = SpellsReference.scalar n })
-    ]
-
-pub reference_is : (s : List ℕ) (x : List ℕ × Trees × List ℕ) → reference_at s ≡ Some x → FrontsReference s x
-unfolding reference_at
-reference_is s x e =
-    let (n, found) = guarded (is_name (word s)) (reference_behind (word s) (past_word s)) x e in
-    subst (λ v. FrontsReference v x) (sym (word_whole s)) (reference_behind_is (word s) (past_word s) x n found)
-
-pub assign_is : (s : List ℕ) (t : Statement) → assign_at s ≡ Some t → SpellsAction s t
-unfolding assign_at
-assign_is s t e =
-    let (x, found, more) = bind_ok (reference_at s) (λ x. after 61 x.2 >>= λ y. value_at x.0 x.1 y) t e in
-    let (y, equals, value) = bind_ok (after 61 x.2) (λ y. value_at x.0 x.1 y) t more in
-    let (v, read, end) = bind_ok (reading.expr 1 y) (λ v. ended (Statement.Assign x.0 x.1 v.0) v.1) t value in
-    let place = reference_is s x found in
-    let front = sound_reading.expr 1 y v read in
-    let (same, none) = ended_is (Statement.Assign x.0 x.1 v.0) v.1 t end in
-    let whole : y ≡ front.text = front.is ∙ ap (λ z. front.text ++ z) none ∙ append-nil front.text in
-    let is : s ≡ place.text ++ (61 ∷ front.text) = place.is ∙ ap (λ z. place.text ++ z) (after_is 61 x.2 y equals ∙ ap (λ z. 61 ∷ z) whole) in
-    subst (λ z. SpellsAction z t) (sym is) (subst (λ z. SpellsAction (place.text ++ (61 ∷ front.text)) z) same (SpellsAction.assign place.spells front.spells))
+use Rattle.f77_syntax.specs.StatementGrammar.{kind_keyword}
+use Rattle.f77_syntax.specs.Declaration.{declarations_at, all_bounded}
+use Rattle.f77_syntax.specs.Data.{groups_at}
+use Rattle.f77_syntax.specs.declared.tree.Kind.{Kind}
+use Rattle.f77_syntax.specs.declared.tree.Kind.TheVariants.{Integer, Logical}
+use Rattle.f77_syntax.proofs.DeclarationTexts.{declarations_is}
+use Rattle.f77_syntax.proofs.DataTexts.{groups_is}
+use Rattle.f77_syntax.proofs.AssignmentSound.{FrontsReference, after_is, assign_is, ended_is, reference_behind_is, reference_is}
 
 pub before_close_is : (s r : List ℕ) → before_close s ≡ Some r → s ≡ r ++ 41 ∷ []
 before_close_is s r e =
@@ -225,6 +177,9 @@ action_from : {s : List ℕ} {u : Statement} → SpellsStatement s u → is_acti
 action_from (SpellsStatement.action p) h = p
 action_from (SpellsStatement.subroutine n) h = cc
 action_from (SpellsStatement.subroutine_of names n all) h = cc
+action_from (SpellsStatement.declare kind p) h = cc
+action_from (SpellsStatement.dimension p b) h = cc
+action_from (SpellsStatement.preset p) h = cc
 action_from (SpellsStatement.logical_if p q) h = cc
 action_from (SpellsStatement.block_if p) h = cc
 action_from (SpellsStatement.else_if p) h = cc
@@ -279,6 +234,35 @@ else_is s u e = elim (chosen (length s == 0) (Some Statement.Else) _ (Some u) e)
       (subst (λ z. SpellsStatement (codes "ELSE" ++ z) (Statement.ElseIf x.0)) (sym whole) (SpellsStatement.else_if f.spells))
 ]
 
+-- declarations and DATA
+declared_is : (kind : Kind) (s : List ℕ) (u : Statement) → declared_at kind s ≡ Some u → SpellsStatement (kind_keyword kind ++ s) u
+declared_is kind s u e =
+    let (ds, found, end) = bind_ok (declarations_at s) (λ ds. Some (Statement.Declare kind ds)) u e in
+    along (SpellsStatement (kind_keyword kind ++ s)) (Statement.Declare kind ds) u end (SpellsStatement.declare kind (declarations_is s ds found))
+
+dimension_is : (s : List ℕ) (u : Statement) → dimension_at s ≡ Some u → SpellsStatement (codes "DIMENSION" ++ s) u
+dimension_is s u e =
+    let (ds, found, rest) = bind_ok (declarations_at s) (λ ds. cond (all_bounded ds) (Some (Statement.Dimension ds)) None) u e in
+    let (bounded, end) = guarded (all_bounded ds) (Some (Statement.Dimension ds)) u rest in
+    along (SpellsStatement (codes "DIMENSION" ++ s)) (Statement.Dimension ds) u end (SpellsStatement.dimension (declarations_is s ds found) bounded)
+
+preset_is : (s : List ℕ) (u : Statement) → preset_at s ≡ Some u → SpellsStatement (codes "DATA" ++ s) u
+preset_is s u e =
+    let (gs, found, end) = bind_ok (groups_at s) (λ gs. Some (Statement.Preset gs)) u e in
+    along (SpellsStatement (codes "DATA" ++ s)) (Statement.Preset gs) u end (SpellsStatement.preset (groups_is s gs found))
+
+specification_is : (s : List ℕ) (u : Statement) → specification_at s ≡ Some u → SpellsStatement s u
+unfolding specification_at
+specification_is s u e = by_word (strip (codes "INTEGER") s) (strip (codes "LOGICAL") s) (strip (codes "DIMENSION") s) (strip (codes "DATA") s) refl refl refl refl e
+  where
+    by_word : (a b c d : Option (List ℕ)) → strip (codes "INTEGER") s ≡ a → strip (codes "LOGICAL") s ≡ b → strip (codes "DIMENSION") s ≡ c → strip (codes "DATA") s ≡ d
+        → specification_by s a b c d ≡ Some u → SpellsStatement s u
+    by_word (Some r) b c d is f g h e = subst (λ z. SpellsStatement z u) (sym (strip_is (codes "INTEGER") s r is)) (declared_is Integer r u e)
+    by_word None (Some r) c d is f g h e = subst (λ z. SpellsStatement z u) (sym (strip_is (codes "LOGICAL") s r f)) (declared_is Logical r u e)
+    by_word None None (Some r) d is f g h e = subst (λ z. SpellsStatement z u) (sym (strip_is (codes "DIMENSION") s r g)) (dimension_is r u e)
+    by_word None None None (Some r) is f g h e = subst (λ z. SpellsStatement z u) (sym (strip_is (codes "DATA") s r h)) (preset_is r u e)
+    by_word None None None None is f g h e = simple_is s u e
+
 keyword_is : (s : List ℕ) (u : Statement) → keyword_at s ≡ Some u → SpellsStatement s u
 unfolding keyword_at subroutine_at
 keyword_is s u e = by_keyword (strip (codes "SUBROUTINE") s) (strip (codes "ELSE") s) refl refl e
@@ -288,7 +272,7 @@ keyword_is s u e = by_keyword (strip (codes "SUBROUTINE") s) (strip (codes "ELSE
         let (n, found) = guarded (is_name (word r)) (arguments_at (word r) (past_word r)) u e in
         subst (λ z. SpellsStatement z u) (sym (strip_is (codes "SUBROUTINE") s r is ∙ ap (λ z. codes "SUBROUTINE" ++ z) (word_whole r))) (arguments_is (word r) (past_word r) u n found)
     by_keyword None (Some r) is other e = subst (λ z. SpellsStatement z u) (sym (strip_is (codes "ELSE") s r other)) (else_is r u e)
-    by_keyword None None is other e = simple_is s u e
+    by_keyword None None is other e = specification_is s u e
 
 -- the label and the DO variable of a DO
 past_comma_is : (s : List ℕ) → (comma : Bool) × (s ≡ optional_comma comma ++ past_comma s)

@@ -12,13 +12,19 @@ use Rattle.f77_syntax.specs.declared.tree.Expr.TheViews as views
 use Rattle.f77_syntax.specs.declared.tree.Expr.TheOpen.{Expr-F}
 use Rattle.f77_syntax.specs.declared.tree.Expr.TheFolds.{fold-roll-Expr, fold_out-Ref}
 use Rattle.f77_syntax.specs.declared.tree.Stmt.{Stmt}
-use Rattle.f77_syntax.specs.declared.tree.Stmt.TheVariants.{rolls-Subroutine, rolls-Assign, rolls-ArithIf, rolls-LogicalIf, rolls-BlockIf, rolls-ElseIf, rolls-Else, rolls-Loop}
+use Rattle.f77_syntax.specs.declared.tree.Stmt.TheVariants.{rolls-Subroutine, rolls-Declare, rolls-Dimension, rolls-Preset, rolls-Assign, rolls-ArithIf, rolls-LogicalIf, rolls-BlockIf, rolls-ElseIf, rolls-Else, rolls-Loop}
 use Rattle.f77_syntax.specs.declared.tree.Stmt.TheVariants as forms
 use Rattle.f77_syntax.specs.declared.tree.Stmt.TheViews as boxed
 use Rattle.f77_syntax.specs.declared.tree.Stmt.TheOpen.{Stmt-F}
 use Rattle.f77_syntax.specs.declared.tree.Stmt.TheFolds.{fold-roll-Stmt}
 use Rattle.f77_syntax.specs.Tree.{Tree, Statement}
-use Rattle.f77_syntax.specs.View.{trees, expr_step, ref_step, stmt_step, tree_of, place_of, statement_of}
+use Rattle.f77_syntax.specs.View.{trees, expr_step, ref_step, tree_of, place_of}
+use Rattle.f77_syntax.specs.StatementView.{stmt_step, statement_of}
+use Rattle.f77_syntax.specs.declared.tree.Kind.{Kind}
+use Rattle.f77_syntax.specs.declared.declaration.Decl.{Decl}
+use Rattle.f77_syntax.specs.declared.data.DataGroup.{DataGroup}
+use Rattle.f77_syntax.specs.Declaration.{decl_of}
+use Rattle.f77_syntax.specs.Data.{data_group_of}
 
 pub number_view : (n : ℕ) → tree_of (Number n) ≡ Tree.Number n
 number_view n = ap tree_of (sym (rolls-Number n)) ∙ fold-roll-Expr Tree (List ℕ × List Tree) expr_step ref_step (Expr-F.Number n)
@@ -49,6 +55,15 @@ ref_view r = fold_out-Ref Tree (List ℕ × List Tree) expr_step ref_step r
 -- the statement of each form
 pub subroutine_view : (name : List ℕ) (arguments : Vec (List ℕ) Global) → statement_of (forms.Subroutine name arguments) ≡ Statement.Subroutine name arguments.items
 subroutine_view name arguments = ap statement_of (sym (rolls-Subroutine name arguments)) ∙ fold-roll-Stmt Statement stmt_step (Stmt-F.Subroutine name arguments)
+
+pub declare_view : (kind : Kind) (items : Vec Decl Global) → statement_of (forms.Declare kind items) ≡ Statement.Declare kind (map decl_of items.items)
+declare_view kind items = ap statement_of (sym (rolls-Declare kind items)) ∙ fold-roll-Stmt Statement stmt_step (Stmt-F.Declare kind items)
+
+pub dimension_view : (items : Vec Decl Global) → statement_of (forms.Dimension items) ≡ Statement.Dimension (map decl_of items.items)
+dimension_view items = ap statement_of (sym (rolls-Dimension items)) ∙ fold-roll-Stmt Statement stmt_step (Stmt-F.Dimension items)
+
+pub preset_view : (groups : Vec DataGroup Global) → statement_of (forms.Preset groups) ≡ Statement.Preset (map data_group_of groups.items)
+preset_view groups = ap statement_of (sym (rolls-Preset groups)) ∙ fold-roll-Stmt Statement stmt_step (Stmt-F.Preset groups)
 
 pub assign_view : (target : Ref) (value : Expr) → statement_of (forms.Assign target value) ≡ Statement.Assign (place_of target).0 (trees (place_of target).1) (tree_of value)
 assign_view target value = ap statement_of (sym (rolls-Assign target value)) ∙ fold-roll-Stmt Statement stmt_step (Stmt-F.Assign target value)

@@ -38,6 +38,9 @@ class_of text = if begins_if text then If else class_behind (behind 61 0 text)
 -- the class of each statement
 abbrev pub statement_class : Statement → Class
 statement_class (Statement.Subroutine name names) = Keyword
+statement_class (Statement.Declare kind ds) = Keyword
+statement_class (Statement.Dimension ds) = Keyword
+statement_class (Statement.Preset gs) = Keyword
 statement_class (Statement.Assign name items t) = Assignment
 statement_class (Statement.Goto label) = Keyword
 statement_class (Statement.ArithIf t l m n) = If

@@ -3,6 +3,8 @@ use Rattle.std.specs.Prelude.{ℕ, List, Bool, true, false, ◌&&◌, not, Optio
 use Rattle.std.specs.List.{list_all}
 use Rattle.f77_syntax.specs.Tree.{Tree, Trees, Statement}
 use Rattle.f77_syntax.specs.Grammar.{is_name, is_call}
+use Rattle.f77_syntax.specs.Declaration.{declaration_formed, all_bounded}
+use Rattle.f77_syntax.specs.Data.{data_formed}
 
 unfoldable pub is_some_list : Trees → Bool
 is_some_list Trees.None = false
@@ -35,6 +37,9 @@ step_formed (Some t) = formed t
 -- a statement that may stand in a logical IF
 abbrev pub is_action : Statement → Bool
 is_action (Statement.Subroutine name names) = false
+is_action (Statement.Declare kind ds) = false
+is_action (Statement.Dimension ds) = false
+is_action (Statement.Preset gs) = false
 is_action (Statement.Assign name items t) = true
 is_action (Statement.Goto label) = true
 is_action (Statement.ArithIf t l m n) = true
@@ -52,6 +57,9 @@ is_action Statement.End = false
 
 abbrev pub statement_formed : Statement → Bool
 statement_formed (Statement.Subroutine name names) = is_name name && list_all is_name names
+statement_formed (Statement.Declare kind ds) = declaration_formed ds
+statement_formed (Statement.Dimension ds) = declaration_formed ds && all_bounded ds
+statement_formed (Statement.Preset gs) = data_formed gs
 statement_formed (Statement.Assign name items t) = is_name name && (all_formed items && formed t)
 statement_formed (Statement.Goto label) = true
 statement_formed (Statement.ArithIf t l m n) = formed t

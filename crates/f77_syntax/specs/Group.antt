@@ -1,11 +1,14 @@
 -- The order of statements (ANSI X3.9-1978, 3.5).
-use Rattle.std.specs.Prelude.{Bool, true, false, Option, Some, None}
+use Rattle.std.specs.Prelude.{ℕ, ◌==◌, ◌&&◌, nat_lt, nat_le, Bool, Option, Some, None}
 use Rattle.f77_syntax.specs.declared.group.Group.{Group}
-use Rattle.f77_syntax.specs.declared.group.Group.TheVariants.{Subroutine, Executable, End}
+use Rattle.f77_syntax.specs.declared.group.Group.TheVariants.{Subroutine, Declaration, Data, Executable, End}
 use Rattle.f77_syntax.specs.Tree.{Statement}
 
 abbrev pub group_of : Statement → Group
 group_of (Statement.Subroutine name names) = Subroutine
+group_of (Statement.Declare kind ds) = Declaration
+group_of (Statement.Dimension ds) = Declaration
+group_of (Statement.Preset gs) = Data
 group_of (Statement.Assign name items t) = Executable
 group_of (Statement.Goto label) = Executable
 group_of (Statement.ArithIf t l m n) = Executable
@@ -21,16 +24,20 @@ group_of Statement.Stop = Executable
 group_of Statement.Trap = Executable
 group_of Statement.End = End
 
+-- the place of a group in a subroutine
+abbrev pub place : Group → ℕ
+place Subroutine = 0
+place Declaration = 1
+place Data = 2
+place Executable = 3
+place End = 4
+
+-- behind the place of a group, which is not the last
+abbrev pub may_follow : ℕ → ℕ → Bool
+may_follow before n = nat_lt 0 n && (nat_le before n && nat_lt before 4)
+
 -- A statement of the second group may stand behind one of the first, and behind none where it is the first: SUBROUTINE
--- first and only there, END last and only there.
+-- first and only there, then declarations, then DATA, then what is executed, END last and only there.
 abbrev pub may_stand : Option Group → Group → Bool
-may_stand None Subroutine = true
-may_stand None Executable = false
-may_stand None End = false
-may_stand (Some Subroutine) Subroutine = false
-may_stand (Some Subroutine) Executable = true
-may_stand (Some Subroutine) End = true
-may_stand (Some Executable) Subroutine = false
-may_stand (Some Executable) Executable = true
-may_stand (Some Executable) End = true
-may_stand (Some End) group = false
+may_stand None group = place group == 0
+may_stand (Some before) group = may_follow (place before) (place group)

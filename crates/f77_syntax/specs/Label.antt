@@ -1,6 +1,7 @@
 -- Reading labels.
 use Rattle.std.specs.Prelude.{ℕ, List, Option, Some, None, if◌then◌else◌}
-use Rattle.f77_syntax.specs.Grammar.{is_number, label_number}
+use Rattle.f77_syntax.specs.Grammar.{is_number}
+use Rattle.f77_syntax.specs.StatementGrammar.{label_number}
 use Rattle.f77_syntax.specs.Reading.{◌>>=◌, digits, past_digits, after}
 use Rattle.f77_syntax.specs.Assignment.{ended}
 

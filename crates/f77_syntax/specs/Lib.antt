@@ -6,6 +6,11 @@ pub mod Formed
 pub mod Canonical
 pub mod Reading
 pub mod View
+pub mod Joined
+pub mod Declaration
+pub mod Data
+pub mod StatementGrammar
+pub mod StatementView
 pub mod Classification
 pub mod Assignment
 pub mod Label
@@ -14,6 +19,7 @@ pub mod Subroutine
 pub mod DoLoop
 pub mod Statement
 pub mod Limits
+pub mod StatementLimits
 pub mod Group
 pub mod Parsing
 pub mod Printing

@@ -3,10 +3,11 @@ use Rattle.std.specs.Prelude.{◌≡◌, ◌≢◌, ℕ, zero, suc, ◌≤◌, �
 use Rattle.std.specs.List.{slice_get}
 use Rattle.f77_source.specs.Card.{CardFields}
 use Rattle.f77_syntax.specs.Tree.{Statement}
-use Rattle.f77_syntax.specs.Grammar.{SpellsStatement, IsFormed}
-use Rattle.f77_syntax.specs.Limits.{most_characters, most_nodes, IsTooDeep, statement_names, statement_constants, statement_nodes}
+use Rattle.f77_syntax.specs.StatementGrammar.{SpellsStatement, IsFormed}
+use Rattle.f77_syntax.specs.Limits.{most_characters, most_nodes, IsTooDeep}
+use Rattle.f77_syntax.specs.StatementLimits.{statement_names, statement_constants, statement_nodes}
 use Rattle.f77_syntax.specs.Group.{group_of, may_stand}
-use Rattle.f77_syntax.specs.View.{statement_of}
+use Rattle.f77_syntax.specs.StatementView.{statement_of}
 use Rattle.f77_syntax.specs.declared.program.Line.{Line}
 use Rattle.f77_syntax.specs.declared.group.Group.{Group}
 use Rattle.f77_syntax.specs.declared.group.Group.TheVariants.{End}

@@ -6,9 +6,10 @@ use Rattle.f77_source.specs.Read.{AreCards, lines}
 use Rattle.f77_source.specs.Law.{squeezed}
 use Rattle.f77_source.specs.Write.{written, is_bad_label, continuation_count}
 use Rattle.f77_syntax.specs.Tree.{Statement}
-use Rattle.f77_syntax.specs.Grammar.{IsUnmutated}
+use Rattle.f77_syntax.specs.StatementGrammar.{IsUnmutated}
 use Rattle.f77_syntax.specs.Canonical.{statement_text}
-use Rattle.f77_syntax.specs.Limits.{most_nodes, IsTooDeep, statement_names, statement_constants, statement_nodes}
+use Rattle.f77_syntax.specs.Limits.{most_nodes, IsTooDeep}
+use Rattle.f77_syntax.specs.StatementLimits.{statement_names, statement_constants, statement_nodes}
 use Rattle.f77_syntax.specs.Parsing.{LineFields, AreLines}
 use Rattle.f77_syntax.specs.declared.fault.SyntaxFault.{SyntaxFault}
 use Rattle.f77_syntax.specs.declared.fault.SyntaxFault.TheVariants.{Memory, BadConstant, TooLong}

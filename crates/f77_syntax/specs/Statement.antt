@@ -9,6 +9,10 @@ use Rattle.f77_syntax.specs.Assignment.{assign_at}
 use Rattle.f77_syntax.specs.Label.{last_label}
 use Rattle.f77_syntax.specs.Condition.{arithmetic_at, condition_at}
 use Rattle.f77_syntax.specs.Subroutine.{subroutine_at}
+use Rattle.f77_syntax.specs.Declaration.{declarations_at, all_bounded}
+use Rattle.f77_syntax.specs.Data.{groups_at}
+use Rattle.f77_syntax.specs.declared.tree.Kind.{Kind}
+use Rattle.f77_syntax.specs.declared.tree.Kind.TheVariants.{Integer, Logical}
 use Rattle.f77_syntax.specs.DoLoop.{loop_at}
 use Rattle.f77_syntax.specs.Classification.{class_of}
 use Rattle.f77_syntax.specs.declared.classification.Class.{Class}
@@ -64,10 +68,33 @@ else_at s =
     if length s == 0 then Some Statement.Else
     else (condition_at s >>= λ x. if bytes_eq x.1 (codes "THEN") then Some (Statement.ElseIf x.0) else None)
 
+-- INTEGER, LOGICAL and DIMENSION
+abbrev pub declared_at : Kind → List ℕ → Option Statement
+declared_at kind s = declarations_at s >>= λ ds. Some (Statement.Declare kind ds)
+
+abbrev pub dimension_at : List ℕ → Option Statement
+dimension_at s = declarations_at s >>= λ ds. if all_bounded ds then Some (Statement.Dimension ds) else None
+
+-- DATA
+abbrev pub preset_at : List ℕ → Option Statement
+preset_at s = groups_at s >>= λ gs. Some (Statement.Preset gs)
+
+-- by what stands behind INTEGER, LOGICAL, DIMENSION and DATA
+abbrev pub specification_by : List ℕ → Option (List ℕ) → Option (List ℕ) → Option (List ℕ) → Option (List ℕ) → Option Statement
+specification_by s (Some r) logical dimension preset = declared_at Integer r
+specification_by s None (Some r) dimension preset = declared_at Logical r
+specification_by s None None (Some r) preset = dimension_at r
+specification_by s None None None (Some r) = preset_at r
+specification_by s None None None None = simple_at s
+
+unfoldable pub specification_at : List ℕ → Option Statement
+specification_at s = specification_by s (strip (codes "INTEGER") s) (strip (codes "LOGICAL") s) (strip (codes "DIMENSION") s) (strip (codes "DATA") s)
+
+-- by what stands behind SUBROUTINE and ELSE
 abbrev pub keyword_by : List ℕ → Option (List ℕ) → Option (List ℕ) → Option Statement
 keyword_by s (Some r) other = subroutine_at r
 keyword_by s None (Some r) = else_at r
-keyword_by s None None = simple_at s
+keyword_by s None None = specification_at s
 
 unfoldable pub keyword_at : List ℕ → Option Statement
 keyword_at s = keyword_by s (strip (codes "SUBROUTINE") s) (strip (codes "ELSE") s)

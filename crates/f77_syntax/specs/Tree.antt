@@ -3,6 +3,8 @@ use Rattle.std.specs.Prelude.{ℕ, List, Bool, Option}
 use Rattle.f77_syntax.specs.declared.intrinsic.Intrinsic.{Intrinsic}
 use Rattle.f77_syntax.specs.declared.operator.Operator.{Operator}
 use Rattle.f77_syntax.specs.declared.operator.Sign.{Sign}
+use Rattle.f77_syntax.specs.declared.data.Value.{Value}
+use Rattle.f77_syntax.specs.declared.tree.Kind.{Kind}
 
 mutual
   pub data Tree : Type 0 where
@@ -20,9 +22,22 @@ mutual
     None : Trees
     Then : Tree → Trees → Trees
 
+-- a declared name, with the upper bounds of its dimensions in order
+pub record DeclFields : Type 0 where
+  pub name : List ℕ
+  pub bounds : List ℕ
+
+-- names, and the values that they get, in order
+pub record GroupFields : Type 0 where
+  pub names : List (List ℕ)
+  pub values : List Value
+
 -- statements
 pub data Statement : Type 0 where
   Subroutine : List ℕ → List (List ℕ) → Statement
+  Declare : Kind → List DeclFields → Statement
+  Dimension : List DeclFields → Statement
+  Preset : List GroupFields → Statement
   Assign : List ℕ → Trees → Tree → Statement
   Goto : ℕ → Statement
   ArithIf : Tree → ℕ → ℕ → ℕ → Statement

@@ -3,14 +3,17 @@
 ghost use Rattle.std.specs.Prelude.{◌≡◌, ◌<◌, ◌++◌, true, OnOk, IfOk, IfErr, map, option_map, string_bytes};
 ghost use Rattle.f77_source.specs.Law.{squeezed};
 ghost use Rattle.f77_syntax.specs.Tree.{Statement};
-ghost use Rattle.f77_syntax.specs.Grammar.{SpellsStatement, IsFormed, IsUnmutated};
-ghost use Rattle.f77_syntax.specs.Limits.{statement_constants};
+ghost use Rattle.f77_syntax.specs.StatementGrammar.{SpellsStatement, IsFormed, IsUnmutated};
+ghost use Rattle.f77_syntax.specs.StatementLimits.{statement_constants};
 ghost use Rattle.f77_syntax.specs.Canonical as canonical;
-ghost use Rattle.f77_syntax.specs.View.{tree_of, trees, statement_of};
+ghost use Rattle.f77_syntax.specs.View.{tree_of, trees};
+ghost use Rattle.f77_syntax.specs.StatementView.{statement_of};
 
+use crate::data::print_groups;
+use crate::declaration::print_declarations;
 use crate::fault::SyntaxFault;
 use crate::name::Name;
-use crate::tree::{Expr, Stmt};
+use crate::tree::{Expr, Kind, Stmt};
 use std::alloc::{AllocError, Global};
 
 /// The level of an expression's own form.
@@ -136,6 +139,16 @@ fn subroutine(out: &mut String, name: &Name, arguments: &[Name]) -> Result<(), A
     Ok(())
 }
 
+/// The keyword of a type statement, and a blank.
+fn kind_text(kind: Kind) -> &'static str
+    ensures { result.now ≡ canonical.kind_text kind }
+{
+    match kind {
+        Kind::Integer => "INTEGER ",
+        Kind::Logical => "LOGICAL ",
+    }
+}
+
 /// Writes the third parameter of a DO, where there is one.
 fn third(out: &mut String, step: &Option<Expr>) -> Result<(), AllocError>
     ensures { OnOk result (string_bytes out.new ≡ string_bytes out.old ++ canonical.step_text (option_map tree_of step.now)) }
@@ -190,6 +203,18 @@ fn statement(out: &mut String, stmt: &Stmt) -> Result<(), AllocError>
 {
     match stmt {
         Stmt::Subroutine { name, arguments } => subroutine(out, name, arguments),
+        Stmt::Declare { kind, items } => {
+            out.push_str(kind_text(*kind))?;
+            print_declarations(out, items)
+        }
+        Stmt::Dimension { items } => {
+            out.push_str("DIMENSION ")?;
+            print_declarations(out, items)
+        }
+        Stmt::Preset { groups } => {
+            out.push_str("DATA ")?;
+            print_groups(out, groups)
+        }
         Stmt::Assign { target, value } => {
             out.push_str(target.name.as_str())?;
             list(out, &target.subscripts)?;

@@ -3,7 +3,8 @@
 ghost use Rattle.f77_syntax.specs.Condition.{arithmetic_at, condition_at};
 ghost use Rattle.std.specs.Prelude.{◌≡◌};
 ghost use Rattle.f77_syntax.specs.Tree.{Tree};
-ghost use Rattle.f77_syntax.specs.View.{tree_of, clip, Gives, IsTree, IsStatement};
+ghost use Rattle.f77_syntax.specs.View.{tree_of, clip, Gives, IsTree};
+ghost use Rattle.f77_syntax.specs.StatementView.{IsStatement};
 
 use crate::expression::{closed, expression};
 use crate::fault::ReadError;

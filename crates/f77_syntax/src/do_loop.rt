@@ -3,7 +3,8 @@
 ghost use Rattle.std.specs.Prelude.{◌≡◌};
 ghost use Rattle.f77_syntax.specs.DoLoop as loops;
 ghost use Rattle.f77_syntax.specs.DoLoop.{range_at, step_at, parameters_at, loop_at};
-ghost use Rattle.f77_syntax.specs.View.{Gives, IsStatement, IsRange, IsStep};
+ghost use Rattle.f77_syntax.specs.View.{Gives};
+ghost use Rattle.f77_syntax.specs.StatementView.{IsStatement, IsRange, IsStep};
 
 use crate::expression::{after_byte, expression};
 use crate::fault::ReadError;

@@ -3,10 +3,13 @@
 ghost use Rattle.std.specs.Prelude.{◌≡◌, ◌&&◌, not, true, false, map, option_map};
 ghost use Rattle.std.specs.List.{list_all};
 ghost use Rattle.f77_syntax.specs.Grammar as grammar;
-ghost use Rattle.f77_syntax.specs.Grammar.{IsFormed};
+ghost use Rattle.f77_syntax.specs.StatementGrammar.{IsFormed};
 ghost use Rattle.f77_syntax.specs.Formed as forms;
-ghost use Rattle.f77_syntax.specs.View.{tree_of, trees, statement_of};
+ghost use Rattle.f77_syntax.specs.View.{tree_of, trees};
+ghost use Rattle.f77_syntax.specs.StatementView.{statement_of};
 
+use crate::data::data_formed;
+use crate::declaration::{all_bounded, declaration_formed};
 use crate::intrinsic::Intrinsic;
 use crate::name::Name;
 use crate::scan::is_name;
@@ -86,6 +89,9 @@ fn statement_formed(stmt: &Stmt) -> bool
 {
     match stmt {
         Stmt::Subroutine { name, arguments } => is_named(name) && are_named(arguments),
+        Stmt::Declare { items, .. } => declaration_formed(items),
+        Stmt::Dimension { items } => declaration_formed(items) && all_bounded(items),
+        Stmt::Preset { groups } => data_formed(groups),
         Stmt::Assign { target, value } => {
             is_named(&target.name) && all_formed(&target.subscripts) && formed(value)
         }
@@ -127,6 +133,9 @@ impl Stmt {
             | Stmt::Stop
             | Stmt::Trap => true,
             Stmt::Subroutine { .. }
+            | Stmt::Declare { .. }
+            | Stmt::Dimension { .. }
+            | Stmt::Preset { .. }
             | Stmt::LogicalIf { .. }
             | Stmt::BlockIf { .. }
             | Stmt::ElseIf { .. }
@@ -138,7 +147,7 @@ impl Stmt {
     }
 
     /// Whether some text spells the statement, names and constants of any length and size allowed.
-    #[tactic(auto, using(crate::proofs::Forming::formed_spelled, crate::proofs::Forming::not_formed))]
+    #[tactic(auto, using(crate::proofs::StatementForming::formed_spelled, crate::proofs::StatementForming::not_formed))]
     pub fn is_formed(&self) -> bool
         ensures formed { result ≡ true → IsFormed (statement_of self.now) }
         ensures unformed { result ≡ false → ¬ (IsFormed (statement_of self.now)) }

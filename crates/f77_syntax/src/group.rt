@@ -1,8 +1,9 @@
 //! The groups of statements, and where each may stand.
 
 ghost use Rattle.std.specs.Prelude.{◌≡◌, ◌≢◌, true, false, Some};
+ghost use Rattle.f77_syntax.specs.Group as groups;
 ghost use Rattle.f77_syntax.specs.Group.{group_of, may_stand};
-ghost use Rattle.f77_syntax.specs.View.{statement_of};
+ghost use Rattle.f77_syntax.specs.StatementView.{statement_of};
 ghost use Rattle.f77_syntax.specs.declared.group.Group.TheVariants as Group;
 
 use crate::tree::Stmt;
@@ -12,6 +13,10 @@ use crate::tree::Stmt;
 pub enum Group {
     /// SUBROUTINE.
     Subroutine,
+    /// INTEGER, LOGICAL and DIMENSION.
+    Declaration,
+    /// DATA.
+    Data,
     /// What is executed.
     Executable,
     /// END.
@@ -25,6 +30,8 @@ impl Stmt {
     {
         match self {
             Stmt::Subroutine { .. } => Group::Subroutine,
+            Stmt::Declare { .. } | Stmt::Dimension { .. } => Group::Declaration,
+            Stmt::Preset { .. } => Group::Data,
             Stmt::Assign { .. }
             | Stmt::Goto { .. }
             | Stmt::ArithIf { .. }
@@ -44,14 +51,27 @@ impl Stmt {
 }
 
 impl Group {
+    /// Its place in a subroutine.
+    fn place(self) -> u8
+        ensures { result ≡ groups.place self }
+    {
+        match self {
+            Group::Subroutine => 0,
+            Group::Declaration => 1,
+            Group::Data => 2,
+            Group::Executable => 3,
+            Group::End => 4,
+        }
+    }
+
     /// Whether a statement of this group may stand behind one of that group, or first where there is none.
     pub(crate) fn may_stand(self, before: Option<Group>) -> bool
         ensures { result ≡ may_stand before self }
     {
+        let place = self.place();
         match before {
-            None => self == Group::Subroutine,
-            Some(Group::End) => false,
-            Some(_) => self != Group::Subroutine,
+            None => place == 0,
+            Some(before) => 0 < place && before.place() <= place && before.place() < 4,
         }
     }
 }

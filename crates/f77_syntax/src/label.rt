@@ -3,6 +3,7 @@
 ghost use Rattle.std.specs.Prelude.{◌≡◌, true, option_map};
 ghost use Rattle.f77_syntax.specs.Grammar as grammar;
 ghost use Rattle.f77_syntax.specs.Label as labels;
+ghost use Rattle.f77_syntax.specs.StatementGrammar.{label_number};
 
 use crate::expression::after_byte;
 use crate::scan::{is_number, number, split_digits};
@@ -12,10 +13,10 @@ const MOST_DIGITS: usize = 5;
 const OUT_OF_RANGE: u32 = 100_000;
 
 /// The number of a label, the least one out of range where it has more than five digits.
-#[tactic(auto, unfolding(crate::specs::Grammar::label_number))]
+#[tactic(auto, unfolding(crate::specs::StatementGrammar::label_number))]
 fn label_number(row: &[u8]) -> u32
     requires { grammar.is_number row.now ≡ true }
-    ensures { result ≡ grammar.label_number row.now }
+    ensures { result ≡ label_number row.now }
 {
     if row.len() <= MOST_DIGITS {
         number(row)

@@ -1,7 +1,8 @@
 //! What holds of the grammar itself.
 
 ghost use Rattle.std.specs.Prelude.{◌≡◌, ℕ, List};
-ghost use Rattle.f77_syntax.specs.Grammar.{Spells, SpellsStatement};
+ghost use Rattle.f77_syntax.specs.Grammar.{Spells};
+ghost use Rattle.f77_syntax.specs.StatementGrammar.{SpellsStatement};
 ghost use Rattle.f77_syntax.specs.Classification.{class_of, statement_class};
 ghost use Rattle.f77_syntax.specs.Tree.{Tree, Statement};
 

@@ -5,6 +5,9 @@ mod assignment;
 mod canonical;
 mod classification;
 mod condition;
+mod constants;
+mod data;
+mod declaration;
 mod do_loop;
 mod expression;
 mod fault;
@@ -20,6 +23,7 @@ mod parsing;
 mod printing;
 mod program;
 mod scan;
+mod specification;
 mod statement;
 mod subroutine;
 #[cfg(test)]
@@ -28,6 +32,8 @@ mod tree;
 
 pub use canonical::print_stmt;
 pub use classification::Class;
+pub use data::{Constant, DataGroup, Value};
+pub use declaration::Decl;
 pub use fault::SyntaxFault;
 pub use group::Group;
 pub use intrinsic::Intrinsic;

@@ -3,9 +3,13 @@
 ghost use Rattle.std.specs.Prelude.{◌≡◌, ◌≤◌, ◌+◌, length, true, false, map, min, if◌then◌else◌, option_map};
 ghost use Rattle.std.specs.List.{list_all};
 ghost use Rattle.f77_syntax.specs.Limits as limits;
+ghost use Rattle.f77_syntax.specs.StatementLimits as statements;
 ghost use Rattle.f77_syntax.specs.Limits.{IsTooDeep, is_short, all_short_names, all_small_constants, all_nodes};
-ghost use Rattle.f77_syntax.specs.View.{tree_of, trees, statement_of};
+ghost use Rattle.f77_syntax.specs.View.{tree_of, trees};
+ghost use Rattle.f77_syntax.specs.StatementView.{statement_of};
 
+use crate::data::{data_constants, data_names, data_nodes};
+use crate::declaration::{declaration_constants, declaration_names, declaration_nodes};
 use crate::name::Name;
 use crate::tree::{Expr, Stmt};
 
@@ -13,7 +17,7 @@ const MOST_OPEN: usize = 40;
 
 pub(crate) const LONGEST_NAME: usize = 6;
 
-const LARGEST: u32 = 2_147_483_647;
+pub(crate) const LARGEST: u32 = 2_147_483_647;
 
 fn one_if(holds: bool) -> usize
     ensures { result ≡ if holds then 1 else 0 }
@@ -132,7 +136,7 @@ fn all_nodes(items: &[Expr]) -> u32
 }
 
 fn step_names(step: &Option<Expr>) -> bool
-    ensures { result ≡ limits.of_step limits.short_names (option_map tree_of step.now) }
+    ensures { result ≡ statements.of_step limits.short_names (option_map tree_of step.now) }
 {
     match step {
         None => true,
@@ -142,10 +146,12 @@ fn step_names(step: &Option<Expr>) -> bool
 
 /// Whether each name of the statement has six characters at most.
 pub(crate) fn statement_names(stmt: &Stmt) -> bool
-    ensures { result ≡ limits.statement_names (statement_of stmt.now) }
+    ensures { result ≡ statements.statement_names (statement_of stmt.now) }
 {
     match stmt {
         Stmt::Subroutine { name, arguments } => is_short(name) && are_short(arguments),
+        Stmt::Declare { items, .. } | Stmt::Dimension { items } => declaration_names(items),
+        Stmt::Preset { groups } => data_names(groups),
         Stmt::Assign { target, value } => {
             is_short(&target.name) && all_short_names(&target.subscripts) && short_names(value)
         }
@@ -167,13 +173,13 @@ pub(crate) fn statement_names(stmt: &Stmt) -> bool
 }
 
 fn is_label(label: u32) -> bool
-    ensures { result ≡ limits.is_label label }
+    ensures { result ≡ statements.is_label label }
 {
     (1..=99999).contains(&label)
 }
 
 fn step_constants(step: &Option<Expr>) -> bool
-    ensures { result ≡ limits.of_step limits.small_constants (option_map tree_of step.now) }
+    ensures { result ≡ statements.of_step limits.small_constants (option_map tree_of step.now) }
 {
     match step {
         None => true,
@@ -181,11 +187,14 @@ fn step_constants(step: &Option<Expr>) -> bool
     }
 }
 
-/// Whether each constant of the statement is one that INTEGER has, and each label 1 to 99999.
+/// Whether each constant and bound of the statement is one that INTEGER has, each repeat too and not 0, and each label 1
+/// to 99999.
 pub(crate) fn statement_constants(stmt: &Stmt) -> bool
-    ensures { result ≡ limits.statement_constants (statement_of stmt.now) }
+    ensures { result ≡ statements.statement_constants (statement_of stmt.now) }
 {
     match stmt {
+        Stmt::Declare { items, .. } | Stmt::Dimension { items } => declaration_constants(items),
+        Stmt::Preset { groups } => data_constants(groups),
         Stmt::Assign { target, value } => {
             all_small_constants(&target.subscripts) && small_constants(value)
         }
@@ -220,7 +229,7 @@ pub(crate) fn statement_constants(stmt: &Stmt) -> bool
 }
 
 fn step_nodes(step: &Option<Expr>) -> u32
-    ensures { result ≡ min (limits.step_nodes (option_map tree_of step.now)) 4294967295 }
+    ensures { result ≡ min (statements.step_nodes (option_map tree_of step.now)) 4294967295 }
 {
     match step {
         None => 0,
@@ -230,12 +239,16 @@ fn step_nodes(step: &Option<Expr>) -> u32
 
 /// How many nodes the statement has, the largest `u32` for more than that.
 pub(crate) fn statement_nodes(stmt: &Stmt) -> u32
-    ensures { result ≡ min (limits.statement_nodes (statement_of stmt.now)) 4294967295 }
+    ensures { result ≡ min (statements.statement_nodes (statement_of stmt.now)) 4294967295 }
 {
     match stmt {
         Stmt::Subroutine { arguments, .. } => u32::try_from(arguments.len())
             .unwrap_or(u32::MAX)
             .saturating_add(1),
+        Stmt::Declare { items, .. } | Stmt::Dimension { items } => declaration_nodes(
+            items,
+        ).saturating_add(1),
+        Stmt::Preset { groups } => data_nodes(groups).saturating_add(1),
         Stmt::Assign { target, value } => {
             all_nodes(&target.subscripts)
                 .saturating_add(1)

@@ -2,11 +2,11 @@
 
 ghost use Rattle.std.specs.Prelude.{◌≡◌, ◌≢◌, ◌⊎◌, List, ◌∷◌, [], ◌++◌, true, false, IfOk, IfErr, MatchResult, map, Some, None, Err};
 ghost use Rattle.f77_source.specs.Card.{CardFields};
-ghost use Rattle.f77_syntax.specs.Grammar.{SpellsStatement};
+ghost use Rattle.f77_syntax.specs.StatementGrammar.{SpellsStatement};
 ghost use Rattle.f77_syntax.specs.Group.{group_of, may_stand};
 ghost use Rattle.f77_syntax.specs.Parsing.{IsAdmitted, IsRefused, IsFirstFault, AreLines, IsProgram, LineFields, line_of, misplaced, unfinished};
 ghost use Rattle.f77_syntax.specs.Tree.{Statement};
-ghost use Rattle.f77_syntax.specs.View.{statement_of, clip_statement};
+ghost use Rattle.f77_syntax.specs.StatementView.{statement_of, clip_statement};
 ghost use Rattle.f77_syntax.specs.declared.group.Group.TheVariants.{End};
 
 use crate::fault::{ReadError, SyntaxFault};

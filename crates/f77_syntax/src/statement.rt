@@ -2,9 +2,10 @@
 
 ghost use Rattle.std.specs.Prelude.{◌≡◌, option_map};
 ghost use Rattle.f77_syntax.specs.Statement as reading;
-ghost use Rattle.f77_syntax.specs.Statement.{simple_at, simple_action_at, action_at, branch_at, else_at, keyword_at, statement_at};
+ghost use Rattle.f77_syntax.specs.Statement.{simple_at, simple_action_at, action_at, branch_at, else_at, specification_at, keyword_at, statement_at};
 ghost use Rattle.f77_syntax.specs.Tree.{Tree};
-ghost use Rattle.f77_syntax.specs.View.{tree_of, clip, statement_of, Gives, IsStatement};
+ghost use Rattle.f77_syntax.specs.View.{tree_of, clip, Gives};
+ghost use Rattle.f77_syntax.specs.StatementView.{statement_of, IsStatement};
 
 use crate::assignment::assignment;
 use crate::classification::{Class, class_of};
@@ -12,8 +13,9 @@ use crate::condition::{arithmetic, condition};
 use crate::do_loop::loop_statement;
 use crate::fault::ReadError;
 use crate::label::last_label;
+use crate::specification::{declared, dimension, preset};
 use crate::subroutine::subroutine;
-use crate::tree::{Expr, Stmt};
+use crate::tree::{Expr, Kind, Stmt};
 use std::alloc::Global;
 
 /// A statement of one keyword alone.
@@ -121,6 +123,26 @@ fn otherwise(alloc: Global, text: &[u8]) -> Result<Stmt, ReadError>
     Ok(Stmt::ElseIf { condition })
 }
 
+/// Reads a declaration or DATA, or else a GO TO or a statement of one keyword alone.
+#[tactic(auto, unfolding(crate::specs::Statement::specification_at))]
+fn specification(alloc: Global, text: &[u8]) -> Result<Stmt, ReadError>
+    ensures { Gives IsStatement result (specification_at text.now) }
+{
+    if let Some(rest) = text.strip_prefix(b"INTEGER") {
+        return declared(alloc, Kind::Integer, rest);
+    }
+    if let Some(rest) = text.strip_prefix(b"LOGICAL") {
+        return declared(alloc, Kind::Logical, rest);
+    }
+    if let Some(rest) = text.strip_prefix(b"DIMENSION") {
+        return dimension(alloc, rest);
+    }
+    if let Some(rest) = text.strip_prefix(b"DATA") {
+        return preset(alloc, rest);
+    }
+    simple(text).ok_or(ReadError::Unknown)
+}
+
 /// Reads a statement by its keyword.
 #[tactic(auto, unfolding(crate::specs::Statement::keyword_at))]
 fn keyword(alloc: Global, text: &[u8]) -> Result<Stmt, ReadError>
@@ -132,7 +154,7 @@ fn keyword(alloc: Global, text: &[u8]) -> Result<Stmt, ReadError>
     if let Some(rest) = text.strip_prefix(b"ELSE") {
         return otherwise(alloc, rest);
     }
-    simple(text).ok_or(ReadError::Unknown)
+    specification(alloc, text)
 }
 
 /// Reads a statement.

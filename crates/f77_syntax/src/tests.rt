@@ -96,6 +96,18 @@ fn reads_and_writes_statements(rt: HostRuntime) -> Result<(), Fail> {
         ("DO10I=M(1,2)", "DO10I=M(1,2)"),
         ("CONTINUE", "CONTINUE"),
         ("RETURN", "RETURN"),
+        ("INTEGERI,M(3)", "INTEGER I,M(3)"),
+        ("LOGICALP", "LOGICAL P"),
+        ("DIMENSIONM(2,03)", "DIMENSION M(2,3)"),
+        ("INTEGERM(0)", "INTEGER M(0)"),
+        ("DATA=1", "DATA=1"),
+        ("DATAI,J/1,+2/K/1*3/", "DATA I,J/1,2/,K/3/"),
+        ("DATAI,J/1,2/,K/3*0/", "DATA I,J/1,2/,K/3*0/"),
+        (
+            "DATAI/-0/,P/2*.TRUE./,K/2*-3/",
+            "DATA I/0/,P/2*.TRUE./,K/2*-3/",
+        ),
+        ("DATA(1)=2", "DATA(1)=2"),
         ("RETURN=1", "RETURN=1"),
         ("STOP", "STOP"),
     ] {
@@ -132,6 +144,15 @@ fn refuses_statements(rt: HostRuntime) -> Result<(), Fail> {
         ("DO10I=1,2,3,4", "Unknown(2)"),
         ("DOI=1,2", "Unknown(2)"),
         ("TRAP", "Unknown(2)"),
+        ("DIMENSIONM", "Unknown(2)"),
+        ("INTEGER", "Unknown(2)"),
+        ("INTEGERM()", "Unknown(2)"),
+        ("INTEGERM(2147483648)", "BadConstant(2)"),
+        ("DATAI/1/,", "Unknown(2)"),
+        ("DATAI//", "Unknown(2)"),
+        ("DATAI/0*1/", "BadConstant(2)"),
+        ("DATAI/-2147483648/", "BadConstant(2)"),
+        ("DATAABCDEFG/1/", "BadName(2)"),
         ("SUBROUTINEB", "Unknown(2)"),
         ("END", "AfterEnd(3)"),
     ] {
@@ -179,6 +200,14 @@ fn tells_the_first_fault(rt: HostRuntime) -> Result<(), Fail> {
         ),
         ("      SUBROUTINE A(I\n      END\n", "Unknown(1)"),
         ("      SUBROUTINE ABCDEFG\n      END\n", "BadName(1)"),
+        (
+            "      SUBROUTINE ADD(I,J,K)\n      K=I+J\n      INTEGER L\n      END\n",
+            "Unknown(3)",
+        ),
+        (
+            "      SUBROUTINE A\n      DATA I/1/\n      INTEGER I\n      END\n",
+            "Unknown(3)",
+        ),
         (
             "      subroutine a ( i , j )\n      k = i\n      end\n",
             "3",
@@ -230,6 +259,10 @@ fn printed(rt: &impl AllocGlobal, lines: Vec<Line>) -> Result<String, Fail> {
 #[test]
 fn prints_programs(rt: HostRuntime) -> Result<(), Fail> {
     for (source, want) in [
+        (
+            "      SUBROUTINE ODD(I)\n      INTEGER IF(5),DO10I\n      DO10I=1\n      DO10I=1,3\n   10 IF(I)=3\n      END\n",
+            "      SUBROUTINE ODD(I)\n      INTEGER IF(5),DO10I\n      DO10I=1\n      DO 10 I=1,3\n   10 IF(I)=3\n      END\n",
+        ),
         (
             "      subroutine add ( i , j , k )\n      k = i + j\n      end\n",
             "      SUBROUTINE ADD(I,J,K)\n      K=I+J\n      END\n",

@@ -1,5 +1,7 @@
 //! Trees of expressions, without parentheses.
 
+use crate::data::DataGroup;
+use crate::declaration::Decl;
 use crate::intrinsic::Intrinsic;
 use crate::name::Name;
 use crate::operator::{Operator, Sign};
@@ -51,6 +53,19 @@ pub enum Stmt {
     Subroutine {
         name: Name,
         arguments: Vec<Name>,
+    },
+    /// INTEGER or LOGICAL with the names that it types, and their bounds, in order (8.4).
+    Declare {
+        kind: Kind,
+        items: Vec<Decl>,
+    },
+    /// DIMENSION with array names and their bounds, in order (8.1).
+    Dimension {
+        items: Vec<Decl>,
+    },
+    /// DATA with its groups, in order (section 9).
+    Preset {
+        groups: Vec<DataGroup>,
     },
     /// An assignment to a variable or an array element (section 10).
     Assign {

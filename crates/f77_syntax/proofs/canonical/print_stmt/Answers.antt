@@ -1,9 +1,9 @@
 use Rattle.std.proofs.Common.{◌≡◌, rules, string_bytes, sym, subst}
 use Rattle.f77_source.specs.Law.{squeezed}
 use Rattle.f77_syntax.specs.Canonical.{statement_text}
-use Rattle.f77_syntax.specs.Grammar.{SpellsStatement}
-use Rattle.f77_syntax.specs.View.{statement_of}
-use Rattle.f77_syntax.proofs.Plain.{reads_back}
+use Rattle.f77_syntax.specs.StatementGrammar.{SpellsStatement}
+use Rattle.f77_syntax.specs.StatementView.{statement_of}
+use Rattle.f77_syntax.proofs.StatementPlain.{reads_back}
 use Rattle.f77_syntax.proofs.canonical.print_stmt.Goals as goal
 
 pub returns-clause-back : goal.returns-clause-back

@@ -1,0 +1,10 @@
+use Rattle.std.proofs.Common.{ℕ, List, length}
+use Rattle.f77_syntax.specs.Declaration.{name_at}
+use Rattle.f77_syntax.proofs.JoinedTexts.{Listing}
+use Rattle.f77_syntax.proofs.data.names.Given as goal
+
+abbrev pub invariant-loop-front : goal.invariant-loop-front
+invariant-loop-front l = Listing (λ (name : List ℕ). name) (λ (name : List ℕ). name) name_at l.names.items l.rest l.text
+
+abbrev pub decreases-loop-front : goal.decreases-loop-front
+decreases-loop-front l = length l.rest

@@ -1,0 +1,75 @@
+//! The constants of DATA, read from texts.
+
+ghost use Rattle.std.specs.Prelude.{◌≡◌, pos};
+ghost use Rattle.f77_syntax.specs.Declaration.{number_at};
+ghost use Rattle.f77_syntax.specs.Data as initial;
+ghost use Rattle.f77_syntax.specs.Data.{signed_at, truth_at, constant_at, clip_constant, kept, Finds};
+ghost use Rattle.f77_syntax.specs.View.{clipped};
+
+use crate::data::Constant;
+use crate::scan::{is_number, number, split_word};
+
+/// The number of this size, or -2147483648 where it is too large.
+fn above_zero(size: u32) -> i32
+    ensures { result ≡ kept (pos size) }
+{
+    i32::try_from(size).unwrap_or(i32::MIN)
+}
+
+/// The number of this size with a minus sign, or -2147483648 where it is too large.
+fn below_zero(size: u32) -> i32
+    ensures { result ≡ kept (initial.negative size) }
+{
+    match i32::try_from(size) {
+        Ok(number) => -number,
+        Err(_) => i32::MIN,
+    }
+}
+
+/// Reads digits, and what follows them.
+pub(crate) fn digits(text: &[u8]) -> Option<(u32, &[u8])>
+    ensures { Finds clipped result (number_at text.now) }
+{
+    let (front, rest) = split_word(text);
+    if !is_number(front) {
+        return None;
+    }
+    Some((number(front), rest))
+}
+
+fn positive(text: &[u8]) -> Option<(Constant, &[u8])>
+    ensures { Finds clip_constant result (signed_at pos text.now) }
+{
+    let (size, rest) = digits(text)?;
+    Some((Constant::Number(above_zero(size)), rest))
+}
+
+fn negative(text: &[u8]) -> Option<(Constant, &[u8])>
+    ensures { Finds clip_constant result (signed_at initial.negative text.now) }
+{
+    let (size, rest) = digits(text)?;
+    Some((Constant::Number(below_zero(size)), rest))
+}
+
+fn truth(text: &[u8]) -> Option<(Constant, &[u8])>
+    ensures { Finds clip_constant result (truth_at text.now) }
+{
+    if let Some(rest) = text.strip_prefix(b".TRUE.") {
+        return Some((Constant::Truth(true), rest));
+    }
+    let rest = text.strip_prefix(b".FALSE.")?;
+    Some((Constant::Truth(false), rest))
+}
+
+/// Reads a constant with its sign, and what follows.
+pub(crate) fn read_constant(text: &[u8]) -> Option<(Constant, &[u8])>
+    ensures { Finds clip_constant result (constant_at text.now) }
+{
+    let (first, behind) = text.split_first()?;
+    match *first {
+        b'+' => positive(behind),
+        b'-' => negative(behind),
+        b'.' => truth(text),
+        _ => positive(text),
+    }
+}

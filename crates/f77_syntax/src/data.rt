@@ -1,0 +1,332 @@
+//! Names with their initial values, as they stand behind DATA.
+
+ghost use Rattle.std.specs.Prelude.{◌≡◌, ◌<◌, ◌≤◌, ◌++◌, [], length, map, min, codes, IfOk, OnOk, string_bytes};
+ghost use Rattle.std.specs.List.{list_all};
+ghost use Rattle.f77_syntax.specs.Data as initial;
+ghost use Rattle.f77_syntax.specs.Data.{data_group_of, repeat_at, value_at, data_names_at, data_values_at, group_at, groups_at, clip_value, Finds, AreDataNames, AreDataValues, IsGroup, AreGroups, name_text};
+ghost use Rattle.f77_syntax.specs.Grammar as grammar;
+ghost use Rattle.f77_syntax.specs.Joined.{separated, some_all};
+ghost use Rattle.f77_syntax.specs.Reading.{after};
+ghost use Rattle.f77_syntax.specs.View.{clipped, Gives};
+
+use crate::constants::{digits, read_constant};
+use crate::expression::after_byte;
+use crate::fault::ReadError;
+use crate::limits::{LARGEST, LONGEST_NAME};
+use crate::name::Name;
+use crate::scan::{is_name, split_word};
+use std::alloc::{AllocError, Global};
+
+/// A constant of a DATA statement, its sign part of it (ANSI X3.9-1978, section 9).
+#[derive(Clone, Copy, Debug, PartialEq, Eq, Drop)]
+pub enum Constant {
+    /// An INTEGER constant: -2147483648 stands for any whose size is above 2147483647.
+    Number(i32),
+    /// A LOGICAL constant.
+    Truth(bool),
+}
+
+/// A constant, so many times (ANSI X3.9-1978, section 9).
+#[derive(Clone, Copy, Debug, PartialEq, Eq, Drop)]
+pub struct Value {
+    /// The repeat, 1 where none is written: 2147483648 stands for any that is too large.
+    pub times: u32,
+    /// What is repeated.
+    pub constant: Constant,
+}
+
+/// Names with the values that they get, each in order (ANSI X3.9-1978, section 9).
+#[derive(Drop)]
+pub struct DataGroup {
+    /// Variables and arrays: an array takes a value for each element, the first subscript varying fastest (5.2.4).
+    pub names: Vec<Name>,
+    /// What stands between the slashes.
+    pub values: Vec<Value>,
+}
+
+/// Reads a repeat with its asterisk, and what follows.
+fn repeat(text: &[u8]) -> Option<(u32, &[u8])>
+    ensures { Finds clipped result (repeat_at text.now) }
+{
+    let (times, rest) = digits(text)?;
+    let behind = after_byte(rest, b'*')?;
+    Some((times, behind))
+}
+
+/// Reads a constant with its repeat, and what follows.
+fn read_value(text: &[u8]) -> Option<(Value, &[u8])>
+    ensures { Finds clip_value result (value_at text.now) }
+{
+    let (times, behind) = repeat(text).unwrap_or((1, text));
+    let (constant, rest) = read_constant(behind)?;
+    Some((Value { times, constant }, rest))
+}
+
+/// Reads names joined by commas, and what follows them.
+fn names(alloc: Global, text: &[u8]) -> Result<(Vec<Name>, &[u8]), ReadError>
+    ensures { Gives AreDataNames result (data_names_at text.now) }
+{
+    let mut names = Vec::new(alloc);
+    let mut rest = text;
+    loop {
+        let (front, behind) = split_word(rest);
+        if !is_name(front) {
+            return Err(ReadError::Unknown);
+        }
+        names.push(Name::copy_of(alloc, front)?)?;
+        let Some(next) = after_byte(behind, b',') else {
+            return Ok((names, behind));
+        };
+        rest = next;
+    }
+}
+
+/// Reads values joined by commas, and what follows them.
+fn values(alloc: Global, text: &[u8]) -> Result<(Vec<Value>, &[u8]), ReadError>
+    ensures { Gives AreDataValues result (data_values_at text.now) }
+{
+    let mut values = Vec::new(alloc);
+    let mut rest = text;
+    loop {
+        let Some((value, behind)) = read_value(rest) else {
+            return Err(ReadError::Unknown);
+        };
+        values.push(value)?;
+        let Some(next) = after_byte(behind, b',') else {
+            return Ok((values, behind));
+        };
+        rest = next;
+    }
+}
+
+/// What follows a slash.
+fn past_slash(text: &[u8]) -> Result<&[u8], ReadError>
+    ensures { Gives (λ x s. x.now ≡ s) result (after 47 text.now) }
+{
+    after_byte(text, b'/').ok_or(ReadError::Unknown)
+}
+
+/// Reads names and their values between slashes, and what follows.
+fn group(alloc: Global, text: &[u8]) -> Result<(DataGroup, &[u8]), ReadError>
+    ensures found { Gives IsGroup result (group_at text.now) }
+    ensures shorter { IfOk result (λ x. length x.1.now < length text.now) }
+{
+    let (names, behind) = names(alloc, text)?;
+    let inner = past_slash(behind)?;
+    let (values, end) = values(alloc, inner)?;
+    let rest = past_slash(end)?;
+    Ok((DataGroup { names, values }, rest))
+}
+
+/// The text without the comma at its front.
+fn past_comma(text: &[u8]) -> &[u8]
+    ensures rest { result.now ≡ initial.past_comma text.now }
+    ensures short { length result.now ≤ length text.now }
+{
+    after_byte(text, b',').unwrap_or(text)
+}
+
+/// Reads what follows the keyword DATA.
+pub(crate) fn groups(alloc: Global, text: &[u8]) -> Result<Vec<DataGroup>, ReadError>
+    ensures { Gives AreGroups result (groups_at text.now) }
+{
+    let mut groups = Vec::new(alloc);
+    let mut rest = text;
+    loop {
+        let (group, behind) = group(alloc, rest)?;
+        groups.push(group)?;
+        if behind.is_empty() {
+            return Ok(groups);
+        }
+        rest = past_comma(behind);
+    }
+}
+
+fn are_named(names: &[Name]) -> bool
+    ensures { result ≡ list_all grammar.is_name names.now }
+{
+    names.iter().all(|name| is_name(name.as_str().as_bytes()))
+}
+
+#[tactic(auto, using(crate::proofs::JoinedTexts::some_here, crate::proofs::JoinedTexts::none_here))]
+fn are_names(names: &[Name]) -> bool
+    ensures { result ≡ some_all grammar.is_name names.now }
+{
+    !names.is_empty() && are_named(names)
+}
+
+#[tactic(auto, using(crate::proofs::DataForms::some_values))]
+fn are_values(values: &[Value]) -> bool
+    ensures { result ≡ some_all initial.any_value values.now }
+{
+    !values.is_empty()
+}
+
+fn is_group(group: &DataGroup) -> bool
+    ensures { result ≡ initial.is_group (data_group_of group.now) }
+{
+    are_names(&group.names) && are_values(&group.values)
+}
+
+fn are_groups(groups: &[DataGroup]) -> bool
+    ensures { result ≡ list_all initial.is_group (map data_group_of groups.now) }
+{
+    for group in groups {
+        if !is_group(group) {
+            return false;
+        }
+    }
+    true
+}
+
+/// Whether some text spells the groups, names, repeats and constants of any length and size allowed.
+#[tactic(auto, using(crate::proofs::JoinedTexts::some_seen, crate::proofs::JoinedTexts::none_seen))]
+pub(crate) fn data_formed(groups: &[DataGroup]) -> bool
+    ensures { result ≡ initial.data_formed (map data_group_of groups.now) }
+{
+    !groups.is_empty() && are_groups(groups)
+}
+
+fn has_short_names(group: &DataGroup) -> bool
+    ensures { result ≡ initial.group_names (data_group_of group.now) }
+{
+    group
+        .names
+        .iter()
+        .all(|name| name.as_str().len() <= LONGEST_NAME)
+}
+
+/// Whether each name has six characters at most.
+pub(crate) fn data_names(groups: &[DataGroup]) -> bool
+    ensures { result ≡ initial.data_names (map data_group_of groups.now) }
+{
+    for group in groups {
+        if !has_short_names(group) {
+            return false;
+        }
+    }
+    true
+}
+
+fn is_small_constant(constant: Constant) -> bool
+    ensures { result ≡ initial.small_constant constant }
+{
+    match constant {
+        Constant::Number(number) => number.unsigned_abs() <= LARGEST,
+        Constant::Truth(_) => true,
+    }
+}
+
+fn is_small(value: &Value) -> bool
+    ensures { result ≡ initial.small_value value.now }
+{
+    1 <= value.times && value.times <= LARGEST && is_small_constant(value.constant)
+}
+
+fn has_small_values(group: &DataGroup) -> bool
+    ensures { result ≡ initial.group_constants (data_group_of group.now) }
+{
+    group.values.iter().all(|value| is_small(value))
+}
+
+/// Whether each repeat is 1 to 2147483647, and each number one that INTEGER has.
+pub(crate) fn data_constants(groups: &[DataGroup]) -> bool
+    ensures { result ≡ initial.data_constants (map data_group_of groups.now) }
+{
+    for group in groups {
+        if !has_small_values(group) {
+            return false;
+        }
+    }
+    true
+}
+
+fn count(length: usize) -> u32
+    ensures { result ≡ min length 4294967295 }
+{
+    u32::try_from(length).unwrap_or(u32::MAX)
+}
+
+fn group_nodes(group: &DataGroup) -> u32
+    ensures { result ≡ min (initial.group_nodes (data_group_of group.now)) 4294967295 }
+{
+    count(group.names.len()).saturating_add(count(group.values.len()))
+}
+
+/// How many names and values there are, the largest `u32` for more than that.
+pub(crate) fn data_nodes(groups: &[DataGroup]) -> u32
+    ensures { result ≡ min (initial.data_nodes (map data_group_of groups.now)) 4294967295 }
+{
+    let mut sum: u32 = 0;
+    for group in groups {
+        sum = sum.saturating_add(group_nodes(group));
+    }
+    sum
+}
+
+fn print_constant(out: &mut String, constant: Constant) -> Result<(), AllocError>
+    ensures { OnOk result (string_bytes out.new ≡ string_bytes out.old ++ initial.constant_text constant) }
+{
+    match constant {
+        Constant::Number(number) => write!(out, "{number}"),
+        Constant::Truth(true) => out.push_str(".TRUE."),
+        Constant::Truth(false) => out.push_str(".FALSE."),
+    }
+}
+
+/// Writes a value, its repeat where that is not 1.
+fn print_value(out: &mut String, value: &Value) -> Result<(), AllocError>
+    ensures { OnOk result (string_bytes out.new ≡ string_bytes out.old ++ initial.value_text value.now) }
+{
+    if value.times == 1 {
+        return print_constant(out, value.constant);
+    }
+    write!(out, "{}*", value.times)?;
+    print_constant(out, value.constant)
+}
+
+fn print_names(out: &mut String, names: &[Name]) -> Result<(), AllocError>
+    ensures { OnOk result (string_bytes out.new ≡ string_bytes out.old ++ separated name_text [] names.now) }
+{
+    let mut before = "";
+    for name in names {
+        out.push_str(before)?;
+        out.push_str(name.as_str())?;
+        before = ",";
+    }
+    Ok(())
+}
+
+/// Writes values, a slash before the first and a comma before each other.
+fn print_values(out: &mut String, values: &[Value]) -> Result<(), AllocError>
+    ensures { OnOk result (string_bytes out.new ≡ string_bytes out.old ++ separated initial.value_text (codes "/") values.now) }
+{
+    let mut before = "/";
+    for value in values {
+        out.push_str(before)?;
+        print_value(out, value)?;
+        before = ",";
+    }
+    Ok(())
+}
+
+fn print_group(out: &mut String, group: &DataGroup) -> Result<(), AllocError>
+    ensures { OnOk result (string_bytes out.new ≡ string_bytes out.old ++ initial.group_text (data_group_of group.now)) }
+{
+    print_names(out, &group.names)?;
+    print_values(out, &group.values)?;
+    out.push_str("/")
+}
+
+/// Writes names with their values, joined by commas, without blanks.
+pub(crate) fn print_groups(out: &mut String, groups: &[DataGroup]) -> Result<(), AllocError>
+    ensures { OnOk result (string_bytes out.new ≡ string_bytes out.old ++ initial.groups_text (map data_group_of groups.now)) }
+{
+    let mut before = "";
+    for group in groups {
+        out.push_str(before)?;
+        print_group(out, group)?;
+        before = ",";
+    }
+    Ok(())
+}

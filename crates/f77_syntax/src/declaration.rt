@@ -1,0 +1,205 @@
+//! Declared names, as they stand behind INTEGER, LOGICAL and DIMENSION.
+
+ghost use Rattle.std.specs.Prelude.{◌≡◌, ◌≤◌, ◌++◌, length, map, min, codes, IfOk, OnOk, string_bytes};
+ghost use Rattle.std.specs.List.{list_all};
+ghost use Rattle.std.specs.Fmt.{decimal};
+ghost use Rattle.f77_syntax.specs.Declaration as declared;
+ghost use Rattle.f77_syntax.specs.Declaration.{decl_of, bounds_at, decl_at, declarations_at, AreBounds, IsDecl, AreDecls};
+ghost use Rattle.f77_syntax.specs.Joined.{separated};
+ghost use Rattle.f77_syntax.specs.View.{Gives};
+
+use crate::expression::{after_byte, closed};
+use crate::fault::ReadError;
+use crate::limits::{LARGEST, LONGEST_NAME};
+use crate::name::Name;
+use crate::scan::{is_name, is_number, number, split_word};
+use std::alloc::{AllocError, Global};
+
+/// A declared name, with its bounds where it is an array (ANSI X3.9-1978, 8.1 and 8.4).
+#[derive(Drop)]
+pub struct Decl {
+    /// A variable, or an array where bounds follow.
+    pub name: Name,
+    /// The upper bound of each dimension, in order: 2147483648 stands for any that is too large.
+    pub bounds: Vec<u32>,
+}
+
+/// Reads bounds joined by commas, and what follows them.
+fn bounds(alloc: Global, text: &[u8]) -> Result<(Vec<u32>, &[u8]), ReadError>
+    ensures { Gives AreBounds result (bounds_at text.now) }
+{
+    let mut bounds = Vec::new(alloc);
+    let mut rest = text;
+    loop {
+        let (front, behind) = split_word(rest);
+        if !is_number(front) {
+            return Err(ReadError::Unknown);
+        }
+        bounds.push(number(front))?;
+        let Some(next) = after_byte(behind, b',') else {
+            return Ok((bounds, behind));
+        };
+        rest = next;
+    }
+}
+
+/// Reads a declared name with its bounds, and what follows.
+fn declaration(alloc: Global, text: &[u8]) -> Result<(Decl, &[u8]), ReadError>
+    ensures found { Gives IsDecl result (decl_at text.now) }
+    ensures short { IfOk result (λ x. length x.1.now ≤ length text.now) }
+{
+    let (front, rest) = split_word(text);
+    if !is_name(front) {
+        return Err(ReadError::Unknown);
+    }
+    let name = Name::copy_of(alloc, front)?;
+    let Some(inner) = after_byte(rest, b'(') else {
+        let bounds = Vec::new(alloc);
+        return Ok((Decl { name, bounds }, rest));
+    };
+    let (bounds, behind) = bounds(alloc, inner)?;
+    let rest = closed(behind)?;
+    Ok((Decl { name, bounds }, rest))
+}
+
+/// Reads what follows the keyword INTEGER, LOGICAL or DIMENSION.
+pub(crate) fn declarations(alloc: Global, text: &[u8]) -> Result<Vec<Decl>, ReadError>
+    ensures { Gives AreDecls result (declarations_at text.now) }
+{
+    let mut items = Vec::new(alloc);
+    let mut rest = text;
+    loop {
+        let (item, behind) = declaration(alloc, rest)?;
+        items.push(item)?;
+        if behind.is_empty() {
+            return Ok(items);
+        }
+        let Some(next) = after_byte(behind, b',') else {
+            return Err(ReadError::Unknown);
+        };
+        rest = next;
+    }
+}
+
+fn has_bounds(item: &Decl) -> bool
+    ensures { result ≡ declared.has_bounds (decl_of item.now) }
+{
+    !item.bounds.is_empty()
+}
+
+/// Whether each name has bounds, as DIMENSION asks (ANSI X3.9-1978, 8.1).
+pub(crate) fn all_bounded(items: &[Decl]) -> bool
+    ensures { result ≡ declared.all_bounded (map decl_of items.now) }
+{
+    for item in items {
+        if !has_bounds(item) {
+            return false;
+        }
+    }
+    true
+}
+
+fn is_decl(item: &Decl) -> bool
+    ensures { result ≡ declared.is_decl (decl_of item.now) }
+{
+    is_name(item.name.as_str().as_bytes())
+}
+
+fn are_decls(items: &[Decl]) -> bool
+    ensures { result ≡ list_all declared.is_decl (map decl_of items.now) }
+{
+    for item in items {
+        if !is_decl(item) {
+            return false;
+        }
+    }
+    true
+}
+
+/// Whether some text spells the declared names, names and bounds of any length and size allowed.
+#[tactic(auto, using(crate::proofs::JoinedTexts::some_seen, crate::proofs::JoinedTexts::none_seen))]
+pub(crate) fn declaration_formed(items: &[Decl]) -> bool
+    ensures { result ≡ declared.declaration_formed (map decl_of items.now) }
+{
+    !items.is_empty() && are_decls(items)
+}
+
+fn has_short_name(item: &Decl) -> bool
+    ensures { result ≡ declared.decl_name (decl_of item.now) }
+{
+    item.name.as_str().len() <= LONGEST_NAME
+}
+
+/// Whether each declared name has six characters at most.
+pub(crate) fn declaration_names(items: &[Decl]) -> bool
+    ensures { result ≡ declared.declaration_names (map decl_of items.now) }
+{
+    for item in items {
+        if !has_short_name(item) {
+            return false;
+        }
+    }
+    true
+}
+
+fn has_small_bounds(item: &Decl) -> bool
+    ensures { result ≡ declared.decl_constants (decl_of item.now) }
+{
+    item.bounds.iter().all(|bound| *bound <= LARGEST)
+}
+
+/// Whether each bound is one that INTEGER has.
+pub(crate) fn declaration_constants(items: &[Decl]) -> bool
+    ensures { result ≡ declared.declaration_constants (map decl_of items.now) }
+{
+    for item in items {
+        if !has_small_bounds(item) {
+            return false;
+        }
+    }
+    true
+}
+
+/// How many names are declared, the largest `u32` for more than that.
+pub(crate) fn declaration_nodes(items: &[Decl]) -> u32
+    ensures { result ≡ min (declared.declaration_nodes (map decl_of items.now)) 4294967295 }
+{
+    u32::try_from(items.len()).unwrap_or(u32::MAX)
+}
+
+/// Writes bounds, a parenthesis before the first and a comma before each other.
+fn print_bounds(out: &mut String, bounds: &[u32]) -> Result<(), AllocError>
+    ensures { OnOk result (string_bytes out.new ≡ string_bytes out.old ++ separated decimal (codes "(") bounds.now) }
+{
+    let mut before = "(";
+    for bound in bounds {
+        out.push_str(before)?;
+        write!(out, "{bound}")?;
+        before = ",";
+    }
+    Ok(())
+}
+
+fn print_declaration(out: &mut String, item: &Decl) -> Result<(), AllocError>
+    ensures { OnOk result (string_bytes out.new ≡ string_bytes out.old ++ declared.decl_text (decl_of item.now)) }
+{
+    out.push_str(item.name.as_str())?;
+    if item.bounds.is_empty() {
+        return Ok(());
+    }
+    print_bounds(out, &item.bounds)?;
+    out.push_str(")")
+}
+
+/// Writes declared names with their bounds, joined by commas, without blanks.
+pub(crate) fn print_declarations(out: &mut String, items: &[Decl]) -> Result<(), AllocError>
+    ensures { OnOk result (string_bytes out.new ≡ string_bytes out.old ++ declared.declarations_text (map decl_of items.now)) }
+{
+    let mut before = "";
+    for item in items {
+        out.push_str(before)?;
+        print_declaration(out, item)?;
+        before = ",";
+    }
+    Ok(())
+}

@@ -1,0 +1,38 @@
+//! INTEGER, LOGICAL, DIMENSION and DATA statements read from texts.
+
+ghost use Rattle.f77_syntax.specs.Statement.{declared_at, dimension_at, preset_at};
+ghost use Rattle.f77_syntax.specs.View.{Gives};
+ghost use Rattle.f77_syntax.specs.StatementView.{IsStatement};
+
+use crate::data::groups;
+use crate::declaration::{all_bounded, declarations};
+use crate::fault::ReadError;
+use crate::tree::{Kind, Stmt};
+use std::alloc::Global;
+
+/// Reads what follows the keyword of a type statement.
+pub(crate) fn declared(alloc: Global, kind: Kind, text: &[u8]) -> Result<Stmt, ReadError>
+    ensures { Gives IsStatement result (declared_at kind text.now) }
+{
+    let items = declarations(alloc, text)?;
+    Ok(Stmt::Declare { kind, items })
+}
+
+/// Reads what follows the keyword DIMENSION.
+pub(crate) fn dimension(alloc: Global, text: &[u8]) -> Result<Stmt, ReadError>
+    ensures { Gives IsStatement result (dimension_at text.now) }
+{
+    let items = declarations(alloc, text)?;
+    if !all_bounded(&items) {
+        return Err(ReadError::Unknown);
+    }
+    Ok(Stmt::Dimension { items })
+}
+
+/// Reads what follows the keyword DATA.
+pub(crate) fn preset(alloc: Global, text: &[u8]) -> Result<Stmt, ReadError>
+    ensures { Gives IsStatement result (preset_at text.now) }
+{
+    let groups = groups(alloc, text)?;
+    Ok(Stmt::Preset { groups })
+}
