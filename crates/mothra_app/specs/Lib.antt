@@ -1,0 +1,12 @@
+pub mod Watched
+pub mod Input
+pub mod Output
+pub mod Command
+pub mod Request
+pub mod Job
+pub mod Fault
+pub mod Line
+pub mod Printing
+pub mod Status
+pub mod Answer
+pub mod Serving
