@@ -1,6 +1,6 @@
 //! The answer to a request: a text, and what it is.
 
-ghost use Rattle.std.specs.Prelude.{◌≡◌, ◌≢◌, ◌⊎◌, Ok, Err, IfOk, MatchResult, string_bytes};
+ghost use Rattle.std.specs.Prelude.{◌⊎◌, Ok, Err, IfOk, MatchResult, string_bytes};
 ghost use Rattle.clap.specs.Values.{kind_of};
 ghost use Rattle.mothra_app.specs.Answer.{IsOutcome, IsAnswer, IsRefusal};
 ghost use Rattle.mothra_app.specs.Fault.{IsMemory};

@@ -1,6 +1,6 @@
 //! All that a reader has, up to a limit.
 
-ghost use Rattle.std.specs.Prelude.{◌≡◌, false, true, IfOk};
+ghost use Rattle.std.specs.Prelude.{◌≡◌, false, IfOk};
 ghost use Rattle.mothra_app.specs.Watched.{inside, has_failed};
 ghost use Rattle.mothra_app.specs.Input.{limit, failed_read, ReadsUpTo, TakesAtMost};
 

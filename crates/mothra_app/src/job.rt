@@ -1,6 +1,6 @@
 //! Jobs, read from a JSON text (RFC 8259).
 
-ghost use Rattle.std.specs.Prelude.{◌≡◌, ◌⊎◌, ◌<◌, ◌≤◌, Err, IfOk, find, length, not, codes, option_map, option_and_then, string_bytes};
+ghost use Rattle.std.specs.Prelude.{◌≡◌, ◌⊎◌, ◌<◌, Err, find, length, not, codes, option_map, option_and_then, string_bytes};
 ghost use Rattle.std.specs.BTreeMap.{keys};
 ghost use Rattle.serde_json.specs.Errors.{IsMemory};
 ghost use Rattle.serde_json.specs.Find.{get, as_str};
@@ -77,7 +77,8 @@ pub fn read_job(alloc: Global, bytes: &[u8]) -> Result<Job, JobFault>
 
 /// Want of memory, or no JSON text.
 fn fault_of(error: &serde_json::Error) -> JobFault
-    ensures { (IsMemory error.now × (result ≡ JobFault.Memory)) ⊎ ((¬ IsMemory error.now) × (result ≡ JobFault.NotJson)) }
+    ensures { (IsMemory error.now × (result ≡ JobFault.Memory))
+        ⊎ ((¬ IsMemory error.now) × (result ≡ JobFault.NotJson)) }
 {
     if error.is_memory() {
         JobFault::Memory
@@ -110,7 +111,8 @@ fn with_source(
     source: Option<&str>,
     members: &Map<String, Value>,
 ) -> Result<Job, JobFault>
-    ensures { (result ≡ definition.with_source (option_map (λ s. s.now) source.entry) (members_view members.now.entries)) ⊎ (result ≡ Err JobFault.Memory) }
+    ensures { (result ≡ definition.with_source (option_map (λ s. s.now) source.entry) (members_view members.now.entries))
+        ⊎ (result ≡ Err JobFault.Memory) }
 {
     let Some(source) = source else {
         return Err(key_fault(alloc, "source"));

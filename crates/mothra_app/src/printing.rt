@@ -1,6 +1,6 @@
 //! The command `print`: the program of a job in fixed form.
 
-ghost use Rattle.std.specs.Prelude.{◌≡◌, ◌⊎◌, Ok, Err, MatchResult, map, string_bytes};
+ghost use Rattle.std.specs.Prelude.{◌⊎◌, Ok, Err, MatchResult, map, string_bytes};
 ghost use Rattle.f77_syntax.specs.Parsing.{line_of};
 ghost use Rattle.mothra_app.specs.Fault.{IsMemory};
 ghost use Rattle.mothra_app.specs.Printing.{IsProgramOf, IsPrinted};

@@ -1,7 +1,7 @@
 //! What the words ask for.
 
 ghost use Rattle.std.specs.Prelude.{◌≡◌, IfOk, Some, map, option_and_then};
-ghost use Rattle.clap.specs.Words.{fault_of, subcommand_rows_of, rows_of, found_of, FailsBy};
+ghost use Rattle.clap.specs.Words.{fault_of, subcommand_rows_of, FailsBy};
 ghost use Rattle.mothra_app.specs.Command.{mothra};
 ghost use Rattle.mothra_app.specs.Request as asked;
 

@@ -23,7 +23,8 @@ fn read_and_answer<R: Read>(
     reader: &mut Watched<R>,
 ) -> Result<Answer, AppFault>
     requires { has_failed reader.old ≡ false }
-    ensures answered { IfOk result (λ a. IsAnsweredBy request (R.remaining (inside reader.old)) a.status (string_bytes a.text)) }
+    ensures answered { IfOk result (λ a. IsAnsweredBy request
+        (R.remaining (inside reader.old)) a.status (string_bytes a.text)) }
     ensures read { IfOk result (λ a. IsRead limit (R.remaining (inside reader.old)) (R.remaining (inside reader.new))) }
     ensures taken { TakesAtMost limit (R.remaining (inside reader.old)) (R.remaining (inside reader.new)) }
     ensures failed { has_failed reader.new ≡ is_read_fault result }
@@ -40,7 +41,8 @@ fn prepare<S: AsStr, R: Read>(
     reader: &mut Watched<R>,
 ) -> Result<Answer, AppFault>
     requires { has_failed reader.old ≡ false }
-    ensures answered { IfOk result (λ a. IsAnswered (map S.text words.now) (R.remaining (inside reader.old)) (R.remaining (inside reader.new)) a.status (string_bytes a.text)) }
+    ensures answered { IfOk result (λ a. IsAnswered (map S.text words.now)
+        (R.remaining (inside reader.old)) (R.remaining (inside reader.new)) a.status (string_bytes a.text)) }
     ensures words { IfOk result (λ a. a.status ≡ Status.Words → reader.new ≡ reader.old) }
     ensures help { IfOk result (λ a. a.status ≡ Status.Help → reader.new ≡ reader.old) }
     ensures taken { TakesAtMost limit (R.remaining (inside reader.old)) (R.remaining (inside reader.new)) }
@@ -54,6 +56,9 @@ fn prepare<S: AsStr, R: Read>(
 }
 
 /// Reads a job, and writes the text that the words ask for. The first word is the program's name.
+///
+/// Nothing is written before the whole text stands, and the writer is not flushed. An interrupted call of the reader or
+/// the writer has failed, and is not tried again.
 pub fn serve<S: AsStr, R: Read, W: Write>(
     rt: &impl AllocGlobal,
     words: &[S],

@@ -262,7 +262,9 @@ fn passes_each_call_on_once(rt: HostRuntime) -> Result<(), Fail> {
     let mut buf = [0u8; 4];
     assert!(rt; matches!(reader.read(&mut buf), Ok(1)) && buf == [b'a', 0, 0, 0]);
     assert!(rt; matches!(reader.read(&mut buf), Ok(1)) && buf[0] == b'b');
-    assert!(rt; !reader.failed() && reader.read(&mut buf).is_err());
+    assert!(rt; !reader.failed());
+    let failed = reader.read(&mut buf).err();
+    assert!(rt; failed.is_some_and(|error| error.kind() == io::ErrorKind::Interrupted));
     assert!(rt; reader.failed());
 
     let mut taken = Vec::new(rt.alloc());
