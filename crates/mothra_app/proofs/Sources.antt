@@ -13,7 +13,8 @@ use Rattle.f77_syntax.specs.Printing.{printed, print_faults}
 use Rattle.f77_syntax.specs.declared.fault.SyntaxFault.{SyntaxFault}
 use Rattle.f77_syntax.specs.declared.fault.SyntaxFault.TheVariants as syntax
 use Rattle.mothra_app.specs.Fault.{IsMemory, in_form, in_syntax}
-use Rattle.mothra_app.specs.Printing.{IsProgramOf, IsPrinted}
+use Rattle.mothra_app.specs.Program.{IsProgramOf}
+use Rattle.mothra_app.specs.Printing.{IsPrinted}
 use Rattle.mothra_app.specs.declared.fault.Fault.{Fault}
 use Rattle.mothra_app.specs.declared.fault.Fault.TheVariants.{Form, Syntax}
 

@@ -6,6 +6,7 @@ pub mod Request
 pub mod Job
 pub mod Fault
 pub mod Line
+pub mod Program
 pub mod Printing
 pub mod Status
 pub mod Answer

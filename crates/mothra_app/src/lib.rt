@@ -10,6 +10,7 @@ mod key;
 mod line;
 mod output;
 mod printing;
+mod program;
 mod request;
 mod serving;
 mod status;

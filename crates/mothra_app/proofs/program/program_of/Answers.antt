@@ -1,10 +1,10 @@
 use Rattle.std.proofs.Common.{◌≤◌, ℕ, List, length, sym, subst}
 use Rattle.f77_source.specs.Read as forms
 use Rattle.f77_source.specs.Read.{AreCards, lines}
-use Rattle.mothra_app.specs.Printing.{IsProgramOf}
+use Rattle.mothra_app.specs.Program.{IsProgramOf}
 use Rattle.mothra_app.specs.declared.fault.Fault.TheVariants.{Form, Syntax}
 use Rattle.mothra_app.proofs.Sources.{told, form_refused, syntax_refused}
-use Rattle.mothra_app.proofs.printing.program_of.Goals as goal
+use Rattle.mothra_app.proofs.program.program_of.Goals as goal
 
 pub returns-in_err-cards : goal.returns-in_err-cards
 returns-in_err-cards c =
