@@ -1,0 +1,49 @@
+//! The program `mothra`: reads a job from standard input, and writes the answer to standard output alone.
+#![tactic(auto)]
+
+ghost use Rattle.std.specs.Prelude.{◌≡◌, Ok, OnErr};
+
+use mothra_app::{AppFault, Status, Watched, serve};
+use std::env::Env;
+use std::process::ExitCode;
+use std::{env, io};
+
+/// The status that the program ends with.
+fn exit_status(served: Result<Status, AppFault>) -> u8
+    ensures report { served ≡ Ok Status.Report → result ≡ 0 }
+    ensures help { served ≡ Ok Status.Help → result ≡ 0 }
+    ensures fault { served ≡ Ok Status.Fault → result ≡ 1 }
+    ensures words { served ≡ Ok Status.Words → result ≡ 2 }
+    ensures unserved { OnErr served (result ≡ 1) }
+{
+    match served {
+        Ok(Status::Report | Status::Help) => 0,
+        Ok(Status::Fault) | Err(_) => 1,
+        Ok(Status::Words) => 2,
+    }
+}
+
+/// The words of the command line, the program's name first.
+fn words_of(rt: &(impl Env + AllocGlobal)) -> io::Result<Vec<String>> {
+    Ok(env::args(rt)?.collect(rt.alloc())?)
+}
+
+/// What comes of words that cannot be had: memory ran out, or they are no UTF-8 and are refused without a text.
+fn without_words(error: &io::Error) -> Result<Status, AppFault> {
+    match error.kind() {
+        io::ErrorKind::OutOfMemory => Err(AppFault::Memory),
+        _ => Ok(Status::Words),
+    }
+}
+
+fn main(rt: HostRuntime) -> ExitCode {
+    let served = match words_of(&rt) {
+        Ok(words) => {
+            let mut reader = Watched::new(rt.stdin());
+            let mut writer = Watched::new(rt.stdout());
+            serve(&rt, &words, &mut reader, &mut writer)
+        }
+        Err(error) => without_words(&error),
+    };
+    ExitCode::from(exit_status(served))
+}

@@ -1,0 +1,3 @@
+mod Commands
+mod Sources
+mod Answered

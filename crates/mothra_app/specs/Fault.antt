@@ -1,0 +1,12 @@
+-- Faults of the calls that a command makes.
+use Rattle.mothra_app.specs.declared.fault.Fault.{Fault}
+use Rattle.mothra_app.specs.declared.fault.Fault.TheVariants.{Job, Form, Syntax}
+use Rattle.mothra_app.specs.declared.job.JobFault.TheVariants as job
+use Rattle.f77_source.specs.declared.fault.FormFault.TheVariants as form
+use Rattle.f77_syntax.specs.declared.fault.SyntaxFault.TheVariants as syntax
+
+-- want of memory, which may come in place of any other answer
+pub data IsMemory : Fault → Type 0 where
+  in_job : IsMemory (Job job.Memory)
+  in_form : IsMemory (Form form.Memory)
+  in_syntax : IsMemory (Syntax syntax.Memory)

@@ -1,0 +1,50 @@
+-- The job that bytes are, or the first fault.
+use Rattle.std.specs.Prelude.{ℕ, Bool, List, codes, length, Option, Some, None, Result, Ok, Err, option_and_then, nat_lt, if◌then◌else◌}
+use Rattle.std.specs.Str.{bytes_eq, is_utf8}
+use Rattle.serde_json.specs.Data.{Data, Members, no_members, member}
+use Rattle.serde_json.specs.Read.{read}
+use Rattle.serde_json.specs.Find.{as_object, as_str, get}
+use Rattle.mothra_app.specs.declared.job.JobFault.{JobFault}
+use Rattle.mothra_app.specs.declared.job.JobFault.TheVariants.{NotJson, Key, TooLarge}
+
+pub record JobFields : Type 0 where
+  pub source : List ℕ
+
+-- a job, or why there is none
+abbrev pub JobRead : Type 0
+JobRead = Result JobFields JobFault
+
+-- the value that a JSON text in UTF-8 is
+abbrev pub json_of : List ℕ → Option Data
+json_of bytes = if is_utf8 bytes then read bytes else None
+
+abbrev pub is_known : List ℕ → Bool
+is_known key = bytes_eq key (codes "source")
+
+-- the members are in the order of their keys' bytes
+abbrev pub first_unknown : Members → Option (List ℕ)
+first_unknown no_members = None
+first_unknown (member key value rest) = if is_known key then first_unknown rest else Some key
+
+-- the job, where this key is not there
+abbrev pub without_unknown : Option (List ℕ) → JobFields → JobRead
+without_unknown None job = Ok job
+without_unknown (Some key) job = Err (Key key)
+
+abbrev pub with_source : Option (List ℕ) → Members → JobRead
+with_source None ms = Err (Key (codes "source"))
+with_source (Some text) ms = without_unknown (first_unknown ms) (record { source = text })
+
+abbrev pub of_object : Data → Option Members → JobRead
+of_object value None = Err NotJson
+of_object value (Some ms) = with_source (option_and_then as_str (get (codes "source") value)) ms
+
+unfoldable pub job_in : Data → JobRead
+job_in value = of_object value (as_object value)
+
+abbrev pub of_json : Option Data → JobRead
+of_json None = Err NotJson
+of_json (Some value) = job_in value
+
+unfoldable pub job_of : List ℕ → JobRead
+job_of bytes = if nat_lt 1048576 (length bytes) then Err TooLarge else of_json (json_of bytes)

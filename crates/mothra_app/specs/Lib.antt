@@ -1,0 +1,13 @@
+pub mod Watched
+pub mod Input
+pub mod Output
+pub mod Command
+pub mod Request
+pub mod Job
+pub mod Fault
+pub mod Line
+pub mod Program
+pub mod Printing
+pub mod Status
+pub mod Answer
+pub mod Serving

@@ -1,0 +1,59 @@
+-- The one line that tells a fault: FAULT, its code, and its detail where it has one.
+use Rattle.std.specs.Prelude.{ℕ, ◌&&◌, List, ◌++◌, map, codes, nat_le, if◌then◌else◌}
+use Rattle.std.specs.Fmt.{decimal}
+use Rattle.std.specs.Str.{chars}
+use Rattle.f77_source.specs.declared.fault.FormFault.{FormFault}
+use Rattle.f77_source.specs.declared.fault.FormFault.TheVariants as form
+use Rattle.f77_syntax.specs.declared.fault.SyntaxFault.{SyntaxFault}
+use Rattle.f77_syntax.specs.declared.fault.SyntaxFault.TheVariants as syntax
+use Rattle.mothra_app.specs.declared.fault.Fault.{Fault}
+use Rattle.mothra_app.specs.declared.fault.Fault.TheVariants.{Job, Form, Syntax}
+use Rattle.mothra_app.specs.declared.job.JobFault.{JobFault}
+use Rattle.mothra_app.specs.declared.job.JobFault.TheVariants as job
+
+abbrev pub plain_line : List ℕ → List ℕ
+plain_line code = codes "FAULT " ++ (code ++ codes "\n")
+
+abbrev pub numbered_line : List ℕ → ℕ → List ℕ
+numbered_line code n = codes "FAULT " ++ (code ++ (codes " " ++ (decimal n ++ codes "\n")))
+
+-- a question mark, 63, for each character outside 32 to 126
+abbrev pub shown : ℕ → ℕ
+shown c = if nat_le 32 c && nat_le c 126 then c else 63
+
+abbrev pub printable : List ℕ → List ℕ
+printable name = map shown (chars name)
+
+abbrev pub named_line : List ℕ → List ℕ → List ℕ
+named_line code name = codes "FAULT " ++ (code ++ (codes " " ++ (printable name ++ codes "\n")))
+
+abbrev pub job_line : JobFault → List ℕ
+job_line job.Memory = plain_line (codes "J1")
+job_line job.NotJson = plain_line (codes "J2")
+job_line (job.Key name) = named_line (codes "J3") name
+job_line job.TooLarge = plain_line (codes "J7")
+
+abbrev pub form_line : FormFault → List ℕ
+form_line form.Memory = plain_line (codes "F1")
+form_line form.TooLarge = plain_line (codes "F2")
+form_line (form.NotAscii line) = numbered_line (codes "F3") line
+form_line (form.Tab line) = numbered_line (codes "F4") line
+form_line (form.BadLabel line) = numbered_line (codes "F5") line
+form_line (form.LooseContinuation line) = numbered_line (codes "F6") line
+form_line (form.TooManyContinuations line) = numbered_line (codes "F7") line
+
+abbrev pub syntax_line : SyntaxFault → List ℕ
+syntax_line syntax.Memory = plain_line (codes "S1")
+syntax_line (syntax.Unknown line) = numbered_line (codes "S2") line
+syntax_line (syntax.BadName line) = numbered_line (codes "S3") line
+syntax_line (syntax.BadConstant line) = numbered_line (codes "S4") line
+syntax_line (syntax.TooDeep line) = numbered_line (codes "S5") line
+syntax_line (syntax.TooLong line) = numbered_line (codes "S6") line
+syntax_line syntax.NoSubroutine = plain_line (codes "S7")
+syntax_line syntax.NoEnd = plain_line (codes "S8")
+syntax_line (syntax.AfterEnd line) = numbered_line (codes "S9") line
+
+unfoldable pub line_of : Fault → List ℕ
+line_of (Job fault) = job_line fault
+line_of (Form fault) = form_line fault
+line_of (Syntax fault) = syntax_line fault

@@ -1,0 +1,22 @@
+-- The program of a job.
+use Rattle.std.specs.Prelude.{◌≤◌, ◌<◌, ℕ, List, length, None, Result, Ok, Err}
+use Rattle.f77_source.specs.Card.{CardFields}
+use Rattle.f77_source.specs.Read as form
+use Rattle.f77_source.specs.Read.{AreCards, lines}
+use Rattle.f77_source.specs.declared.fault.FormFault.{FormFault}
+use Rattle.f77_source.specs.declared.fault.FormFault.TheVariants.{TooLarge}
+use Rattle.f77_syntax.specs.Parsing as syntax
+use Rattle.f77_syntax.specs.Parsing.{LineFields, AreLines}
+use Rattle.f77_syntax.specs.declared.fault.SyntaxFault.{SyntaxFault}
+use Rattle.mothra_app.specs.declared.fault.Fault.{Fault}
+use Rattle.mothra_app.specs.declared.fault.Fault.TheVariants.{Form, Syntax}
+
+-- The program that a source is, or its first fault: that of its lines, else that of its cards.
+pub data IsProgramOf (source : List ℕ) : Result (List LineFields) Fault → Type 0 where
+  too_large : 65536 < length source → IsProgramOf source (Err (Form TooLarge))
+  no_cards : {fault : FormFault} → length source ≤ 65536 → form.IsFirstFault (lines source) fault
+      → IsProgramOf source (Err (Form fault))
+  no_program : {cards : List CardFields} {fault : SyntaxFault} → length source ≤ 65536 → AreCards 1 (lines source) cards
+      → syntax.IsFirstFault None cards fault → IsProgramOf source (Err (Syntax fault))
+  program : {cards : List CardFields} {program : List LineFields} → length source ≤ 65536 → AreCards 1 (lines source) cards
+      → AreLines None cards program → IsProgramOf source (Ok program)

@@ -1,0 +1,74 @@
+-- What is served: a status and a text, by the words and all the bytes of the reader.
+use Rattle.std.specs.Prelude.{◌≡◌, ◌≢◌, ◌⊎◌, ℕ, List, Option, Some, Ok, Err, IsSome}
+use Rattle.std.specs.Io.KnownBytes.{Appends, Keeps}
+use Rattle.clap.specs.Words.{Text, fault_of}
+use Rattle.clap.specs.Kinds.{IsAmong}
+use Rattle.clap.specs.declared.error.kind.ErrorKind.{ErrorKind}
+use Rattle.clap.specs.declared.error.kind.ErrorKind.TheVariants as kind
+use Rattle.mothra_app.specs.Answer.{IsOutcome, IsAnswer, IsMemoryLine}
+use Rattle.mothra_app.specs.Command.{mothra}
+use Rattle.mothra_app.specs.Input.{limit, AreAll, IsRead}
+use Rattle.mothra_app.specs.Job.{job_of}
+use Rattle.mothra_app.specs.Line.{line_of}
+use Rattle.mothra_app.specs.Output.{AppendsFront}
+use Rattle.mothra_app.specs.Request.{request_of}
+use Rattle.mothra_app.specs.declared.fault.Fault.{Fault}
+use Rattle.mothra_app.specs.declared.request.Request.{Request}
+use Rattle.mothra_app.specs.declared.status.Status.{Status}
+use Rattle.mothra_app.specs.declared.status.Status.TheVariants as status
+
+-- The status and the text that words and bytes are served with, where the command line takes the words: the report
+-- that the request comes to on the job that the bytes are, or the line of the first fault.
+pub data IsServed (words : List Text) (bytes : List ℕ) : Status → List ℕ → Type 0 where
+  report : {request : Request} {text : List ℕ} → request_of words ≡ Some request
+      → IsOutcome request (job_of bytes) (Ok text) → IsServed words bytes status.Report text
+  fault : {request : Request} (fault : Fault) → request_of words ≡ Some request
+      → IsOutcome request (job_of bytes) (Err fault) → IsServed words bytes status.Fault (line_of fault)
+
+-- the command line refuses the words, for another cause than memory, and is not asked for help
+abbrev pub IsRefused : List Text → Type 0
+IsRefused words = (cause : ErrorKind) × (cause ≢ kind.OutOfMemory) × (cause ≢ kind.DisplayHelp) × IsAmong cause (fault_of mothra words)
+
+-- the command line is asked for help
+abbrev pub AsksHelp : List Text → Type 0
+AsksHelp words = IsAmong kind.DisplayHelp (fault_of mothra words)
+
+-- what may be written with this status for the words and the bytes
+abbrev pub MayBeWritten : List Text → List ℕ → Status → List ℕ → Type 0
+MayBeWritten words bytes status.Report text = IsServed words bytes status.Report text
+MayBeWritten words bytes status.Fault text = IsServed words bytes status.Fault text ⊎ (IsSome (request_of words) × IsMemoryLine text)
+MayBeWritten words bytes status.Words text = IsRefused words
+MayBeWritten words bytes status.Help text = AsksHelp words
+
+-- what was read for an answer with this status: nothing for words that are refused or ask for help
+abbrev pub IsReadFor : Status → Option (List ℕ) → Option (List ℕ) → Type 0
+IsReadFor status.Report left now = IsRead limit left now
+IsReadFor status.Fault left now = IsRead limit left now
+IsReadFor status.Words left now = Keeps left now
+IsReadFor status.Help left now = Keeps left now
+
+-- the text with this status may be written for the words, where the reader had the bytes `left` and now has `now`
+pub record IsAnswered (words : List Text) (left now : Option (List ℕ)) (status : Status) (text : List ℕ) : Type 0 where
+  pub bytes : List ℕ
+  pub all : AreAll left bytes
+  pub may : MayBeWritten words bytes status text
+  pub read : IsReadFor status left now
+
+-- the text answers the request, where the reader had these bytes left
+pub record IsAnsweredBy (request : Request) (left : Option (List ℕ)) (status : Status) (text : List ℕ) : Type 0 where
+  pub bytes : List ℕ
+  pub all : AreAll left bytes
+  pub answer : IsAnswer request (job_of bytes) status text
+
+-- the whole of such a text was written to the writer that held the bytes `old` and now holds `new`, and nothing else
+pub record WritesWhole (words : List Text) (left now old new : Option (List ℕ)) (status : Status) : Type 0 where
+  pub text : List ℕ
+  pub answered : IsAnswered words left now status text
+  pub written : Appends old new text
+
+-- a front of such a text was written, and nothing else
+pub record WritesFront (words : List Text) (left now old new : Option (List ℕ)) : Type 0 where
+  pub status : Status
+  pub text : List ℕ
+  pub answered : IsAnswered words left now status text
+  pub written : AppendsFront old new text

@@ -1,0 +1,48 @@
+//! The command line that the program takes: one function for each subcommand and option.
+
+ghost use Rattle.std.specs.Prelude.{◌≡◌, IfOk, map, is_some, true, false};
+ghost use Rattle.clap.specs.Words.{app_of, shape_of, fault_of, subcommand_rows_of, subcommand_of, FailsBy};
+ghost use Rattle.clap.specs.declared.builder.command.Command.TheViews.{out-Command};
+ghost use Rattle.mothra_app.specs.Command.{mothra, bare, print_shape};
+
+use clap::{ArgMatches, Command, Error};
+use std::alloc::{AllocError, Global};
+use std::convert::AsStr;
+
+fn print_command<'a>(alloc: Global) -> Command<'a>
+    ensures shape { shape_of result ≡ print_shape }
+    ensures globals { (out-Command result).has_globals ≡ false }
+{
+    Command::new(alloc, "print").about("Prints the program of the job in fixed form")
+}
+
+/// The program's own command, to which each subcommand is added.
+fn bare_command<'a>(alloc: Global) -> Command<'a>
+    ensures app { app_of result ≡ bare }
+    ensures globals { (out-Command result).has_globals ≡ false }
+{
+    Command::new(alloc, "mothra")
+        .about("Mutation analysis of a FORTRAN 77 subroutine. The job is read from standard input")
+        .subcommand_required(true)
+        .disable_help_subcommand(true)
+}
+
+fn command<'a>(alloc: Global) -> Result<Command<'a>, AllocError>
+    ensures app { IfOk result (λ c. app_of c ≡ mothra) }
+    ensures globals { IfOk result (λ c. (out-Command c).has_globals ≡ false) }
+    ensures needs { IfOk result (λ c. (out-Command c).subcommand_required ≡ true) }
+{
+    bare_command(alloc).subcommand(print_command(alloc))
+}
+
+/// What the words say, or why they are refused. The first word is the program's name.
+pub(crate) fn matches_of<'a, S: AsStr>(
+    alloc: Global,
+    words: &'a [S],
+) -> Result<ArgMatches<'a>, Error>
+    ensures kinds { FailsBy (fault_of mothra (map S.text words.entry.now)) result }
+    ensures matches { IfOk result (λ m. subcommand_rows_of m ≡ subcommand_of mothra (map S.text words.entry.now)) }
+    ensures present { IfOk result (λ m. is_some (subcommand_rows_of m) ≡ true) }
+{
+    command(alloc)?.try_get_matches_from(words)
+}

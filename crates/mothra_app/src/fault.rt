@@ -1,0 +1,40 @@
+//! Faults of the calls that a command makes.
+
+ghost use Rattle.std.specs.Prelude.{◌≡◌};
+ghost use Rattle.mothra_app.specs.declared.fault.Fault.TheVariants as fault;
+
+use crate::job::JobFault;
+use f77_source::FormFault;
+use f77_syntax::SyntaxFault;
+
+/// Why a command has no report: the fault of the call that failed.
+#[derive(Debug, Drop)]
+pub(crate) enum Fault {
+    Job(JobFault),
+    Form(FormFault),
+    Syntax(SyntaxFault),
+}
+
+impl From<JobFault> for Fault {
+    ghost from_gives = { λ f e. e ≡ fault.Job f };
+
+    fn from(fault: JobFault) -> Fault {
+        Fault::Job(fault)
+    }
+}
+
+impl From<FormFault> for Fault {
+    ghost from_gives = { λ f e. e ≡ fault.Form f };
+
+    fn from(fault: FormFault) -> Fault {
+        Fault::Form(fault)
+    }
+}
+
+impl From<SyntaxFault> for Fault {
+    ghost from_gives = { λ f e. e ≡ fault.Syntax f };
+
+    fn from(fault: SyntaxFault) -> Fault {
+        Fault::Syntax(fault)
+    }
+}

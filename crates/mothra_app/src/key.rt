@@ -1,0 +1,42 @@
+//! Names of the members of a job.
+
+ghost use Rattle.std.specs.Prelude.{◌≡◌, string_bytes};
+
+use std::marker::Model;
+
+/// The name of a member of a job: any text, the empty one too.
+#[derive(Debug, Drop)]
+pub struct Key {
+    name: String,
+}
+
+impl Model for Key {
+    ghost use Rattle.std.specs.Prelude.{List, ℕ, string_bytes};
+
+    ghost Value = { List ℕ };
+
+    ghost view = { λ k. string_bytes k.name };
+}
+
+impl Key {
+    /// The key of this name. It takes no memory.
+    pub fn new(name: String) -> Key
+        ensures { result ≡ string_bytes name }
+    {
+        Key { name }
+    }
+
+    /// The name. It takes no memory.
+    pub fn as_str(&self) -> &str
+        ensures { result.now ≡ self.now }
+    {
+        self.name.as_str()
+    }
+
+    /// The name, given back. It takes no memory.
+    pub fn into_string(self) -> String
+        ensures { string_bytes result ≡ self }
+    {
+        self.name
+    }
+}

@@ -1,0 +1,99 @@
+//! The one line that tells a fault.
+
+ghost use Rattle.std.specs.Prelude.{◌≡◌, IfOk, string_bytes};
+ghost use Rattle.mothra_app.specs.Line as definition;
+
+use crate::fault::Fault;
+use crate::job::JobFault;
+use f77_source::FormFault;
+use f77_syntax::SyntaxFault;
+use std::alloc::{AllocError, Global};
+
+/// The line of a fault without a detail.
+fn plain_line(alloc: Global, code: &str) -> Result<String, AllocError>
+    ensures { IfOk result (λ s. string_bytes s ≡ definition.plain_line code.now) }
+{
+    format!(in alloc; "FAULT {code}\n")
+}
+
+/// The line of a fault with a number.
+fn numbered_line(alloc: Global, code: &str, number: u32) -> Result<String, AllocError>
+    ensures { IfOk result (λ s. string_bytes s ≡ definition.numbered_line code.now number) }
+{
+    format!(in alloc; "FAULT {code} {number}\n")
+}
+
+/// The line of a fault with a name.
+fn named_line(alloc: Global, code: &str, name: &str) -> Result<String, AllocError>
+    ensures { IfOk result (λ s. string_bytes s ≡ definition.named_line code.now name.now) }
+{
+    let shown = printable(alloc, name)?;
+    format!(in alloc; "FAULT {code} {shown}\n")
+}
+
+/// The name with a question mark for each character that is not printable ASCII.
+fn printable(alloc: Global, name: &str) -> Result<String, AllocError>
+    ensures { IfOk result (λ s. string_bytes s ≡ definition.printable name.now) }
+{
+    name.chars().map(shown).collect(alloc)
+}
+
+/// The character, or a question mark.
+fn shown(c: char) -> char
+    ensures { result ≡ definition.shown c }
+{
+    if c >= ' ' && c <= '~' { c } else { '?' }
+}
+
+fn job_line(alloc: Global, fault: &JobFault) -> Result<String, AllocError>
+    ensures { IfOk result (λ s. string_bytes s ≡ definition.job_line fault.now) }
+{
+    match fault {
+        JobFault::Memory => plain_line(alloc, "J1"),
+        JobFault::NotJson => plain_line(alloc, "J2"),
+        JobFault::Key(key) => named_line(alloc, "J3", key.as_str()),
+        JobFault::TooLarge => plain_line(alloc, "J7"),
+    }
+}
+
+fn form_line(alloc: Global, fault: FormFault) -> Result<String, AllocError>
+    ensures { IfOk result (λ s. string_bytes s ≡ definition.form_line fault) }
+{
+    match fault {
+        FormFault::Memory => plain_line(alloc, "F1"),
+        FormFault::TooLarge => plain_line(alloc, "F2"),
+        FormFault::NotAscii(line) => numbered_line(alloc, "F3", line),
+        FormFault::Tab(line) => numbered_line(alloc, "F4", line),
+        FormFault::BadLabel(line) => numbered_line(alloc, "F5", line),
+        FormFault::LooseContinuation(line) => numbered_line(alloc, "F6", line),
+        FormFault::TooManyContinuations(line) => numbered_line(alloc, "F7", line),
+    }
+}
+
+fn syntax_line(alloc: Global, fault: SyntaxFault) -> Result<String, AllocError>
+    ensures { IfOk result (λ s. string_bytes s ≡ definition.syntax_line fault) }
+{
+    match fault {
+        SyntaxFault::Memory => plain_line(alloc, "S1"),
+        SyntaxFault::Unknown(line) => numbered_line(alloc, "S2", line),
+        SyntaxFault::BadName(line) => numbered_line(alloc, "S3", line),
+        SyntaxFault::BadConstant(line) => numbered_line(alloc, "S4", line),
+        SyntaxFault::TooDeep(line) => numbered_line(alloc, "S5", line),
+        SyntaxFault::TooLong(line) => numbered_line(alloc, "S6", line),
+        SyntaxFault::NoSubroutine => plain_line(alloc, "S7"),
+        SyntaxFault::NoEnd => plain_line(alloc, "S8"),
+        SyntaxFault::AfterEnd(line) => numbered_line(alloc, "S9", line),
+    }
+}
+
+#[tactic(auto, unfolding(crate::specs::Line::line_of))]
+/// The line that tells the fault: FAULT, its code, and its detail where it has one, ended by LF.
+pub(crate) fn line_of(alloc: Global, fault: &Fault) -> Result<String, AllocError>
+    ensures { IfOk result (λ s. string_bytes s ≡ definition.line_of fault.now) }
+{
+    match fault {
+        Fault::Job(fault) => job_line(alloc, fault),
+        Fault::Form(fault) => form_line(alloc, *fault),
+        Fault::Syntax(fault) => syntax_line(alloc, *fault),
+    }
+}

@@ -1,0 +1,20 @@
+//! The command `print`: the program of a job in fixed form.
+
+ghost use Rattle.std.specs.Prelude.{◌⊎◌, Ok, Err, MatchResult, string_bytes};
+ghost use Rattle.mothra_app.specs.Fault.{IsMemory};
+ghost use Rattle.mothra_app.specs.Printing.{IsPrinted};
+
+use crate::fault::Fault;
+use crate::program::program_of;
+use f77_syntax::print;
+use std::alloc::Global;
+
+/// The program that a source is, printed.
+pub(crate) fn print_source(alloc: Global, source: &str) -> Result<String, Fault>
+    ensures { MatchResult result
+        (λ text. IsPrinted source.now (Ok (string_bytes text)))
+        (λ fault. IsPrinted source.now (Err fault) ⊎ IsMemory fault) }
+{
+    let program = program_of(alloc, source)?;
+    Ok(print(alloc, &program)?)
+}

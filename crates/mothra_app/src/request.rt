@@ -1,0 +1,44 @@
+//! What the words ask for.
+
+ghost use Rattle.std.specs.Prelude.{◌≡◌, IfOk, Some, map, option_and_then};
+ghost use Rattle.clap.specs.Words.{fault_of, subcommand_rows_of, FailsBy};
+ghost use Rattle.mothra_app.specs.Command.{mothra};
+ghost use Rattle.mothra_app.specs.Request as asked;
+
+use crate::command::matches_of;
+use clap::{ArgMatches, Error};
+use std::alloc::Global;
+use std::convert::AsStr;
+
+/// A command with its values.
+#[derive(Debug, Drop, Clone, Copy, PartialEq, Eq)]
+pub(crate) enum Request {
+    Print,
+}
+
+/// What the subcommand of this name asks for.
+fn request_named(name: &str) -> Option<Request>
+    ensures { result ≡ asked.request_named name.now }
+{
+    if name == "print" {
+        return Some(Request::Print);
+    }
+    None
+}
+
+/// What the subcommand that was met asks for.
+fn request_met(matches: &ArgMatches<'_>) -> Option<Request>
+    ensures { result ≡ option_and_then asked.request_met (subcommand_rows_of matches.now) }
+{
+    let (name, _) = matches.subcommand()?;
+    request_named(name)
+}
+
+/// What the words ask for, or why they are refused. The first word is the program's name.
+pub(crate) fn request_of<S: AsStr>(alloc: Global, words: &[S]) -> Result<Request, Error>
+    ensures kinds { FailsBy (fault_of mothra (map S.text words.now)) result }
+    ensures request { IfOk result (λ r. asked.request_of (map S.text words.now) ≡ Some r) }
+{
+    let matches = matches_of(alloc, words)?;
+    Ok(request_met(&matches).unwrap())
+}

@@ -1,0 +1,95 @@
+//! From words and the bytes of a job to the bytes that are written.
+
+ghost use Rattle.std.specs.Prelude.{◌≡◌, ◌≢◌, false, Ok, Err, IfOk, map, string_bytes};
+ghost use Rattle.mothra_app.specs.Input.{limit, IsRead, TakesAtMost};
+ghost use Rattle.mothra_app.specs.Serving.{IsAnswered, IsAnsweredBy, WritesWhole, WritesFront};
+ghost use Rattle.mothra_app.specs.Status.{is_read_fault, is_write_fault};
+ghost use Rattle.mothra_app.specs.Watched.{inside, has_failed};
+
+use crate::answer::{Answer, answer_to, refusal};
+use crate::input::read_input;
+use crate::output::write_whole;
+use crate::request::{Request, request_of};
+use crate::status::{AppFault, Status};
+use crate::watched::Watched;
+use std::alloc::Global;
+use std::convert::AsStr;
+use std::io::{Read, Write};
+
+/// The answer to a request, over all the bytes of the reader.
+fn read_and_answer<R: Read>(
+    alloc: Global,
+    request: Request,
+    reader: &mut Watched<R>,
+) -> Result<Answer, AppFault>
+    requires { has_failed reader.old ≡ false }
+    ensures answered { IfOk result (λ a. IsAnsweredBy request
+        (R.remaining (inside reader.old)) a.status (string_bytes a.text)) }
+    ensures read { IfOk result (λ a. IsRead limit (R.remaining (inside reader.old)) (R.remaining (inside reader.new))) }
+    ensures taken { TakesAtMost limit (R.remaining (inside reader.old)) (R.remaining (inside reader.new)) }
+    ensures failed { has_failed reader.new ≡ is_read_fault result }
+    ensures unwritten { result ≢ Err AppFault.Write }
+{
+    let bytes = read_input(alloc, reader)?;
+    Ok(answer_to(alloc, request, &bytes)?)
+}
+
+/// The answer to the words, over all the bytes of the reader where the command line takes them.
+fn prepare<S: AsStr, R: Read>(
+    alloc: Global,
+    words: &[S],
+    reader: &mut Watched<R>,
+) -> Result<Answer, AppFault>
+    requires { has_failed reader.old ≡ false }
+    ensures answered { IfOk result (λ a. IsAnswered (map S.text words.now)
+        (R.remaining (inside reader.old)) (R.remaining (inside reader.new)) a.status (string_bytes a.text)) }
+    ensures words { IfOk result (λ a. a.status ≡ Status.Words → reader.new ≡ reader.old) }
+    ensures help { IfOk result (λ a. a.status ≡ Status.Help → reader.new ≡ reader.old) }
+    ensures taken { TakesAtMost limit (R.remaining (inside reader.old)) (R.remaining (inside reader.new)) }
+    ensures failed { has_failed reader.new ≡ is_read_fault result }
+    ensures unwritten { result ≢ Err AppFault.Write }
+{
+    match request_of(alloc, words) {
+        Ok(request) => read_and_answer(alloc, request, reader),
+        Err(error) => Ok(refusal(alloc, &error)?),
+    }
+}
+
+/// Reads a job, and writes the text that the words ask for. The first word is the program's name.
+///
+/// Nothing is written before the whole text stands, and the writer is not flushed. An interrupted call of the reader or
+/// the writer has failed, and is not tried again.
+pub fn serve<S: AsStr, R: Read, W: Write>(
+    rt: &impl AllocGlobal,
+    words: &[S],
+    reader: &mut Watched<R>,
+    writer: &mut Watched<W>,
+) -> Result<Status, AppFault>
+    requires reader_works { has_failed reader.old ≡ false }
+    requires writer_works { has_failed writer.old ≡ false }
+
+    // What is written.
+    ensures written { IfOk result (WritesWhole (map S.text words.now)
+        (R.remaining (inside reader.old)) (R.remaining (inside reader.new))
+        (W.contents (inside writer.old)) (W.contents (inside writer.new))) }
+    ensures front { result ≡ Err AppFault.Write → WritesFront (map S.text words.now)
+        (R.remaining (inside reader.old)) (R.remaining (inside reader.new))
+        (W.contents (inside writer.old)) (W.contents (inside writer.new)) }
+    ensures no_memory { result ≡ Err AppFault.Memory → writer.new ≡ writer.old }
+    ensures no_input { result ≡ Err AppFault.Read → writer.new ≡ writer.old }
+
+    // What is read.
+    ensures words { result ≡ Ok Status.Words → reader.new ≡ reader.old }
+    ensures help { result ≡ Ok Status.Help → reader.new ≡ reader.old }
+    ensures taken { TakesAtMost limit (R.remaining (inside reader.old)) (R.remaining (inside reader.new)) }
+
+    // What failed.
+    ensures read_failed { has_failed reader.new ≡ is_read_fault result }
+    ensures write_failed { has_failed writer.new ≡ is_write_fault result }
+{
+    let answer = prepare(rt.alloc(), words, reader)?;
+    if write_whole(writer, answer.text.as_bytes()).is_err() {
+        return Err(AppFault::Write);
+    }
+    Ok(answer.status)
+}

@@ -1,0 +1,55 @@
+//! How a call of `serve` ends.
+
+ghost use Rattle.std.specs.Prelude.{◌≡◌};
+ghost use Rattle.mothra_app.specs.Status.{of_input};
+ghost use Rattle.mothra_app.specs.declared.status.AppFault.TheVariants.{Memory};
+
+use crate::input::InputFault;
+use std::alloc::AllocError;
+use thiserror::Error;
+
+/// What was written.
+#[derive(Debug, Drop, Clone, Copy, PartialEq, Eq)]
+pub enum Status {
+    /// The report that the words ask for.
+    Report,
+    /// One line that tells a fault of the job.
+    Fault,
+    /// Why the command line refuses the words.
+    Words,
+    /// The help that the words ask for.
+    Help,
+}
+
+/// Why no answer was written whole.
+#[derive(Clone, Copy, Debug, PartialEq, Eq, Error)]
+pub enum AppFault {
+    /// A1: memory ran out before anything was written.
+    #[error("memory ran out")]
+    Memory,
+    /// A2: a read failed, and nothing was written.
+    #[error("a read failed")]
+    Read,
+    /// A3: a write failed or took no byte, behind a part of the text.
+    #[error("a write failed")]
+    Write,
+}
+
+impl From<AllocError> for AppFault {
+    ghost from_gives = { λ _ e. e ≡ Memory };
+
+    fn from(_error: AllocError) -> AppFault {
+        AppFault::Memory
+    }
+}
+
+impl From<InputFault> for AppFault {
+    ghost from_gives = { λ f e. e ≡ of_input f };
+
+    fn from(fault: InputFault) -> AppFault {
+        match fault {
+            InputFault::Memory => AppFault::Memory,
+            InputFault::Read => AppFault::Read,
+        }
+    }
+}
