@@ -1,23 +1,14 @@
 -- An assignment that is read is spelled so.
-use Rattle.std.proofs.Common.{arith, ◌≡◌, ◌⊎◌, inl, inr, Bool, false, ℕ, ◌+◌, ◌-◌, ◌<◌, length, List, [], ◌∷◌, ◌++◌, true, cond, subst, refl, Option, Some, None, ap, sym, ◌∙◌, append_assoc, append-nil, take, get_or}
-use Rattle.std.specs.Prelude.{◌==◌, codes}
-use Rattle.std.specs.Str.{bytes_eq}
-use Rattle.std.specs.List.{list_all, slice_split, join_with_byte}
+use Rattle.std.proofs.Common.{arith, ◌≡◌, inl, inr, ℕ, length, List, [], ◌∷◌, ◌++◌, true, subst, refl, Some, ap, sym, ◌∙◌, append_assoc, append-nil}
+use Rattle.std.specs.Prelude.{◌==◌}
 use Rattle.std.proofs.lemmas.Option.{same_Some, none-some}
 use Rattle.std.proofs.lemmas.Bool.{eqb-true}
-use Rattle.std.proofs.lemmas.Slice.Eq.{bytes_eq-Decides}
-use Rattle.std.proofs.lemmas.List.{take-append-drop, drop_more, drop_all, nil_from_length}
-use Rattle.std.proofs.lemmas.List.Splits.{join_with_byte-slice_split}
-use Rattle.f77_syntax.specs.Tree.{Tree, Trees, Statement}
-use Rattle.f77_syntax.specs.Grammar.{Spells, SpellsReference, is_digit, is_number, is_name}
-use Rattle.f77_syntax.specs.StatementGrammar.{SpellsAction, SpellsStatement, optional_comma, label_number}
-use Rattle.f77_syntax.specs.Reading.{◌>>=◌, strip, word, past_word, digits, past_digits, after, close_at, reading}
+use Rattle.f77_syntax.specs.Tree.{Trees, Statement}
+use Rattle.f77_syntax.specs.Grammar.{SpellsReference, is_name}
+use Rattle.f77_syntax.specs.StatementGrammar.{SpellsAction}
+use Rattle.f77_syntax.specs.Reading.{◌>>=◌, word, past_word, after, close_at, reading}
 use Rattle.f77_syntax.specs.Assignment.{ended, reference_behind, reference_at, value_at, assign_at}
-use Rattle.f77_syntax.specs.Subroutine.{is_comma, names_at, before_close, arguments_at, subroutine_at}
-use Rattle.f77_syntax.specs.Formed.{is_action}
-use Rattle.f77_syntax.specs.declared.classification.Class.{Class}
-use Rattle.f77_syntax.specs.declared.classification.Class.TheVariants.{If, Loop, Assignment, Keyword}
-use Rattle.f77_syntax.proofs.Steps.{along, bind_ok, chosen, guarded, strip_is}
+use Rattle.f77_syntax.proofs.Steps.{along, bind_ok, chosen, guarded}
 use Rattle.f77_syntax.proofs.Words.{word_whole}
 use Rattle.f77_syntax.proofs.Sound.{sound_reading, close_is}
 

@@ -1,23 +1,22 @@
 -- The canonical text of a tree spells it.
-use Rattle.std.proofs.Common.{arith, ◌≡◌, ◌<◌, ◌≤◌, ◌^◌, ◌+◌, ◌%◌, ℕ, List, [], ◌∷◌, ◌++◌, Bool, true, false, cond, refl, ap, sym, subst}
-use Rattle.std.specs.Prelude.{nat_lt, nat_le, ◌&&◌, not, codes, length, Option, Some, None, option_map}
-use Rattle.std.specs.List.{list_all, join_with_byte}
+use Rattle.std.proofs.Common.{arith, ◌≡◌, ◌<◌, ◌≤◌, ◌^◌, ◌+◌, ◌%◌, ℕ, List, [], ◌∷◌, ◌++◌, Bool, true, false, cond, refl, sym, subst}
+use Rattle.std.specs.Prelude.{nat_lt, nat_le, ◌&&◌, not}
+use Rattle.std.specs.List.{list_all}
 use Rattle.std.specs.Fmt.{decimal}
 use Rattle.std.specs.Str.Parse.{digits_value}
-use Rattle.std.proofs.lemmas.Bool.{ltb-false, leb-true, le-leb}
+use Rattle.std.proofs.lemmas.Bool.{ltb-false, leb-true}
 use Rattle.std.proofs.lemmas.List.{append-nil}
-use Rattle.std.proofs.lemmas.Fmt.{decimal_by_steps, decimal_is_IsNumeral, length-decimal-le}
+use Rattle.std.proofs.lemmas.Fmt.{decimal_by_steps, decimal_is_IsNumeral}
 use Rattle.std.proofs.lemmas.Bool.Decides.{nat_tests}
 use Rattle.f77_syntax.proofs.Steps.{and_true, not_true}
 use Rattle.f77_syntax.specs.declared.operator.Operator.{Operator}
 use Rattle.f77_syntax.specs.declared.operator.Operator.TheVariants.{Equivalent, NotEquivalent, Or, And, Less, LessOrEqual, Equal, NotEqual, GreaterOrEqual, Greater, Add, Subtract, Multiply, Divide, Power}
 use Rattle.f77_syntax.specs.Operator.{level, left_level, right_level}
-use Rattle.f77_syntax.specs.Tree.{Tree, Trees, Statement}
+use Rattle.f77_syntax.specs.Tree.{Tree, Trees}
 use Rattle.f77_syntax.specs.Grammar.{Spells, SpellsReference, SpellsAll, is_name, is_call, is_digit, is_number}
-use Rattle.f77_syntax.specs.StatementGrammar.{SpellsAction, SpellsStatement, IsUnmutated, in_text, tree_in_text, trees_in_text, label_number}
-use Rattle.f77_syntax.specs.Canonical.{own_level, operand, text_of, list_text, rest_text, names_text, step_text}
-use Rattle.f77_syntax.specs.Formed.{is_reference, is_some_list, formed, all_formed, step_formed, is_action, statement_formed}
-use Rattle.f77_syntax.specs.StatementLimits.{is_label, of_step, statement_constants}
+use Rattle.f77_syntax.specs.StatementGrammar.{tree_in_text, trees_in_text}
+use Rattle.f77_syntax.specs.Canonical.{own_level, operand, text_of, list_text, rest_text}
+use Rattle.f77_syntax.specs.Formed.{is_reference, is_some_list, formed, all_formed}
 use Rattle.f77_syntax.specs.Limits.{small_constants, all_small_constants}
 
 pub digit_is : (d : ℕ) → d < 10 → is_digit (48 + d) ≡ true

@@ -1,6 +1,6 @@
 -- What the readers of IF and DO statements give, from what they call.
-use Rattle.std.proofs.Common.{arith, ◌≡◌, ◌≤◌, ◌<◌, ◌+◌, ◌-◌, ◌^◌, ℕ, length, List, [], ◌∷◌, ◌++◌, Bool, true, false, cond, subst, refl, Option, Some, None, ap, sym, ◌∙◌, take, drop, get_or}
-use Rattle.std.specs.Prelude.{◌==◌, ◌&&◌, nat_le, codes, option_map, map, Box, Vec, Result, Ok, Err, ok_or}
+use Rattle.std.proofs.Common.{arith, ◌≡◌, ◌≤◌, ◌<◌, ◌+◌, ◌-◌, ◌^◌, ℕ, length, List, [], ◌∷◌, Bool, true, false, cond, refl, Option, Some, None, ap, sym, ◌∙◌, take, drop, get_or}
+use Rattle.std.specs.Prelude.{◌==◌, codes, option_map, map, Box, Vec, ok_or}
 use Rattle.std.specs.declared.alloc.Global.{Global}
 use Rattle.std.specs.Str.{bytes_eq}
 use Rattle.std.specs.List.{list_all}
@@ -13,7 +13,7 @@ use Rattle.std.proofs.lemmas.Int.Digits.{digits_value-lt}
 use Rattle.std.proofs.lemmas.List.{drop_more, take_rest}
 use Rattle.std.proofs.Math.Nat.{pow-le-pow_right}
 use Rattle.f77_syntax.specs.declared.fault.ReadError.{ReadError}
-use Rattle.f77_syntax.specs.declared.fault.ReadError.TheVariants.{Memory, Unknown}
+use Rattle.f77_syntax.specs.declared.fault.ReadError.TheVariants.{Unknown}
 use Rattle.f77_syntax.specs.declared.tree.Expr.{Expr}
 use Rattle.f77_syntax.specs.declared.tree.Stmt.{Stmt}
 use Rattle.f77_syntax.specs.declared.tree.Stmt.TheVariants as forms
@@ -22,7 +22,6 @@ use Rattle.f77_syntax.specs.Tree.{Tree, DeclFields, GroupFields, Statement}
 use Rattle.f77_syntax.specs.Grammar.{is_digit, is_number, is_name}
 use Rattle.f77_syntax.specs.StatementGrammar.{label_number}
 use Rattle.f77_syntax.specs.Reading.{◌>>=◌, strip, word, past_word, after, close_at, reading}
-use Rattle.f77_syntax.specs.Assignment.{ended}
 use Rattle.f77_syntax.specs.Label.{label_at, last_label, labels_at}
 use Rattle.f77_syntax.specs.Condition.{arithmetic_at, condition_at}
 use Rattle.f77_syntax.specs.DoLoop.{past_comma, range_at, step_at, parameters_at, loop_at}

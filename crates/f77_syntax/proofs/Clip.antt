@@ -1,11 +1,9 @@
 -- Keeping a tree changes no limit, and within the limits it changes nothing.
 use Rattle.std.proofs.Common.{arith, ◌≡◌, ℕ, Bool, true, false, refl, ap}
-use Rattle.std.specs.Prelude.{nat_le, ◌&&◌, Option, Some, None, option_map}
+use Rattle.std.specs.Prelude.{nat_le}
 use Rattle.std.proofs.lemmas.Bool.Decides.{nat_tests}
-use Rattle.f77_syntax.specs.Tree.{Tree, Trees, Statement}
+use Rattle.f77_syntax.specs.Tree.{Tree, Trees}
 use Rattle.f77_syntax.specs.View.{clipped, clip, clip_all}
-use Rattle.f77_syntax.specs.StatementView.{clip_statement}
-use Rattle.f77_syntax.specs.StatementLimits.{is_label, of_step, step_nodes, statement_names, statement_constants, statement_nodes}
 use Rattle.f77_syntax.specs.Limits.{short_names, all_short_names, small_constants, all_small_constants, nodes, all_nodes}
 use Rattle.f77_syntax.proofs.Steps.{and_true}
 

@@ -15,9 +15,9 @@ use Rattle.f77_syntax.proofs.WordTexts.{is_equals}
 use Rattle.f77_syntax.specs.View.{clipped}
 use Rattle.f77_syntax.specs.Limits.{largest}
 use Rattle.f77_syntax.specs.Joined.{Joined, some_all, separated}
-use Rattle.f77_syntax.specs.Declaration.{SpellsName, SpellsNumber}
+use Rattle.f77_syntax.specs.Declaration.{SpellsName}
 use Rattle.f77_syntax.specs.Tree.{GroupFields}
-use Rattle.f77_syntax.specs.Data.{negative, size, SpellsConstant, SpellsValue, SpellsGroup, SpellsGroups, kept, clip_constant, clip_value, clip_group, any_value, is_group, data_formed, group_names, small_constant, small_value, group_constants, data_names, data_constants, data_nodes, constant_text, repeat_text, value_text, name_text, group_text, groups_text}
+use Rattle.f77_syntax.specs.Data.{size, SpellsConstant, SpellsValue, SpellsGroup, SpellsGroups, kept, clip_constant, clip_value, clip_group, any_value, is_group, data_formed, group_names, small_constant, small_value, group_constants, data_names, data_constants, data_nodes, constant_text, repeat_text, value_text, name_text, group_text, groups_text}
 use Rattle.f77_syntax.proofs.Steps.{and_true}
 use Rattle.f77_syntax.proofs.Clip.{constant_clip, small_clipped}
 use Rattle.f77_syntax.proofs.Complete.{name_words}

@@ -1,26 +1,23 @@
 -- Some text spells a tree exactly where the tree is formed.
 use Rattle.std.proofs.Common.{arith, ◌≡◌, ◌≤◌, ◌+◌, ◌/◌, ◌%◌, ℕ, zero, suc, length, List, [], ◌∷◌, ◌++◌, Bool, true, false, refl, sym, ◌∙◌, subst}
-use Rattle.std.specs.Prelude.{◌==◌, ◌&&◌, not, nat_le, is_some, codes, map, Option, Some, None, option_map}
-use Rattle.std.specs.List.{list_all}
+use Rattle.std.specs.Prelude.{◌==◌, not, is_some, codes, map}
 use Rattle.std.specs.Str.Parse.{digits_value}
 use Rattle.std.specs.Char.{digit_value}
-use Rattle.std.specs.Fmt.{decimal}
-use Rattle.std.proofs.lemmas.Fmt.{length-decimal-le}
-use Rattle.std.proofs.lemmas.Bool.{eqb-true, le-leb, leb-true}
+use Rattle.std.proofs.lemmas.Bool.{eqb-true}
 use Rattle.std.proofs.lemmas.Bool.Decides.{nat_tests}
 use Rattle.std.proofs.lemmas.Int.Digits.{digits_value_push}
 use Rattle.f77_syntax.specs.declared.intrinsic.Intrinsic.TheVariants.{Iabs}
 use Rattle.f77_syntax.specs.Operator.{symbol, sign_symbol, left_level, right_level}
 use Rattle.f77_syntax.specs.Intrinsic.{function_name, function_named}
 use Rattle.f77_syntax.specs.declared.tree.Expr.{Expr}
-use Rattle.f77_syntax.specs.Tree.{Tree, Trees, Statement}
+use Rattle.f77_syntax.specs.Tree.{Tree, Trees}
 use Rattle.f77_syntax.specs.View.{tree_of, trees}
 use Rattle.f77_syntax.specs.Grammar.{Spells, SpellsReference, SpellsAll, is_name, is_call, is_number, truth_text}
-use Rattle.f77_syntax.specs.StatementGrammar.{SpellsAction, SpellsStatement, IsFormed, in_text, tree_in_text, trees_in_text, label_number, label_in_text}
+use Rattle.f77_syntax.specs.StatementGrammar.{tree_in_text, trees_in_text}
 use Rattle.f77_syntax.specs.Canonical.{own_level, operand}
-use Rattle.f77_syntax.specs.Formed.{is_some_list, is_reference, formed, all_formed, step_formed, is_action, statement_formed}
+use Rattle.f77_syntax.specs.Formed.{is_some_list, is_reference, formed, all_formed}
 use Rattle.f77_syntax.proofs.Steps.{and_true}
-use Rattle.f77_syntax.proofs.Back.{digit_is, mod_lt, one_more, as_operand, own_low, decimal_number, reference_formed, no_call, call_formed}
+use Rattle.f77_syntax.proofs.Back.{digit_is, mod_lt, one_more, as_operand, own_low, reference_formed, no_call, call_formed}
 
 pub some_list : {text : List ℕ} {items : Trees} → SpellsAll text items → is_some_list items ≡ true
 unfolding is_some_list

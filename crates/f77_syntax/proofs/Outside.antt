@@ -1,12 +1,9 @@
 -- What stands outside parentheses: expressions hide no equals sign and, outside parentheses, no comma; so the class of a
 -- statement can be told from its text.
-use Rattle.std.proofs.Common.{arith, ◌≡◌, ◌≢◌, ℕ, zero, suc, ◌+◌, ◌-◌, List, [], ◌∷◌, ◌++◌, Bool, true, false, cond, refl, ap, sym, ◌∙◌, subst, Option, Some, None, append_assoc, append-nil}
-use Rattle.std.specs.Prelude.{◌==◌, ◌&&◌, ◌||◌, not, codes, is_some}
-use Rattle.std.specs.List.{list_all, list_any, join_with_byte}
-use Rattle.std.proofs.lemmas.Option.{same_Some, none-some}
-use Rattle.std.proofs.lemmas.Bool.{eqb-true}
+use Rattle.std.proofs.Common.{arith, ◌≡◌, ℕ, suc, ◌-◌, List, [], ◌∷◌, ◌++◌, Bool, true, false, refl, ap, sym, ◌∙◌, Option, Some, None, append_assoc, append-nil}
+use Rattle.std.specs.Prelude.{◌==◌, ◌&&◌, not, codes}
+use Rattle.std.specs.List.{list_all, list_any}
 use Rattle.std.proofs.lemmas.Bool.Decides.{nat_tests}
-use Rattle.std.proofs.lemmas.List.Folds.{list_all-append, list_any-append}
 use Rattle.f77_syntax.specs.declared.operator.Operator.{Operator}
 use Rattle.f77_syntax.specs.declared.operator.Operator.TheVariants.{Equivalent, NotEquivalent, Or, And, Less, LessOrEqual, Equal, NotEqual, GreaterOrEqual, Greater, Add, Subtract, Multiply, Divide, Power}
 use Rattle.f77_syntax.specs.declared.operator.Sign.{Sign}
@@ -15,11 +12,11 @@ use Rattle.f77_syntax.specs.declared.intrinsic.Intrinsic.{Intrinsic}
 use Rattle.f77_syntax.specs.declared.intrinsic.Intrinsic.TheVariants.{Mod, Iabs, Min0, Max0}
 use Rattle.f77_syntax.specs.Operator.{symbol, sign_symbol}
 use Rattle.f77_syntax.specs.Intrinsic.{function_name}
-use Rattle.f77_syntax.specs.Tree.{Tree, Trees, Statement}
+use Rattle.f77_syntax.specs.Tree.{Tree, Trees}
 use Rattle.f77_syntax.specs.Grammar.{Spells, SpellsReference, SpellsAll, is_word, is_digit, is_name, is_number, truth_text}
 use Rattle.f77_syntax.specs.StatementGrammar.{optional_comma}
-use Rattle.f77_syntax.specs.Reading.{◌>>=◌, strip, word, past_word}
-use Rattle.f77_syntax.specs.Classification.{deeper, behind, begins_with, no_equals, begins_if, class_behind, class_of}
+use Rattle.f77_syntax.specs.Reading.{◌>>=◌, strip, past_word}
+use Rattle.f77_syntax.specs.Classification.{deeper, behind, begins_with, no_equals, begins_if, class_of}
 use Rattle.f77_syntax.specs.declared.classification.Class.TheVariants.{If, Loop, Assignment, Keyword}
 use Rattle.f77_syntax.proofs.Steps.{and_true, strip_is}
 use Rattle.f77_syntax.proofs.Words.{past_word_front}

@@ -1,25 +1,20 @@
 -- The canonical text of a statement spells it.
-use Rattle.std.proofs.Common.{arith, ◌≡◌, ◌<◌, ◌≤◌, ◌^◌, ◌+◌, ◌%◌, ℕ, List, [], ◌∷◌, ◌++◌, Bool, true, false, cond, refl, ap, sym, subst}
-use Rattle.std.specs.Prelude.{nat_lt, nat_le, ◌&&◌, not, codes, length, Option, Some, None, option_map}
+use Rattle.std.proofs.Common.{arith, ◌≡◌, ◌≤◌, ℕ, List, [], ◌∷◌, ◌++◌, true, false, refl, ap, sym, subst}
+use Rattle.std.specs.Prelude.{nat_le, ◌&&◌, codes, length, Option, Some, None, option_map}
 use Rattle.std.specs.List.{list_all, join_with_byte}
 use Rattle.std.specs.Fmt.{decimal}
-use Rattle.std.specs.Str.Parse.{digits_value}
-use Rattle.std.proofs.lemmas.Bool.{ltb-false, leb-true, le-leb}
+use Rattle.std.proofs.lemmas.Bool.{leb-true, le-leb}
 use Rattle.std.proofs.lemmas.List.{append-nil}
-use Rattle.std.proofs.lemmas.Fmt.{decimal_by_steps, decimal_is_IsNumeral, length-decimal-le}
-use Rattle.std.proofs.lemmas.Bool.Decides.{nat_tests}
-use Rattle.f77_syntax.proofs.Steps.{and_true, not_true}
-use Rattle.f77_syntax.specs.declared.operator.Operator.{Operator}
-use Rattle.f77_syntax.specs.declared.operator.Operator.TheVariants.{Equivalent, NotEquivalent, Or, And, Less, LessOrEqual, Equal, NotEqual, GreaterOrEqual, Greater, Add, Subtract, Multiply, Divide, Power}
-use Rattle.f77_syntax.specs.Operator.{level, left_level, right_level}
-use Rattle.f77_syntax.specs.Tree.{Tree, Trees, Statement}
-use Rattle.f77_syntax.specs.Grammar.{Spells, SpellsReference, SpellsAll, is_name, is_call, is_digit, is_number}
+use Rattle.std.proofs.lemmas.Fmt.{length-decimal-le}
+use Rattle.f77_syntax.proofs.Steps.{and_true}
+use Rattle.f77_syntax.specs.Tree.{Tree, Statement}
+use Rattle.f77_syntax.specs.Grammar.{Spells, is_name, is_number}
 use Rattle.f77_syntax.specs.StatementGrammar.{SpellsAction, SpellsStatement, IsUnmutated, in_text, tree_in_text, trees_in_text, label_number}
-use Rattle.f77_syntax.specs.Canonical.{own_level, operand, text_of, list_text, rest_text, names_text, step_text}
-use Rattle.f77_syntax.specs.Formed.{is_reference, is_some_list, formed, all_formed, step_formed, is_action, statement_formed}
+use Rattle.f77_syntax.specs.Canonical.{text_of, list_text, names_text, step_text}
+use Rattle.f77_syntax.specs.Formed.{formed, all_formed, step_formed, is_action, statement_formed}
 use Rattle.f77_syntax.specs.StatementLimits.{is_label, of_step, statement_constants}
 use Rattle.f77_syntax.specs.Limits.{small_constants, all_small_constants}
-use Rattle.f77_syntax.proofs.Back.{digit_is, mod_lt, one_digit, digits_more, one_more, decimal_number, as_operand, level_low, own_low, small, reference_formed, no_call, call_formed, back, back_reference, back_all}
+use Rattle.f77_syntax.proofs.Back.{decimal_number, own_low, small, back, back_reference}
 use Rattle.f77_syntax.specs.StatementGrammar.{kind_keyword}
 use Rattle.f77_syntax.specs.Declaration.{declarations_text, declaration_formed, all_bounded}
 use Rattle.f77_syntax.specs.Data.{groups_text}

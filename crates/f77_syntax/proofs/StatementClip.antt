@@ -1,14 +1,13 @@
 -- Keeping a statement changes no limit, and within the limits it changes nothing.
-use Rattle.std.proofs.Common.{arith, ◌≡◌, ◌+◌, ℕ, Bool, true, false, refl, ap}
-use Rattle.std.specs.Prelude.{nat_le, ◌&&◌, Option, Some, None, option_map}
-use Rattle.std.proofs.lemmas.Bool.Decides.{nat_tests}
-use Rattle.f77_syntax.specs.Tree.{Tree, Trees, Statement}
-use Rattle.f77_syntax.specs.View.{clipped, clip, clip_all}
+use Rattle.std.proofs.Common.{◌≡◌, ◌+◌, true, refl, ap}
+use Rattle.std.specs.Prelude.{◌&&◌, Option, Some, None, option_map}
+use Rattle.f77_syntax.specs.Tree.{Tree, Statement}
+use Rattle.f77_syntax.specs.View.{clip}
 use Rattle.f77_syntax.specs.StatementView.{clip_statement}
 use Rattle.f77_syntax.specs.StatementLimits.{is_label, of_step, step_nodes, statement_names, statement_constants, statement_nodes}
-use Rattle.f77_syntax.specs.Limits.{short_names, all_short_names, small_constants, all_small_constants, nodes, all_nodes}
+use Rattle.f77_syntax.specs.Limits.{short_names, small_constants, all_small_constants}
 use Rattle.f77_syntax.proofs.Steps.{and_true}
-use Rattle.f77_syntax.proofs.Clip.{names_clip, all_names_clip, constant_clip, constants_clip, all_constants_clip, nodes_clip, all_nodes_clip, small_clipped, kept, all_kept}
+use Rattle.f77_syntax.proofs.Clip.{names_clip, all_names_clip, constants_clip, all_constants_clip, nodes_clip, all_nodes_clip, kept, all_kept}
 use Rattle.f77_syntax.proofs.DeclarationForms.{declaration_names_clip, declaration_constants_clip, declaration_nodes_clip, declaration_kept}
 use Rattle.f77_syntax.proofs.DataForms.{data_names_clip, data_constants_clip, data_nodes_clip, data_kept}
 

@@ -1,27 +1,17 @@
 -- Some text spells a statement exactly where the statement is formed.
-use Rattle.std.proofs.Common.{arith, ◌≡◌, ◌≤◌, ◌+◌, ◌/◌, ◌%◌, ℕ, zero, suc, length, List, [], ◌∷◌, ◌++◌, Bool, true, false, refl, sym, ◌∙◌, subst}
-use Rattle.std.specs.Prelude.{◌==◌, ◌&&◌, not, nat_le, is_some, codes, map, Option, Some, None, option_map}
+use Rattle.std.proofs.Common.{arith, ◌≡◌, ◌≤◌, ℕ, length, List, [], ◌∷◌, ◌++◌, Bool, true, false, refl, sym, ◌∙◌, subst}
+use Rattle.std.specs.Prelude.{◌&&◌, nat_le, codes, Option, Some, None, option_map}
 use Rattle.std.specs.List.{list_all}
-use Rattle.std.specs.Str.Parse.{digits_value}
-use Rattle.std.specs.Char.{digit_value}
 use Rattle.std.specs.Fmt.{decimal}
 use Rattle.std.proofs.lemmas.Fmt.{length-decimal-le}
-use Rattle.std.proofs.lemmas.Bool.{eqb-true, le-leb, leb-true}
-use Rattle.std.proofs.lemmas.Bool.Decides.{nat_tests}
-use Rattle.std.proofs.lemmas.Int.Digits.{digits_value_push}
-use Rattle.f77_syntax.specs.declared.intrinsic.Intrinsic.TheVariants.{Iabs}
-use Rattle.f77_syntax.specs.Operator.{symbol, sign_symbol, left_level, right_level}
-use Rattle.f77_syntax.specs.Intrinsic.{function_name, function_named}
-use Rattle.f77_syntax.specs.declared.tree.Expr.{Expr}
+use Rattle.std.proofs.lemmas.Bool.{le-leb, leb-true}
 use Rattle.f77_syntax.specs.Tree.{Tree, Trees, Statement}
-use Rattle.f77_syntax.specs.View.{tree_of, trees}
-use Rattle.f77_syntax.specs.Grammar.{Spells, SpellsReference, SpellsAll, is_name, is_call, is_number, truth_text}
-use Rattle.f77_syntax.specs.StatementGrammar.{SpellsAction, SpellsStatement, IsFormed, in_text, tree_in_text, trees_in_text, label_number, label_in_text}
-use Rattle.f77_syntax.specs.Canonical.{own_level, operand}
-use Rattle.f77_syntax.specs.Formed.{is_some_list, is_reference, formed, all_formed, step_formed, is_action, statement_formed}
+use Rattle.f77_syntax.specs.Grammar.{is_name, is_number}
+use Rattle.f77_syntax.specs.StatementGrammar.{SpellsAction, SpellsStatement, IsFormed, in_text, tree_in_text, label_number, label_in_text}
+use Rattle.f77_syntax.specs.Formed.{formed, all_formed, step_formed, is_action, statement_formed}
 use Rattle.f77_syntax.proofs.Steps.{and_true}
-use Rattle.f77_syntax.proofs.Back.{digit_is, mod_lt, one_more, as_operand, own_low, decimal_number, reference_formed, no_call, call_formed}
-use Rattle.f77_syntax.proofs.Forming.{some_list, a_reference, tree_formed, reference_name, reference_items, items_formed, call_in_text, reference_in_text, list_in_text, one_call, tree_in_text_formed, trees_in_text_formed, numeral, Texts, one_argument, text_for, reference_for, list_for, some_items, called, not_called}
+use Rattle.f77_syntax.proofs.Back.{own_low, decimal_number}
+use Rattle.f77_syntax.proofs.Forming.{tree_formed, reference_name, reference_items, tree_in_text_formed, trees_in_text_formed, text_for, reference_for}
 use Rattle.f77_syntax.specs.StatementGrammar.{kind_keyword}
 use Rattle.f77_syntax.specs.Declaration.{declaration_formed, all_bounded}
 use Rattle.f77_syntax.proofs.DeclarationForms.{declaration_is_formed, declaration_spelled}

@@ -1,8 +1,7 @@
 -- What the readers of statements give, from what they call.
 use Rattle.std.proofs.Common.{arith, ◌≡◌, ◌⊎◌, inl, inr, ℕ, length, List, [], ◌∷◌, ◌++◌, Bool, true, false, cond, subst, refl, Option, Some, None, ap, sym, ◌∙◌, append_assoc, append-nil}
-use Rattle.std.specs.Prelude.{◌==◌, map, codes}
-use Rattle.std.specs.Str.{bytes_eq}
-use Rattle.std.specs.List.{list_all, list_any, slice_split, onto_first}
+use Rattle.std.specs.Prelude.{◌==◌, map}
+use Rattle.std.specs.List.{list_all, slice_split, onto_first}
 use Rattle.std.proofs.lemmas.Option.{none-some}
 use Rattle.std.proofs.lemmas.Bool.Decides.{nat_tests}
 use Rattle.std.proofs.lemmas.Bool.{eqb-true}
@@ -13,7 +12,7 @@ use Rattle.f77_syntax.specs.declared.tree.Expr.{Expr}
 use Rattle.f77_syntax.specs.declared.tree.Ref.{Ref}
 use Rattle.f77_syntax.specs.Tree.{Tree, Trees, Statement}
 use Rattle.f77_syntax.specs.Grammar.{is_word, is_name}
-use Rattle.f77_syntax.specs.Reading.{◌>>=◌, strip, word, past_word, after, close_at, reading}
+use Rattle.f77_syntax.specs.Reading.{◌>>=◌, word, past_word, after, close_at, reading}
 use Rattle.f77_syntax.specs.Assignment.{ended, reference_behind, reference_at, value_at, assign_at}
 use Rattle.f77_syntax.specs.Subroutine.{is_comma, names_at, before_close, arguments_at, subroutine_at}
 use Rattle.f77_syntax.specs.View.{tree_of, trees, place_of, clip, clip_all, Fails}

@@ -1,35 +1,21 @@
 -- What reading leaves of the canonical text of a statement.
-use Rattle.std.proofs.Common.{arith, ◌≡◌, ◌≤◌, ◌<◌, ◌/◌, ◌%◌, ℕ, zero, suc, length, List, [], ◌∷◌, ◌++◌, Bool, true, false, cond, refl, ap, sym, subst, ◌∙◌, append_assoc}
-use Rattle.std.specs.Prelude.{nat_le, nat_lt, ◌==◌, ◌&&◌, not, codes, filter, map, Option, Some, None}
+use Rattle.std.proofs.Common.{◌≡◌, ℕ, List, [], ◌∷◌, ◌++◌, true, refl, ap, sym, subst, append_assoc}
+use Rattle.std.specs.Prelude.{◌&&◌, not, codes, Option, Some, None}
 use Rattle.std.specs.List.{list_all}
-use Rattle.std.specs.Char.{to_ascii_uppercase}
-use Rattle.std.specs.Fmt.{decimal, digits, digits_onto, digit_glyph}
-use Rattle.std.proofs.lemmas.Bool.Decides.{nat_tests}
-use Rattle.std.proofs.lemmas.List.Folds.{list_all-append}
-use Rattle.std.proofs.lemmas.List.{length-map, map-append}
-use Rattle.std.proofs.lemmas.List.Elements.{filter-append}
+use Rattle.std.specs.Fmt.{decimal}
 use Rattle.f77_source.specs.Line.{is_blank}
 use Rattle.f77_source.specs.Law.{squeezed}
 use Rattle.f77_source.specs.Write.{is_printable, piece}
-use Rattle.f77_syntax.specs.declared.operator.Operator.{Operator}
-use Rattle.f77_syntax.specs.declared.operator.Operator.TheVariants.{Equivalent, NotEquivalent, Or, And, Less, LessOrEqual, Equal, NotEqual, GreaterOrEqual, Greater, Add, Subtract, Multiply, Divide, Power}
-use Rattle.f77_syntax.specs.declared.operator.Sign.{Sign}
-use Rattle.f77_syntax.specs.declared.operator.Sign.TheVariants.{Plus, Minus}
-use Rattle.f77_syntax.specs.declared.intrinsic.Intrinsic.{Intrinsic}
-use Rattle.f77_syntax.specs.declared.intrinsic.Intrinsic.TheVariants.{Mod, Iabs, Min0, Max0}
-use Rattle.f77_syntax.specs.Operator.{symbol, sign_symbol, left_level, right_level}
-use Rattle.f77_syntax.specs.Intrinsic.{function_name}
 use Rattle.f77_syntax.specs.Tree.{Tree, Trees, Statement}
 use Rattle.f77_syntax.specs.StatementGrammar.{SpellsStatement, IsFormed, IsUnmutated}
-use Rattle.f77_syntax.specs.Grammar.{is_letter, is_word, is_name, truth_text}
-use Rattle.f77_syntax.specs.Canonical.{own_level, operand, text_of, list_text, rest_text, names_text, step_text, statement_text}
+use Rattle.f77_syntax.specs.Grammar.{is_letter, is_word, is_name}
+use Rattle.f77_syntax.specs.Canonical.{text_of, list_text, names_text, step_text, statement_text}
 use Rattle.f77_syntax.specs.Formed.{formed, all_formed, step_formed, is_action, statement_formed}
 use Rattle.f77_syntax.proofs.Steps.{and_true, not_true}
 use Rattle.f77_syntax.proofs.StatementForming.{is_formed}
 use Rattle.f77_syntax.specs.StatementLimits.{statement_constants}
 use Rattle.f77_syntax.proofs.StatementBack.{bare_text, back_statement}
-use Rattle.f77_syntax.proofs.Back.{reference_formed, no_call, call_formed}
-use Rattle.f77_syntax.proofs.Plain.{is_plain, IsPlain, both, plain_word, plain_words, plain_letter, plain_name, plain_glyph, plain_digits, plain_decimal, plain_truth, plain_symbol, plain_sign, plain_function, plain_operand, plain_text, plain_list, plain_rest, not_blank, stays, prints, squeezed_plain, printable_plain, squeezed-append, behind_plain, printable_both, filter_short, squeezed_short}
+use Rattle.f77_syntax.proofs.Plain.{is_plain, IsPlain, both, plain_letter, plain_name, plain_decimal, plain_text, plain_list, not_blank, squeezed_plain, printable_plain, behind_plain, printable_both}
 use Rattle.f77_syntax.specs.StatementGrammar.{kind_keyword}
 use Rattle.f77_syntax.specs.Canonical.{kind_text}
 use Rattle.f77_syntax.specs.Declaration.{declarations_text, declaration_formed, all_bounded}

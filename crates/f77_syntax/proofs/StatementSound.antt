@@ -1,5 +1,5 @@
 -- A statement that is read is spelled so.
-use Rattle.std.proofs.Common.{arith, ◌≡◌, ◌⊎◌, inl, inr, Bool, false, ℕ, ◌+◌, ◌-◌, ◌<◌, length, List, [], ◌∷◌, ◌++◌, true, cond, subst, refl, Option, Some, None, ap, sym, ◌∙◌, append_assoc, append-nil, take, get_or}
+use Rattle.std.proofs.Common.{arith, ◌≡◌, ◌⊎◌, inl, inr, Bool, false, ℕ, ◌+◌, ◌-◌, ◌<◌, length, List, [], ◌∷◌, ◌++◌, true, cond, subst, refl, Option, Some, None, ap, sym, ◌∙◌, append-nil, take, get_or}
 use Rattle.std.specs.Prelude.{◌==◌, codes}
 use Rattle.std.specs.Str.{bytes_eq}
 use Rattle.std.specs.List.{list_all, slice_split, join_with_byte}
@@ -8,11 +8,11 @@ use Rattle.std.proofs.lemmas.Bool.{eqb-true}
 use Rattle.std.proofs.lemmas.Slice.Eq.{bytes_eq-Decides}
 use Rattle.std.proofs.lemmas.List.{take-append-drop, drop_more, drop_all, nil_from_length}
 use Rattle.std.proofs.lemmas.List.Splits.{join_with_byte-slice_split}
-use Rattle.f77_syntax.specs.Tree.{Tree, Trees, Statement}
-use Rattle.f77_syntax.specs.Grammar.{Spells, SpellsReference, is_digit, is_number, is_name}
+use Rattle.f77_syntax.specs.Tree.{Tree, Statement}
+use Rattle.f77_syntax.specs.Grammar.{Spells, is_digit, is_number, is_name}
 use Rattle.f77_syntax.specs.StatementGrammar.{SpellsAction, SpellsStatement, optional_comma, label_number}
 use Rattle.f77_syntax.specs.Reading.{◌>>=◌, strip, word, past_word, digits, past_digits, after, close_at, reading}
-use Rattle.f77_syntax.specs.Assignment.{ended, reference_behind, reference_at, value_at, assign_at}
+use Rattle.f77_syntax.specs.Assignment.{ended}
 use Rattle.f77_syntax.specs.Subroutine.{is_comma, names_at, before_close, arguments_at, subroutine_at}
 use Rattle.f77_syntax.specs.Label.{label_at, last_label, label_comma, labels_at}
 use Rattle.f77_syntax.specs.Condition.{arithmetic_at, condition_at}
@@ -32,7 +32,7 @@ use Rattle.f77_syntax.specs.declared.tree.Kind.{Kind}
 use Rattle.f77_syntax.specs.declared.tree.Kind.TheVariants.{Integer, Logical}
 use Rattle.f77_syntax.proofs.DeclarationTexts.{declarations_is}
 use Rattle.f77_syntax.proofs.DataTexts.{groups_is}
-use Rattle.f77_syntax.proofs.AssignmentSound.{FrontsReference, after_is, assign_is, ended_is, reference_behind_is, reference_is}
+use Rattle.f77_syntax.proofs.AssignmentSound.{after_is, assign_is, ended_is}
 
 pub before_close_is : (s r : List ℕ) → before_close s ≡ Some r → s ≡ r ++ 41 ∷ []
 before_close_is s r e =

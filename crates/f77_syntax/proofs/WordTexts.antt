@@ -1,29 +1,12 @@
 -- Texts of letters and digits have no comma and no equals sign.
-use Rattle.std.proofs.Common.{arith, ◌≡◌, inl, inr, subst, ℕ, ◌-◌, length, List, [], ◌∷◌, ◌++◌, Bool, true, false, refl, Some, ap, sym, ◌∙◌, append_assoc, append-nil, length-append}
-use Rattle.std.specs.Prelude.{◌==◌, codes, Option, None}
-use Rattle.std.specs.List.{All, list_all, list_any, slice_split, join_with_byte}
-use Rattle.std.proofs.lemmas.Option.{same_Some, none-some}
-use Rattle.std.specs.Str.{bytes_eq}
-use Rattle.std.proofs.lemmas.Slice.Eq.{bytes_eq-Decides}
+use Rattle.std.proofs.Common.{arith, ◌≡◌, ℕ, List, [], ◌∷◌, Bool, true, false, refl}
+use Rattle.std.specs.Prelude.{◌==◌}
+use Rattle.std.specs.List.{All, list_all, list_any}
 use Rattle.std.proofs.lemmas.Bool.Decides.{nat_tests}
-use Rattle.std.proofs.lemmas.List.{take_at, get_or_at}
 use Rattle.std.proofs.lemmas.List.Elements.{All-nil, All-cons}
-use Rattle.std.proofs.lemmas.List.Folds.{list_any-append}
-use Rattle.std.proofs.lemmas.List.Splits.{slice_split_at, slice_split_none}
-use Rattle.f77_syntax.specs.Tree.{Tree, Trees, Statement}
-use Rattle.f77_syntax.specs.Grammar.{Spells, SpellsReference, is_letter, is_digit, is_word, is_number, is_name}
-use Rattle.f77_syntax.specs.StatementGrammar.{SpellsAction, SpellsStatement, optional_comma, label_number}
-use Rattle.f77_syntax.specs.Reading.{◌>>=◌, strip, word, past_word, digits, past_digits, after, reading}
-use Rattle.f77_syntax.specs.Assignment.{ended, reference_at, assign_at}
-use Rattle.f77_syntax.specs.Subroutine.{is_comma, names_at, before_close, subroutine_at}
-use Rattle.f77_syntax.specs.Label.{label_at, last_label, label_comma, labels_at}
-use Rattle.f77_syntax.specs.Condition.{arithmetic_at, condition_at}
-use Rattle.f77_syntax.specs.DoLoop.{past_comma, range_at, step_at, parameters_at, loop_at}
-use Rattle.f77_syntax.specs.Classification.{behind, begins_with, begins_if, class_of, statement_class}
-use Rattle.f77_syntax.specs.Statement.{word_statement, simple_at, simple_action_at, action_at, begins_digit, branch_at, else_at, keyword_at, statement_at}
+use Rattle.f77_syntax.specs.Grammar.{is_word}
+use Rattle.f77_syntax.specs.Subroutine.{is_comma}
 use Rattle.f77_syntax.proofs.Steps.{and_true}
-use Rattle.f77_syntax.proofs.Words.{word_front, past_word_front}
-use Rattle.f77_syntax.proofs.Shorter.{name_long}
 
 abbrev pub is_equals : ℕ → Bool
 is_equals c = c == 61

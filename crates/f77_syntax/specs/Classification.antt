@@ -1,5 +1,5 @@
 -- What a statement is, from its text as a whole, since no word is reserved (ANSI X3.9-1978, 2.3 and 3.3).
-use Rattle.std.specs.Prelude.{ℕ, zero, suc, ◌-◌, ◌==◌, List, [], ◌∷◌, Option, Some, None, Bool, true, false, ◌&&◌, not, is_some, if◌then◌else◌, codes}
+use Rattle.std.specs.Prelude.{ℕ, suc, ◌-◌, ◌==◌, List, [], ◌∷◌, Option, Some, None, Bool, false, ◌&&◌, not, is_some, if◌then◌else◌, codes}
 use Rattle.f77_syntax.specs.Reading.{◌>>=◌, strip}
 use Rattle.f77_syntax.specs.Tree.{Statement}
 use Rattle.f77_syntax.specs.declared.classification.Class.{Class}

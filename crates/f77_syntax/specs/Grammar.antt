@@ -1,15 +1,14 @@
 -- Which blank-free texts spell which expressions (ANSI X3.9-1978, sections 5 and 6). Names and constants are of any
 -- length here.
-use Rattle.std.specs.Prelude.{◌≡◌, ℕ, ◌≤◌, List, [], ◌∷◌, ◌++◌, length, Bool, true, false, ◌&&◌, ◌||◌, nat_le, if◌then◌else◌, Option, Some, None, option_map, is_some, codes}
-use Rattle.std.specs.List.{list_all, join_with_byte}
+use Rattle.std.specs.Prelude.{◌≡◌, ℕ, ◌≤◌, List, [], ◌∷◌, ◌++◌, Bool, true, false, ◌&&◌, ◌||◌, nat_le, is_some, codes}
+use Rattle.std.specs.List.{list_all}
 use Rattle.std.specs.Str.Parse.{digits_value}
 use Rattle.f77_syntax.specs.declared.intrinsic.Intrinsic.{Intrinsic}
-use Rattle.f77_syntax.specs.declared.intrinsic.Intrinsic.TheVariants.{Iabs}
 use Rattle.f77_syntax.specs.declared.operator.Operator.{Operator}
 use Rattle.f77_syntax.specs.declared.operator.Sign.{Sign}
 use Rattle.f77_syntax.specs.Intrinsic.{function_name, function_named}
 use Rattle.f77_syntax.specs.Operator.{symbol, sign_symbol, level, left_level, right_level}
-use Rattle.f77_syntax.specs.Tree.{Tree, Trees, Statement}
+use Rattle.f77_syntax.specs.Tree.{Tree, Trees}
 
 abbrev pub is_letter : ℕ → Bool
 is_letter c = nat_le 65 c && nat_le c 90

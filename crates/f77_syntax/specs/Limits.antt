@@ -1,7 +1,6 @@
 -- The limits of a statement: two on its text, three on what the text spells.
-use Rattle.std.specs.Prelude.{ℕ, ◌+◌, ◌<◌, ◌==◌, Bool, true, ◌&&◌, nat_le, List, take, filter, length, Option, Some, None}
-use Rattle.std.specs.List.{list_all}
-use Rattle.f77_syntax.specs.Tree.{Tree, Trees, Statement}
+use Rattle.std.specs.Prelude.{ℕ, ◌+◌, ◌<◌, ◌==◌, Bool, true, ◌&&◌, nat_le, List, take, filter, length}
+use Rattle.f77_syntax.specs.Tree.{Tree, Trees}
 
 -- the most characters of a statement's text: 20 lines of 66
 abbrev pub most_characters : ℕ

@@ -1,5 +1,5 @@
 -- Reading a statement: by its class, and where the class says no more by its keyword.
-use Rattle.std.specs.Prelude.{ℕ, ◌==◌, List, [], ◌∷◌, length, Option, Some, None, Bool, true, false, if◌then◌else◌, codes}
+use Rattle.std.specs.Prelude.{ℕ, ◌==◌, List, [], ◌∷◌, length, Option, Some, None, Bool, false, if◌then◌else◌, codes}
 use Rattle.std.specs.Str.{bytes_eq}
 use Rattle.f77_syntax.specs.Grammar.{is_digit}
 use Rattle.f77_syntax.specs.Tree.{Tree, Statement}

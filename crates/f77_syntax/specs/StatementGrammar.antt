@@ -1,13 +1,8 @@
 -- Which blank-free texts spell which statements (ANSI X3.9-1978, sections 7 to 11). Labels are of any length here.
-use Rattle.std.specs.Prelude.{◌≡◌, ℕ, ◌≤◌, List, [], ◌∷◌, ◌++◌, length, Bool, true, false, ◌&&◌, ◌||◌, nat_le, if◌then◌else◌, Option, Some, None, option_map, is_some, codes}
+use Rattle.std.specs.Prelude.{◌≡◌, ℕ, List, [], ◌∷◌, ◌++◌, length, Bool, true, false, nat_le, if◌then◌else◌, Some, None, option_map, codes}
 use Rattle.std.specs.List.{list_all, join_with_byte}
 use Rattle.std.specs.Str.Parse.{digits_value}
-use Rattle.f77_syntax.specs.declared.intrinsic.Intrinsic.{Intrinsic}
 use Rattle.f77_syntax.specs.declared.intrinsic.Intrinsic.TheVariants.{Iabs}
-use Rattle.f77_syntax.specs.declared.operator.Operator.{Operator}
-use Rattle.f77_syntax.specs.declared.operator.Sign.{Sign}
-use Rattle.f77_syntax.specs.Intrinsic.{function_name, function_named}
-use Rattle.f77_syntax.specs.Operator.{symbol, sign_symbol, level, left_level, right_level}
 use Rattle.f77_syntax.specs.Tree.{Tree, Trees, DeclFields, GroupFields, Statement}
 use Rattle.f77_syntax.specs.Grammar.{is_number, is_name, Spells, SpellsReference}
 use Rattle.f77_syntax.specs.Declaration.{SpellsDecls, all_bounded}

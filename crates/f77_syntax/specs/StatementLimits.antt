@@ -1,8 +1,8 @@
 -- The limits of a statement: names, constants and labels, nodes.
-use Rattle.std.specs.Prelude.{ℕ, ◌+◌, ◌<◌, ◌==◌, Bool, true, ◌&&◌, nat_le, List, take, filter, length, Option, Some, None}
+use Rattle.std.specs.Prelude.{ℕ, ◌+◌, Bool, true, ◌&&◌, nat_le, length, Option, Some, None}
 use Rattle.std.specs.List.{list_all}
-use Rattle.f77_syntax.specs.Tree.{Tree, Trees, Statement}
-use Rattle.f77_syntax.specs.Limits.{most_characters, most_open, most_nodes, largest, count, IsTooDeep, is_short, short_names, all_short_names, small_constants, all_small_constants, nodes, all_nodes}
+use Rattle.f77_syntax.specs.Tree.{Tree, Statement}
+use Rattle.f77_syntax.specs.Limits.{is_short, short_names, all_short_names, small_constants, all_small_constants, nodes, all_nodes}
 use Rattle.f77_syntax.specs.Declaration.{declaration_names, declaration_constants, declaration_nodes}
 use Rattle.f77_syntax.specs.Data.{data_names, data_constants, data_nodes}
 

@@ -1,19 +1,15 @@
 -- The statement that one of the program stands for.
-use Rattle.std.specs.Prelude.{◌≡◌, ℕ, List, [], ◌∷◌, min, Result, Ok, Err, Option, Some, None, option_map, Vec, map}
+use Rattle.std.specs.Prelude.{◌≡◌, ℕ, List, Option, option_map, Vec, map}
 use Rattle.std.specs.Borrow.{Bor}
 use Rattle.std.specs.declared.alloc.Global.{Global}
-use Rattle.f77_syntax.specs.declared.fault.ReadError.{ReadError}
-use Rattle.f77_syntax.specs.declared.fault.ReadError.TheVariants.{Memory, Unknown}
 use Rattle.f77_syntax.specs.declared.tree.Expr.{Expr}
 use Rattle.f77_syntax.specs.declared.tree.Ref.{Ref}
-use Rattle.f77_syntax.specs.declared.tree.Expr.TheOpen.{Expr-F, Ref-F}
-use Rattle.f77_syntax.specs.declared.tree.Expr.TheFolds.{fold-Expr, fold-Ref}
 use Rattle.f77_syntax.specs.declared.name.Name.{Name}
 use Rattle.f77_syntax.specs.declared.tree.Stmt.{Stmt}
 use Rattle.f77_syntax.specs.declared.tree.Stmt.TheOpen.{Stmt-F}
 use Rattle.f77_syntax.specs.declared.tree.Stmt.TheFolds.{fold-Stmt}
 use Rattle.f77_syntax.specs.Tree.{Tree, Trees, Statement}
-use Rattle.f77_syntax.specs.View.{trees, expr_step, ref_step, tree_of, place_of, clipped, clip, clip_all, Fails, Gives, IsTree, IsStart, IsList}
+use Rattle.f77_syntax.specs.View.{trees, tree_of, place_of, clip, clip_all}
 use Rattle.f77_syntax.specs.Declaration.{decl_of, clip_decl}
 use Rattle.f77_syntax.specs.Data.{data_group_of, clip_group}
 

@@ -1,5 +1,5 @@
 -- The tree that an expression of the program stands for.
-use Rattle.std.specs.Prelude.{◌≡◌, ℕ, List, [], ◌∷◌, min, Result, Ok, Err, Option, Some, None, option_map, Vec, map}
+use Rattle.std.specs.Prelude.{◌≡◌, ℕ, List, [], ◌∷◌, min, Result, Ok, Err, Option, Some, None, Vec, map}
 use Rattle.std.specs.Borrow.{Bor}
 use Rattle.std.specs.declared.alloc.Global.{Global}
 use Rattle.f77_syntax.specs.declared.fault.ReadError.{ReadError}
@@ -8,11 +8,7 @@ use Rattle.f77_syntax.specs.declared.tree.Expr.{Expr}
 use Rattle.f77_syntax.specs.declared.tree.Ref.{Ref}
 use Rattle.f77_syntax.specs.declared.tree.Expr.TheOpen.{Expr-F, Ref-F}
 use Rattle.f77_syntax.specs.declared.tree.Expr.TheFolds.{fold-Expr, fold-Ref}
-use Rattle.f77_syntax.specs.declared.name.Name.{Name}
-use Rattle.f77_syntax.specs.declared.tree.Stmt.{Stmt}
-use Rattle.f77_syntax.specs.declared.tree.Stmt.TheOpen.{Stmt-F}
-use Rattle.f77_syntax.specs.declared.tree.Stmt.TheFolds.{fold-Stmt}
-use Rattle.f77_syntax.specs.Tree.{Tree, Trees, Statement}
+use Rattle.f77_syntax.specs.Tree.{Tree, Trees}
 
 abbrev pub trees : List Tree → Trees
 trees [] = Trees.None

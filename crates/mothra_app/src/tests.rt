@@ -160,6 +160,84 @@ fn answers_sources(rt: HostRuntime) -> Result<(), Fail> {
 }
 
 #[test]
+fn prints_every_statement(rt: HostRuntime) -> Result<(), Fail> {
+    let rows: [(&[&str], &str); 5] = [
+        (
+            &[
+                "      SUBROUTINE ODD(I)",
+                "      INTEGER IF(5),DO10I",
+                "      DO10I=1",
+                "      DO10I=1,3",
+                "10    IF(I)=3",
+                END,
+            ],
+            "      SUBROUTINE ODD(I)\n      INTEGER IF(5),DO10I\n      DO10I=1\n      DO 10 I=1,3\n   10 IF(I)=3\n      END\n",
+        ),
+        (
+            &[
+                "      subroutine all(p)",
+                "      logical p",
+                "      dimension m ( 2 , 3 )",
+                "      data i , j / 1 , +2 / k / 1 * 3 /",
+                "      if ( p ) then",
+                "      else if ( i .gt. 0 ) then",
+                "      go to 20",
+                "      else",
+                "      if ( i - j ) 20 , 20 , 30",
+                "      end if",
+                "   20 if ( .not. p ) return",
+                "   30 stop",
+                "      end",
+            ],
+            "      SUBROUTINE ALL(P)\n      LOGICAL P\n      DIMENSION M(2,3)\n      DATA I,J/1,2/,K/3/\n      IF (P) THEN\n      ELSE IF (I.GT.0) THEN\n      GO TO 20\n      ELSE\n      IF (I-J) 20,20,30\n      END IF\n   20 IF (.NOT.P) RETURN\n   30 STOP\n      END\n",
+        ),
+        (&[HEAD, "      K=I**-J", END], "FAULT S2 2\n"),
+        (&[HEAD, "      INTEGER M(2147483648)", END], "FAULT S4 2\n"),
+        (&[HEAD, SUM, "      INTEGER L", END], "FAULT S2 3\n"),
+    ];
+    for (lines, want) in rows {
+        let job = job_of(&rt, lines)?;
+        let (_, text) = printed(&rt, job.as_bytes())?;
+        assert_eq!(rt; text.as_slice(), want.as_bytes());
+    }
+    Ok(())
+}
+
+#[test]
+fn continues_statements(rt: HostRuntime) -> Result<(), Fail> {
+    for (count, want) in [
+        (
+            16,
+            "      SUBROUTINE ADD(I,J,K)\n      K=1+1+1+1+1+1+1+1+1+1+1+1+1+1+1+1+1\n      END\n",
+        ),
+        (20, "FAULT F7 22\n"),
+    ] {
+        let mut lines = Vec::new(rt.alloc());
+        lines.push(HEAD)?;
+        lines.push("      K=1")?;
+        for _ in 0..count {
+            lines.push("     &+1")?;
+        }
+        lines.push(END)?;
+        let (_, text) = printed(&rt, job_of(&rt, &lines)?.as_bytes())?;
+        assert_eq!(rt; text.as_slice(), want.as_bytes());
+    }
+
+    let mut long = String::from_str(rt.alloc(), "      K=1")?;
+    for _ in 0..16 {
+        long.push_str("+1")?;
+    }
+    let mut more = String::from_str(rt.alloc(), "     &")?;
+    for _ in 0..17 {
+        more.push_str("+1")?;
+    }
+    let job = job_of(&rt, &[HEAD, long.as_str(), more.as_str(), END])?;
+    let (_, text) = printed(&rt, job.as_bytes())?;
+    assert!(rt; text.as_slice().ends_with(b"+1+\n     +1+1\n      END\n"));
+    Ok(())
+}
+
+#[test]
 fn keeps_the_limits(rt: HostRuntime) -> Result<(), Fail> {
     let mut job = Vec::new(rt.alloc());
     job.extend_from_slice(LOWER_CASE.as_bytes())?;

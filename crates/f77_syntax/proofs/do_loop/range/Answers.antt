@@ -1,4 +1,4 @@
-use Rattle.std.proofs.Common.{◌≡◌, true, false, refl, sym, ◌∙◌}
+use Rattle.std.proofs.Common.{◌≡◌, true, false, refl, sym}
 use Rattle.f77_syntax.specs.Grammar.{is_name}
 use Rattle.f77_syntax.proofs.BranchGives.{range_none, range_unnamed, range_no_equals, range_whole}
 use Rattle.f77_syntax.proofs.do_loop.range.Goals as goal
