@@ -21,10 +21,10 @@ use Rattle.f77_syntax.specs.declared.tree.Stmt.TheViews as boxed
 use Rattle.f77_syntax.specs.Tree.{Tree, DeclFields, GroupFields, Statement}
 use Rattle.f77_syntax.specs.Grammar.{is_digit, is_number, is_name}
 use Rattle.f77_syntax.specs.StatementGrammar.{label_number}
-use Rattle.f77_syntax.specs.Reading.{◌>>=◌, strip, word, past_word, after, close_at, reading}
+use Rattle.f77_syntax.specs.Reading.{◌>>=◌, strip, word, past_word, after, close_at, reading, past_comma}
 use Rattle.f77_syntax.specs.Label.{label_at, last_label, labels_at}
 use Rattle.f77_syntax.specs.Condition.{arithmetic_at, condition_at}
-use Rattle.f77_syntax.specs.DoLoop.{past_comma, range_at, step_at, parameters_at, loop_at}
+use Rattle.f77_syntax.specs.DoLoop.{range_at, step_at, parameters_at, loop_at}
 use Rattle.f77_syntax.specs.Classification.{behind, class_of}
 use Rattle.f77_syntax.specs.Formed.{is_action}
 use Rattle.f77_syntax.specs.declared.classification.Class.TheVariants.{Keyword}

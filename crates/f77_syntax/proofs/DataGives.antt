@@ -8,11 +8,11 @@ use Rattle.f77_syntax.specs.declared.data.Constant.{Constant}
 use Rattle.f77_syntax.specs.declared.data.Value.{Value}
 use Rattle.f77_syntax.specs.declared.data.DataGroup.{DataGroup}
 use Rattle.f77_syntax.specs.Grammar.{is_name}
-use Rattle.f77_syntax.specs.Reading.{◌>>=◌, word, past_word, after}
+use Rattle.f77_syntax.specs.Reading.{◌>>=◌, word, past_word, after, past_comma}
 use Rattle.f77_syntax.specs.View.{clipped, Fails}
 use Rattle.f77_syntax.specs.Declaration.{name_at, number_at}
 use Rattle.f77_syntax.specs.Tree.{GroupFields}
-use Rattle.f77_syntax.specs.Data.{data_group_of, negative, signed_at, truth_at, constant_at, repeat_at, value_at, data_names_at, data_values_at, with_values, group_at, past_comma, with_groups, groups_within, groups_at, clip_constant, clip_value, clip_group, Finds}
+use Rattle.f77_syntax.specs.Data.{data_group_of, negative, signed_at, truth_at, constant_at, repeat_at, value_at, data_names_at, data_values_at, with_values, group_at, with_groups, groups_within, groups_at, clip_constant, clip_value, clip_group, Finds}
 use Rattle.f77_syntax.proofs.Gives.{fails_bind}
 use Rattle.f77_syntax.proofs.JoinedTexts.{kept_more, fronts_short}
 use Rattle.f77_syntax.proofs.DataTexts.{value_is, group_is, group_long}

@@ -10,11 +10,11 @@ use Rattle.std.proofs.lemmas.List.{nil_from_length}
 use Rattle.f77_syntax.specs.declared.data.Constant.{Constant}
 use Rattle.f77_syntax.specs.declared.data.Constant.TheVariants.{Number, Truth}
 use Rattle.f77_syntax.specs.Grammar.{is_word, is_digit, is_letter, is_name, is_number}
-use Rattle.f77_syntax.specs.Reading.{◌>>=◌, strip, after}
+use Rattle.f77_syntax.specs.Reading.{◌>>=◌, strip, after, past_comma}
 use Rattle.f77_syntax.specs.Joined.{Joined}
 use Rattle.f77_syntax.specs.Declaration.{SpellsName, SpellsNumber, name_at, number_at}
 use Rattle.f77_syntax.specs.Tree.{GroupFields}
-use Rattle.f77_syntax.specs.Data.{negative, SpellsConstant, SpellsValue, SpellsGroup, SpellsGroups, signed_at, truth_by, truth_at, constant_at, repeat_at, times_at, value_at, data_names_at, data_values_at, with_values, group_at, past_comma, with_groups, groups_within, groups_at}
+use Rattle.f77_syntax.specs.Data.{negative, SpellsConstant, SpellsValue, SpellsGroup, SpellsGroups, signed_at, truth_by, truth_at, constant_at, repeat_at, times_at, value_at, data_names_at, data_values_at, with_values, group_at, with_groups, groups_within, groups_at}
 use Rattle.f77_syntax.proofs.Steps.{along, bind_ok, chosen, and_true, strip_is}
 use Rattle.f77_syntax.proofs.Words.{word_front, past_word_front}
 use Rattle.f77_syntax.proofs.Gives.{after_is}

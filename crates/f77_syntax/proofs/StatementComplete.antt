@@ -12,12 +12,12 @@ use Rattle.std.proofs.lemmas.List.Splits.{slice_split_at, slice_split_none}
 use Rattle.f77_syntax.specs.Tree.{Tree, Trees, Statement}
 use Rattle.f77_syntax.specs.Grammar.{Spells, SpellsReference, is_letter, is_digit, is_word, is_number, is_name}
 use Rattle.f77_syntax.specs.StatementGrammar.{SpellsAction, SpellsStatement, optional_comma, label_number}
-use Rattle.f77_syntax.specs.Reading.{word, past_word, digits, past_digits, reading}
+use Rattle.f77_syntax.specs.Reading.{word, past_word, digits, past_digits, reading, past_comma}
 use Rattle.f77_syntax.specs.Assignment.{reference_at, assign_at}
 use Rattle.f77_syntax.specs.Subroutine.{is_comma, names_at, before_close, subroutine_at}
 use Rattle.f77_syntax.specs.Label.{label_at, last_label, label_comma, labels_at}
 use Rattle.f77_syntax.specs.Condition.{arithmetic_at, condition_at}
-use Rattle.f77_syntax.specs.DoLoop.{past_comma, range_at, parameters_at, loop_at}
+use Rattle.f77_syntax.specs.DoLoop.{range_at, parameters_at, loop_at}
 use Rattle.f77_syntax.specs.Classification.{behind, begins_with, begins_if, class_of, statement_class}
 use Rattle.f77_syntax.specs.Statement.{word_statement, simple_at, simple_action_at, action_at, begins_digit, branch_at, else_at, specification_at, keyword_at, statement_at}
 use Rattle.f77_syntax.specs.declared.classification.Class.TheVariants.{Keyword}

@@ -1,6 +1,6 @@
 -- A statement that is read is spelled so.
 use Rattle.std.proofs.Common.{arith, ◌≡◌, ◌⊎◌, inl, inr, Bool, false, ℕ, ◌+◌, ◌-◌, ◌<◌, length, List, [], ◌∷◌, ◌++◌, true, cond, subst, refl, Option, Some, None, ap, sym, ◌∙◌, append-nil, take, get_or}
-use Rattle.std.specs.Prelude.{◌==◌, codes}
+use Rattle.std.specs.Prelude.{◌==◌, codes, unwrap_or}
 use Rattle.std.specs.Str.{bytes_eq}
 use Rattle.std.specs.List.{list_all, slice_split, join_with_byte}
 use Rattle.std.proofs.lemmas.Option.{same_Some, none-some}
@@ -11,12 +11,12 @@ use Rattle.std.proofs.lemmas.List.Splits.{join_with_byte-slice_split}
 use Rattle.f77_syntax.specs.Tree.{Tree, Statement}
 use Rattle.f77_syntax.specs.Grammar.{Spells, is_digit, is_number, is_name}
 use Rattle.f77_syntax.specs.StatementGrammar.{SpellsAction, SpellsStatement, optional_comma, label_number}
-use Rattle.f77_syntax.specs.Reading.{◌>>=◌, strip, word, past_word, digits, past_digits, after, close_at, reading}
+use Rattle.f77_syntax.specs.Reading.{◌>>=◌, strip, word, past_word, digits, past_digits, after, close_at, reading, past_comma}
 use Rattle.f77_syntax.specs.Assignment.{ended}
 use Rattle.f77_syntax.specs.Subroutine.{is_comma, names_at, before_close, arguments_at, subroutine_at}
 use Rattle.f77_syntax.specs.Label.{label_at, last_label, label_comma, labels_at}
 use Rattle.f77_syntax.specs.Condition.{arithmetic_at, condition_at}
-use Rattle.f77_syntax.specs.DoLoop.{past_comma, range_at, step_at, parameters_at, loop_at}
+use Rattle.f77_syntax.specs.DoLoop.{range_at, step_at, parameters_at, loop_at}
 use Rattle.f77_syntax.specs.Formed.{is_action}
 use Rattle.f77_syntax.specs.Classification.{class_of}
 use Rattle.f77_syntax.specs.Statement.{word_statement, goto_by, simple_at, actions_only, simple_action_at, action_by, action_at, begins_digit, branch_at, else_at, declared_at, dimension_at, preset_at, specification_by, specification_at, keyword_by, keyword_at, statement_by, statement_at}
@@ -279,7 +279,7 @@ past_comma_is : (s : List ℕ) → (comma : Bool) × (s ≡ optional_comma comma
 past_comma_is [] = (false, refl)
 past_comma_is (c ∷ s) = step (c == 44) refl
   where
-    step : (b : Bool) → (c == 44) ≡ b → (comma : Bool) × (c ∷ s ≡ optional_comma comma ++ cond b s (c ∷ s))
+    step : (b : Bool) → (c == 44) ≡ b → (comma : Bool) × (c ∷ s ≡ optional_comma comma ++ unwrap_or (cond b (Some s) None) (c ∷ s))
     step true e = (true, ap (λ z. z ∷ s) (eqb-true c 44 e))
     step false e = (false, refl)
 

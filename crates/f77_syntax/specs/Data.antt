@@ -13,7 +13,7 @@ use Rattle.f77_syntax.specs.Grammar.{is_name, is_number, truth_text}
 use Rattle.f77_syntax.specs.Declaration.{SpellsName, name_at, number_at}
 use Rattle.f77_syntax.specs.Joined.{Joined, items_at, some_all, separated}
 use Rattle.f77_syntax.specs.Limits.{is_short, largest}
-use Rattle.f77_syntax.specs.Reading.{◌>>=◌, strip, after}
+use Rattle.f77_syntax.specs.Reading.{◌>>=◌, strip, after, past_comma}
 use Rattle.f77_syntax.specs.Tree.{GroupFields}
 use Rattle.f77_syntax.specs.View.{clipped}
 
@@ -101,10 +101,6 @@ with_values names s = data_values_at s >>= λ x. after 47 x.1 >>= λ r. Some (re
 
 unfoldable pub group_at : List ℕ → Option (GroupFields × List ℕ)
 group_at s = data_names_at s >>= λ x. after 47 x.1 >>= λ r. with_values x.0 r
-
--- without the comma at the front
-abbrev pub past_comma : List ℕ → List ℕ
-past_comma s = unwrap_or (after 44 s) s
 
 -- a group has been read: behind it the text ends, or other groups stand
 abbrev pub with_groups : (List ℕ → Option (List GroupFields)) → GroupFields → List ℕ → Option (List GroupFields)

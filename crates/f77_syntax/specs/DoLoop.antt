@@ -2,14 +2,9 @@
 use Rattle.std.specs.Prelude.{ℕ, ◌==◌, List, [], ◌∷◌, Option, Some, None, if◌then◌else◌, codes}
 use Rattle.f77_syntax.specs.Grammar.{is_name}
 use Rattle.f77_syntax.specs.Tree.{Tree, Statement}
-use Rattle.f77_syntax.specs.Reading.{◌>>=◌, strip, word, past_word, after, reading}
+use Rattle.f77_syntax.specs.Reading.{◌>>=◌, strip, word, past_word, after, past_comma, reading}
 use Rattle.f77_syntax.specs.Assignment.{ended}
 use Rattle.f77_syntax.specs.Label.{label_at}
-
--- without a comma at the front
-abbrev pub past_comma : List ℕ → List ℕ
-past_comma [] = []
-past_comma (c ∷ s) = if c == 44 then s else c ∷ s
 
 -- the label and the DO variable of a DO, and what follows the equals sign
 unfoldable pub range_at : List ℕ → Option (ℕ × List ℕ × List ℕ)

@@ -1,5 +1,5 @@
 -- Reading from left to right: an operand, and then operators with their right operands.
-use Rattle.std.specs.Prelude.{ℕ, zero, suc, List, [], ◌∷◌, length, Option, Some, None, option_and_then, true, false, ◌&&◌, nat_le, ◌==◌, if◌then◌else◌, codes}
+use Rattle.std.specs.Prelude.{ℕ, zero, suc, List, [], ◌∷◌, length, Option, Some, None, option_and_then, true, false, ◌&&◌, nat_le, ◌==◌, if◌then◌else◌, codes, unwrap_or}
 use Rattle.std.specs.Str.Parse.{digits_value}
 use Rattle.f77_syntax.specs.declared.operator.Operator.{Operator}
 use Rattle.f77_syntax.specs.declared.operator.Operator.TheVariants.{Equivalent, NotEquivalent, Or, And, Less, LessOrEqual, Equal, NotEqual, GreaterOrEqual, Greater, Add, Subtract, Multiply, Divide, Power}
@@ -65,6 +65,10 @@ pub record Readers : Type 0 where
 abbrev pub after : ℕ → List ℕ → Option (List ℕ)
 after b [] = None
 after b (c ∷ s) = if c == b then Some s else None
+
+-- what follows the comma at the front, or the text itself
+abbrev pub past_comma : List ℕ → List ℕ
+past_comma s = unwrap_or (after 44 s) s
 
 -- what follows a closing parenthesis
 abbrev pub close_at : List ℕ → Option (List ℕ)

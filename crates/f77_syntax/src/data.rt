@@ -10,10 +10,10 @@ ghost use Rattle.f77_syntax.specs.Reading.{after};
 ghost use Rattle.f77_syntax.specs.View.{clipped, Gives};
 
 use crate::constants::{digits, read_constant};
-use crate::expression::after_byte;
+use crate::expression::{after_byte, past_comma};
 use crate::fault::ReadError;
-use crate::limits::{LARGEST, LONGEST_NAME};
-use crate::name::Name;
+use crate::limits::LARGEST;
+use crate::name::{Name, are_named, are_short};
 use crate::scan::{is_name, split_word};
 use std::alloc::{AllocError, Global};
 
@@ -118,14 +118,6 @@ fn group(alloc: Global, text: &[u8]) -> Result<(DataGroup, &[u8]), ReadError>
     Ok((DataGroup { names, values }, rest))
 }
 
-/// The text without the comma at its front.
-fn past_comma(text: &[u8]) -> &[u8]
-    ensures rest { result.now ≡ initial.past_comma text.now }
-    ensures short { length result.now ≤ length text.now }
-{
-    after_byte(text, b',').unwrap_or(text)
-}
-
 /// Reads what follows the keyword DATA.
 pub(crate) fn groups(alloc: Global, text: &[u8]) -> Result<Vec<DataGroup>, ReadError>
     ensures { Gives AreGroups result (groups_at text.now) }
@@ -140,12 +132,6 @@ pub(crate) fn groups(alloc: Global, text: &[u8]) -> Result<Vec<DataGroup>, ReadE
         }
         rest = past_comma(behind);
     }
-}
-
-fn are_named(names: &[Name]) -> bool
-    ensures { result ≡ list_all grammar.is_name names.now }
-{
-    names.iter().all(|name| is_name(name.as_str().as_bytes()))
 }
 
 #[tactic(auto, using(crate::proofs::JoinedTexts::some_here, crate::proofs::JoinedTexts::none_here))]
@@ -190,10 +176,7 @@ pub(crate) fn data_formed(groups: &[DataGroup]) -> bool
 fn has_short_names(group: &DataGroup) -> bool
     ensures { result ≡ initial.group_names (data_group_of group.now) }
 {
-    group
-        .names
-        .iter()
-        .all(|name| name.as_str().len() <= LONGEST_NAME)
+    are_short(&group.names)
 }
 
 /// Whether each name has six characters at most.

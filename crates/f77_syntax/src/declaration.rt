@@ -10,8 +10,8 @@ ghost use Rattle.f77_syntax.specs.View.{Gives};
 
 use crate::expression::{after_byte, closed};
 use crate::fault::ReadError;
-use crate::limits::{LARGEST, LONGEST_NAME};
-use crate::name::Name;
+use crate::limits::LARGEST;
+use crate::name::{Name, is_named, is_short};
 use crate::scan::{is_name, is_number, number, split_word};
 use std::alloc::{AllocError, Global};
 
@@ -102,7 +102,7 @@ pub(crate) fn all_bounded(items: &[Decl]) -> bool
 fn is_decl(item: &Decl) -> bool
     ensures { result ≡ declared.is_decl (decl_of item.now) }
 {
-    is_name(item.name.as_str().as_bytes())
+    is_named(&item.name)
 }
 
 fn are_decls(items: &[Decl]) -> bool
@@ -127,7 +127,7 @@ pub(crate) fn declaration_formed(items: &[Decl]) -> bool
 fn has_short_name(item: &Decl) -> bool
     ensures { result ≡ declared.decl_name (decl_of item.now) }
 {
-    item.name.as_str().len() <= LONGEST_NAME
+    is_short(&item.name)
 }
 
 /// Whether each declared name has six characters at most.

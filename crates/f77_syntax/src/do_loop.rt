@@ -1,28 +1,17 @@
 //! DO statements read from texts.
 
 ghost use Rattle.std.specs.Prelude.{◌≡◌};
-ghost use Rattle.f77_syntax.specs.DoLoop as loops;
 ghost use Rattle.f77_syntax.specs.DoLoop.{range_at, step_at, parameters_at, loop_at};
 ghost use Rattle.f77_syntax.specs.View.{Gives};
 ghost use Rattle.f77_syntax.specs.StatementView.{IsStatement, IsRange, IsStep};
 
-use crate::expression::{after_byte, expression};
+use crate::expression::{after_byte, expression, past_comma};
 use crate::fault::ReadError;
 use crate::label::label;
 use crate::name::Name;
 use crate::scan::{is_name, split_word};
 use crate::tree::{Expr, Stmt};
 use std::alloc::Global;
-
-/// The text without a comma at the front.
-fn past_comma(text: &[u8]) -> &[u8]
-    ensures { result.now ≡ loops.past_comma text.now }
-{
-    match after_byte(text, b',') {
-        Some(rest) => rest,
-        None => text,
-    }
-}
 
 /// Reads the label and the DO variable, and what follows the equals sign.
 fn range(alloc: Global, text: &[u8]) -> Result<(u32, Name, &[u8]), ReadError>

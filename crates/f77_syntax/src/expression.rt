@@ -1,7 +1,7 @@
 //! Expressions read from texts, by recursive descent.
 
-ghost use Rattle.std.specs.Prelude.{◌≡◌, ◌<◌, true, length, map, codes, IfOk, option_map};
-ghost use Rattle.f77_syntax.specs.Reading.{reading, close_at, after, word, past_word, start_at, group_at, signed_at, negated_at, dotted_at, word_at, listed};
+ghost use Rattle.std.specs.Prelude.{◌≡◌, ◌<◌, ◌≤◌, true, length, map, codes, IfOk, option_map};
+ghost use Rattle.f77_syntax.specs.Reading.{reading, close_at, after, word, past_word, start_at, group_at, signed_at, negated_at, dotted_at, word_at, listed, past_comma};
 ghost use Rattle.f77_syntax.specs.Grammar.{is_name};
 ghost use Rattle.f77_syntax.specs.View.{tree_of, trees, Gives, IsTree, IsStart, IsList};
 
@@ -172,4 +172,12 @@ pub(crate) fn after_byte(text: &[u8], byte: u8) -> Option<&[u8]>
 {
     let (first, rest) = text.split_first()?;
     (*first == byte).then_some(rest)
+}
+
+/// What follows the comma at the front, or the text itself.
+pub(crate) fn past_comma(text: &[u8]) -> &[u8]
+    ensures rest { result.now ≡ past_comma text.now }
+    ensures short { length result.now ≤ length text.now }
+{
+    after_byte(text, b',').unwrap_or(text)
 }

@@ -11,21 +11,8 @@ ghost use Rattle.f77_syntax.specs.StatementView.{statement_of};
 use crate::data::data_formed;
 use crate::declaration::{all_bounded, declaration_formed};
 use crate::intrinsic::Intrinsic;
-use crate::name::Name;
-use crate::scan::is_name;
+use crate::name::{Name, are_named, is_named};
 use crate::tree::{Expr, Stmt};
-
-fn is_named(name: &Name) -> bool
-    ensures { result ≡ grammar.is_name name.now }
-{
-    is_name(name.as_str().as_bytes())
-}
-
-fn are_named(names: &[Name]) -> bool
-    ensures { result ≡ list_all grammar.is_name names.now }
-{
-    names.iter().all(|name| is_named(name))
-}
 
 #[tactic(auto, using(crate::proofs::Forming::some_items))]
 fn is_some_list(items: &[Expr]) -> bool

@@ -10,12 +10,10 @@ ghost use Rattle.f77_syntax.specs.StatementView.{statement_of};
 
 use crate::data::{data_constants, data_names, data_nodes};
 use crate::declaration::{declaration_constants, declaration_names, declaration_nodes};
-use crate::name::Name;
+use crate::name::{are_short, is_short};
 use crate::tree::{Expr, Stmt};
 
 const MOST_OPEN: usize = 40;
-
-pub(crate) const LONGEST_NAME: usize = 6;
 
 pub(crate) const LARGEST: u32 = 2_147_483_647;
 
@@ -41,18 +39,6 @@ pub(crate) fn is_too_deep(text: &[u8]) -> bool
         }
     }
     false
-}
-
-fn is_short(name: &Name) -> bool
-    ensures { result ≡ is_short name.now }
-{
-    name.as_str().len() <= LONGEST_NAME
-}
-
-fn are_short(names: &[Name]) -> bool
-    ensures { result ≡ list_all is_short names.now }
-{
-    names.iter().all(|name| is_short(name))
 }
 
 /// Whether each name in it has six characters at most.

@@ -1,13 +1,15 @@
 //! Names.
 
 ghost use Rattle.std.specs.Prelude.{◌≡◌, ◌&&◌, List, ℕ, Some, None, if◌then◌else◌, true, IfOk, string_bytes};
+ghost use Rattle.std.specs.List.{list_all};
 ghost use Rattle.f77_syntax.specs.Grammar as grammar;
 ghost use Rattle.f77_syntax.specs.Limits as limits;
 
-use crate::limits::LONGEST_NAME;
 use crate::scan::is_name;
 use std::alloc::{AllocError, Global};
 use std::marker::Model;
+
+const LONGEST_NAME: usize = 6;
 
 /// A symbolic name (ANSI X3.9-1978, 2.2): letters and digits, the first of them a letter.
 ///
@@ -55,4 +57,28 @@ impl Name {
     {
         self.letters.as_str()
     }
+}
+
+pub(crate) fn is_named(name: &Name) -> bool
+    ensures { result ≡ grammar.is_name name.now }
+{
+    is_name(name.as_str().as_bytes())
+}
+
+pub(crate) fn are_named(names: &[Name]) -> bool
+    ensures { result ≡ list_all grammar.is_name names.now }
+{
+    names.iter().all(|name| is_named(name))
+}
+
+pub(crate) fn is_short(name: &Name) -> bool
+    ensures { result ≡ limits.is_short name.now }
+{
+    name.as_str().len() <= LONGEST_NAME
+}
+
+pub(crate) fn are_short(names: &[Name]) -> bool
+    ensures { result ≡ list_all limits.is_short names.now }
+{
+    names.iter().all(|name| is_short(name))
 }
