@@ -104,3 +104,20 @@ step_stops source (Tab n) step new s h = inr (h s)
 step_stops source (BadLabel n) step new s h = inr (h s)
 step_stops source (LooseContinuation n) step new s h = inr (h s)
 step_stops source (TooManyContinuations n) step new s h = inr (h s)
+
+-- ---- lines are one list of cards at most, or have one first fault
+
+pub one_list : (source : List ℕ) (cards others : List CardFields) → AreCards 1 (lines source) cards → AreCards 1 (lines source) others → cards ≡ others
+one_list source cards others are also =
+    let one = complete 1 (lines source) cards are nothing_read in
+    let two = complete 1 (lines source) others also nothing_read in
+    let same : one.0 ≡ two.0 = (let a = one.1 in let b = two.1 in cc) in
+    sym one.2 ∙ ap all_cards same ∙ two.2
+
+pub one_first_fault : (source : List ℕ) (fault other : FormFault) → IsFirstFault (lines source) fault → IsFirstFault (lines source) other → fault ≡ other
+one_first_fault source fault other = one_first (lines source) fault other
+
+pub cards_or_fault : (source : List ℕ) (cards : List CardFields) (fault : FormFault) → AreCards 1 (lines source) cards → IsFirstFault (lines source) fault → ⊥
+cards_or_fault source cards fault are first =
+    let one = complete 1 (lines source) cards are nothing_read in
+    read_no_fault source one.0 fault one.1 first
