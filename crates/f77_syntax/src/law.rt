@@ -1,10 +1,13 @@
 //! What holds of the grammar itself.
 
-ghost use Rattle.std.specs.Prelude.{◌≡◌, ℕ, List};
+ghost use Rattle.std.specs.Prelude.{◌≡◌, ℕ, List, None};
+ghost use Rattle.f77_source.specs.Card.{CardFields};
 ghost use Rattle.f77_syntax.specs.Grammar.{Spells};
 ghost use Rattle.f77_syntax.specs.StatementGrammar.{SpellsStatement};
 ghost use Rattle.f77_syntax.specs.Classification.{class_of, statement_class};
+ghost use Rattle.f77_syntax.specs.Parsing.{LineFields, AreLines, IsFirstFault};
 ghost use Rattle.f77_syntax.specs.Tree.{Tree, Statement};
+ghost use Rattle.f77_syntax.specs.declared.fault.SyntaxFault.{SyntaxFault};
 
 /// A text spells one expression at most.
 #[tactic(auto, using(crate::proofs::Complete::one_tree))]
@@ -22,4 +25,14 @@ pub fn one_statement()
 #[tactic(auto, using(crate::proofs::StatementComplete::class_agrees))]
 pub fn one_class()
     ensures { (text : List ℕ) (s : Statement) → SpellsStatement text s → class_of text ≡ statement_class s }
+{}
+
+/// Cards are one program at most, or have one first fault, and not both.
+pub fn one_program()
+    ensures lines { (cards : List CardFields) (lines others : List LineFields) → AreLines None cards lines → AreLines None cards others
+        → lines ≡ others }
+    ensures fault { (cards : List CardFields) (fault other : SyntaxFault) → IsFirstFault None cards fault → IsFirstFault None cards other
+        → fault ≡ other }
+    ensures either { (cards : List CardFields) (lines : List LineFields) (fault : SyntaxFault) → AreLines None cards lines
+        → ¬ (IsFirstFault None cards fault) }
 {}
