@@ -1,3 +1,4 @@
 mod Commands
 mod Sources
 mod Answered
+mod OneAnswer

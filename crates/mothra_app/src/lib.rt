@@ -7,6 +7,7 @@ mod fault;
 mod input;
 mod job;
 mod key;
+pub mod law;
 mod line;
 mod output;
 mod printing;
