@@ -39,3 +39,6 @@ mod StatementClip
 mod Admit
 mod Exact
 mod Cards
+mod NodeParts
+mod NodeStatements
+mod NodeCounts

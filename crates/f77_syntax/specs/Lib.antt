@@ -21,5 +21,6 @@ pub mod Statement
 pub mod Limits
 pub mod StatementLimits
 pub mod Group
+pub mod Node
 pub mod Parsing
 pub mod Printing

@@ -1,12 +1,14 @@
 //! What holds of the grammar itself.
 
-ghost use Rattle.std.specs.Prelude.{◌≡◌, ℕ, List, None};
+ghost use Rattle.std.specs.Prelude.{◌≡◌, ℕ, List, length, None};
 ghost use Rattle.f77_source.specs.Card.{CardFields};
 ghost use Rattle.f77_syntax.specs.Grammar.{Spells};
 ghost use Rattle.f77_syntax.specs.StatementGrammar.{SpellsStatement};
 ghost use Rattle.f77_syntax.specs.Classification.{class_of, statement_class};
 ghost use Rattle.f77_syntax.specs.Parsing.{LineFields, AreLines, IsFirstFault};
 ghost use Rattle.f77_syntax.specs.Tree.{Tree, Statement};
+ghost use Rattle.f77_syntax.specs.Node.{nodes_of};
+ghost use Rattle.f77_syntax.specs.StatementLimits.{statement_nodes};
 ghost use Rattle.f77_syntax.specs.declared.fault.SyntaxFault.{SyntaxFault};
 
 /// A text spells one expression at most.
@@ -35,4 +37,10 @@ pub fn one_program()
         → fault ≡ other }
     ensures either { (cards : List CardFields) (lines : List LineFields) (fault : SyntaxFault) → AreLines None cards lines
         → ¬ (IsFirstFault None cards fault) }
+{}
+
+/// The number of nodes that is limited is the number of those that an edit may name.
+#[tactic(auto, using(crate::proofs::NodeCounts::nodes_counted))]
+pub fn nodes_are_counted()
+    ensures { (s : Statement) → length (nodes_of s) ≡ statement_nodes s }
 {}
