@@ -42,3 +42,4 @@ mod Cards
 mod NodeParts
 mod NodeStatements
 mod NodeCounts
+mod Copies

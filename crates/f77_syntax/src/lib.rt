@@ -6,6 +6,7 @@ mod canonical;
 mod classification;
 mod condition;
 mod constants;
+mod copying;
 mod data;
 mod declaration;
 mod do_loop;

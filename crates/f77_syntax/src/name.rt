@@ -2,11 +2,19 @@
 
 ghost use Rattle.std.specs.Prelude.{◌≡◌, ◌&&◌, List, ℕ, Some, None, if◌then◌else◌, true, IfOk, string_bytes};
 ghost use Rattle.std.specs.List.{list_all};
+ghost use Rattle.std.specs.Str.{bytes_eq};
+ghost use Rattle.std.specs.Cmp.Lexicographic.{nat_list_eq_equiv};
+ghost use Rattle.std.specs.Cmp.{partial_equiv_from_equiv};
+ghost use Rattle.std.specs.Cmp.Rules.{hashing};
+ghost use Rattle.std.specs.Hash as fed;
+ghost use Rattle.std.proofs.Common.{rules};
 ghost use Rattle.f77_syntax.specs.Grammar as grammar;
 ghost use Rattle.f77_syntax.specs.Limits as limits;
 
 use crate::scan::is_name;
 use std::alloc::{AllocError, Global};
+use std::fmt::{self, Display, Formatter};
+use std::hash::{Hash, Hasher};
 use std::marker::Model;
 
 const LONGEST_NAME: usize = 6;
@@ -14,7 +22,7 @@ const LONGEST_NAME: usize = 6;
 /// A symbolic name (ANSI X3.9-1978, 2.2): letters and digits, the first of them a letter.
 ///
 /// It has 1 to 6 characters, but for one that a reader holds before its length is tested.
-#[derive(Drop)]
+#[derive(Clone, Debug, Drop)]
 pub struct Name {
     letters: String,
 }
@@ -25,6 +33,38 @@ impl Model for Name {
     ghost view = { λ n. string_bytes n.letters };
 
     ghost invariant = { λ n. grammar.is_name (string_bytes n.letters) ≡ true };
+}
+
+impl PartialEq for Name {
+    ghost eq = { bytes_eq };
+
+    ghost laws = { partial_equiv_from_equiv nat_list_eq_equiv };
+
+    fn eq(&self, other: &Name) -> bool {
+        self.as_str() == other.as_str()
+    }
+}
+
+impl Eq for Name {
+    ghost laws = { nat_list_eq_equiv };
+}
+
+impl Hash for Name {
+    ghost hash_input = { fed.str };
+
+    ghost respects_eq = { Prim.search (hashing, rules) };
+
+    fn hash<H: Hasher>(&self, state: &mut H) {
+        self.as_str().hash(state);
+    }
+}
+
+impl Display for Name {
+    ghost output = { λ name. Some name };
+
+    fn fmt<W: fmt::Write>(&self, f: &mut Formatter<W>) -> fmt::Result {
+        f.write_str(self.as_str())
+    }
 }
 
 impl Name {

@@ -10,6 +10,7 @@ ghost use Rattle.f77_syntax.specs.declared.program.Line.{Line};
 use crate::fault::SyntaxFault;
 use crate::group::{Group, is_end};
 use crate::tree::Stmt;
+use std::alloc::AllocError;
 use std::marker::Model;
 
 /// A statement with its label, where it has one, and the number of its initial line.
@@ -34,6 +35,17 @@ impl Model for Program {
     ghost view = { λ p. p.lines.items };
 
     ghost invariant = { λ p. IsProgram None (map line_of p.lines.items) };
+}
+
+impl Clone for Program {
+    ghost is_clone = { λ source copy. map line_of copy ≡ map line_of source };
+
+    #[tactic(auto, using(crate::proofs::Copies::same_lines, crate::proofs::Copies::same_program))]
+    fn clone(&self) -> Result<Program, AllocError> {
+        Ok(Program {
+            lines: self.lines.clone()?,
+        })
+    }
 }
 
 /// Whether the line may follow a statement of this group, or be the first, and some text spells its statement.

@@ -1,5 +1,6 @@
 //! Statements and programs, from the rules of the standard and of the limits.
 
+mod copies;
 mod nodes;
 mod programs;
 

@@ -5,7 +5,7 @@ use f77_source::read_form;
 use std::test::Fail;
 
 /// The program of a source.
-fn program(rt: &impl AllocGlobal, source: &str) -> Result<Program, Fail> {
+pub(crate) fn program(rt: &impl AllocGlobal, source: &str) -> Result<Program, Fail> {
     let alloc = rt.alloc();
     let Ok(cards) = read_form(alloc, source.as_bytes()) else {
         return Err(Fail::new("no cards"));
@@ -17,7 +17,7 @@ fn program(rt: &impl AllocGlobal, source: &str) -> Result<Program, Fail> {
 }
 
 /// The program of the lines in fixed form, or the fault, or `None`.
-fn printed(rt: &impl AllocGlobal, lines: Vec<Line>) -> Result<String, Fail> {
+pub(crate) fn printed(rt: &impl AllocGlobal, lines: Vec<Line>) -> Result<String, Fail> {
     let mut text = String::new(rt.alloc());
     match Program::of(lines) {
         Ok(Some(program)) => match print(rt.alloc(), &program) {
@@ -79,7 +79,7 @@ fn makes_names(rt: HostRuntime) -> Result<(), Fail> {
 }
 
 /// K = the value.
-fn assign(rt: &impl AllocGlobal, value: Expr) -> Result<Stmt, Fail> {
+pub(crate) fn assign(rt: &impl AllocGlobal, value: Expr) -> Result<Stmt, Fail> {
     let target = Ref {
         name: name(rt, "K")?,
         subscripts: Vec::new(rt.alloc()),
@@ -88,7 +88,7 @@ fn assign(rt: &impl AllocGlobal, value: Expr) -> Result<Stmt, Fail> {
 }
 
 /// The lines 7 to 9: SUBROUTINE A with so many dummy arguments, a statement under this label, END.
-fn lines(
+pub(crate) fn lines(
     rt: &impl AllocGlobal,
     arguments: usize,
     label: Option<u32>,
