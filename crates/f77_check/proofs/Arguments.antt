@@ -1,0 +1,106 @@
+-- The dummy arguments of a legal program are no larger than the limit, so their shapes are exact.
+use Rattle.std.proofs.Common.{◌≡◌, ◌≤◌, ℕ, List, [], ◌∷◌, ◌++◌, ◌||◌, Bool, true, false, length, Some, None, refl, ap, sym, ◌∙◌, arith}
+use Rattle.std.specs.Prelude.{map, filter, is_some, nat_lt, if◌then◌else◌}
+use Rattle.std.specs.List.{list_any, sum}
+use Rattle.std.specs.Str.{bytes_eq}
+use Rattle.std.proofs.lemmas.Bool.Decides.{nat_tests}
+use Rattle.f77_syntax.specs.Parsing.{LineFields}
+use Rattle.f77_syntax.specs.Tree.{Statement}
+use Rattle.f77_check.specs.declared.names.Names.{Names}
+use Rattle.f77_check.specs.Checked.{dummies, dummies_of, shape_of, shapes}
+use Rattle.f77_check.specs.Legal.{IsLegal, is_array, is_too_large, name_faults, clause_faults, expression_clauses, control_clauses, label_faults, data_faults, size_faults}
+use Rattle.f77_check.specs.declared.fault.CheckFault.TheVariants.{TooMany}
+use Rattle.f77_check.specs.Names.{Symbol, Mention, name_in, mentions, mentions_of, symbols, some_items, bounds_of}
+use Rattle.f77_check.specs.NameTable.{IsNameTable}
+use Rattle.f77_check.specs.Presets.{product, elements}
+use Rattle.f77_check.specs.Shapes.{elements_in, shape_at}
+use Rattle.f77_check.proofs.Lookups.{same_kind_at, same_bounds_at}
+use Rattle.f77_check.proofs.Sizes.{sum_more}
+use Rattle.f77_check.proofs.Symbols.{or_false, same_symbol, symbol_refl, any_once}
+
+none_behind : {X : Type 0} (xs ys : List X) → xs ++ ys ≡ [] → ys ≡ []
+none_behind [] ys e = e
+none_behind (x ∷ xs) ys e = absurd (cc (e))
+
+none_told : {X : Type 0} (b : Bool) (x : X) → (if b then x ∷ [] else []) ≡ [] → b ≡ false
+none_told true x e = absurd (cc (e))
+none_told false x e = refl
+
+small : (program : List LineFields) → IsLegal program → nat_lt 10000 (sum (map (elements program) (filter (is_array program) (symbols program)))) ≡ false
+small program legal =
+    let expressions = none_behind (name_faults program) (clause_faults expression_clauses program ++ (label_faults program ++ (clause_faults control_clauses program ++ (data_faults program ++ size_faults program)))) legal in
+    let labels = none_behind (clause_faults expression_clauses program) (label_faults program ++ (clause_faults control_clauses program ++ (data_faults program ++ size_faults program))) expressions in
+    let control = none_behind (label_faults program) (clause_faults control_clauses program ++ (data_faults program ++ size_faults program)) labels in
+    let presets = none_behind (clause_faults control_clauses program) (data_faults program ++ size_faults program) control in
+    let sized = none_told (is_too_large program) TooMany (none_behind (data_faults program) (size_faults program) presets) in
+    (or_false (nat_lt 100 (length (symbols program))) _ (or_false (nat_lt 500 (length program)) _ sized).1).1
+
+within_sum : (size total : ℕ) → size ≤ total → nat_lt 10000 total ≡ false → size ≤ 10000
+within_sum size total below limit = grind (arith, nat_tests)
+
+-- one of the numbers that are summed
+one_of : (f : Symbol → ℕ) (p : Symbol → Bool) (q : Symbol) (xs : List Symbol) → list_any (bytes_eq q) xs ≡ true → p q ≡ true → f q ≤ sum (map f (filter p xs))
+one_of f p q [] among passes = absurd (cc (among))
+one_of f p q (x ∷ xs) among passes = by (one_of f p q xs) (bytes_eq q x) (p x) refl refl
+  where
+    more : (b : Bool) → p x ≡ b → sum (map f (filter p xs)) ≤ sum (map f (filter p (x ∷ xs)))
+    more true e = rw e (let h = sum_more (f x) (map f (filter p xs)) in omega (arith, h))
+    more false e = rw e (omega arith)
+
+    by : (list_any (bytes_eq q) xs ≡ true → p q ≡ true → f q ≤ sum (map f (filter p xs)))
+        → (b d : Bool) → bytes_eq q x ≡ b → p x ≡ d → f q ≤ sum (map f (filter p (x ∷ xs)))
+    by later true true e d = rw d (let h = sum_more (f x) (map f (filter p xs)) in let s = ap f (same_symbol q x e) in omega (arith, h, s))
+    by later true false e d = let s : p q ≡ p x = ap p (same_symbol q x e) in absurd (cc (s, d, passes))
+    by later false d e t =
+        let rest : list_any (bytes_eq q) xs ≡ true = sym (ap (λ b. b || list_any (bytes_eq q) xs) e) ∙ among in
+        let below = later rest passes in
+        let wide = more d t in
+        omega (arith, below, wide)
+
+named_before : (names : List Symbol) (ms : List Mention) (q : Symbol) → list_any (bytes_eq q) names ≡ true
+    → list_any (bytes_eq q) (map name_in (map Mention.Dummy names ++ ms)) ≡ true
+named_before [] ms q among = absurd (cc (among))
+named_before (x ∷ names) ms q among = by (named_before names ms q) (bytes_eq q x) refl
+  where
+    by : (list_any (bytes_eq q) names ≡ true → list_any (bytes_eq q) (map name_in (map Mention.Dummy names ++ ms)) ≡ true)
+        → (b : Bool) → bytes_eq q x ≡ b → list_any (bytes_eq q) (map name_in (map Mention.Dummy (x ∷ names) ++ ms)) ≡ true
+    by later true e = rw e refl
+    by later false e = rw e (later (sym (ap (λ b. b || list_any (bytes_eq q) names) e) ∙ among))
+
+dummy_named : (s : Statement) (ms : List Mention) (q : Symbol) → list_any (bytes_eq q) (dummies_of s) ≡ true → list_any (bytes_eq q) (map name_in (mentions_of s ++ ms)) ≡ true
+dummy_named (Statement.Subroutine name names) ms q among = named_before names ms q among
+dummy_named _ ms q among = absurd (cc (among))
+
+dummy_known : (program : List LineFields) (q : Symbol) → list_any (bytes_eq q) (dummies program) ≡ true → list_any (bytes_eq q) (symbols program) ≡ true
+dummy_known [] q among = absurd (cc (among))
+dummy_known (line ∷ program) q among = any_once q (map name_in (mentions (line ∷ program))) ∙ dummy_named line.stmt (mentions program) q among
+
+exact : (bounds : List ℕ) → (is_some (some_items bounds) ≡ true → product bounds ≤ 10000)
+    → elements_in bounds ≡ (if is_some (some_items bounds) then Some (product bounds) else None)
+exact [] within = refl
+exact (b ∷ bs) within = let h = within refl in ap (λ (n : ℕ). Some n) (omega (arith, h))
+
+same_shape : (names : Names) (program : List LineFields) → IsNameTable names program → IsLegal program → (q : Symbol)
+    → list_any (bytes_eq q) (dummies program) ≡ true → shape_at names q ≡ shape_of program q
+same_shape names program table legal q among =
+    λ i. record {
+      kind = same_kind_at names program table q i;
+      elements = (ap elements_in (same_bounds_at names program table q) ∙ exact (bounds_of program q) within) i;
+    }
+  where
+    within : is_array program q ≡ true → product (bounds_of program q) ≤ 10000
+    within array =
+        let below = one_of (elements program) (is_array program) q (symbols program) (dummy_known program q among) array in
+        within_sum (elements program q) (sum (map (elements program) (filter (is_array program) (symbols program)))) below (small program legal)
+
+same_all : {A : Type 0} (f g : Symbol → A) (xs : List Symbol) → ((q : Symbol) → list_any (bytes_eq q) xs ≡ true → f q ≡ g q) → map f xs ≡ map g xs
+same_all f g [] same = refl
+same_all f g (x ∷ xs) same = ap (λ y. y ∷ map f xs) (same x (rw (symbol_refl x) refl)) ∙ ap (λ ys. g x ∷ ys) (same_all f g xs (λ q among. same q (later q among (bytes_eq q x) refl)))
+  where
+    later : (q : Symbol) → list_any (bytes_eq q) xs ≡ true → (b : Bool) → bytes_eq q x ≡ b → list_any (bytes_eq q) (x ∷ xs) ≡ true
+    later q among true e = rw e refl
+    later q among false e = rw e among
+
+pub shapes_are : (names : Names) (program : List LineFields) → IsNameTable names program → IsLegal program
+    → map (shape_at names) (dummies program) ≡ shapes program
+shapes_are names program table legal = same_all (shape_at names) (shape_of program) (dummies program) (same_shape names program table legal)

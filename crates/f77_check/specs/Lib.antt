@@ -1,0 +1,17 @@
+pub mod Names
+pub mod NameTable
+pub mod Kinds
+pub mod Dimensions
+pub mod Labels
+pub mod LabelTable
+pub mod Blocks
+pub mod BlockTable
+pub mod Loops
+pub mod LoopTable
+pub mod Presets
+pub mod Runs
+pub mod Clause
+pub mod Tables
+pub mod Legal
+pub mod Checked
+pub mod Shapes

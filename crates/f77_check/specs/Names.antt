@@ -1,0 +1,122 @@
+-- The names of a program, and what its declarations say of them (ANSI X3.9-1978, 2.2, 4.1.2, 8.1 and 8.4).
+use Rattle.std.specs.Prelude.{ℕ, ◌==◌, ◌&&◌, ◌||◌, Bool, true, false, not, nat_le, List, [], ◌∷◌, length, map, filter, Option, Some, None, is_some}
+use Rattle.std.specs.List.{flat_map, filter_map, slice_get}
+use Rattle.std.specs.Option.{option_and_then, option_map_or}
+use Rattle.std.specs.Str.{bytes_eq}
+use Rattle.f77_syntax.specs.Intrinsic.{function_named}
+use Rattle.f77_syntax.specs.Node.{names_of}
+use Rattle.f77_syntax.specs.Parsing.{LineFields}
+use Rattle.f77_syntax.specs.Tree.{DeclFields, Statement}
+use Rattle.f77_syntax.specs.declared.tree.Kind.{Kind}
+use Rattle.f77_syntax.specs.declared.tree.Kind.TheVariants.{Integer}
+
+-- a symbolic name
+abbrev pub Symbol : Type 0
+Symbol = List ℕ
+
+-- How a statement mentions a name: as a dummy argument, with a type and maybe bounds, with bounds in DIMENSION, or without any of these.
+pub data Mention : Type 0 where
+  Dummy : Symbol → Mention
+  Typed : Kind → DeclFields → Mention
+  Dimensioned : DeclFields → Mention
+  Plain : Symbol → Mention
+
+abbrev pub name_in : Mention → Symbol
+name_in (Dummy name) = name
+name_in (Typed kind d) = d.name
+name_in (Dimensioned d) = d.name
+name_in (Plain name) = name
+
+-- the mentions of a statement in order; the unit's own name is none
+abbrev pub mentions_of : Statement → List Mention
+mentions_of (Statement.Subroutine name names) = map Dummy names
+mentions_of (Statement.Declare kind ds) = map (Typed kind) ds
+mentions_of (Statement.Dimension ds) = map Dimensioned ds
+mentions_of s = map Plain (names_of s)
+
+abbrev pub mentions : List LineFields → List Mention
+mentions program = flat_map (λ line. mentions_of line.stmt) program
+
+-- each name once, where it comes first
+abbrev pub each_once : List Symbol → List Symbol
+each_once [] = []
+each_once (name ∷ names) = name ∷ filter (λ other. not (bytes_eq name other)) (each_once names)
+
+-- the variables and arrays in order of first appearance, dummy arguments first
+abbrev pub symbols : List LineFields → List Symbol
+symbols program = each_once (map name_in (mentions program))
+
+abbrev pub is_dummy : Mention → Bool
+is_dummy (Dummy name) = true
+is_dummy (Typed kind d) = false
+is_dummy (Dimensioned d) = false
+is_dummy (Plain name) = false
+
+-- the kind that a mention gives
+abbrev pub kind_in : Mention → Option Kind
+kind_in (Dummy name) = None
+kind_in (Typed kind d) = Some kind
+kind_in (Dimensioned d) = None
+kind_in (Plain name) = None
+
+-- a list that is not empty
+abbrev pub some_items : List ℕ → Option (List ℕ)
+some_items [] = None
+some_items (x ∷ xs) = Some (x ∷ xs)
+
+-- the bounds that a mention gives
+abbrev pub bounds_in : Mention → Option (List ℕ)
+bounds_in (Dummy name) = None
+bounds_in (Typed kind d) = some_items d.bounds
+bounds_in (Dimensioned d) = some_items d.bounds
+bounds_in (Plain name) = None
+
+abbrev pub mentions_with : List Mention → Symbol → List Mention
+mentions_with ms name = filter (λ m. bytes_eq name (name_in m)) ms
+
+abbrev pub dummies_given : List Mention → Symbol → List Mention
+dummies_given ms name = filter is_dummy (mentions_with ms name)
+
+abbrev pub kinds_given : List Mention → Symbol → List Kind
+kinds_given ms name = filter_map kind_in (mentions_with ms name)
+
+abbrev pub bounds_given : List Mention → Symbol → List (List ℕ)
+bounds_given ms name = filter_map bounds_in (mentions_with ms name)
+
+abbrev pub first_or : {X : Type 0} → X → List X → X
+first_or other [] = other
+first_or other (x ∷ xs) = x
+
+-- the kind of a name, INTEGER where no type statement gives one, and its bounds, none for a variable
+abbrev pub kind_of : List LineFields → Symbol → Kind
+kind_of program name = first_or Integer (kinds_given (mentions program) name)
+
+abbrev pub bounds_of : List LineFields → Symbol → List ℕ
+bounds_of program name = first_or [] (bounds_given (mentions program) name)
+
+-- its first letter is I to N
+abbrev pub is_integer_name : Symbol → Bool
+is_integer_name [] = false
+is_integer_name (letter ∷ rest) = nat_le 73 letter && nat_le letter 78
+
+-- the name is REAL by its first letter
+abbrev pub is_real : List LineFields → Symbol → Bool
+is_real program name = (length (kinds_given (mentions program) name) == 0) && not (is_integer_name name)
+
+abbrev pub unit_name_of : Statement → Option Symbol
+unit_name_of (Statement.Subroutine name names) = Some name
+unit_name_of _ = None
+
+abbrev pub unit_name : List LineFields → Option Symbol
+unit_name program = option_and_then (λ line. unit_name_of line.stmt) (slice_get program 0)
+
+abbrev pub names_unit : List LineFields → Symbol → Bool
+names_unit program name = option_map_or (bytes_eq name) (unit_name program) false
+
+-- the name is typed twice, given bounds twice or a dummy twice, or names the unit or a function as well
+abbrev pub is_twice : List LineFields → Symbol → Bool
+is_twice program name =
+    nat_le 2 (length (kinds_given (mentions program) name))
+    || (nat_le 2 (length (bounds_given (mentions program) name))
+    || (nat_le 2 (length (dummies_given (mentions program) name))
+    || (names_unit program name || is_some (function_named name))))

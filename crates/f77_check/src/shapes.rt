@@ -1,0 +1,48 @@
+//! The shapes of the dummy arguments.
+
+ghost use Rattle.std.specs.Prelude.{◌≡◌, map, min, IfOk, IfErr};
+ghost use Rattle.f77_check.specs.Shapes.{elements_in, shape_at};
+ghost use Rattle.f77_check.specs.declared.fault.CheckFault.TheVariants.{Memory};
+
+use crate::checked::Shape;
+use crate::fault::CheckFault;
+use crate::names::{Names, product};
+use f77_syntax::Name;
+use std::alloc::Global;
+
+/// The number, 4294967295 for more than that.
+fn clipped(number: u64) -> u32
+    ensures { result ≡ min number 4294967295 }
+{
+    number.min(4_294_967_295) as u32
+}
+
+fn elements(bounds: &[u32]) -> Option<u32>
+    ensures { result ≡ elements_in bounds.now }
+{
+    if bounds.is_empty() {
+        return None;
+    }
+    Some(clipped(product(bounds)))
+}
+
+fn shape(names: &Names, name: &Name) -> Shape
+    ensures { result ≡ shape_at names.now name.now }
+{
+    Shape {
+        kind: names.kind(name),
+        elements: elements(names.bounds(name)),
+    }
+}
+
+/// The shape of each name, in order, the elements of an array as 4294967295 where they are more than that.
+pub(crate) fn shapes(alloc: Global, names: &Names, list: &[Name]) -> Result<Vec<Shape>, CheckFault>
+    ensures shapes { IfOk result (λ shapes. shapes.items ≡ map (shape_at names.now) list.now) }
+    ensures memory { IfErr result (λ fault. fault ≡ Memory) }
+{
+    let mut shapes = Vec::new(alloc);
+    for name in list {
+        shapes.push(shape(names, name))?;
+    }
+    Ok(shapes)
+}
