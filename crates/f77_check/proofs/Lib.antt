@@ -23,3 +23,19 @@ mod FirstBad
 mod First
 mod Entries
 mod Arguments
+mod Readiness
+mod Sites
+mod CheckedParts
+pub mod Actions
+mod SlotCounts
+mod NoFaults
+mod SlotTables
+mod KeptNames
+pub mod Branches
+pub mod LegalGives
+pub mod Flow
+mod Operands
+mod Items
+mod Deepest
+mod Chosen
+mod Resolving

@@ -1,13 +1,13 @@
 -- What a table of loops and branches says of its program.
 use Rattle.std.proofs.Common.{◌≡◌, ℕ, zero, suc, ◌<◌, ◌≤◌, length, slice_get, List, [], ◌∷◌, ◌++◌, Option, Some, None, Bool, true, false, cond, refl, sym, ◌∙◌, ap, inl, inr, arith}
-use Rattle.std.specs.Prelude.{filter, map, option_map, ◌&&◌, ◌||◌, ◌==◌, not, nat_lt, nat_le, Vec}
+use Rattle.std.specs.Prelude.{filter, reverse, map, option_map, ◌&&◌, ◌||◌, ◌==◌, not, nat_lt, nat_le, Vec}
 use Rattle.std.specs.List.{list_any, list_all, starts_with}
 use Rattle.std.specs.Option.{option_and_then, option_map_or}
 use Rattle.std.specs.Str.{bytes_eq}
 use Rattle.std.specs.declared.alloc.Global.{Global}
-use Rattle.std.proofs.lemmas.Bool.{and_parts, and_left, and_right, or_from, or_left, or_right, lt-leb, le-ltb, cases_lt}
+use Rattle.std.proofs.lemmas.Bool.{and_parts, and_left, and_right, or_from, or_left, or_right, lt-leb, le-ltb, cases_lt, eqb-true}
 use Rattle.std.proofs.lemmas.Bool.Decides.{nat_tests}
-use Rattle.std.proofs.lemmas.List.{append-nil, map-append}
+use Rattle.std.proofs.lemmas.List.{append-nil, map-append, reverse-append}
 use Rattle.std.proofs.lemmas.List.Elements.{filter-append, filter_agree}
 use Rattle.std.proofs.lemmas.List.Quantifiers.{position-Some}
 use Rattle.std.proofs.lemmas.Map.Views.{any-filter_same}
@@ -16,9 +16,9 @@ use Rattle.f77_syntax.specs.Parsing.{LineFields}
 use Rattle.f77_syntax.specs.Tree.{Statement}
 use Rattle.f77_check.specs.Blocks.{first_numbers, numbers, has_at, is_end_if, is_alternative, is_level, begins_branch, branch_end, branch_holds}
 use Rattle.f77_check.specs.Labels.{statement_at, place_of, bears, terminal_label}
-use Rattle.f77_check.specs.Loops.{terminal, range_holds, enclosing, ends_outside, breaks_range, goes_in, variable_of, holds_with}
+use Rattle.f77_check.specs.Loops.{terminal, range_holds, is_left, left_by, ends_at, loops_ending, enclosing, ends_outside, breaks_range, AreNested, goes_in, variable_of, holds_with}
 use Rattle.f77_check.specs.LoopTable as table
-use Rattle.f77_check.specs.LoopTable.{IsTerminals, IsBranches, HasRows, IsRangeTable, holds, end_of, in_range, in_branch, row_of, leaves_range, leaves_branch, is_held_with}
+use Rattle.f77_check.specs.LoopTable.{IsTerminals, IsBranches, HasRows, IsRangeTable, holds, end_of, in_range, in_branch, row_of, leaves_range, leaves_branch, left_in, ending_in, is_held_with}
 use Rattle.f77_check.specs.Names.{Symbol}
 use Rattle.f77_check.specs.declared.loops.Ranges.{Ranges}
 use Rattle.f77_check.proofs.LoopLists.{left_out, all_kept, same_filters, any_agree, map_agree, filter_none, count_numbers, get_number, found_within}
@@ -148,6 +148,68 @@ held_with_is ranges program is i name =
     (λ d. in_range ranges.terminals.items d i && option_map_or (bytes_eq name) (option_and_then variable_of (statement_at program d)) false) (holds_with program i name)
     (λ d. ap (λ b. b && option_map_or (bytes_eq name) (option_and_then variable_of (statement_at program d)) false) (range_is ranges program is d i))
     (λ d h. or_left (range_holds program d i) (branch_holds program d i) (and_parts (range_holds program d i) _ h).0)
+
+-- what a test keeps of a row that has all that the test passes
+kept_at : (p q : ℕ → Bool) (x : ℕ) (xs : List ℕ) (b : Bool) → p x ≡ b → (q x ≡ true → p x ≡ true) → filter q (filter p xs) ≡ filter q xs
+    → filter q (cond b (x ∷ filter p xs) (filter p xs)) ≡ filter q (x ∷ xs)
+kept_at p q x xs true e h rest = ap (λ ys. cond (q x) (x ∷ ys) ys) rest
+kept_at p q x xs false e h rest = none (q x) refl
+  where
+    none : (c : Bool) → q x ≡ c → filter q (filter p xs) ≡ filter q (x ∷ xs)
+    none true f = absurd (cc (h f, e))
+    none false f = rest ∙ sym (ap (λ c. cond c (x ∷ filter q xs) (filter q xs)) f)
+
+kept_twice : (p q : ℕ → Bool) (xs : List ℕ) → ((x : ℕ) → q x ≡ true → p x ≡ true) → filter q (filter p xs) ≡ filter q xs
+kept_twice p q [] h = refl
+kept_twice p q (x ∷ xs) h = kept_at p q x xs (p x) refl (h x) (kept_twice p q xs h)
+
+kept_in_row : (ranges : Ranges) (program : List LineFields) → IsRangeTable ranges program → (i : ℕ) (p q : ℕ → Bool) → ((d : ℕ) → p d ≡ q d)
+    → ((d : ℕ) → q d ≡ true → range_holds program d i ≡ true) → filter p (row_of ranges i) ≡ filter q (numbers program)
+kept_in_row ranges program is i p q same held =
+    ap (filter p) (row_is ranges program is i)
+    ∙ filter_agree p q same (enclosing program i)
+    ∙ kept_twice (λ d. range_holds program d i || branch_holds program d i) q (numbers program) (λ d h. or_left (range_holds program d i) (branch_holds program d i) (held d h))
+
+pub left_row : (ranges : Ranges) (program : List LineFields) → IsRangeTable ranges program → (i j : ℕ)
+    → left_in ranges.terminals.items (row_of ranges i) i j ≡ left_by program i j
+left_row ranges program is i j =
+    kept_in_row ranges program is i (λ d. in_range ranges.terminals.items d i && not (in_range ranges.terminals.items d j)) (is_left program i j)
+    (λ d. both_same _ _ _ _ (range_is ranges program is d i) (range_is ranges program is d j))
+    (λ d h. (and_parts (range_holds program d i) (not (range_holds program d j)) h).0)
+
+first_of : (a b : Bool) → not (a && b) ≡ false → a ≡ true
+first_of true b h = refl
+first_of false b h = absurd (cc (h))
+
+-- a nested DO stands before its terminal statement, so the row there has it
+holds_its_end : (program : List LineFields) → AreNested program → (t d : ℕ) (o : Option ℕ) → terminal program d ≡ o → option_map_or (λ e. e == t) o false ≡ true
+    → range_holds program d t ≡ true
+holds_its_end program nested t d None is ends = absurd (cc (ends))
+holds_its_end program nested t d (Some e) is ends =
+    let same : e ≡ t = eqb-true e t ends in
+    let end : terminal program d ≡ Some t = is ∙ ap (λ (k : ℕ). Some k) same in
+    let inside : ends_outside program d t ≡ false = sym (ap (λ o. option_map_or (ends_outside program d) o false) end) ∙ nested d in
+    let before : nat_lt d t ≡ true = first_of (nat_lt d t) _ inside in
+    ap (λ o. nat_lt d t && option_map_or (nat_le t) o false) end ∙ rw before (grind (arith, nat_tests))
+
+kept_backwards : (p : ℕ → Bool) (xs : List ℕ) → filter p (reverse xs) ≡ reverse (filter p xs)
+kept_backwards p [] = refl
+kept_backwards p (x ∷ xs) =
+    ap (filter p) (reverse-append (x ∷ []) xs)
+    ∙ filter-append p (reverse xs) (x ∷ [])
+    ∙ ap (λ ys. ys ++ filter p (x ∷ [])) (kept_backwards p xs)
+    ∙ one (p x)
+  where
+    one : (b : Bool) → reverse (filter p xs) ++ cond b (x ∷ []) [] ≡ reverse (cond b (x ∷ filter p xs) (filter p xs))
+    one true = sym (reverse-append (x ∷ []) (filter p xs))
+    one false = append-nil (reverse (filter p xs))
+
+pub ending_row : (ranges : Ranges) (program : List LineFields) → IsRangeTable ranges program → AreNested program → (t : ℕ)
+    → ending_in ranges.terminals.items (row_of ranges t) t ≡ loops_ending program t
+ending_row ranges program is nested t =
+    kept_backwards (λ d. option_map_or (λ e. e == t) (end_of ranges.terminals.items d) false) (row_of ranges t)
+    ∙ ap reverse (kept_in_row ranges program is t (λ d. option_map_or (λ e. e == t) (end_of ranges.terminals.items d) false) (ends_at program t)
+    (λ d. ap (λ o. option_map_or (λ e. e == t) o false) (is.terminals d)) (λ d h. holds_its_end program nested t d (terminal program d) refl h))
 
 -- the rows of the statements are those of the program
 begun_before : (p : ℕ → Bool) (k n : ℕ) → k ≤ n → ((x : ℕ) → k ≤ x → p x ≡ false) → filter p (first_numbers k) ≡ filter p (first_numbers n)

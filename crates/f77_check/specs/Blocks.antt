@@ -1,5 +1,5 @@
 -- Block IFs and their branches (ANSI X3.9-1978, 11.6 to 11.9). Statements are numbered from 0 here.
-use Rattle.std.specs.Prelude.{ℕ, zero, suc, ◌-◌, ◌==◌, ◌&&◌, ◌||◌, Bool, true, false, not, nat_lt, is_some, List, [], ◌∷◌, ◌++◌, length, filter, take, drop, Option}
+use Rattle.std.specs.Prelude.{ℕ, zero, suc, ◌+◌, ◌-◌, ◌==◌, ◌&&◌, ◌||◌, Bool, true, false, not, nat_lt, is_some, List, [], ◌∷◌, ◌++◌, length, filter, take, drop, Option, Some, if◌then◌else◌}
 use Rattle.std.specs.List.{find, list_any}
 use Rattle.std.specs.Option.{option_map_or}
 use Rattle.f77_syntax.specs.Parsing.{LineFields}
@@ -50,6 +50,10 @@ block_end program i = find (λ j. has_at is_end_if program j && is_level program
 -- the statement that ends the branch that i begins: the next ELSE IF, ELSE or END IF of the block
 abbrev pub branch_end : List LineFields → ℕ → Option ℕ
 branch_end program i = find (λ j. (has_at is_end_if program j || has_at is_alternative program j) && is_level program i j) (numbers program)
+
+-- the statement behind i: the next one, or the END IF of the block where the next begins another branch
+abbrev pub behind : List LineFields → ℕ → Option ℕ
+behind program i = if has_at is_alternative program (i + 1) then block_end program (i + 1) else Some (i + 1)
 
 -- i stands between a block IF and its END IF
 abbrev pub is_in_block : List LineFields → ℕ → Bool

@@ -1,5 +1,5 @@
 -- What a checked program is: a legal one, with the shapes of its dummy arguments.
-use Rattle.std.specs.Prelude.{◌≡◌, ◌⊎◌, List, [], map, Result, Ok, Err, Some, None, if◌then◌else◌}
+use Rattle.std.specs.Prelude.{◌≡◌, ◌⊎◌, ℕ, List, [], map, Result, Ok, Err, Some, None, if◌then◌else◌}
 use Rattle.std.specs.List.{slice_get}
 use Rattle.std.specs.Option.{option_map_or}
 use Rattle.f77_syntax.specs.Parsing.{LineFields, line_of}
@@ -10,8 +10,11 @@ use Rattle.f77_check.specs.declared.fault.CheckFault.{CheckFault}
 use Rattle.f77_check.specs.declared.fault.CheckFault.TheVariants.{Memory}
 use Rattle.f77_check.specs.Labels.{statement_at}
 use Rattle.f77_check.specs.Legal.{is_array, IsLegal}
-use Rattle.f77_check.specs.Names.{Symbol, kind_of}
+use Rattle.f77_check.specs.Names.{Symbol, kind_of, bounds_of}
 use Rattle.f77_check.specs.Presets.{elements}
+use Rattle.f77_check.specs.Resolved.{AreResolved}
+use Rattle.f77_check.specs.Slots.{slot_count}
+use Rattle.f77_check.specs.declared.resolved.Resolved.{Resolved}
 
 -- the kind of a name, and the number of its elements where it is an array
 abbrev pub shape_of : List LineFields → Symbol → Shape
@@ -29,12 +32,19 @@ dummies program = option_map_or dummies_of (statement_at program 0) []
 abbrev pub shapes : List LineFields → List Shape
 shapes program = map (shape_of program) (dummies program)
 
+-- the program, the shapes of its dummy arguments, its names in the order of their slots, how many slots these have, and its statements resolved
 pub record CheckedFields : Type 0 where
   pub program : List Line
   pub arguments : List Shape
+  pub names : List Symbol
+  pub slots : ℕ
+  pub statements : List Resolved
 
-abbrev pub IsChecked : CheckedFields → Type 0
-IsChecked checked = IsLegal (map line_of checked.program) × (checked.arguments ≡ shapes (map line_of checked.program))
+pub record IsChecked (checked : CheckedFields) : Type 0 where
+  pub legal : IsLegal (map line_of checked.program)
+  pub arguments : checked.arguments ≡ shapes (map line_of checked.program)
+  pub slots : checked.slots ≡ slot_count (bounds_of (map line_of checked.program)) checked.names
+  pub statements : AreResolved (map line_of checked.program) checked.names checked.statements
 
 -- there are no faults; or the first of them is told, or want of memory
 abbrev pub Tells : Result (Unit {0}) CheckFault → List CheckFault → Type 0

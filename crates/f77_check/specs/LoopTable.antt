@@ -1,5 +1,5 @@
 -- What a table of loops and branches says of a program. Statements are numbered from 0 here.
-use Rattle.std.specs.Prelude.{◌≡◌, ℕ, ◌&&◌, ◌||◌, Bool, false, not, nat_lt, nat_le, List, [], filter, map, Option, Vec}
+use Rattle.std.specs.Prelude.{◌≡◌, ℕ, ◌&&◌, ◌||◌, ◌==◌, Bool, false, not, nat_lt, nat_le, List, [], filter, map, reverse, Option, Vec}
 use Rattle.std.specs.List.{list_any, slice_get}
 use Rattle.std.specs.Option.{option_and_then, option_map_or}
 use Rattle.std.specs.Str.{bytes_eq}
@@ -51,6 +51,14 @@ row_of ranges i = option_map_or (λ row. row.items) (slice_get ranges.rows.items
 -- a DO has i in its range and not k
 abbrev pub leaves_range : List (Option ℕ) → List ℕ → ℕ → ℕ → Bool
 leaves_range terminals row i k = list_any (λ d. in_range terminals d i && not (in_range terminals d k)) row
+
+-- the DOs of the row that have i in their range and not k
+abbrev pub left_in : List (Option ℕ) → List ℕ → ℕ → ℕ → List ℕ
+left_in terminals row i k = filter (λ d. in_range terminals d i && not (in_range terminals d k)) row
+
+-- the DOs of the row that end at t, the innermost first
+abbrev pub ending_in : List (Option ℕ) → List ℕ → ℕ → List ℕ
+ending_in terminals row t = filter (λ d. option_map_or (λ e. e == t) (end_of terminals d) false) (reverse row)
 
 -- a branch has i in it and not k
 abbrev pub leaves_branch : List (Option ℕ) → List ℕ → ℕ → ℕ → Bool

@@ -1,5 +1,5 @@
 -- DO loops: their ranges, and what a range may hold (ANSI X3.9-1978, 11.10). Statements are numbered from 0 here.
-use Rattle.std.specs.Prelude.{ℕ, ◌&&◌, ◌||◌, ◌==◌, Bool, false, not, nat_lt, nat_le, List, filter, Option, Some, None}
+use Rattle.std.specs.Prelude.{◌≡◌, ℕ, ◌&&◌, ◌||◌, ◌==◌, Bool, false, not, nat_lt, nat_le, List, filter, reverse, Option, Some, None}
 use Rattle.std.specs.List.{list_any, list_all, starts_with}
 use Rattle.std.specs.Option.{option_and_then, option_map_or}
 use Rattle.std.specs.Cmp.Lexicographic.{pointwise}
@@ -17,6 +17,21 @@ terminal program d = option_and_then (place_of program) (option_and_then termina
 -- k is in the range of the DO d: behind it, up to its terminal statement
 abbrev pub range_holds : List LineFields → ℕ → ℕ → Bool
 range_holds program d k = nat_lt d k && option_map_or (nat_le k) (terminal program d) false
+
+-- a jump from i to j leaves the DOs whose range holds i and not j
+abbrev pub is_left : List LineFields → ℕ → ℕ → ℕ → Bool
+is_left program i j d = range_holds program d i && not (range_holds program d j)
+
+-- these DOs, the outermost first
+abbrev pub left_by : List LineFields → ℕ → ℕ → List ℕ
+left_by program i j = filter (is_left program i j) (numbers program)
+
+-- the DOs that end at t, the innermost first
+abbrev pub ends_at : List LineFields → ℕ → ℕ → Bool
+ends_at program t d = option_map_or (λ e. e == t) (terminal program d) false
+
+abbrev pub loops_ending : List LineFields → ℕ → List ℕ
+loops_ending program t = reverse (filter (ends_at program t) (numbers program))
 
 -- the branches that hold k, each as the number of the statement that begins it, the outermost first
 abbrev pub branches : List LineFields → ℕ → List ℕ
@@ -38,6 +53,10 @@ ends_outside program d t =
 
 abbrev pub breaks_range : List LineFields → ℕ → Bool
 breaks_range program d = option_map_or (ends_outside program d) (terminal program d) false
+
+-- no DO breaks the nesting
+abbrev pub AreNested : List LineFields → Type 0
+AreNested program = (d : ℕ) → breaks_range program d ≡ false
 
 -- a block or a DO is not nested
 abbrev pub breaks_nesting : List LineFields → ℕ → Bool

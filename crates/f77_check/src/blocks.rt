@@ -5,7 +5,7 @@ ghost use Rattle.std.specs.Option.{option_map_or};
 ghost use Rattle.f77_syntax.specs.Parsing.{LineFields, line_of};
 ghost use Rattle.f77_syntax.specs.StatementView.{statement_of};
 ghost use Rattle.f77_check.specs.Blocks as words;
-ghost use Rattle.f77_check.specs.Blocks.{first_numbers, branch_holds, breaks_block, is_in_block};
+ghost use Rattle.f77_check.specs.Blocks.{first_numbers, behind, branch_holds, breaks_block, is_in_block};
 ghost use Rattle.f77_check.specs.BlockTable as table;
 ghost use Rattle.f77_check.specs.BlockTable.{tabled, is_end_among, is_before_end, IsBlockTable};
 ghost use Rattle.f77_check.specs.Labels.{statement_at};
@@ -130,7 +130,8 @@ fn depth_behind(stmt: &Stmt, depth: usize) -> usize
     depth
 }
 
-fn statement(lines: &[Line], i: usize) -> &Stmt
+/// The statement of this number.
+pub(crate) fn statement(lines: &[Line], i: usize) -> &Stmt
     requires { i < length lines.now }
     ensures { statement_at (map line_of lines.now) i ≡ Some (statement_of result.now) }
 {
@@ -189,6 +190,18 @@ fn branch_end_at(lines: &[Line], i: usize, end: Option<usize>, inside: bool) -> 
         return None;
     }
     end_of(lines, Extent::Branch, i)
+}
+
+/// The statement behind this one: the next, or the END IF of the block where the next begins another branch (11.6 to 11.9).
+#[tactic(auto, using(crate::proofs::BlockScan::block_end_is))]
+pub(crate) fn next(lines: &[Line], i: usize) -> Option<usize>
+    requires { i < length lines.now }
+    ensures { result ≡ behind (map line_of lines.now) i }
+{
+    match lines.get(i + 1) {
+        Some(line) if is_alternative(&line.stmt) => end_of(lines, Extent::Block, i + 1),
+        _ => Some(i + 1),
+    }
 }
 
 #[tactic(auto, using(crate::proofs::FirstNumbers::table_more))]

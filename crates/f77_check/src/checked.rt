@@ -5,8 +5,15 @@ ghost use Rattle.std.specs.Coded.{codes};
 ghost use Rattle.f77_syntax.specs.contracts.tree.Expr as expr;
 ghost use Rattle.f77_syntax.specs.contracts.tree.Stmt as stmt;
 ghost use Rattle.f77_syntax.specs.contracts.program.Line as line;
+ghost use Rattle.f77_check.specs.contracts.action.Action as action;
+ghost use Rattle.f77_check.specs.contracts.expression.Condition as condition;
+ghost use Rattle.f77_check.specs.contracts.expression.Element as element;
+ghost use Rattle.f77_check.specs.contracts.expression.Number as number;
 ghost use Rattle.f77_check.specs.Checked.{CheckedFields, IsChecked};
+ghost use Rattle.f77_check.specs.CheckedView.{fields_of};
 
+use crate::resolve::Resolver;
+use crate::resolved::Resolved;
 use f77_syntax::{Kind, Program};
 use std::marker::Model;
 
@@ -18,30 +25,41 @@ pub struct Shape {
     pub elements: Option<u32>,
 }
 
-/// A legal program.
+/// A legal program, with its resolved form: what a run looks up is looked up once.
 #[derive(Drop)]
 pub struct Checked {
     program: Program,
     arguments: Vec<Shape>,
+    resolver: Resolver,
+    statements: Vec<Resolved>,
 }
 
 impl Model for Checked {
     ghost Value = { CheckedFields };
 
-    ghost coded = { Prim.hlevel (codes, expr.the_row.coded, stmt.the_row.coded) };
+    ghost coded = { Prim.hlevel (codes, expr.the_row.coded, stmt.the_row.coded, element.the_row.coded, number.the_row.coded, condition.the_row.coded, action.the_row.coded) };
 
-    ghost view = { λ c. record { program = c.program; arguments = c.arguments.items } };
+    ghost view = { λ c. fields_of c.program c.arguments.items c.resolver c.statements.items };
 
-    ghost invariant = { λ c. IsChecked (record { program = c.program; arguments = c.arguments.items }) };
+    ghost invariant = { λ c. IsChecked (fields_of c.program c.arguments.items c.resolver c.statements.items) };
 }
 
 impl Checked {
-    pub(crate) fn from_parts(program: Program, arguments: Vec<Shape>) -> Checked
-        requires { IsChecked (record { program = program; arguments = arguments.items }) }
-        ensures program { result.program ≡ program }
-        ensures arguments { result.arguments ≡ arguments.items }
+    pub(crate) fn from_parts(
+        program: Program,
+        arguments: Vec<Shape>,
+        resolver: Resolver,
+        statements: Vec<Resolved>,
+    ) -> Checked
+        requires { IsChecked (fields_of program arguments.items resolver statements.items) }
+        ensures { result ≡ fields_of program arguments.items resolver statements.items }
     {
-        Checked { program, arguments }
+        Checked {
+            program,
+            arguments,
+            resolver,
+            statements,
+        }
     }
 
     /// The program. It takes no memory.
@@ -64,5 +82,19 @@ impl Checked {
         ensures { result ≡ length self.now.program }
     {
         self.program.lines().len()
+    }
+
+    /// How many slots the variables and arrays have: one for each variable and each element of an array, 0 to 10100. It takes no memory.
+    pub fn slots(&self) -> usize
+        ensures { result ≡ self.now.slots }
+    {
+        self.resolver.slots.count
+    }
+
+    /// The statements resolved, in order. It takes no memory.
+    pub fn statements(&self) -> &[Resolved]
+        ensures { result.now ≡ self.now.statements }
+    {
+        &self.statements
     }
 }

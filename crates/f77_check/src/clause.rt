@@ -7,7 +7,7 @@ use crate::fault::CheckFault;
 
 /// What a statement owes, in the order of test.
 #[derive(Clone, Copy, Debug, PartialEq, Eq)]
-pub(crate) enum Clause {
+pub enum Clause {
     /// The kinds of its expressions agree.
     Kinds,
     /// Its bounds, subscripts and arguments are in order.

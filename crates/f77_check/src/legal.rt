@@ -16,7 +16,9 @@ use crate::heading::{arguments, unit};
 use crate::labels::Labels;
 use crate::names::Names;
 use crate::presets::first_bad_data;
+use crate::resolve::Resolver;
 use crate::shapes::shapes;
+use crate::slots::Slots;
 use crate::tables::Tables;
 use f77_syntax::{Line, Program};
 use std::alloc::Global;
@@ -100,7 +102,7 @@ fn judge(alloc: Global, tables: &Tables, lines: &[Line]) -> Result<(), CheckFaul
 /// Whether the program is legal: it and the shapes of its dummy arguments, or its first fault, clause by clause, in the order of test.
 ///
 /// Want of memory is told in place of any answer.
-#[tactic(auto, using(crate::proofs::Arguments::shapes_are))]
+#[tactic(auto, using(crate::proofs::Arguments::shapes_are, crate::proofs::SlotTables::slots_few, crate::proofs::CheckedParts::checked_of))]
 pub fn check(alloc: Global, program: &Program) -> Result<Checked, CheckFault>
     ensures legal { IfOk result (λ checked. IsLegal (map line_of program.now)) }
     ensures program { IfOk result (λ checked. map line_of checked.program ≡ map line_of program.now) }
@@ -111,5 +113,8 @@ pub fn check(alloc: Global, program: &Program) -> Result<Checked, CheckFault>
     let tables = Tables::of(alloc, lines)?;
     judge(alloc, &tables, lines)?;
     let arguments = shapes(alloc, &tables.names, arguments(lines))?;
-    Ok(Checked::from_parts(program.clone()?, arguments))
+    let slots = Slots::of(alloc, &tables.names)?;
+    let resolver = Resolver { tables, slots };
+    let statements = resolver.all(alloc, lines)?;
+    Ok(Checked::from_parts(program.clone()?, arguments, resolver, statements))
 }

@@ -1,6 +1,6 @@
 //! DO loops and branches: what holds a statement, where control may go from it, and the variables that it may not set.
 
-ghost use Rattle.std.specs.Prelude.{◌≡◌, false, List, filter, length, map, option_map, IfOk, IfErr};
+ghost use Rattle.std.specs.Prelude.{◌≡◌, ◌&&◌, ◌==◌, false, not, List, filter, length, map, option_map, IfOk, IfErr};
 ghost use Rattle.std.specs.Option.{option_and_then, option_map_or};
 ghost use Rattle.std.specs.Str.{bytes_eq};
 ghost use Rattle.f77_syntax.specs.Parsing.{LineFields, line_of};
@@ -78,16 +78,65 @@ fn enclosing_rows(
     Ok(rows)
 }
 
+/// Whether a DO has `i` in its range and not `k`.
+fn is_left(terminals: &[Option<usize>], d: usize, i: usize, k: usize) -> bool
+    ensures { result ≡ (table.in_range terminals.now d i && not (table.in_range terminals.now d k)) }
+{
+    in_range(terminals, d, i) && !in_range(terminals, d, k)
+}
+
 fn leaves_range(terminals: &[Option<usize>], row: &[usize], i: usize, k: usize) -> bool
     ensures { result ≡ table.leaves_range terminals.now row.now i k }
 {
-    row.iter().any(|d| in_range(terminals, *d, i) && !in_range(terminals, *d, k))
+    row.iter().any(|d| is_left(terminals, *d, i, k))
 }
 
 fn leaves_branch(branch_ends: &[Option<usize>], row: &[usize], i: usize, k: usize) -> bool
     ensures { result ≡ table.leaves_branch branch_ends.now row.now i k }
 {
     row.iter().any(|b| in_branch(branch_ends, *b, i) && !in_branch(branch_ends, *b, k))
+}
+
+/// The DOs of a row that have `i` in their range and not `k`.
+fn left_in(
+    alloc: Global,
+    terminals: &[Option<usize>],
+    row: &[usize],
+    i: usize,
+    k: usize,
+) -> Result<Vec<usize>, CheckFault>
+    ensures left { IfOk result (λ left. left.items ≡ table.left_in terminals.now row.now i k) }
+    ensures memory { IfErr result (λ e. e ≡ fault.Memory) }
+{
+    let left = row.iter().copied().filter(|d| is_left(terminals, *d, i, k));
+    Ok(left.collect(alloc)?)
+}
+
+fn ends_at(terminals: &[Option<usize>], d: usize, t: usize) -> bool
+    ensures { result ≡ option_map_or (λ e. e == t) (table.end_of terminals.now d) false }
+{
+    match terminals.get(d) {
+        Some(Some(terminal)) => *terminal == t,
+        _ => false,
+    }
+}
+
+/// The DOs of a row that end at `t`, the innermost first.
+fn ending_in(
+    alloc: Global,
+    terminals: &[Option<usize>],
+    row: &[usize],
+    t: usize,
+) -> Result<Vec<usize>, CheckFault>
+    ensures ends { IfOk result (λ ends. ends.items ≡ table.ending_in terminals.now row.now t) }
+    ensures memory { IfErr result (λ e. e ≡ fault.Memory) }
+{
+    let ends = row
+        .iter()
+        .rev()
+        .copied()
+        .filter(|d| ends_at(terminals, *d, t));
+    Ok(ends.collect(alloc)?)
 }
 
 impl Ranges {
@@ -108,7 +157,7 @@ impl Ranges {
         })
     }
 
-    fn terminal(&self, d: usize) -> Option<usize>
+    pub(crate) fn terminal(&self, d: usize) -> Option<usize>
         ensures { result ≡ table.end_of self.now.terminals.items d }
     {
         self.terminals.get(d).copied().flatten()
@@ -141,6 +190,29 @@ impl Ranges {
             Some(terminal) => self.ends_outside(d, terminal),
             None => false,
         }
+    }
+
+    /// The DOs that a jump from `i` to `j` leaves, the outermost first (11.10.8).
+    #[tactic(auto, using(crate::proofs::LoopTables::left_row))]
+    pub(crate) fn left_by(
+        &self,
+        alloc: Global,
+        i: usize,
+        j: usize,
+    ) -> Result<Vec<usize>, CheckFault>
+        ensures left { IfOk result (λ left. (program : List LineFields) → IsRangeTable self.now program → left.items ≡ loops.left_by program i j) }
+        ensures memory { IfErr result (λ e. e ≡ fault.Memory) }
+    {
+        left_in(alloc, &self.terminals, self.row(i), i, j)
+    }
+
+    /// The DOs whose terminal statement is `t`, the innermost first (11.10).
+    #[tactic(auto, using(crate::proofs::LoopTables::ending_row))]
+    pub(crate) fn ending(&self, alloc: Global, t: usize) -> Result<Vec<usize>, CheckFault>
+        ensures ends { IfOk result (λ ends. (program : List LineFields) → IsRangeTable self.now program → loops.AreNested program → ends.items ≡ loops.loops_ending program t) }
+        ensures memory { IfErr result (λ e. e ≡ fault.Memory) }
+    {
+        ending_in(alloc, &self.terminals, self.row(t), t)
     }
 
     /// Whether control goes into a range or a branch from outside of it where it goes from `i` to `j` (11.10.8, 11.6 to 11.8).

@@ -1,6 +1,7 @@
 //! Verdicts on small programs, from the rules of the standard and the limits.
 
 mod blocks;
+mod resolved;
 mod sizes;
 
 use crate::{CheckFault, check};

@@ -1,0 +1,192 @@
+-- A table keeps each name that a statement of its program bears, and no name of a legal program has more than two dimensions.
+use Rattle.std.proofs.Common.{arith, ◌≡◌, ◌≤◌, ℕ, zero, suc, List, [], ◌∷◌, ◌++◌, Bool, true, false, ◌&&◌, ◌||◌, refl, sym, ap, subst, ◌∙◌, map, length, Option, Some, None}
+use Rattle.std.specs.Prelude.{nat_le}
+use Rattle.std.specs.List.{cons_option, filter_map, list_all, list_any}
+use Rattle.std.specs.Str.{bytes_eq}
+use Rattle.std.proofs.lemmas.Bool.Decides.{nat_tests}
+use Rattle.std.proofs.lemmas.List.{map-append}
+use Rattle.std.proofs.lemmas.List.Concat.{flat_map-cons}
+use Rattle.std.proofs.lemmas.List.Elements.{filter_map-append}
+use Rattle.std.proofs.lemmas.List.Folds.{list_all-append, list_all-map}
+use Rattle.std.proofs.lemmas.Map.Made.{is_some-lookup}
+use Rattle.f77_syntax.specs.Node.{NodeOf, parts, all_parts, tree_nodes, step_nodes, nodes_of, name_of, names_of}
+use Rattle.f77_syntax.specs.Parsing.{LineFields}
+use Rattle.f77_syntax.specs.Tree.{Tree, Trees, DeclFields, Statement}
+use Rattle.f77_check.specs.declared.names.Names.{Names}
+use Rattle.f77_check.specs.Dimensions.{is_shape, dimensions_fit}
+use Rattle.f77_check.specs.Kept.{is_kept, tree_kept, items_kept, step_kept, names_kept, AreFlat}
+use Rattle.f77_check.specs.Labels.{statement_at}
+use Rattle.f77_check.specs.Legal.{IsLegal}
+use Rattle.f77_check.specs.Names.{Symbol, Mention, name_in, mentions_of, mentions, bounds_given, bounds_in, some_items, first_or, bounds_of}
+use Rattle.f77_check.specs.NameTable.{IsNameTable}
+use Rattle.f77_check.proofs.Lookups.{same_bounds_at}
+use Rattle.f77_check.proofs.NoFaults.{dimensions_kept}
+use Rattle.f77_check.proofs.SlotTables.{keys_are}
+use Rattle.f77_check.proofs.Symbols.{symbol_refl, any_once}
+
+and_true : (a b : Bool) → (a && b) ≡ true → (a ≡ true) × (b ≡ true)
+and_true true b h = (refl, h)
+and_true false b h = absurd (cc (h))
+
+and_end : (a : Bool) → (a && true) ≡ a
+and_end true = refl
+and_end false = refl
+
+or_end : (a : Bool) → (a || true) ≡ true
+or_end true = refl
+or_end false = refl
+
+-- The names that nodes bear: those of an expression are kept where the expression is.
+module _ (names : Names) where
+  abbrev nodes_kept : List NodeOf → Bool
+  nodes_kept nodes = list_all (is_kept names) (filter_map name_of nodes)
+
+  kept_append : (xs ys : List NodeOf) → nodes_kept (xs ++ ys) ≡ (nodes_kept xs && nodes_kept ys)
+  kept_append xs ys = ap (list_all (is_kept names)) (filter_map-append name_of xs ys) ∙ list_all-append (is_kept names) (filter_map name_of xs) (filter_map name_of ys)
+
+  parts_append : (xs ys : List Tree) → nodes_kept (map NodeOf.Part (xs ++ ys)) ≡ (nodes_kept (map NodeOf.Part xs) && nodes_kept (map NodeOf.Part ys))
+  parts_append xs ys = ap nodes_kept (map-append NodeOf.Part xs ys) ∙ kept_append (map NodeOf.Part xs) (map NodeOf.Part ys)
+
+  mutual
+    tree_is : (t : Tree) → nodes_kept (map NodeOf.Part (parts t)) ≡ tree_kept names t
+    tree_is (Tree.Number n) = refl
+    tree_is (Tree.Truth b) = refl
+    tree_is (Tree.Reference name items) = ap (λ b. is_kept names name && b) (items_are items)
+    tree_is (Tree.Call f items) = items_are items
+    tree_is (Tree.Signed sign t) = tree_is t
+    tree_is (Tree.Not t) = tree_is t
+    tree_is (Tree.Binary op a b) = parts_append (parts a) (parts b) ∙ (λ i. tree_is a i && tree_is b i)
+    tree_is (Tree.ZeroPush t) = tree_is t
+
+    items_are : (ts : Trees) → nodes_kept (map NodeOf.Part (all_parts ts)) ≡ items_kept names ts
+    items_are Trees.None = refl
+    items_are (Trees.Then t ts) = parts_append (parts t) (all_parts ts) ∙ (λ i. tree_is t i && items_are ts i)
+
+  step_is : (step : Option Tree) → nodes_kept (step_nodes step) ≡ step_kept names step
+  step_is None = refl
+  step_is (Some t) = tree_is t
+
+  statement_kept : (s : Statement) → nodes_kept (nodes_of s) ≡ true → names_kept names s ≡ true
+  statement_kept (Statement.Assign name items t) h =
+      sym (ap (λ b. is_kept names name && b) (kept_append (map NodeOf.Part (all_parts items)) (tree_nodes t) ∙ (λ i. items_are items i && tree_is t i))) ∙ h
+  statement_kept (Statement.ArithIf t l m n) h = sym (kept_append (tree_nodes t) _ ∙ and_end (nodes_kept (tree_nodes t)) ∙ tree_is t) ∙ h
+  statement_kept (Statement.LogicalIf t s) h =
+      let both = and_true (nodes_kept (tree_nodes t)) (nodes_kept (nodes_of s)) (sym (kept_append (tree_nodes t) (nodes_of s)) ∙ h) in
+      let inner = statement_kept s both.1 in
+      λ i. (sym (tree_is t) ∙ both.0) i && inner i
+  statement_kept (Statement.BlockIf t) h = sym (tree_is t) ∙ h
+  statement_kept (Statement.ElseIf t) h = sym (tree_is t) ∙ h
+  statement_kept (Statement.Loop label name a b c) h =
+      sym (ap (λ z. is_kept names name && z)
+      (kept_append (tree_nodes a) (tree_nodes b ++ step_nodes c)
+      ∙ (λ i. tree_is a i && (kept_append (tree_nodes b) (step_nodes c) ∙ (λ j. tree_is b j && step_is c j)) i)))
+      ∙ h
+  statement_kept _ h = refl
+
+-- each name of a list is in it
+all_among : (test : Symbol → Bool) (names : List Symbol) → ((name : Symbol) → list_any (bytes_eq name) names ≡ true → test name ≡ true) → list_all test names ≡ true
+all_among test [] among = refl
+all_among test (x ∷ names) among =
+    let first : test x ≡ true = among x (ap (λ b. b || list_any (bytes_eq x) names) (symbol_refl x)) in
+    let rest = all_among test names (λ name in_rest. among name (ap (λ b. bytes_eq name x || b) in_rest ∙ or_end (bytes_eq name x))) in
+    λ i. first i && rest i
+
+module _ (test : Mention → Bool) where
+  mentions_apart : (line : LineFields) (program : List LineFields) → list_all test (mentions (line ∷ program)) ≡ (list_all test (mentions_of line.stmt) && list_all test (mentions program))
+  mentions_apart line program =
+      ap (list_all test) (flat_map-cons (λ (line : LineFields). mentions_of line.stmt) line program)
+      ∙ list_all-append test (mentions_of line.stmt) (mentions program)
+
+  -- what holds of each mention of a program holds of those of a statement
+  mentions_at : (program : List LineFields) → list_all test (mentions program) ≡ true → (i : ℕ) (s : Statement) → statement_at program i ≡ Some s → list_all test (mentions_of s) ≡ true
+  mentions_at [] all i s at = absurd (cc (at))
+  mentions_at (line ∷ program) all zero s at =
+      let same : line.stmt ≡ s = cc (at) in
+      let both = and_true (list_all test (mentions_of line.stmt)) (list_all test (mentions program)) (sym (mentions_apart line program) ∙ all) in
+      ap (λ s. list_all test (mentions_of s)) (sym same) ∙ both.0
+  mentions_at (line ∷ program) all (suc i) s at =
+      let both = and_true (list_all test (mentions_of line.stmt)) (list_all test (mentions program)) (sym (mentions_apart line program) ∙ all) in
+      mentions_at program both.1 i s at
+
+  -- and of each mention, where it holds of those of each statement
+  mentions_hold : (by_line : LineFields → Bool) → ((line : LineFields) → by_line line ≡ true → list_all test (mentions_of line.stmt) ≡ true)
+      → (program : List LineFields) → list_all by_line program ≡ true → list_all test (mentions program) ≡ true
+  mentions_hold by_line each [] all = refl
+  mentions_hold by_line each (line ∷ program) all =
+      let both = and_true (by_line line) (list_all by_line program) all in
+      let first = each line both.0 in
+      let rest = mentions_hold by_line each program both.1 in
+      mentions_apart line program ∙ (λ i. first i && rest i)
+
+module _ (names : Names) (program : List LineFields) (is : IsNameTable names program) where
+  kept_is : (name : Symbol) → is_kept names name ≡ list_any (bytes_eq name) (map name_in (mentions program))
+  kept_is name =
+      is_some-lookup (bytes_eq name) names.facts.entries
+      ∙ ap (list_any (bytes_eq name)) (keys_are names program is)
+      ∙ any_once name (map name_in (mentions program))
+
+  mentioned_kept : list_all (λ m. is_kept names (name_in m)) (mentions program) ≡ true
+  mentioned_kept =
+      sym (list_all-map (is_kept names) name_in (mentions program))
+      ∙ all_among (is_kept names) (map name_in (mentions program)) (λ name among. kept_is name ∙ among)
+
+  plain_kept : (xs : List Symbol) → list_all (λ m. is_kept names (name_in m)) (map Mention.Plain xs) ≡ list_all (is_kept names) xs
+  plain_kept xs = list_all-map (λ m. is_kept names (name_in m)) Mention.Plain xs
+
+  mentions_kept : (s : Statement) → list_all (λ m. is_kept names (name_in m)) (mentions_of s) ≡ true → names_kept names s ≡ true
+  mentions_kept (Statement.Subroutine name dummies) h = refl
+  mentions_kept (Statement.Declare kind ds) h = refl
+  mentions_kept (Statement.Dimension ds) h = refl
+  mentions_kept s h = statement_kept names s (sym (plain_kept (names_of s)) ∙ h)
+
+pub all_kept : (names : Names) (program : List LineFields) → IsNameTable names program → (i : ℕ) (s : Statement) → statement_at program i ≡ Some s → names_kept names s ≡ true
+all_kept names program is i s at = mentions_kept names program is s (mentions_at (λ m. is_kept names (name_in m)) program (mentioned_kept names program is) i s at)
+
+-- the bounds that a mention gives are at most two
+abbrev is_flat : Mention → Bool
+is_flat (Mention.Dummy name) = true
+is_flat (Mention.Typed kind d) = is_shape d
+is_flat (Mention.Dimensioned d) = is_shape d
+is_flat (Mention.Plain name) = true
+
+all_plain : (names : List Symbol) → list_all is_flat (map Mention.Plain names) ≡ true
+all_plain [] = refl
+all_plain (name ∷ names) = all_plain names
+
+all_dummies : (names : List Symbol) → list_all is_flat (map Mention.Dummy names) ≡ true
+all_dummies [] = refl
+all_dummies (name ∷ names) = all_dummies names
+
+statement_flat : (bounds : Symbol → List ℕ) (s : Statement) → dimensions_fit bounds s ≡ true → list_all is_flat (mentions_of s) ≡ true
+statement_flat bounds (Statement.Subroutine name dummies) h = all_dummies dummies
+statement_flat bounds (Statement.Declare kind ds) h = list_all-map is_flat (Mention.Typed kind) ds ∙ h
+statement_flat bounds (Statement.Dimension ds) h = list_all-map is_flat Mention.Dimensioned ds ∙ h
+statement_flat bounds s h = all_plain (names_of s)
+
+shape_short : (d : DeclFields) → is_shape d ≡ true → length d.bounds ≤ 2
+shape_short d h = let short = (and_true (nat_le (length d.bounds) 2) (list_all (nat_le 1) d.bounds) h).0 in grind (arith, nat_tests)
+
+-- where the first bounds of a list are
+first_short : (xs : List ℕ) (rest : List (List ℕ)) → length xs ≤ 2 → length (first_or [] rest) ≤ 2 → length (first_or [] (cons_option (some_items xs) rest)) ≤ 2
+first_short [] rest short later = later
+first_short (x ∷ xs) rest short later = short
+
+given_short : (m : Mention) (rest : List (List ℕ)) → is_flat m ≡ true → length (first_or [] rest) ≤ 2 → length (first_or [] (cons_option (bounds_in m) rest)) ≤ 2
+given_short (Mention.Dummy name) rest flat later = later
+given_short (Mention.Typed kind d) rest flat later = first_short d.bounds rest (shape_short d flat) later
+given_short (Mention.Dimensioned d) rest flat later = first_short d.bounds rest (shape_short d flat) later
+given_short (Mention.Plain name) rest flat later = later
+
+bounds_short : (ms : List Mention) (name : Symbol) → list_all is_flat ms ≡ true → length (first_or [] (bounds_given ms name)) ≤ 2
+bounds_short [] name all = omega arith
+bounds_short (m ∷ ms) name all = let both = and_true (is_flat m) (list_all is_flat ms) all in by (bytes_eq name (name_in m)) refl both.0 (bounds_short ms name both.1)
+  where
+    by : (b : Bool) → bytes_eq name (name_in m) ≡ b → is_flat m ≡ true → length (first_or [] (bounds_given ms name)) ≤ 2 → length (first_or [] (bounds_given (m ∷ ms) name)) ≤ 2
+    by true e flat later = rw e (given_short m (bounds_given ms name) flat later)
+    by false e flat later = rw e later
+
+pub dimensions_two : (names : Names) (program : List LineFields) → IsNameTable names program → IsLegal program → AreFlat names
+dimensions_two names program is legal name =
+    subst (λ bounds. length bounds ≤ 2) (sym (same_bounds_at names program is name))
+    (bounds_short (mentions program) name
+    (mentions_hold is_flat (λ line. dimensions_fit (bounds_of program) line.stmt) (λ line fit. statement_flat (bounds_of program) line.stmt fit) program (dimensions_kept program legal)))

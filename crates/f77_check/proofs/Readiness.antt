@@ -1,0 +1,53 @@
+-- What a statement whose names can be looked up gives its parts.
+use Rattle.std.proofs.Common.{◌≡◌, ℕ, true, Option}
+use Rattle.std.proofs.lemmas.Bool.{and_parts}
+use Rattle.f77_syntax.specs.Tree.{Tree, Statement}
+use Rattle.f77_syntax.specs.declared.tree.Kind.TheVariants.{Integer}
+use Rattle.f77_check.specs.Dimensions.{fits, step_fits}
+use Rattle.f77_check.specs.Kept.{is_kept, tree_kept, step_kept}
+use Rattle.f77_check.specs.Kinds.{is_of, is_step}
+use Rattle.f77_check.specs.NameTable.{kind_at, bounds_at}
+use Rattle.f77_check.specs.Names.{Symbol}
+use Rattle.f77_check.specs.Ready.{IsReady}
+use Rattle.f77_check.specs.declared.resolve.Resolver.{Resolver}
+
+-- the statement in a logical IF
+pub inner_ready : (r : Resolver) (t : Tree) (s : Statement) → IsReady r (Statement.LogicalIf t s) → IsReady r s
+inner_ready r t s h = record {
+  table = h.table;
+  flat = h.flat;
+  kinds = (and_parts _ _ h.kinds).1;
+  bounds = (and_parts _ _ h.bounds).1;
+  kept = (and_parts _ _ h.kept).1;
+}
+
+-- the parameters of a DO
+pub record LoopParts (r : Resolver) (name : Symbol) (a b : Tree) (c : Option Tree) : Type 0 where
+  pub variable : is_kept r.tables.names name ≡ true
+  pub first_kinds : is_of (kind_at r.tables.names) Integer a ≡ true
+  pub first_fits : fits (bounds_at r.tables.names) a ≡ true
+  pub first_kept : tree_kept r.tables.names a ≡ true
+  pub last_kinds : is_of (kind_at r.tables.names) Integer b ≡ true
+  pub last_fits : fits (bounds_at r.tables.names) b ≡ true
+  pub last_kept : tree_kept r.tables.names b ≡ true
+  pub step_kinds : is_step (kind_at r.tables.names) c ≡ true
+  pub step_fits : step_fits (bounds_at r.tables.names) c ≡ true
+  pub step_kept : step_kept r.tables.names c ≡ true
+
+pub loop_parts : (r : Resolver) (label : ℕ) (name : Symbol) (a b : Tree) (c : Option Tree) → IsReady r (Statement.Loop label name a b c) → LoopParts r name a b c
+loop_parts r label name a b c h =
+    let kinds = and_parts _ _ (and_parts _ _ h.kinds).1 in
+    let bounds = and_parts _ _ (and_parts _ _ h.bounds).1 in
+    let kept = and_parts _ _ h.kept in
+    record {
+      variable = kept.0;
+      first_kinds = kinds.0;
+      first_fits = bounds.0;
+      first_kept = (and_parts _ _ kept.1).0;
+      last_kinds = (and_parts _ _ kinds.1).0;
+      last_fits = (and_parts _ _ bounds.1).0;
+      last_kept = (and_parts _ _ (and_parts _ _ kept.1).1).0;
+      step_kinds = (and_parts _ _ kinds.1).1;
+      step_fits = (and_parts _ _ bounds.1).1;
+      step_kept = (and_parts _ _ (and_parts _ _ kept.1).1).1;
+    }

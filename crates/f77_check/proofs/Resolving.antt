@@ -1,0 +1,72 @@
+-- Expressions with their names looked up, from their operands.
+use Rattle.std.proofs.Common.{◌≡◌, List, ℕ, Some, ap, sym, ◌∙◌}
+use Rattle.std.specs.Prelude.{Box}
+use Rattle.std.specs.declared.alloc.Global.{Global}
+use Rattle.f77_syntax.specs.declared.operator.Operator.{Operator}
+use Rattle.f77_syntax.specs.declared.operator.Sign.{Sign}
+use Rattle.f77_syntax.specs.declared.operator.Sign.TheVariants.{Minus}
+use Rattle.f77_syntax.specs.declared.tree.Expr.{Expr}
+use Rattle.f77_syntax.specs.declared.tree.Expr.TheVariants.{rolls-Number, rolls-Signed, rolls-Not, rolls-Binary, rolls-ZeroPush}
+use Rattle.f77_syntax.specs.declared.tree.Expr.TheVariants as forms
+use Rattle.f77_syntax.specs.declared.tree.Expr.TheViews as views
+use Rattle.f77_syntax.specs.declared.tree.Expr.TheOpen.{Expr-F}
+use Rattle.f77_syntax.specs.declared.tree.Expr.TheFolds.{fold-roll-Expr}
+use Rattle.f77_syntax.specs.Tree.{Tree}
+use Rattle.f77_syntax.specs.View.{tree_of, expr_step, ref_step}
+use Rattle.f77_check.specs.Boxed.{HoldsNumber, HoldsCondition}
+use Rattle.f77_check.specs.Expression.{IsNumber, IsCondition, arithmetic_of, connective_of}
+use Rattle.f77_check.specs.Names.{Symbol}
+use Rattle.f77_check.specs.declared.expression.Arithmetic.{Arithmetic}
+use Rattle.f77_check.specs.declared.expression.Element.TheViews as resolved
+use Rattle.f77_check.specs.declared.expression.Number.{Number}
+use Rattle.f77_check.specs.declared.expression.Connective.{Connective}
+use Rattle.f77_check.specs.declared.expression.Condition.{Condition}
+use Rattle.f77_check.specs.declared.expression.Condition.TheViews as conditions
+
+number_view : (n : ℕ) → tree_of (forms.Number n) ≡ Tree.Number n
+number_view n = ap tree_of (sym (rolls-Number n)) ∙ fold-roll-Expr Tree (List ℕ × List Tree) expr_step ref_step (Expr-F.Number n)
+
+signed_view : (sign : Sign) (a : Box Expr Global) → tree_of (views.Signed sign a) ≡ Tree.Signed sign (tree_of a.value)
+signed_view sign a = ap tree_of (sym (rolls-Signed sign a)) ∙ fold-roll-Expr Tree (List ℕ × List Tree) expr_step ref_step (Expr-F.Signed sign a)
+
+not_view : (a : Box Expr Global) → tree_of (views.Not a) ≡ Tree.Not (tree_of a.value)
+not_view a = ap tree_of (sym (rolls-Not a)) ∙ fold-roll-Expr Tree (List ℕ × List Tree) expr_step ref_step (Expr-F.Not a)
+
+binary_view : (op : Operator) (a b : Box Expr Global) → tree_of (views.Binary op a b) ≡ Tree.Binary op (tree_of a.value) (tree_of b.value)
+binary_view op a b = ap tree_of (sym (rolls-Binary op a b)) ∙ fold-roll-Expr Tree (List ℕ × List Tree) expr_step ref_step (Expr-F.Binary op a b)
+
+push_view : (a : Box Expr Global) → tree_of (views.ZeroPush a) ≡ Tree.ZeroPush (tree_of a.value)
+push_view a = ap tree_of (sym (rolls-ZeroPush a)) ∙ fold-roll-Expr Tree (List ℕ × List Tree) expr_step ref_step (Expr-F.ZeroPush a)
+
+module _ (bounds : Symbol → List ℕ) (names : List Symbol) where
+  pub constant_number : (e : Expr) (n : ℕ) (x : Number) → e ≡ forms.Number n → IsNumber bounds names (Tree.Number n) x → IsNumber bounds names (tree_of e) x
+  constant_number e n x is h = rw (is, number_view n) h
+
+  pub negated_number : (e x : Expr) (sign : Sign) (a : Box Expr Global) (p : Box Number Global) → e ≡ views.Signed sign a → sign ≡ Minus → x ≡ a.value
+      → HoldsNumber bounds names (tree_of x) p → IsNumber bounds names (tree_of e) (resolved.Negated p)
+  unfolding HoldsNumber
+  negated_number e x sign a p is minus held h = rw (is, minus, signed_view Minus a, ← held) h
+
+  pub pushed_number : (e x : Expr) (a : Box Expr Global) (p : Box Number Global) → e ≡ views.ZeroPush a → x ≡ a.value
+      → HoldsNumber bounds names (tree_of x) p → IsNumber bounds names (tree_of e) (resolved.ZeroPush p)
+  unfolding HoldsNumber
+  pushed_number e x a p is held h = rw (is, push_view a, ← held) h
+
+  pub binary_number : (e x y : Expr) (op : Operator) (o : Arithmetic) (a b : Box Expr Global) (p q : Box Number Global)
+      → e ≡ views.Binary op a b → x ≡ a.value → y ≡ b.value → arithmetic_of op ≡ Some o
+      → HoldsNumber bounds names (tree_of x) p → HoldsNumber bounds names (tree_of y) q
+      → IsNumber bounds names (tree_of e) (resolved.Binary o p q)
+  unfolding HoldsNumber
+  binary_number e x y op o a b p q is left right operation h k = rw (is, binary_view op a b, ← left, ← right) (operation, h, k)
+
+  pub negated_condition : (e x : Expr) (a : Box Expr Global) (p : Box Condition Global) → e ≡ views.Not a → x ≡ a.value
+      → HoldsCondition bounds names (tree_of x) p → IsCondition bounds names (tree_of e) (conditions.Not p)
+  unfolding HoldsCondition
+  negated_condition e x a p is held h = rw (is, not_view a, ← held) h
+
+  pub connected_condition : (e x y : Expr) (op : Operator) (o : Connective) (a b : Box Expr Global) (p q : Box Condition Global)
+      → e ≡ views.Binary op a b → x ≡ a.value → y ≡ b.value → connective_of op ≡ Some o
+      → HoldsCondition bounds names (tree_of x) p → HoldsCondition bounds names (tree_of y) q
+      → IsCondition bounds names (tree_of e) (conditions.Connected o p q)
+  unfolding HoldsCondition
+  connected_condition e x y op o a b p q is left right connective h k = rw (is, binary_view op a b, ← left, ← right) (connective, h, k)

@@ -1,0 +1,99 @@
+-- The statements of a legal program can be resolved by its tables.
+use Rattle.std.proofs.Common.{◌≡◌, inl, inr, ℕ, zero, suc, ◌+◌, ◌==◌, true, List, [], ◌∷◌, ◌++◌, length, Some, refl, ap, sym, subst, ◌∙◌, arith}
+use Rattle.std.specs.Prelude.{IsSome}
+use Rattle.std.specs.List.{list_any, slice_get}
+use Rattle.std.proofs.lemmas.List.{length-append}
+use Rattle.std.proofs.lemmas.Bool.{or_right}
+use Rattle.std.proofs.lemmas.Option.{same_Some}
+use Rattle.std.proofs.lemmas.Bool.Decides.{nat_tests}
+use Rattle.indexmap.specs.IndexMap.{keys}
+use Rattle.f77_syntax.specs.Parsing.{LineFields}
+use Rattle.f77_syntax.specs.Tree.{Statement}
+use Rattle.f77_check.specs.Action.{IsAction}
+use Rattle.f77_check.specs.Blocks.{behind}
+use Rattle.f77_check.specs.Dimensions.{dimensions_fit}
+use Rattle.f77_check.specs.declared.clause.Clause.TheVariants.{Kinds, Bounds}
+use Rattle.f77_check.specs.Kinds.{kinds_agree}
+use Rattle.f77_check.specs.Labels.{place_of, statement_at, jumps_of}
+use Rattle.f77_check.specs.Loops.{loops_ending}
+use Rattle.f77_check.specs.Names.{Symbol, kind_of, bounds_of}
+use Rattle.f77_check.specs.NameTable.{bounds_at}
+use Rattle.f77_check.specs.Ready.{CanResolve, IsReady, AreFound, HasEnd, Does}
+use Rattle.f77_check.specs.Resolved.{IsResolved, AreResolved}
+use Rattle.f77_check.specs.declared.resolve.Resolver.{Resolver}
+use Rattle.f77_check.specs.declared.resolved.Resolved.{Resolved}
+use Rattle.f77_check.proofs.Actions.{inner_acts}
+use Rattle.f77_check.proofs.Flow.{some_branch, some_terminal, some_place}
+use Rattle.f77_check.proofs.KeptNames.{all_kept, dimensions_two}
+use Rattle.f77_check.proofs.LegalGives.{kept_by, clause_kept, not_false}
+use Rattle.f77_check.proofs.Lookups.{same_kinds, same_bounds}
+
+module _ (r : Resolver) (p : List LineFields) (can : CanResolve r p) (i : ℕ) where
+  pub ready_at : (s : Statement) → statement_at p i ≡ Some s → IsReady r s
+  ready_at s at = record {
+    table = can.slots;
+    flat = dimensions_two r.tables.names p can.tables.names can.legal;
+    kinds = subst (λ kinds. kinds_agree kinds s ≡ true) (sym (same_kinds r.tables.names p can.tables.names))
+        (not_false _ (clause_kept Kinds p (kept_by p can.legal).kinds i s at));
+    bounds = subst (λ bounds. dimensions_fit bounds s ≡ true) (sym (same_bounds r.tables.names p can.tables.names))
+        (not_false _ (clause_kept Bounds p (kept_by p can.legal).bounds i s at));
+    kept = all_kept r.tables.names p can.tables.names i s at;
+  }
+
+  pub ends_at : (s : Statement) → statement_at p i ≡ Some s → HasEnd p i s
+  ends_at (Statement.LogicalIf t s) at = inner_acts p can.formed i t s at
+  ends_at (Statement.BlockIf t) at = let end = some_branch p can.legal i t (inl at) in record { place = end.0; told = end.1; ends = end.2 }
+  ends_at (Statement.ElseIf t) at = let end = some_branch p can.legal i t (inr at) in record { place = end.0; told = end.1; ends = end.2 }
+  ends_at (Statement.Loop label name a b c) at = some_terminal p can.legal i _ at refl
+  ends_at _ at = tt
+
+-- labels that stand on statements, each by itself
+all_found : (p : List LineFields) (labels : List ℕ) → ((label : ℕ) → list_any (λ l. l == label) labels ≡ true → IsSome (place_of p label)) → AreFound p labels
+all_found p [] found = tt
+all_found p (label ∷ labels) found = (found label (grind (arith, nat_tests)), all_found p labels (λ l among. found l (or_right (label == l) _ among)))
+
+pub found_at : (r : Resolver) (p : List LineFields) → CanResolve r p → (i : ℕ) (s : Statement) → statement_at p i ≡ Some s → AreFound p (jumps_of s)
+found_at r p can i s at = all_found p (jumps_of s) (λ label among. some_place p can.legal i s label at among)
+
+-- what the functions of a statement found is its resolved form
+pub resolved_at : (r : Resolver) (p : List LineFields) → CanResolve r p → (i : ℕ) (s t : Statement) → statement_at p i ≡ Some s → (x : Resolved)
+    → Does r p i s x.action → behind p i ≡ Some x.next → x.ends.items ≡ loops_ending p i → statement_at p i ≡ Some t → IsResolved p (keys r.tables.names.facts) i t x
+resolved_at r p can i s t at x does next ends also =
+    let same : s ≡ t = same_Some _ _ (sym at ∙ also) in
+    let kinds : IsAction (kind_of p) (bounds_at r.tables.names) (keys r.tables.names.facts) p i s x.action
+    = subst (λ kinds. IsAction kinds (bounds_at r.tables.names) (keys r.tables.names.facts) p i s x.action) (same_kinds r.tables.names p can.tables.names) does in
+    let bounds : IsAction (kind_of p) (bounds_of p) (keys r.tables.names.facts) p i s x.action
+    = subst (λ bounds. IsAction (kind_of p) bounds (keys r.tables.names.facts) p i s x.action) (same_bounds r.tables.names p can.tables.names) kinds in
+    record {
+      action = subst (λ s. IsAction (kind_of p) (bounds_of p) (keys r.tables.names.facts) p i s x.action) same bounds;
+      next = next;
+      ends = ends;
+    }
+
+-- the first so many statements resolved
+pub record AreFirst (p : List LineFields) (names : List Symbol) (n : ℕ) (list : List Resolved) : Type 0 where
+  pub count : length list ≡ n
+  pub each : (i : ℕ) (s : Statement) (r : Resolved) → statement_at p i ≡ Some s → slice_get list i ≡ Some r → IsResolved p names i s r
+
+-- what is so of the members of a list, by their numbers, and of one more is so of all
+pushed : (Q : ℕ → Resolved → Type 0) (xs : List Resolved) (x : Resolved) → ((i : ℕ) (r : Resolved) → slice_get xs i ≡ Some r → Q i r) → Q (length xs) x
+    → (i : ℕ) (r : Resolved) → slice_get (xs ++ (x ∷ [])) i ≡ Some r → Q i r
+pushed Q [] x each last zero r is = let same : x ≡ r = same_Some _ _ is in subst (Q 0) same last
+pushed Q [] x each last (suc i) r is = absurd (cc (is))
+pushed Q (y ∷ xs) x each last zero r is = each zero r is
+pushed Q (y ∷ xs) x each last (suc i) r is = pushed (λ i. Q (suc i)) xs x (λ i r is. each (suc i) r is) last i r is
+
+pub one_more : (p : List LineFields) (names : List Symbol) (n : ℕ) (list : List Resolved) (x : Resolved) → AreFirst p names n list
+    → ((s : Statement) → statement_at p n ≡ Some s → IsResolved p names n s x) → AreFirst p names (n + 1) (list ++ (x ∷ []))
+one_more p names n list x first next = record {
+  count = length-append list (x ∷ []) ∙ ap (λ k. k + 1) first.count;
+  each = λ i s r at is.
+      pushed (λ i r. (s : Statement) → statement_at p i ≡ Some s → IsResolved p names i s r) list x (λ i r is s at. first.each i s r at is)
+      (subst (λ k. (s : Statement) → statement_at p k ≡ Some s → IsResolved p names k s x) (sym first.count) next) i r is s at;
+}
+
+pub none_yet : (p : List LineFields) (names : List Symbol) → AreFirst p names 0 []
+none_yet p names = record { count = refl; each = λ i s r at is. absurd (cc (is)) }
+
+pub all_resolved : (p : List LineFields) (names : List Symbol) (n : ℕ) (list : List Resolved) → AreFirst p names n list → n ≡ length p → AreResolved p names list
+all_resolved p names n list first end = record { count = first.count ∙ end; each = first.each }

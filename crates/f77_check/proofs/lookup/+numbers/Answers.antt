@@ -1,0 +1,100 @@
+use Rattle.std.proofs.Common.{rules, arith, refl, sym, ◌∙◌, ◌≡◌, ◌<◌, ◌≤◌, ◌+◌, ◌-◌, suc, length}
+use Rattle.std.proofs.lemmas.Grind.{common_steps}
+use Rattle.f77_check.specs.Boxed.{HoldsNumber}
+use Rattle.f77_check.specs.NameTable.{bounds_at}
+use Rattle.indexmap.specs.IndexMap.{keys}
+use Rattle.f77_check.proofs.Counts.{count_trees}
+use Rattle.f77_check.proofs.Deepest.{most_at}
+use Rattle.f77_check.proofs.Items.{only_one, only_two, one_item, two_items, integer_at, fit_at, kept_at}
+use Rattle.f77_check.proofs.Chosen.{chosen_last, chosen_more}
+use Rattle.f77_check.proofs.Resolving.{constant_number, negated_number, pushed_number, binary_number}
+use Rattle.f77_check.proofs.lookup.+numbers.Goals as goal
+
+pub absolute-returns-clause-number : goal.absolute-returns-clause-number
+unfolding HoldsNumber
+absolute-returns-clause-number t c =
+    rw (one_item _ _ c.in-len1.len_at_least c.in-len1.len_below c.operand-item.is) c.in_ok-boxed-in-len1.ensures.number
+
+pub modulus-returns-clause-number : goal.modulus-returns-clause-number
+unfolding HoldsNumber
+modulus-returns-clause-number t c =
+    rw (two_items _ _ _ c.in-len2.len_at_least c.in-len2.len_below c.left-item.is c.right-item.is)
+    (refl, c.in_ok-boxed-in-len2.ensures.number, c.in_ok-boxed-in-len2-2.ensures.number)
+
+pub number-returns-in-Number-clause-number : goal.number-returns-in-Number-clause-number
+number-returns-in-Number-clause-number t c =
+    constant_number _ _ _ _ _ c.in-Number.is (c.constant.ensures (bounds_at c.args.names.now) (keys c.args.names.now.facts))
+
+pub number-returns-in_ok-boxed-in-Binary-2-clause-number : goal.number-returns-in_ok-boxed-in-Binary-2-clause-number
+number-returns-in_ok-boxed-in-Binary-2-clause-number t c =
+    binary_number _ _ _ _ _ _ _ _ _ _ _ c.in-Binary.is c.deref-in-Binary.ensures c.deref-in-Binary-2.ensures c.operation.ensures
+    c.in_ok-boxed-in-Binary.ensures.number c.in_ok-boxed-in-Binary-2.ensures.number
+
+pub number-returns-in_ok-boxed-in-ZeroPush-clause-number : goal.number-returns-in_ok-boxed-in-ZeroPush-clause-number
+number-returns-in_ok-boxed-in-ZeroPush-clause-number t c =
+    pushed_number _ _ _ _ _ _ c.in-ZeroPush.is c.deref-in-ZeroPush.ensures c.in_ok-boxed-in-ZeroPush.ensures.number
+
+pub number-returns-in_ok-boxed-in-Minus-clause-number : goal.number-returns-in_ok-boxed-in-Minus-clause-number
+number-returns-in_ok-boxed-in-Minus-clause-number t c =
+    negated_number _ _ _ _ _ _ _ c.in-Signed.is c.in-Minus.is c.deref-in-Minus.ensures c.in_ok-boxed-in-Minus.ensures.number
+
+pub element-returns-in_ok-boxed-in-len1-len1-clause-element : goal.element-returns-in_ok-boxed-in-len1-len1-clause-element
+unfolding HoldsNumber
+element-returns-in_ok-boxed-in-len1-len1-clause-element t c =
+    let some : 1 ≤ length c.args.subscripts.now = search rules in
+    let few : length c.args.subscripts.now < 2 = search rules in
+    let some_bounds : 1 ≤ length c.bounds.result.now = search rules in
+    let few_bounds : length c.bounds.result.now < 2 = search rules in
+    rw (one_item _ _ some few c.subscript-item.is)
+    (sym c.bounds.ensures ∙ only_one 0 _ some_bounds few_bounds, c.first-first.ensures, c.in_ok-boxed-in-len1-len1.ensures.number)
+
+pub element-returns-in_ok-boxed-in-len2-len2-2-clause-element : goal.element-returns-in_ok-boxed-in-len2-len2-2-clause-element
+unfolding HoldsNumber
+element-returns-in_ok-boxed-in-len2-len2-2-clause-element t c =
+    let some : 2 ≤ length c.args.subscripts.now = search rules in
+    let few : length c.args.subscripts.now < 3 = search rules in
+    let some_bounds : 2 ≤ length c.bounds.result.now = search rules in
+    let few_bounds : length c.bounds.result.now < 3 = search rules in
+    rw (two_items _ _ _ some few c.row-item.is c.column-item.is)
+    (sym c.bounds.ensures ∙ only_two 0 0 _ some_bounds few_bounds, c.first-first.ensures, c.in_ok-boxed-in-len2-len2.ensures.number, c.in_ok-boxed-in-len2-len2-2.ensures.number)
+
+pub chosen-loop-i-init : goal.chosen-loop-i-init
+chosen-loop-i-init t c =
+    let some : 0 < length c.args.items.now = rw (count_trees c.args.items.now) at c.requires.some in
+    chosen_last _ _ c.args.operation c.args.items.now _ _ some c.index-items-last.is c.in_ok-chosen.ensures.number
+
+pub chosen-loop-i-preserved : goal.chosen-loop-i-preserved
+unfolding HoldsNumber
+chosen-loop-i-preserved t c =
+    let next : suc (c.loop-i.i - 1) ≡ c.loop-i.i = omega (arith, c.loop-i-test.true) in
+    let below : (c.loop-i.i - 1) + 1 < length c.args.items.now = search rules in
+    chosen_more _ _ c.args.operation c.args.items.now _ _ _ _ _ _ below c.index-items-i.is c.in_ok-number.ensures.number (rw (next, c.in_ok-new.ensures.ok) c.loop-i.invariant)
+
+pub chosen-number-requires : goal.chosen-number-requires
+chosen-number-requires t c =
+    let some : 0 < length c.args.items.now = rw (count_trees c.args.items.now) at c.requires.some in
+    let below : length c.args.items.now - 1 < length c.args.items.now = omega (arith, some) in
+    let is = c.index-items-last.is in (
+      grind (arith, common_steps, most_at),
+      (
+        c.requires.table,
+        (
+          c.requires.flat,
+          (integer_at _ _ _ _ below is c.requires.kinds, (fit_at _ _ _ _ below is c.requires.fits, kept_at _ _ _ _ below is c.requires.kept)),
+        ),
+      ),
+    )
+
+pub chosen-boxed-requires : goal.chosen-boxed-requires
+chosen-boxed-requires t c =
+    let below : c.loop-i.i - 1 < length c.args.items.now = search rules in
+    let is = c.index-items-i.is in (
+      grind (arith, common_steps, most_at),
+      (
+        c.requires.table,
+        (
+          c.requires.flat,
+          (integer_at _ _ _ _ below is c.requires.kinds, (fit_at _ _ _ _ below is c.requires.fits, kept_at _ _ _ _ below is c.requires.kept)),
+        ),
+      ),
+    )

@@ -1,0 +1,17 @@
+-- What a checked program is, from what it keeps.
+use Rattle.std.specs.Prelude.{List}
+use Rattle.indexmap.specs.IndexMap.{keys}
+use Rattle.f77_syntax.specs.declared.program.Line.{Line}
+use Rattle.f77_check.specs.Checked.{CheckedFields}
+use Rattle.f77_check.specs.declared.checked.Shape.{Shape}
+use Rattle.f77_check.specs.declared.resolve.Resolver.{Resolver}
+use Rattle.f77_check.specs.declared.resolved.Resolved.{Resolved}
+
+abbrev pub fields_of : List Line → List Shape → Resolver → List Resolved → CheckedFields
+fields_of program arguments resolver statements = record {
+  program = program;
+  arguments = arguments;
+  names = keys resolver.tables.names.facts;
+  slots = resolver.slots.count;
+  statements = statements;
+}

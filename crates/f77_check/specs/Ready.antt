@@ -1,0 +1,62 @@
+-- What the tables and the statements of a legal program have, by which names are looked up.
+use Rattle.std.specs.Prelude.{◌≡◌, ⊤, ℕ, true, List, [], ◌∷◌, Some, None, IsSome}
+use Rattle.indexmap.specs.IndexMap.{keys}
+use Rattle.f77_syntax.specs.Formed.{is_action}
+use Rattle.f77_syntax.specs.Parsing.{LineFields, IsProgram}
+use Rattle.f77_syntax.specs.Tree.{Tree, Trees, Statement}
+use Rattle.f77_check.specs.Action.{IsAction, IsAssignment}
+use Rattle.f77_check.specs.Blocks.{branch_end}
+use Rattle.f77_check.specs.BlockTable.{branch_end_at}
+use Rattle.f77_check.specs.Dimensions.{dimensions_fit}
+use Rattle.f77_check.specs.Kept.{names_kept, AreFlat}
+use Rattle.f77_check.specs.Kinds.{kinds_agree}
+use Rattle.f77_check.specs.Labels.{place_of}
+use Rattle.f77_check.specs.Legal.{IsLegal}
+use Rattle.f77_check.specs.Loops.{terminal}
+use Rattle.f77_check.specs.NameTable.{bounds_at, kind_at}
+use Rattle.f77_check.specs.SlotTable.{IsSlotTable}
+use Rattle.f77_check.specs.Names.{Symbol}
+use Rattle.f77_check.specs.Tables.{AreTables}
+use Rattle.f77_check.specs.declared.action.Action.{Action}
+use Rattle.f77_check.specs.declared.resolve.Resolver.{Resolver}
+
+-- these are the tables of a legal program
+pub record CanResolve (r : Resolver) (program : List LineFields) : Type 0 where
+  pub tables : AreTables r.tables program
+  pub slots : IsSlotTable r.slots r.tables.names
+  pub formed : IsProgram None program
+  pub legal : IsLegal program
+
+-- the names of the statement can be looked up
+pub record IsReady (r : Resolver) (s : Statement) : Type 0 where
+  pub table : IsSlotTable r.slots r.tables.names
+  pub flat : AreFlat r.tables.names
+  pub kinds : kinds_agree (kind_at r.tables.names) s ≡ true
+  pub bounds : dimensions_fit (bounds_at r.tables.names) s ≡ true
+  pub kept : names_kept r.tables.names s ≡ true
+
+-- the action is what the statement does, by the tables
+abbrev pub Does : Resolver → List LineFields → ℕ → Statement → Action → Type 0
+Does r program i s action = IsAction (kind_at r.tables.names) (bounds_at r.tables.names) (keys r.tables.names.facts) program i s action
+
+abbrev pub Assigns : Resolver → Symbol → Trees → Tree → Action → Type 0
+Assigns r name items t action = IsAssignment (kind_at r.tables.names) (bounds_at r.tables.names) (keys r.tables.names.facts) name items t action
+
+-- each of these labels stands on a statement
+abbrev pub AreFound : List LineFields → List ℕ → Type 0
+AreFound program [] = ⊤
+AreFound program (label ∷ labels) = IsSome (place_of program label) × AreFound program labels
+
+-- the branch that i begins ends, and the table tells where
+pub record HasBranch (program : List LineFields) (i : ℕ) : Type 0 where
+  pub place : ℕ
+  pub told : branch_end_at program i ≡ Some place
+  pub ends : branch_end program i ≡ Some place
+
+-- the statement i ends where it has to, or holds what it may
+abbrev pub HasEnd : List LineFields → ℕ → Statement → Type 0
+HasEnd program i (Statement.LogicalIf t s) = is_action s ≡ true
+HasEnd program i (Statement.BlockIf t) = HasBranch program i
+HasEnd program i (Statement.ElseIf t) = HasBranch program i
+HasEnd program i (Statement.Loop label name a b c) = IsSome (terminal program i)
+HasEnd program i _ = ⊤

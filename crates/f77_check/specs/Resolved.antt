@@ -1,0 +1,20 @@
+-- The resolved form of a program: statement i with its names and labels looked up is resolved statement i. Statements are numbered from 0 here.
+use Rattle.std.specs.Prelude.{◌≡◌, ℕ, List, length, Some, slice_get}
+use Rattle.f77_syntax.specs.Parsing.{LineFields}
+use Rattle.f77_syntax.specs.Tree.{Statement}
+use Rattle.f77_check.specs.declared.resolved.Resolved.{Resolved}
+use Rattle.f77_check.specs.Action.{IsAction}
+use Rattle.f77_check.specs.Blocks.{behind}
+use Rattle.f77_check.specs.Labels.{statement_at}
+use Rattle.f77_check.specs.Loops.{loops_ending}
+use Rattle.f77_check.specs.Names.{Symbol, kind_of, bounds_of}
+
+pub record IsResolved (program : List LineFields) (names : List Symbol) (i : ℕ) (s : Statement) (r : Resolved) : Type 0 where
+  pub action : IsAction (kind_of program) (bounds_of program) names program i s r.action
+  pub next : behind program i ≡ Some r.next
+  pub ends : r.ends.items ≡ loops_ending program i
+
+-- each statement resolved, in order, where names have slots in the order of this list
+pub record AreResolved (program : List LineFields) (names : List Symbol) (list : List Resolved) : Type 0 where
+  pub count : length list ≡ length program
+  pub each : (i : ℕ) (s : Statement) (r : Resolved) → statement_at program i ≡ Some s → slice_get list i ≡ Some r → IsResolved program names i s r

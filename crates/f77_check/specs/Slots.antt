@@ -1,0 +1,14 @@
+-- Where the values of names are kept: a slot for each element, name by name in the order of a list, the first subscript of an array varying fastest.
+use Rattle.std.specs.Prelude.{ℕ, List, map, take, Option, option_map, position}
+use Rattle.std.specs.List.{sum}
+use Rattle.std.specs.Str.{bytes_eq}
+use Rattle.f77_check.specs.Names.{Symbol}
+use Rattle.f77_check.specs.Presets.{product}
+
+-- the slots of names with these bounds
+abbrev pub slot_count : (Symbol → List ℕ) → List Symbol → ℕ
+slot_count bounds names = sum (map (λ name. product (bounds name)) names)
+
+-- the first slot of a name
+abbrev pub first_slot : (Symbol → List ℕ) → List Symbol → Symbol → Option ℕ
+first_slot bounds names name = option_map (λ n. slot_count bounds (take n names)) (position (bytes_eq name) names)

@@ -1,0 +1,283 @@
+//! The names and labels of statements are looked up.
+
+ghost use Rattle.std.specs.Prelude.{◌≡◌, ◌<◌, true, Some, List, length, map, option_map, IfOk, IfErr, IsSome};
+ghost use Rattle.indexmap.specs.IndexMap.{keys};
+ghost use Rattle.f77_syntax.specs.Formed.{is_action};
+ghost use Rattle.f77_syntax.specs.Parsing.{LineFields, line_of};
+ghost use Rattle.f77_syntax.specs.StatementView.{statement_of};
+ghost use Rattle.f77_syntax.specs.Tree.{Statement};
+ghost use Rattle.f77_syntax.specs.View.{place_of, tree_of, trees};
+ghost use Rattle.f77_check.specs.Action.{IsJump};
+ghost use Rattle.f77_check.specs.Labels as labels;
+ghost use Rattle.f77_check.specs.Labels.{jumps_of, statement_at};
+ghost use Rattle.f77_check.specs.Loops.{terminal};
+ghost use Rattle.f77_check.specs.Ready.{CanResolve, IsReady, AreFound, HasBranch, HasEnd, Does, Assigns};
+ghost use Rattle.f77_check.specs.Resolved.{IsResolved, AreResolved};
+ghost use Rattle.f77_check.specs.Tables.{AreTables};
+ghost use Rattle.f77_check.specs.declared.fault.CheckFault.TheVariants.{Memory};
+
+use crate::action::{Action, Jump};
+use crate::blocks::{next, statement};
+use crate::fault::CheckFault;
+use crate::lookup::{condition, element, number, step};
+use crate::resolved::Resolved;
+use crate::slots::Slots;
+use crate::tables::Tables;
+use f77_syntax::{Expr, Kind, Line, Name, Ref, Stmt};
+use std::alloc::Global;
+
+/// What the names and labels of single statements are looked up in.
+#[derive(Drop)]
+pub(crate) struct Resolver {
+    pub(crate) tables: Tables,
+    pub(crate) slots: Slots,
+}
+
+impl Resolver {
+    /// The jump from the statement `i` to the one with this label.
+    fn jump(&self, alloc: Global, i: usize, label: u32) -> Result<Jump, CheckFault>
+        ghost program: { List LineFields }
+        requires tables { AreTables self.now.tables program }
+        requires found { IsSome (labels.place_of program label) }
+        ensures jump { IfOk result (λ jump. IsJump program i label jump) }
+        ensures memory { IfErr result (λ fault. fault ≡ Memory) }
+    {
+        let Some(target) = self.tables.labels.place(label) else {
+            unreachable!()
+        };
+        let leaves = self.tables.ranges.left_by(alloc, i, target)?;
+        Ok(Jump { target, leaves })
+    }
+
+    /// An assignment, by the kind of what is assigned to (10.1, 10.2).
+    fn assignment(&self, alloc: Global, target: &Ref, value: &Expr) -> Result<Action, CheckFault>
+        requires { IsReady self.now (Statement.Assign (place_of target.now).0 (trees (place_of target.now).1) (tree_of value.now)) }
+        ensures action { IfOk result (λ action. Assigns self.now (place_of target.now).0 (trees (place_of target.now).1) (tree_of value.now) action) }
+        ensures memory { IfErr result (λ fault. fault ≡ Memory) }
+    {
+        let names = &self.tables.names;
+        let name = &target.name;
+        let place = element(alloc, names, &self.slots, name, &target.subscripts)?;
+        match names.kind(name) {
+            Kind::Integer => {
+                Ok(Action::AssignNumber(place, number(alloc, names, &self.slots, value)?))
+            }
+            Kind::Logical => {
+                Ok(Action::AssignTruth(place, condition(alloc, names, &self.slots, value)?))
+            }
+        }
+    }
+
+    /// An arithmetic IF (11.4).
+    fn arithmetic(
+        &self,
+        alloc: Global,
+        i: usize,
+        value: &Expr,
+        negative: u32,
+        zero: u32,
+        positive: u32,
+    ) -> Result<Action, CheckFault>
+        ghost program: { List LineFields }
+        requires tables { AreTables self.now.tables program }
+        requires ready { IsReady self.now (Statement.ArithIf (tree_of value.now) negative zero positive) }
+        requires found { IsSome (labels.place_of program negative) × IsSome (labels.place_of program zero) × IsSome (labels.place_of program positive) }
+        ensures action { IfOk result (λ action. Does self.now program i (Statement.ArithIf (tree_of value.now) negative zero positive) action) }
+        ensures memory { IfErr result (λ fault. fault ≡ Memory) }
+    {
+        Ok(Action::ArithmeticIf {
+            value: number(alloc, &self.tables.names, &self.slots, value)?,
+            negative: self.jump(alloc, i, negative)?,
+            zero: self.jump(alloc, i, zero)?,
+            positive: self.jump(alloc, i, positive)?,
+        })
+    }
+
+    /// A statement that may stand in a logical IF.
+    fn inner_action(&self, alloc: Global, i: usize, stmt: &Stmt) -> Result<Action, CheckFault>
+        ghost program: { List LineFields }
+        requires tables { AreTables self.now.tables program }
+        requires ready { IsReady self.now (statement_of stmt.now) }
+        requires found { AreFound program (jumps_of (statement_of stmt.now)) }
+        requires acts { is_action (statement_of stmt.now) ≡ true }
+        ensures action { IfOk result (λ action. Does self.now program i (statement_of stmt.now) action) }
+        ensures memory { IfErr result (λ fault. fault ≡ Memory) }
+    {
+        match stmt {
+            Stmt::Assign { target, value } => { self.assignment(alloc, target, value) }
+            Stmt::Goto { label } => Ok(Action::Goto(self.jump(alloc, i, *label)?)),
+            Stmt::ArithIf {
+                value,
+                negative,
+                zero,
+                positive,
+            } => self.arithmetic(alloc, i, value, *negative, *zero, *positive),
+            Stmt::Continue => Ok(Action::Continue),
+            Stmt::Return => Ok(Action::Return),
+            Stmt::Stop => Ok(Action::Stop),
+            Stmt::Trap => Ok(Action::Trap),
+            Stmt::Subroutine { .. }
+            | Stmt::Declare { .. }
+            | Stmt::Dimension { .. }
+            | Stmt::Preset { .. }
+            | Stmt::LogicalIf { .. }
+            | Stmt::BlockIf { .. }
+            | Stmt::ElseIf { .. }
+            | Stmt::Else
+            | Stmt::EndIf
+            | Stmt::Loop { .. }
+            | Stmt::End => unreachable!(),
+        }
+    }
+
+    /// A logical IF (11.5).
+    #[tactic(auto, using(crate::proofs::Readiness::inner_ready))]
+    fn logical(
+        &self,
+        alloc: Global,
+        i: usize,
+        test: &Expr,
+        statement: &Stmt,
+    ) -> Result<Action, CheckFault>
+        ghost program: { List LineFields }
+        requires tables { AreTables self.now.tables program }
+        requires ready { IsReady self.now (Statement.LogicalIf (tree_of test.now) (statement_of statement.now)) }
+        requires found { AreFound program (jumps_of (statement_of statement.now)) }
+        requires acts { is_action (statement_of statement.now) ≡ true }
+        ensures action { IfOk result (λ action. Does self.now program i (Statement.LogicalIf (tree_of test.now) (statement_of statement.now)) action) }
+        ensures memory { IfErr result (λ fault. fault ≡ Memory) }
+    {
+        let condition = condition(alloc, &self.tables.names, &self.slots, test)?;
+        let action = Box::new(alloc, self.inner_action(alloc, i, statement)?)?;
+        Ok(Action::LogicalIf { condition, action })
+    }
+
+    /// A block IF or an ELSE IF (11.6, 11.7).
+    fn branch(&self, alloc: Global, i: usize, test: &Expr) -> Result<Action, CheckFault>
+        ghost program: { List LineFields }
+        requires tables { AreTables self.now.tables program }
+        requires ready { IsReady self.now (Statement.BlockIf (tree_of test.now)) }
+        requires ends { HasBranch program i }
+        ensures first { IfOk result (λ action. Does self.now program i (Statement.BlockIf (tree_of test.now)) action) }
+        ensures further { IfOk result (λ action. Does self.now program i (Statement.ElseIf (tree_of test.now)) action) }
+        ensures memory { IfErr result (λ fault. fault ≡ Memory) }
+    {
+        let condition = condition(alloc, &self.tables.names, &self.slots, test)?;
+        let Some(otherwise) = self.tables.blocks.branch_end(i) else {
+            unreachable!()
+        };
+        Ok(Action::Branch {
+            condition,
+            otherwise,
+        })
+    }
+
+    /// A DO (11.10).
+    #[tactic(auto, using(crate::proofs::Readiness::loop_parts))]
+    fn do_loop(
+        &self,
+        alloc: Global,
+        i: usize,
+        label: u32,
+        variable: &Name,
+        first: &Expr,
+        last: &Expr,
+        increment: &Option<Expr>,
+    ) -> Result<Action, CheckFault>
+        ghost program: { List LineFields }
+        requires tables { AreTables self.now.tables program }
+        requires ready { IsReady self.now (Statement.Loop label variable.now (tree_of first.now) (tree_of last.now) (option_map tree_of increment.now)) }
+        requires ends { IsSome (terminal program i) }
+        ensures action { IfOk result (λ action. Does self.now program i (Statement.Loop label variable.now (tree_of first.now) (tree_of last.now) (option_map tree_of increment.now)) action) }
+        ensures memory { IfErr result (λ fault. fault ≡ Memory) }
+    {
+        let names = &self.tables.names;
+        let Some(terminal) = self.tables.ranges.terminal(i) else {
+            unreachable!()
+        };
+        Ok(Action::Loop {
+            variable: self.slots.first(names, variable),
+            first: number(alloc, names, &self.slots, first)?,
+            last: number(alloc, names, &self.slots, last)?,
+            step: step(alloc, names, &self.slots, increment)?,
+            terminal,
+        })
+    }
+
+    /// What the statement `i` does (section 10, 11.1 to 11.13).
+    fn action(&self, alloc: Global, i: usize, stmt: &Stmt) -> Result<Action, CheckFault>
+        ghost program: { List LineFields }
+        requires tables { AreTables self.now.tables program }
+        requires ready { IsReady self.now (statement_of stmt.now) }
+        requires found { AreFound program (jumps_of (statement_of stmt.now)) }
+        requires ends { HasEnd program i (statement_of stmt.now) }
+        ensures action { IfOk result (λ action. Does self.now program i (statement_of stmt.now) action) }
+        ensures memory { IfErr result (λ fault. fault ≡ Memory) }
+    {
+        match stmt {
+            Stmt::Subroutine { .. }
+            | Stmt::Declare { .. }
+            | Stmt::Dimension { .. }
+            | Stmt::Preset { .. } => Ok(Action::Declaration),
+            Stmt::LogicalIf {
+                condition,
+                statement,
+            } => self.logical(alloc, i, condition, statement),
+            Stmt::BlockIf { condition } | Stmt::ElseIf { condition } => {
+                self.branch(alloc, i, condition)
+            }
+            Stmt::Else | Stmt::EndIf => Ok(Action::Continue),
+            Stmt::Loop {
+                label,
+                variable,
+                first,
+                last,
+                step,
+            } => self.do_loop(alloc, i, *label, variable, first, last, step),
+            Stmt::End => Ok(Action::Return),
+            Stmt::Assign { .. }
+            | Stmt::Goto { .. }
+            | Stmt::ArithIf { .. }
+            | Stmt::Continue
+            | Stmt::Return
+            | Stmt::Stop
+            | Stmt::Trap => self.inner_action(alloc, i, stmt),
+        }
+    }
+
+    /// The statement `i` of a legal program, resolved.
+    pub(crate) fn resolved(
+        &self,
+        alloc: Global,
+        lines: &[Line],
+        i: usize,
+    ) -> Result<Resolved, CheckFault>
+        ghost program: { List LineFields }
+        requires lines { map line_of lines.now ≡ program }
+        requires within { i < length lines.now }
+        requires can { CanResolve self.now program }
+        ensures resolved { IfOk result (λ resolved. (s : Statement) → statement_at program i ≡ Some s → IsResolved program (keys self.now.tables.names.facts) i s resolved) }
+        ensures memory { IfErr result (λ fault. fault ≡ Memory) }
+    {
+        let stmt = statement(lines, i);
+        let Some(next) = next(lines, i) else {
+            unreachable!()
+        };
+        let action = self.action(alloc, i, stmt)?;
+        let ends = self.tables.ranges.ending(alloc, i)?;
+        Ok(Resolved { action, next, ends })
+    }
+
+    /// Each statement of a legal program, resolved, in order.
+    pub(crate) fn all(&self, alloc: Global, lines: &[Line]) -> Result<Vec<Resolved>, CheckFault>
+        requires { CanResolve self.now (map line_of lines.now) }
+        ensures resolved { IfOk result (λ list. AreResolved (map line_of lines.now) (keys self.now.tables.names.facts) list.items) }
+        ensures memory { IfErr result (λ fault. fault ≡ Memory) }
+    {
+        let mut list = Vec::with_capacity(alloc, lines.len())?;
+        for i in 0..lines.len() {
+            list.push(self.resolved(alloc, lines, i)?)?;
+        }
+        Ok(list)
+    }
+}

@@ -1,0 +1,50 @@
+//! Slots: where a run keeps the values of names.
+
+ghost use Rattle.std.specs.Prelude.{◌≡◌, ◌<◌, ◌^◌, true, Some, IfOk, IfErr};
+ghost use Rattle.indexmap.specs.IndexMap.{keys};
+ghost use Rattle.f77_check.specs.Kept.{is_kept};
+ghost use Rattle.f77_check.specs.NameTable.{bounds_at};
+ghost use Rattle.f77_check.specs.Slots.{slot_count, first_slot};
+ghost use Rattle.f77_check.specs.SlotTable.{IsSlotTable};
+ghost use Rattle.f77_check.specs.declared.fault.CheckFault.TheVariants.{Memory};
+
+use crate::fault::CheckFault;
+use crate::names::{Names, product};
+use f77_syntax::Name;
+use std::alloc::Global;
+
+/// The first slot of each name, in order of first appearance, and the number of all slots.
+#[derive(Drop)]
+pub(crate) struct Slots {
+    pub(crate) first: Vec<usize>,
+    pub(crate) count: usize,
+}
+
+impl Slots {
+    /// The slots of these names.
+    pub(crate) fn of(alloc: Global, names: &Names) -> Result<Slots, CheckFault>
+        requires { slot_count (bounds_at names.now) (keys names.now.facts) < 2 ^ 32 }
+        ensures table { IfOk result (λ slots. IsSlotTable slots names.now) }
+        ensures memory { IfErr result (λ fault. fault ≡ Memory) }
+    {
+        let mut first = Vec::new(alloc);
+        let mut count: usize = 0;
+        for name in names.facts.keys() {
+            first.push(count)?;
+            count += product(names.bounds(name)) as usize;
+        }
+        Ok(Slots { first, count })
+    }
+
+    /// The first slot of a name of the table.
+    pub(crate) fn first(&self, names: &Names, name: &Name) -> usize
+        requires table { IsSlotTable self.now names.now }
+        requires kept { is_kept names.now name.now ≡ true }
+        ensures { first_slot (bounds_at names.now) (keys names.now.facts) name.now ≡ Some result }
+    {
+        match names.facts.get_index_of(name) {
+            Some(n) => self.first[n],
+            None => unreachable!(),
+        }
+    }
+}

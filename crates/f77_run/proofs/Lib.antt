@@ -1,0 +1,6 @@
+mod OneWay
+mod Stepping
+mod Rows
+mod Control
+mod Soundness
+mod NeverLost

@@ -1,0 +1,18 @@
+//! What holds of steps and runs of every program.
+
+ghost use Rattle.f77_run.specs.Control.{Starts, LeadsOn};
+ghost use Rattle.f77_run.specs.Outcome.{OneSuccessor, OneOutcome};
+
+/// A configuration leads to one configuration or end at most, and a run has one outcome at most within each limit on steps.
+#[tactic(auto, using(crate::proofs::OneWay::one_successor, crate::proofs::OneWay::one_outcome))]
+pub fn one_outcome()
+    ensures successor { OneSuccessor }
+    ensures outcome { OneOutcome }
+{}
+
+/// Control is never lost: a run of a legal program starts, and each configuration that it comes to leads to another or to an end.
+#[tactic(auto, using(crate::proofs::NeverLost::starts, crate::proofs::NeverLost::leads_on))]
+pub fn control_is_never_lost()
+    ensures starts { Starts }
+    ensures leads_on { LeadsOn }
+{}
