@@ -8,10 +8,15 @@ use f77_syntax::Operator;
 /// An operation on two numbers.
 #[derive(Clone, Copy, Debug, PartialEq, Eq)]
 pub enum Arithmetic {
+    /// `+` (6.1).
     Add,
+    /// `-` between its operands (6.1).
     Subtract,
+    /// `*` (6.1).
     Multiply,
+    /// `/`, truncated toward zero (6.1.5).
     Divide,
+    /// `**` (6.1).
     Power,
     /// MOD (15.10).
     Modulus,
@@ -24,20 +29,30 @@ pub enum Arithmetic {
 /// A relational operator (6.3).
 #[derive(Clone, Copy, Debug, PartialEq, Eq)]
 pub enum Relation {
+    /// `.LT.`
     Less,
+    /// `.LE.`
     LessOrEqual,
+    /// `.EQ.`
     Equal,
+    /// `.NE.`
     NotEqual,
+    /// `.GE.`
     GreaterOrEqual,
+    /// `.GT.`
     Greater,
 }
 
 /// A logical operator on two truth values (6.4).
 #[derive(Clone, Copy, Debug, PartialEq, Eq)]
 pub enum Connective {
+    /// `.AND.`
     And,
+    /// `.OR.`
     Or,
+    /// `.EQV.`
     Equivalent,
+    /// `.NEQV.`
     NotEquivalent,
 }
 
@@ -71,6 +86,7 @@ pub enum Number {
     Constant(i32),
     /// A constant above 2147483647, which only a program that was made of lines has.
     TooLarge,
+    /// The value of a variable or an array element.
     Element(Element),
     /// A minus before its operand.
     Negated(Box<Number>),
@@ -78,6 +94,7 @@ pub enum Number {
     Absolute(Box<Number>),
     /// What a mutant has in place of an expression, to be told where it is zero.
     ZeroPush(Box<Number>),
+    /// An operation on two numbers, the left one evaluated first.
     Binary(Arithmetic, Box<Number>, Box<Number>),
 }
 
@@ -86,10 +103,13 @@ pub enum Number {
 pub enum Condition {
     /// A constant.
     Constant(bool),
+    /// The value of a variable or an array element.
     Element(Element),
     /// `.NOT.` before its operand.
     Not(Box<Condition>),
+    /// A relation of two numbers, the left one evaluated first.
     Related(Relation, Number, Number),
+    /// A logical operator on two truth values, the left one evaluated first, and both of them.
     Connected(Connective, Box<Condition>, Box<Condition>),
 }
 
