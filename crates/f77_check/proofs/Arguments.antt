@@ -7,13 +7,14 @@ use Rattle.std.proofs.lemmas.Bool.Decides.{nat_tests}
 use Rattle.f77_syntax.specs.Parsing.{LineFields}
 use Rattle.f77_syntax.specs.Tree.{Statement}
 use Rattle.f77_check.specs.declared.names.Names.{Names}
-use Rattle.f77_check.specs.Checked.{dummies, dummies_of, shape_of, shapes}
+use Rattle.f77_check.specs.Checked.{shape_of, shapes}
 use Rattle.f77_check.specs.Legal.{IsLegal, is_array, is_too_large, name_faults, clause_faults, expression_clauses, control_clauses, label_faults, data_faults, size_faults}
 use Rattle.f77_check.specs.declared.fault.CheckFault.TheVariants.{TooMany}
 use Rattle.f77_check.specs.Names.{Symbol, Mention, name_in, mentions, mentions_of, symbols, some_items, bounds_of}
 use Rattle.f77_check.specs.NameTable.{IsNameTable}
 use Rattle.f77_check.specs.Presets.{product, elements}
 use Rattle.f77_check.specs.Shapes.{elements_in, shape_at}
+use Rattle.f77_check.specs.Start.{dummies, dummies_of}
 use Rattle.f77_check.proofs.Lookups.{same_kind_at, same_bounds_at}
 use Rattle.f77_check.proofs.Sizes.{sum_more}
 use Rattle.f77_check.proofs.Symbols.{or_false, same_symbol, symbol_refl, any_once}
@@ -71,7 +72,7 @@ dummy_named : (s : Statement) (ms : List Mention) (q : Symbol) → list_any (byt
 dummy_named (Statement.Subroutine name names) ms q among = named_before names ms q among
 dummy_named _ ms q among = absurd (cc (among))
 
-dummy_known : (program : List LineFields) (q : Symbol) → list_any (bytes_eq q) (dummies program) ≡ true → list_any (bytes_eq q) (symbols program) ≡ true
+pub dummy_known : (program : List LineFields) (q : Symbol) → list_any (bytes_eq q) (dummies program) ≡ true → list_any (bytes_eq q) (symbols program) ≡ true
 dummy_known [] q among = absurd (cc (among))
 dummy_known (line ∷ program) q among = any_once q (map name_in (mentions (line ∷ program))) ∙ dummy_named line.stmt (mentions program) q among
 

@@ -24,11 +24,11 @@ use Rattle.f77_check.proofs.NoFaults.{dimensions_kept}
 use Rattle.f77_check.proofs.SlotTables.{keys_are}
 use Rattle.f77_check.proofs.Symbols.{symbol_refl, any_once}
 
-and_true : (a b : Bool) → (a && b) ≡ true → (a ≡ true) × (b ≡ true)
+pub and_true : (a b : Bool) → (a && b) ≡ true → (a ≡ true) × (b ≡ true)
 and_true true b h = (refl, h)
 and_true false b h = absurd (cc (h))
 
-and_end : (a : Bool) → (a && true) ≡ a
+pub and_end : (a : Bool) → (a && true) ≡ a
 and_end true = refl
 and_end false = refl
 
@@ -38,10 +38,10 @@ or_end false = refl
 
 -- The names that nodes bear: those of an expression are kept where the expression is.
 module _ (names : Names) where
-  abbrev nodes_kept : List NodeOf → Bool
+  abbrev pub nodes_kept : List NodeOf → Bool
   nodes_kept nodes = list_all (is_kept names) (filter_map name_of nodes)
 
-  kept_append : (xs ys : List NodeOf) → nodes_kept (xs ++ ys) ≡ (nodes_kept xs && nodes_kept ys)
+  pub kept_append : (xs ys : List NodeOf) → nodes_kept (xs ++ ys) ≡ (nodes_kept xs && nodes_kept ys)
   kept_append xs ys = ap (list_all (is_kept names)) (filter_map-append name_of xs ys) ∙ list_all-append (is_kept names) (filter_map name_of xs) (filter_map name_of ys)
 
   parts_append : (xs ys : List Tree) → nodes_kept (map NodeOf.Part (xs ++ ys)) ≡ (nodes_kept (map NodeOf.Part xs) && nodes_kept (map NodeOf.Part ys))
@@ -84,7 +84,7 @@ module _ (names : Names) where
   statement_kept _ h = refl
 
 -- each name of a list is in it
-all_among : (test : Symbol → Bool) (names : List Symbol) → ((name : Symbol) → list_any (bytes_eq name) names ≡ true → test name ≡ true) → list_all test names ≡ true
+pub all_among : (test : Symbol → Bool) (names : List Symbol) → ((name : Symbol) → list_any (bytes_eq name) names ≡ true → test name ≡ true) → list_all test names ≡ true
 all_among test [] among = refl
 all_among test (x ∷ names) among =
     let first : test x ≡ true = among x (ap (λ b. b || list_any (bytes_eq x) names) (symbol_refl x)) in
@@ -98,7 +98,7 @@ module _ (test : Mention → Bool) where
       ∙ list_all-append test (mentions_of line.stmt) (mentions program)
 
   -- what holds of each mention of a program holds of those of a statement
-  mentions_at : (program : List LineFields) → list_all test (mentions program) ≡ true → (i : ℕ) (s : Statement) → statement_at program i ≡ Some s → list_all test (mentions_of s) ≡ true
+  pub mentions_at : (program : List LineFields) → list_all test (mentions program) ≡ true → (i : ℕ) (s : Statement) → statement_at program i ≡ Some s → list_all test (mentions_of s) ≡ true
   mentions_at [] all i s at = absurd (cc (at))
   mentions_at (line ∷ program) all zero s at =
       let same : line.stmt ≡ s = cc (at) in
@@ -125,12 +125,12 @@ module _ (names : Names) (program : List LineFields) (is : IsNameTable names pro
       ∙ ap (list_any (bytes_eq name)) (keys_are names program is)
       ∙ any_once name (map name_in (mentions program))
 
-  mentioned_kept : list_all (λ m. is_kept names (name_in m)) (mentions program) ≡ true
+  pub mentioned_kept : list_all (λ m. is_kept names (name_in m)) (mentions program) ≡ true
   mentioned_kept =
       sym (list_all-map (is_kept names) name_in (mentions program))
       ∙ all_among (is_kept names) (map name_in (mentions program)) (λ name among. kept_is name ∙ among)
 
-  plain_kept : (xs : List Symbol) → list_all (λ m. is_kept names (name_in m)) (map Mention.Plain xs) ≡ list_all (is_kept names) xs
+  pub plain_kept : (xs : List Symbol) → list_all (λ m. is_kept names (name_in m)) (map Mention.Plain xs) ≡ list_all (is_kept names) xs
   plain_kept xs = list_all-map (λ m. is_kept names (name_in m)) Mention.Plain xs
 
   mentions_kept : (s : Statement) → list_all (λ m. is_kept names (name_in m)) (mentions_of s) ≡ true → names_kept names s ≡ true

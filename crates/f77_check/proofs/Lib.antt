@@ -31,6 +31,11 @@ mod SlotCounts
 mod NoFaults
 mod SlotTables
 mod KeptNames
+mod Cells
+mod Giving
+mod DataNames
+mod Presetting
+pub mod FirstExecutable
 pub mod Branches
 pub mod LegalGives
 pub mod Flow
@@ -39,3 +44,4 @@ mod Items
 mod Deepest
 mod Chosen
 mod Resolving
+pub mod Unpreset

@@ -1,5 +1,5 @@
 -- The first place where a test passes, and how often it passes, once a list has one more element.
-use Rattle.std.proofs.Common.{arith, ◌≡◌, ℕ, suc, ◌+◌, List, [], ◌∷◌, ◌++◌, Bool, true, false, cond, refl, sym, ◌∙◌, ap, length, filter, inl, inr, length-append}
+use Rattle.std.proofs.Common.{arith, ◌≡◌, ℕ, suc, ◌+◌, ◌<◌, List, [], ◌∷◌, ◌++◌, Bool, true, false, cond, refl, sym, ◌∙◌, ap, length, map, filter, inl, inr, length-append}
 use Rattle.std.specs.Prelude.{Option, Some, None, is_some, nat_le, nat_lt, ◌||◌, ◌&&◌, not, option_map}
 use Rattle.std.specs.List.{position, position_or_len, list_any}
 use Rattle.std.proofs.lemmas.Bool.{cases_lt, lt-ltb, le-ltb}
@@ -74,3 +74,24 @@ module _ {X : Type 0} (p : X → Bool) where
   twice_none xs e =
       let none : nat_le 1 (length (filter p xs)) ≡ false = sym (position_some xs ∙ any_counted xs) ∙ ap is_some e in
       grind (arith, nat_tests)
+
+module _ {X : Type 0} (p : X → Bool) where
+  place_by : (b : Bool) (k n : ℕ) → (b ≡ false → k < n) → cond (not b) (1 + k) 0 < suc n
+  place_by true k n h = omega arith
+  place_by false k n h = let below = h refl in omega (arith, below)
+
+  place_there : (xs : List X) → list_any p xs ≡ true → position_or_len p xs < length xs
+  place_there [] h = absurd (cc (h))
+  place_there (x ∷ xs) h = place_by (p x) (position_or_len p xs) (length xs) (λ e. place_there xs (sym (ap (λ b. b || list_any p xs) e) ∙ h))
+
+  -- where the test passes, it does at some place
+  pub found_there : (xs : List X) → list_any p xs ≡ true → position p xs ≡ Some (position_or_len p xs)
+  found_there xs h = ap (λ b. cond b (Some (position_or_len p xs)) None) (lt-ltb _ _ (place_there xs h))
+
+  -- of what a list is made to
+  pub position-map : {A : Type 0} (f : A → X) (xs : List A) → position p (map f xs) ≡ position (λ a. p (f a)) xs
+  position-map f [] = refl
+  position-map f (x ∷ xs) =
+      position-cons p (f x) (map f xs)
+      ∙ ap (λ o. cond (p (f x)) (Some 0) (option_map suc o)) (position-map f xs)
+      ∙ sym (position-cons (λ a. p (f a)) x xs)

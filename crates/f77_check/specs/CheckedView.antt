@@ -6,12 +6,14 @@ use Rattle.f77_check.specs.Checked.{CheckedFields}
 use Rattle.f77_check.specs.declared.checked.Shape.{Shape}
 use Rattle.f77_check.specs.declared.resolve.Resolver.{Resolver}
 use Rattle.f77_check.specs.declared.resolved.Resolved.{Resolved}
+use Rattle.f77_check.specs.declared.start.Start.{Start}
 
-abbrev pub fields_of : List Line → List Shape → Resolver → List Resolved → CheckedFields
-fields_of program arguments resolver statements = record {
+abbrev pub fields_of : List Line → List Shape → Resolver → List Resolved → Start → CheckedFields
+fields_of program arguments resolver statements start = record {
   program = program;
   arguments = arguments;
   names = keys resolver.tables.names.facts;
   slots = resolver.slots.count;
   statements = statements;
+  start = start;
 }

@@ -1,5 +1,5 @@
 -- Which expression is which with its names looked up: by cases on both. Names have these bounds, and slots in the order of this list.
-use Rattle.std.specs.Prelude.{◌≡◌, ℕ, ◌<◌, List, [], ◌∷◌, Option, Some, None, pos}
+use Rattle.std.specs.Prelude.{◌≡◌, ℕ, ◌<◌, ◌≤◌, List, [], ◌∷◌, Option, Some, None, pos}
 use Rattle.f77_syntax.specs.Tree.{Tree, Trees}
 use Rattle.f77_syntax.specs.declared.intrinsic.Intrinsic.TheVariants.{Mod, Iabs, Min0, Max0}
 use Rattle.f77_syntax.specs.declared.operator.Operator.{Operator}
@@ -56,7 +56,7 @@ abbrev mutual
 
   -- an INTEGER expression
   pub IsNumber : (Symbol → List ℕ) → List Symbol → Tree → Number → Type 0
-  IsNumber bounds names (Tree.Number n) (Constant z) = z ≡ pos n
+  IsNumber bounds names (Tree.Number n) (Constant z) = (z ≡ pos n) × (n ≤ 2147483647)
   IsNumber bounds names (Tree.Number n) TooLarge = 2147483647 < n
   IsNumber bounds names (Tree.Reference name items) (number.Element e) = IsElement bounds names name items e
   IsNumber bounds names (Tree.Call Mod (Trees.Then t (Trees.Then u Trees.None))) (Binary' op p x q y) =

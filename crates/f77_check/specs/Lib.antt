@@ -21,6 +21,8 @@ pub mod Runs
 pub mod Clause
 pub mod Tables
 pub mod Legal
+pub mod Start
+pub mod Initial
 pub mod Checked
 pub mod CheckedView
 pub mod Shapes

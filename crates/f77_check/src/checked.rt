@@ -14,6 +14,7 @@ ghost use Rattle.f77_check.specs.CheckedView.{fields_of};
 
 use crate::resolve::Resolver;
 use crate::resolved::Resolved;
+use crate::start::Start;
 use f77_syntax::{Kind, Program};
 use std::marker::Model;
 
@@ -25,13 +26,14 @@ pub struct Shape {
     pub elements: Option<u32>,
 }
 
-/// A legal program, with its resolved form: what a run looks up is looked up once.
+/// A legal program, with its resolved form and what a run starts with: what a run looks up is looked up once.
 #[derive(Drop)]
 pub struct Checked {
     program: Program,
     arguments: Vec<Shape>,
     resolver: Resolver,
     statements: Vec<Resolved>,
+    start: Start,
 }
 
 impl Model for Checked {
@@ -39,9 +41,9 @@ impl Model for Checked {
 
     ghost coded = { Prim.hlevel (codes, expr.the_row.coded, stmt.the_row.coded, element.the_row.coded, number.the_row.coded, condition.the_row.coded, action.the_row.coded) };
 
-    ghost view = { λ c. fields_of c.program c.arguments.items c.resolver c.statements.items };
+    ghost view = { λ c. fields_of c.program c.arguments.items c.resolver c.statements.items c.start };
 
-    ghost invariant = { λ c. IsChecked (fields_of c.program c.arguments.items c.resolver c.statements.items) };
+    ghost invariant = { λ c. IsChecked (fields_of c.program c.arguments.items c.resolver c.statements.items c.start) };
 }
 
 impl Checked {
@@ -50,15 +52,17 @@ impl Checked {
         arguments: Vec<Shape>,
         resolver: Resolver,
         statements: Vec<Resolved>,
+        start: Start,
     ) -> Checked
-        requires { IsChecked (fields_of program arguments.items resolver statements.items) }
-        ensures { result ≡ fields_of program arguments.items resolver statements.items }
+        requires { IsChecked (fields_of program arguments.items resolver statements.items start) }
+        ensures { result ≡ fields_of program arguments.items resolver statements.items start }
     {
         Checked {
             program,
             arguments,
             resolver,
             statements,
+            start,
         }
     }
 
@@ -93,8 +97,17 @@ impl Checked {
 
     /// The statements resolved, in order. It takes no memory.
     pub fn statements(&self) -> &[Resolved]
-        ensures { result.now ≡ self.now.statements }
+        ensures statements { result.now ≡ self.now.statements }
+        ensures checked { IsChecked self.now }
     {
         &self.statements
+    }
+
+    /// What a run of the program starts with. It takes no memory.
+    pub fn start(&self) -> &Start
+        ensures start { result.now ≡ self.now.start }
+        ensures checked { IsChecked self.now }
+    {
+        &self.start
     }
 }

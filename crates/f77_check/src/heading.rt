@@ -5,7 +5,7 @@ ghost use Rattle.std.specs.Option.{option_map_or};
 ghost use Rattle.f77_syntax.specs.Parsing.{line_of};
 ghost use Rattle.f77_syntax.specs.StatementView.{statement_of};
 ghost use Rattle.f77_check.specs.Names.{unit_name, unit_name_of};
-ghost use Rattle.f77_check.specs.Checked.{dummies, dummies_of};
+ghost use Rattle.f77_check.specs.Start.{dummies, dummies_of};
 
 use f77_syntax::{Line, Name, Stmt};
 

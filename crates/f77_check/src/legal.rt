@@ -116,5 +116,6 @@ pub fn check(alloc: Global, program: &Program) -> Result<Checked, CheckFault>
     let slots = Slots::of(alloc, &tables.names)?;
     let resolver = Resolver { tables, slots };
     let statements = resolver.all(alloc, lines)?;
-    Ok(Checked::from_parts(program.clone()?, arguments, resolver, statements))
+    let start = resolver.start(alloc, lines)?;
+    Ok(Checked::from_parts(program.clone()?, arguments, resolver, statements, start))
 }

@@ -21,6 +21,7 @@ mod resolve;
 mod resolved;
 mod shapes;
 mod slots;
+mod start;
 mod tables;
 
 pub use action::{Action, Jump};
@@ -30,6 +31,7 @@ pub use expression::{Arithmetic, Condition, Connective, Element, Number, Relatio
 pub use fault::CheckFault;
 pub use legal::check;
 pub use resolved::Resolved;
+pub use start::Start;
 
 #[cfg(test)]
 mod tests;

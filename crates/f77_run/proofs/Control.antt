@@ -11,13 +11,14 @@ use Rattle.f77_check.specs.Blocks.{has_at, is_alternative, block_end, branch_end
 use Rattle.f77_check.specs.Labels.{place_of, statement_at, jumps_of, terminal_label}
 use Rattle.f77_check.specs.Loops.{terminal, is_left}
 use Rattle.f77_check.specs.Names.{Symbol, kind_of, bounds_of}
+use Rattle.f77_check.specs.Start.{is_executable}
 use Rattle.f77_run.specs.declared.finish.Fault.{Fault}
 use Rattle.f77_run.specs.Control.{Stands, IsPlacedAt, AreLoops, IsPlaced, is_last, Leads, IsSound}
 use Rattle.f77_run.specs.Number.{in_range, trip_count}
-use Rattle.f77_run.specs.Start.{is_executable}
-use Rattle.f77_run.specs.Value.{Whole, Store, put, number, truth, value, place}
+use Rattle.f77_run.specs.Value.{Store, put, number, truth, value, place}
 use Rattle.f77_run.specs.Step.{Place, Execute, Increment, Turn, Turns, Config, config, Next, Goes, Ends, Step, with_turn, left_behind, by_sign, step_number}
 use Rattle.f77_run.proofs.Stepping.{sound_step, innermost, Found, is_found, chosen, goes_on, jumps, last_pass, passes, begins, unless_fault, either, of_option, executes, increments, next_at}
+use Rattle.f77_run.specs.declared.value.Value.TheVariants as held
 
 -- what comes next is there, and control may be where it goes
 abbrev pub Fine : List LineFields → Next → Type 0
@@ -90,9 +91,9 @@ moves_begins : (p : List LineFields) (d : ℕ) (name : Symbol) (first last step 
     → IsSome (option_and_then terminal_label (statement_at p d)) → AreLoops p active → Moves p (begins p d name first last step s active)
 moves_begins p d name first last (pos zero) s active sound stands is loops = (_, refl, tt)
 moves_begins p d name first last (pos (suc m)) s active sound stands is loops =
-    moves_passes p d (trip_count first last (pos (suc m))) (pos (suc m)) (put s name 0 (Whole first)) active sound stands is loops
+    moves_passes p d (trip_count first last (pos (suc m))) (pos (suc m)) (put s name 0 (held.Number first)) active sound stands is loops
 moves_begins p d name first last (negsuc m) s active sound stands is loops =
-    moves_passes p d (trip_count first last (negsuc m)) (negsuc m) (put s name 0 (Whole first)) active sound stands is loops
+    moves_passes p d (trip_count first last (negsuc m)) (negsuc m) (put s name 0 (held.Number first)) active sound stands is loops
 
 moves_with : {A : Type 0} (p : List LineFields) (r : Result A Fault) (s : Store) (f : A → Option Next) → ((v : A) → Moves p (f v)) → Moves p (unless_fault r s f)
 moves_with p (Ok v) s f each = each v
@@ -167,7 +168,7 @@ moves_increments p d (Statement.Loop label name a b c) turn s active sound at is
     let here : IsSome (option_and_then terminal_label (statement_at p d)) = rw at refl in
     moves_with p (number (bounds_of p) s (Tree.Reference name Trees.None)) s _
     (λ z. moves_with p (in_range (z +ℤ turn.step)) s _
-    (λ next. moves_passes p d (turn.passes - 1) turn.step (put s name 0 (Whole next)) active sound
+    (λ next. moves_passes p d (turn.passes - 1) turn.step (put s name 0 (held.Number next)) active sound
     (sound.follows d (Statement.Loop label name a b c) at refl refl) here loops))
 moves_increments p d _ turn s active sound at is loops = absurd (cc (is))
 

@@ -7,9 +7,10 @@ use Rattle.f77_check.specs.Labels.{statement_at}
 use Rattle.f77_check.specs.Names.{Symbol, kind_of, bounds_of}
 use Rattle.f77_run.specs.declared.finish.Fault.{Fault}
 use Rattle.f77_run.specs.Number.{in_range, trip_count}
-use Rattle.f77_run.specs.Value.{Whole, Store, put, number, truth, value, place}
+use Rattle.f77_run.specs.Value.{Store, put, number, truth, value, place}
 use Rattle.f77_run.specs.Step.{Place, Execute, Increment, Turn, Turns, config, Next, Goes, with_turn, left_behind, IsInnermost, GoesOn, Jumps, Passes, Begins, With, Either, Skips, by_sign, step_number, Executes, Increments, StepAt}
 use Rattle.f77_run.specs.Outcome.{IsOutcome, OneSuccessor, OneOutcome}
+use Rattle.f77_run.specs.declared.value.Value.TheVariants as held
 
 none_is_not_some : {A : Type 0} (o : Option A) → o ≡ None → IsSome o → ⊥
 none_is_not_some None e h = cc
@@ -47,9 +48,9 @@ one_begins : (p : List LineFields) (d : ℕ) (x : Symbol) (first last step : ℤ
     → Begins p d x first last step s active m → Begins p d x first last step s active n → m ≡ n
 one_begins p d x first last (pos zero) s active m n f g = f ∙ sym g
 one_begins p d x first last (pos (suc k)) s active m n f g =
-    one_passes p d (trip_count first last (pos (suc k))) (pos (suc k)) (put s x 0 (Whole first)) active m n f g
+    one_passes p d (trip_count first last (pos (suc k))) (pos (suc k)) (put s x 0 (held.Number first)) active m n f g
 one_begins p d x first last (negsuc k) s active m n f g =
-    one_passes p d (trip_count first last (negsuc k)) (negsuc k) (put s x 0 (Whole first)) active m n f g
+    one_passes p d (trip_count first last (negsuc k)) (negsuc k) (put s x 0 (held.Number first)) active m n f g
 
 one_with : {A : Type 0} (r : Result A Fault) (s : Store) (m n : Next) (P Q : A → Type 0) → ((v : A) → P v → Q v → m ≡ n) → With r s m P → With r s n Q → m ≡ n
 one_with (Ok v) s m n P Q each f g = each v f g
@@ -90,7 +91,7 @@ one_increments : (p : List LineFields) (d : ℕ) (stmt : Statement) (turn : Turn
     → Increments p d stmt turn s active m → Increments p d stmt turn s active n → m ≡ n
 one_increments p d (Statement.Loop label name a b c) turn s active m n f g =
     one_with (number (bounds_of p) s (Tree.Reference name Trees.None)) s m n _ _
-    (λ z. one_with (in_range (z +ℤ turn.step)) s m n _ _ (λ next. one_passes p d (turn.passes - 1) turn.step (put s name 0 (Whole next)) active m n)) f g
+    (λ z. one_with (in_range (z +ℤ turn.step)) s m n _ _ (λ next. one_passes p d (turn.passes - 1) turn.step (put s name 0 (held.Number next)) active m n)) f g
 one_increments p d _ turn s active m n f g = absurd f
 
 one_of_option : {A : Type 0} (o : Option A) (m n : Next) (P Q : A → Type 0) → ((x : A) → P x → Q x → m ≡ n) → MatchOption o ⊥ P → MatchOption o ⊥ Q → m ≡ n

@@ -7,13 +7,15 @@ use Rattle.f77_syntax.specs.Tree.{Tree, Trees, Statement}
 use Rattle.f77_syntax.specs.declared.tree.Kind.TheVariants.{Integer}
 use Rattle.f77_syntax.specs.declared.intrinsic.Intrinsic.TheVariants.{Mod}
 use Rattle.f77_syntax.specs.declared.operator.Operator.TheVariants.{Add, Divide, Power, Less}
+use Rattle.f77_check.specs.Start.{is_executable}
 use Rattle.f77_run.specs.declared.finish.Fault.TheVariants.{Overflow, DivideByZero, ZeroPower, BadSubscript, ZeroStep, Undefined}
 use Rattle.f77_run.specs.declared.finish.Finish.{Finish}
 use Rattle.f77_run.specs.declared.finish.Finish.TheVariants.{Returned, Failed, StepLimit}
-use Rattle.f77_run.specs.Value.{Value, Whole}
 use Rattle.f77_run.specs.Step.{config, Execute}
-use Rattle.f77_run.specs.Start.{is_executable, start_values, argument_values}
+use Rattle.f77_run.specs.Start.{start_values, argument_values}
 use Rattle.f77_run.proofs.Stepping.{run}
+use Rattle.f77_run.specs.declared.value.Value.{Value}
+use Rattle.f77_run.specs.declared.value.Value.TheVariants as held
 
 abbrev line : ℕ → Statement → LineFields
 line n s = record { label = None; stmt = s; line = n }
@@ -53,10 +55,10 @@ answer p limit given =
     (position (λ x. is_executable x.stmt) p)
 
 abbrev numbers : List ℤ → List (List Value)
-numbers zs = map (λ z. Whole z ∷ []) zs
+numbers zs = map (λ z. held.Number z ∷ []) zs
 
 abbrev returned : List ℤ → Option (Finish × List (List (Option Value)))
-returned zs = Some (Returned, map (λ z. Some (Whole z) ∷ []) zs)
+returned zs = Some (Returned, map (λ z. Some (held.Number z) ∷ []) zs)
 
 abbrev failed_with : Option (Finish × List (List (Option Value))) → Option Finish
 failed_with o = option_map (λ r. r.0) o
@@ -150,10 +152,10 @@ pick =
     ∷ (line 4 Statement.End ∷ [])))
 
 abbrev elements : List Value
-elements = Whole (pos 4) ∷ (Whole (pos 5) ∷ (Whole (pos 6) ∷ []))
+elements = held.Number (pos 4) ∷ (held.Number (pos 5) ∷ (held.Number (pos 6) ∷ []))
 
 below_the_first : failed_with (answer pick 100 (elements ∷ (numbers (pos 0 ∷ (pos 9 ∷ []))))) ≡ Some (Failed BadSubscript)
 below_the_first = refl
 
-the_third : answer pick 100 (elements ∷ (numbers (pos 3 ∷ (pos 9 ∷ [])))) ≡ Some (Returned, map (λ v. Some v) elements ∷ ((Some (Whole (pos 3)) ∷ []) ∷ ((Some (Whole (pos 6)) ∷ []) ∷ [])))
+the_third : answer pick 100 (elements ∷ (numbers (pos 3 ∷ (pos 9 ∷ [])))) ≡ Some (Returned, map (λ v. Some v) elements ∷ ((Some (held.Number (pos 3)) ∷ []) ∷ ((Some (held.Number (pos 6)) ∷ []) ∷ [])))
 the_third = refl

@@ -15,15 +15,15 @@ use Rattle.f77_check.specs.Blocks.{is_end_if, is_alternative, has_at, is_level, 
 use Rattle.f77_check.specs.Labels.{bears, place_of, statement_at, statement_with, jumps_of, terminal_label, is_target, is_terminal}
 use Rattle.f77_check.specs.Legal.{IsLegal}
 use Rattle.f77_check.specs.Loops.{terminal}
+use Rattle.f77_check.specs.Start.{is_executable}
 use Rattle.f77_check.proofs.Branches.{found_is}
 use Rattle.f77_check.proofs.Actions.{inner_acts}
 use Rattle.f77_check.proofs.Flow.{some_branch, some_terminal, some_place}
 use Rattle.f77_check.proofs.LegalGives.{clause_kept, kept_by, any_false, not_false, some_of, alternative_closes}
 use Rattle.f77_run.specs.Control.{Stands, is_last, Leads, IsSound}
-use Rattle.f77_run.specs.Start.{is_executable}
 
 -- a place stands in the program
-place_within : (q : LineFields → Bool) (p : List LineFields) (j : ℕ) → position q p ≡ Some j → j < length p
+pub place_within : (q : LineFields → Bool) (p : List LineFields) (j : ℕ) → position q p ≡ Some j → j < length p
 place_within q p j found = by (nat_lt (position_or_len q p) (length p)) refl
   where
     by : (b : Bool) → nat_lt (position_or_len q p) (length p) ≡ b → j < length p
@@ -35,7 +35,7 @@ place_within q p j found = by (nat_lt (position_or_len q p) (length p)) refl
         let whole : position q p ≡ None = ap (λ b. cond b (Some (position_or_len q p)) None) e in
         absurd (cc (whole, found))
 
-there : (p : List LineFields) (i : ℕ) → i < length p → (s : Statement) × (statement_at p i ≡ Some s)
+pub there : (p : List LineFields) (i : ℕ) → i < length p → (s : Statement) × (statement_at p i ≡ Some s)
 there [] i h = absurd (omega (arith, h))
 there (line ∷ p) zero h = (line.stmt, refl)
 there (line ∷ p) (suc i) h = there p i (omega (arith, h))

@@ -16,9 +16,10 @@ use Rattle.f77_run.specs.declared.finish.Fault.TheVariants.{ZeroStep, Trapped}
 use Rattle.f77_run.specs.declared.finish.Finish.{Finish}
 use Rattle.f77_run.specs.declared.finish.Finish.TheVariants.{Returned, Stopped, Failed, StepLimit}
 use Rattle.f77_run.specs.Number.{in_range, trip_count}
-use Rattle.f77_run.specs.Value.{Whole, Store, put, number, truth, value, place}
+use Rattle.f77_run.specs.Value.{Store, put, number, truth, value, place}
 use Rattle.f77_run.specs.Step.{Place, Execute, Increment, Turn, Turns, Config, config, Next, Goes, Ends, with_turn, left_behind, GoesOn, Jumps, Passes, Begins, With, Either, Skips, by_sign, step_number, Executes, Increments, StepAt, Step}
 use Rattle.f77_run.specs.Outcome.{IsOutcome}
+use Rattle.f77_run.specs.declared.value.Value.TheVariants as held
 
 -- the innermost active DO that ends at t, of those before n
 abbrev pub innermost : List LineFields → Turns → ℕ → ℕ → Option ℕ
@@ -85,7 +86,7 @@ is_found p active t zero = λ e below ends. absurd (omega (arith, below))
 is_found p active t (suc n) = found_step p active t n (ends_at p t n && is_some (active n)) refl (is_found p active t n)
 
 -- a DO stands in the program
-within : (p : List LineFields) (d t : ℕ) → terminal p d ≡ Some t → d < length p
+pub within : (p : List LineFields) (d t : ℕ) → terminal p d ≡ Some t → d < length p
 within p d t ends =
     elim (cases_lt d (length p)) [
       | inl lt ↦ lt
@@ -117,7 +118,7 @@ sound_chosen p t s active n (Some d) f e =
 sound_chosen p t s active n None f e =
     sound_behind p t s active n (λ d ends. f d (within p d t ends) ends) (behind p t) refl e
 
-sound_on : (p : List LineFields) (t : ℕ) (s : Store) (active : Turns) (n : Next) → goes_on p t s active ≡ Some n → GoesOn p t s active n
+pub sound_on : (p : List LineFields) (t : ℕ) (s : Store) (active : Turns) (n : Next) → goes_on p t s active ≡ Some n → GoesOn p t s active n
 sound_on p t s active n e = sound_chosen p t s active n (innermost p active t (length p)) (is_found p active t (length p)) e
 
 abbrev pub jumps : List LineFields → ℕ → ℕ → Store → Turns → Option Next
@@ -161,16 +162,16 @@ sound_passes p d (suc k) step s active n e = cc (e)
 
 abbrev pub begins : List LineFields → ℕ → Symbol → ℤ → ℤ → ℤ → Store → Turns → Option Next
 begins p d name first last (pos zero) s active = Some (Ends (Failed ZeroStep) s)
-begins p d name first last (pos (suc m)) s active = passes p d (trip_count first last (pos (suc m))) (pos (suc m)) (put s name 0 (Whole first)) active
-begins p d name first last (negsuc m) s active = passes p d (trip_count first last (negsuc m)) (negsuc m) (put s name 0 (Whole first)) active
+begins p d name first last (pos (suc m)) s active = passes p d (trip_count first last (pos (suc m))) (pos (suc m)) (put s name 0 (held.Number first)) active
+begins p d name first last (negsuc m) s active = passes p d (trip_count first last (negsuc m)) (negsuc m) (put s name 0 (held.Number first)) active
 
 sound_begins : (p : List LineFields) (d : ℕ) (name : Symbol) (first last step : ℤ) (s : Store) (active : Turns) (n : Next)
     → begins p d name first last step s active ≡ Some n → Begins p d name first last step s active n
 sound_begins p d name first last (pos zero) s active n e = cc (e)
 sound_begins p d name first last (pos (suc m)) s active n e =
-    sound_passes p d (trip_count first last (pos (suc m))) (pos (suc m)) (put s name 0 (Whole first)) active n e
+    sound_passes p d (trip_count first last (pos (suc m))) (pos (suc m)) (put s name 0 (held.Number first)) active n e
 sound_begins p d name first last (negsuc m) s active n e =
-    sound_passes p d (trip_count first last (negsuc m)) (negsuc m) (put s name 0 (Whole first)) active n e
+    sound_passes p d (trip_count first last (negsuc m)) (negsuc m) (put s name 0 (held.Number first)) active n e
 
 abbrev pub unless_fault : {A : Type 0} → Result A Fault → Store → (A → Option Next) → Option Next
 unless_fault (Ok v) s f = f v
@@ -241,14 +242,14 @@ sound_executes p i _ s active n e = absurd (cc (e))
 abbrev pub increments : List LineFields → ℕ → Statement → Turn → Store → Turns → Option Next
 increments p d (Statement.Loop label name a b c) turn s active =
     unless_fault (number (bounds_of p) s (Tree.Reference name Trees.None)) s
-    (λ z. unless_fault (in_range (z +ℤ turn.step)) s (λ next. passes p d (turn.passes - 1) turn.step (put s name 0 (Whole next)) active))
+    (λ z. unless_fault (in_range (z +ℤ turn.step)) s (λ next. passes p d (turn.passes - 1) turn.step (put s name 0 (held.Number next)) active))
 increments p d _ turn s active = None
 
 sound_increments : (p : List LineFields) (d : ℕ) (stmt : Statement) (turn : Turn) (s : Store) (active : Turns) (n : Next)
     → increments p d stmt turn s active ≡ Some n → Increments p d stmt turn s active n
 sound_increments p d (Statement.Loop label name a b c) turn s active n e =
     sound_with (number (bounds_of p) s (Tree.Reference name Trees.None)) s n _ _
-    (λ z. sound_with (in_range (z +ℤ turn.step)) s n _ _ (λ next. sound_passes p d (turn.passes - 1) turn.step (put s name 0 (Whole next)) active n)) e
+    (λ z. sound_with (in_range (z +ℤ turn.step)) s n _ _ (λ next. sound_passes p d (turn.passes - 1) turn.step (put s name 0 (held.Number next)) active n)) e
 sound_increments p d _ turn s active n e = absurd (cc (e))
 
 abbrev pub of_option : {A : Type 0} → Option A → (A → Option Next) → Option Next

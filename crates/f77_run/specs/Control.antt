@@ -9,9 +9,10 @@ use Rattle.f77_check.specs.Blocks.{has_at, is_alternative, block_end, branch_end
 use Rattle.f77_check.specs.Labels.{place_of, statement_at, jumps_of, terminal_label}
 use Rattle.f77_check.specs.Loops.{terminal}
 use Rattle.f77_check.specs.Legal.{IsLegal}
-use Rattle.f77_run.specs.Start.{IsStart, is_executable}
-use Rattle.f77_run.specs.Value.{Value}
+use Rattle.f77_check.specs.Start.{is_executable}
+use Rattle.f77_run.specs.Start.{IsStart}
 use Rattle.f77_run.specs.Step.{Config, Place, Execute, Increment, Turns, Next, Goes, Step}
+use Rattle.f77_run.specs.declared.value.Value.{Value}
 
 -- control may be there
 abbrev pub Stands : List LineFields → ℕ → Type 0

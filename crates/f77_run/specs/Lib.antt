@@ -4,3 +4,12 @@ pub mod Step
 pub mod Outcome
 pub mod Start
 pub mod Control
+pub mod Evaluation
+pub mod Machine
+pub mod Moves
+pub mod Reach
+pub mod Interpreter
+pub mod Typed
+pub mod Spans
+pub mod Running
+pub mod Site

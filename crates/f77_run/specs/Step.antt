@@ -11,7 +11,8 @@ use Rattle.f77_run.specs.declared.finish.Fault.TheVariants.{ZeroStep, Trapped}
 use Rattle.f77_run.specs.declared.finish.Finish.{Finish}
 use Rattle.f77_run.specs.declared.finish.Finish.TheVariants.{Returned, Stopped, Failed}
 use Rattle.f77_run.specs.Number.{in_range, trip_count}
-use Rattle.f77_run.specs.Value.{Whole, Store, put, number, truth, value, place}
+use Rattle.f77_run.specs.Value.{Store, put, number, truth, value, place}
+use Rattle.f77_run.specs.declared.value.Value.TheVariants as held
 
 -- where control is: at a statement that is to be executed, or at a DO that is to be incremented
 pub data Place : Type 0 where
@@ -72,9 +73,9 @@ Passes p d (suc k) step s active n =
 abbrev pub Begins : List LineFields → ℕ → Symbol → ℤ → ℤ → ℤ → Store → Turns → Next → Type 0
 Begins p d name first last (pos zero) s active n = n ≡ Ends (Failed ZeroStep) s
 Begins p d name first last (pos (suc m)) s active n =
-    Passes p d (trip_count first last (pos (suc m))) (pos (suc m)) (put s name 0 (Whole first)) active n
+    Passes p d (trip_count first last (pos (suc m))) (pos (suc m)) (put s name 0 (held.Number first)) active n
 Begins p d name first last (negsuc m) s active n =
-    Passes p d (trip_count first last (negsuc m)) (negsuc m) (put s name 0 (Whole first)) active n
+    Passes p d (trip_count first last (negsuc m)) (negsuc m) (put s name 0 (held.Number first)) active n
 
 -- a result is used, or its fault ends the run
 abbrev pub With : {A : Type 0} → Result A Fault → Store → Next → (A → Type 0) → Type 0
@@ -130,7 +131,7 @@ abbrev pub Increments : List LineFields → ℕ → Statement → Turn → Store
 Increments p d (Statement.Loop label name a b c) turn s active n =
     With (number (bounds_of p) s (Tree.Reference name Trees.None)) s n
     (λ z. With (in_range (z +ℤ turn.step)) s n
-    (λ next. Passes p d (turn.passes - 1) turn.step (put s name 0 (Whole next)) active n))
+    (λ next. Passes p d (turn.passes - 1) turn.step (put s name 0 (held.Number next)) active n))
 Increments p d _ turn s active n = ⊥
 
 abbrev pub StepAt : List LineFields → Place → Store → Turns → Next → Type 0

@@ -11,11 +11,8 @@ use Rattle.f77_check.specs.Names.{Symbol}
 use Rattle.f77_run.specs.declared.finish.Fault.{Fault}
 use Rattle.f77_run.specs.declared.finish.Fault.TheVariants.{BadSubscript, Undefined, Trapped}
 use Rattle.f77_run.specs.Number.{in_range, quotient, power, signed, called, is_below, is_same}
-
--- a value of INTEGER or of LOGICAL
-pub data Value : Type 0 where
-  Whole : ℤ → Value
-  Logic : Bool → Value
+use Rattle.f77_run.specs.declared.value.Value.TheVariants as held
+use Rattle.f77_run.specs.declared.value.Value.{Value}
 
 -- the elements of each name, with a value or without: a variable has one, an array's first subscript varies fastest
 abbrev pub Store : Type 0
@@ -34,11 +31,11 @@ abbrev pub both : {A B : Type 0} → (A → A → Result B Fault) → Result A F
 both f a b = given a (λ x. given b (λ y. f x y))
 
 abbrev pub whole : Option Value → Result ℤ Fault
-whole (Some (Whole z)) = Ok z
+whole (Some (held.Number z)) = Ok z
 whole _ = Err Undefined
 
 abbrev pub logic : Option Value → Result Bool Fault
-logic (Some (Logic b)) = Ok b
+logic (Some (held.Truth b)) = Ok b
 logic _ = Err Undefined
 
 -- The place of an element, from 0. No legal program has other subscripts than bounds.
@@ -124,5 +121,5 @@ truth bounds s _ = Err Undefined
 
 -- the value of an expression of this kind
 abbrev pub value : Kind → (Symbol → List ℕ) → Store → Tree → Result Value Fault
-value Integer bounds s t = given (number bounds s t) (λ z. Ok (Whole z))
-value Logical bounds s t = given (truth bounds s t) (λ b. Ok (Logic b))
+value Integer bounds s t = given (number bounds s t) (λ z. Ok (held.Number z))
+value Logical bounds s t = given (truth bounds s t) (λ b. Ok (held.Truth b))

@@ -1,13 +1,16 @@
 //! What holds of steps and runs of every program.
 
 ghost use Rattle.f77_run.specs.Control.{Starts, LeadsOn};
+ghost use Rattle.f77_run.specs.Interpreter.{OneAnswer};
 ghost use Rattle.f77_run.specs.Outcome.{OneSuccessor, OneOutcome};
 
-/// A configuration leads to one configuration or end at most, and a run has one outcome at most within each limit on steps.
+/// A configuration leads to one configuration or end at most, a run ends in one way at most within each limit on steps, and a run with
+/// given arguments has one outcome at most.
 #[tactic(auto, using(crate::proofs::OneWay::one_successor, crate::proofs::OneWay::one_outcome))]
 pub fn one_outcome()
     ensures successor { OneSuccessor }
     ensures outcome { OneOutcome }
+    ensures answer { OneAnswer }
 {}
 
 /// Control is never lost: a run of a legal program starts, and each configuration that it comes to leads to another or to an end.

@@ -1,7 +1,7 @@
 mod Steps
 mod Words
 mod WordTexts
-mod JoinedTexts
+pub mod JoinedTexts
 mod DeclarationTexts
 mod DeclarationForms
 mod DeclarationGives

@@ -2,6 +2,7 @@
 
 use super::program;
 use crate::{Action, Condition, Element, Jump, Number, Resolved, check};
+use f77_syntax::Constant;
 use std::process::Abort;
 use std::test::Fail;
 
@@ -276,4 +277,37 @@ fn looks_up_where_branches_lead(rt: HostRuntime) -> Result<(), Fail> {
             "Return next 13",
         ],
     )
+}
+
+#[test]
+fn starts_with_the_values_of_data(rt: HostRuntime) -> Result<(), Fail> {
+    let statements = [
+        "SUBROUTINE S(L,M)",
+        "INTEGER M(3),V(2,2)",
+        "LOGICAL L,P",
+        "DATA K,V,P/3*-7,2*5,.TRUE./,N/4/",
+        "J=K",
+        "END",
+    ];
+    let checked = check(rt.alloc(), &program(&rt, &statements)?)?;
+    let start = checked.start();
+    assert_eq!(rt; start.entry, 4);
+    assert_eq!(rt; start.dummies.as_slice(), [0, 1].as_slice());
+    let (minus_seven, five) = (Some(Constant::Number(-7)), Some(Constant::Number(5)));
+    let wanted = [
+        None,
+        None,
+        None,
+        None,
+        minus_seven,
+        minus_seven,
+        five,
+        five,
+        Some(Constant::Truth(true)),
+        minus_seven,
+        Some(Constant::Number(4)),
+        None,
+    ];
+    assert_eq!(rt; start.initial.as_slice(), wanted.as_slice());
+    Ok(())
 }

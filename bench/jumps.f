@@ -1,0 +1,4 @@
+      SUBROUTINE JUMPS(K)
+   10 K=K+1
+      IF (K.LT.2000000000) GO TO 10
+      END

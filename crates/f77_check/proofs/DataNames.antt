@@ -1,0 +1,77 @@
+-- A table keeps the names of DATA and the dummy arguments of its program.
+use Rattle.std.proofs.Common.{arith, ◌≡◌, ℕ, zero, suc, ◌<◌, ◌&&◌, Bool, true, List, [], ◌∷◌, length, map, get_or, Some, refl, sym, ap, ◌∙◌}
+use Rattle.std.specs.List.{flat_map, list_all, list_any}
+use Rattle.std.specs.Str.{bytes_eq}
+use Rattle.std.proofs.lemmas.Bool.{and_parts}
+use Rattle.std.proofs.lemmas.List.Folds.{list_all-map}
+use Rattle.std.proofs.lemmas.Map.Made.{is_some-lookup}
+use Rattle.indexmap.specs.IndexMap.{keys}
+use Rattle.f77_syntax.specs.Data.{data_group_of}
+use Rattle.f77_syntax.specs.Node.{NodeOf, group_nodes, names_of}
+use Rattle.f77_syntax.specs.Parsing.{LineFields}
+use Rattle.f77_syntax.specs.Tree.{GroupFields, Statement}
+use Rattle.f77_syntax.specs.declared.data.DataGroup.{DataGroup}
+use Rattle.f77_syntax.specs.declared.data.Value.{Value}
+use Rattle.f77_check.specs.declared.names.Names.{Names}
+use Rattle.f77_check.specs.declared.resolve.Resolver.{Resolver}
+use Rattle.f77_check.specs.Initial.{HasSlots, groups_kept}
+use Rattle.f77_check.specs.Kept.{is_kept}
+use Rattle.f77_check.specs.Labels.{statement_at}
+use Rattle.f77_check.specs.Names.{Symbol, name_in, mentions_of}
+use Rattle.f77_check.specs.NameTable.{IsNameTable}
+use Rattle.f77_check.specs.Presets.{groups_of}
+use Rattle.f77_check.specs.Ready.{CanResolve}
+use Rattle.f77_check.specs.Start.{dummies}
+use Rattle.f77_check.proofs.Arguments.{dummy_known}
+use Rattle.f77_check.proofs.KeptNames.{and_end, all_among, nodes_kept, kept_append, mentions_at, mentioned_kept, plain_kept}
+use Rattle.f77_check.proofs.SlotTables.{keys_are, slots_few}
+
+pub has_slots : (r : Resolver) (program : List LineFields) → CanResolve r program → HasSlots r
+has_slots r program can = record { table = can.slots; few = slots_few r.tables.names program can.tables.names can.legal }
+
+module _ (names : Names) where
+  pub kept_among : (name : Symbol) → is_kept names name ≡ list_any (bytes_eq name) (keys names.facts)
+  kept_among name = is_some-lookup (bytes_eq name) names.facts.entries
+
+  named_are : (list : List Symbol) → nodes_kept names (map NodeOf.Named list) ≡ list_all (is_kept names) list
+  named_are [] = refl
+  named_are (name ∷ list) = ap (λ b. is_kept names name && b) (named_are list)
+
+  values_none : (values : List Value) → nodes_kept names (map NodeOf.Initial values) ≡ true
+  values_none [] = refl
+  values_none (v ∷ values) = values_none values
+
+  group_is : (g : GroupFields) → nodes_kept names (group_nodes g) ≡ list_all (is_kept names) g.names
+  group_is g =
+      kept_append names (map NodeOf.Named g.names) (map NodeOf.Initial g.values)
+      ∙ (λ i. named_are g.names i && values_none g.values i)
+      ∙ and_end (list_all (is_kept names) g.names)
+
+  groups_are : (gs : List GroupFields) → nodes_kept names (flat_map group_nodes gs) ≡ groups_kept names gs
+  groups_are [] = refl
+  groups_are (g ∷ gs) = kept_append names (group_nodes g) (flat_map group_nodes gs) ∙ (λ i. group_is g i && groups_are gs i)
+
+module _ (names : Names) (program : List LineFields) (is : IsNameTable names program) where
+  own_groups : (s : Statement) → list_all (λ m. is_kept names (name_in m)) (mentions_of s) ≡ true → groups_kept names (groups_of s) ≡ true
+  own_groups (Statement.Preset gs) h = sym (groups_are names gs) ∙ (sym (plain_kept names program is (names_of (Statement.Preset gs))) ∙ h)
+  own_groups _ h = refl
+
+  pub groups_at : (i : ℕ) (s : Statement) → statement_at program i ≡ Some s → groups_kept names (groups_of s) ≡ true
+  groups_at i s at = own_groups s (mentions_at (λ m. is_kept names (name_in m)) program (mentioned_kept names program is) i s at)
+
+  pub dummies_kept : list_all (is_kept names) (dummies program) ≡ true
+  dummies_kept =
+      all_among (is_kept names) (dummies program)
+      (λ name among. kept_among names name ∙ ap (list_any (bytes_eq name)) (keys_are names program is) ∙ dummy_known program name among)
+
+-- each of a list passes
+all_at : {X : Type 0} (test : X → Bool) (xs : List X) (i : ℕ) (x : X) → list_all test xs ≡ true → i < length xs → x ≡ get_or xs i x → test x ≡ true
+all_at test [] i x all below is = absurd (omega arith)
+all_at test (y ∷ ys) zero x all below is = ap test is ∙ (and_parts (test y) (list_all test ys) all).0
+all_at test (y ∷ ys) (suc i) x all below is = all_at test ys i x (and_parts (test y) (list_all test ys) all).1 (omega arith) is
+
+pub group_kept : (names : Names) (groups : List DataGroup) (i : ℕ) (g : DataGroup) → groups_kept names (map data_group_of groups) ≡ true
+    → i < length groups → g ≡ get_or groups i g → list_all (is_kept names) g.names.items ≡ true
+group_kept names groups i g kept below is =
+    all_at (λ (g : DataGroup). list_all (is_kept names) g.names.items) groups i g
+    (sym (list_all-map (λ (g : GroupFields). list_all (is_kept names) g.names) data_group_of groups) ∙ kept) below is

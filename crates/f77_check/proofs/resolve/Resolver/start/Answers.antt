@@ -1,0 +1,36 @@
+use Rattle.std.proofs.Common.{map, sym, ap, ◌∙◌}
+use Rattle.std.specs.List.{list_all}
+use Rattle.indexmap.specs.IndexMap.{keys}
+use Rattle.f77_syntax.specs.Parsing.{line_of}
+use Rattle.f77_check.specs.Kept.{is_kept}
+use Rattle.f77_check.specs.Slots.{first_slot}
+use Rattle.f77_check.specs.Start.{is_executable}
+use Rattle.f77_check.proofs.DataNames.{has_slots, dummies_kept}
+use Rattle.f77_check.proofs.FirstExecutable.{first_executable}
+use Rattle.f77_check.proofs.Lookups.{same_bounds}
+use Rattle.f77_check.proofs.Positions.{position-map}
+use Rattle.f77_check.proofs.resolve.Resolver.start.Goals as goal
+
+pub unreachable-requires : goal.unreachable-requires
+unreachable-requires c =
+    let some = first_executable (map line_of c.args.lines.now) c.requires.formed in
+    let none = sym c.in_default.is ∙ (c.entry.ensures ∙ (sym (position-map (λ line. is_executable line.stmt) line_of c.args.lines.now) ∙ some.1)) in
+    absurd (cc (none))
+
+pub first_slots-requires-clause-slots : goal.first_slots-requires-clause-slots
+first_slots-requires-clause-slots c = has_slots c.args.self.now (map line_of c.args.lines.now) c.requires
+
+pub first_slots-requires-clause-kept : goal.first_slots-requires-clause-kept
+first_slots-requires-clause-kept c =
+    ap (list_all (is_kept c.args.self.now.tables.names)) c.arguments.ensures
+    ∙ dummies_kept c.args.self.now.tables.names (map line_of c.args.lines.now) c.requires.tables.names
+
+pub returns-clause-start : goal.returns-clause-start
+returns-clause-start c =
+    let names = c.args.self.now.tables.names in
+    let bounds = same_bounds names (map line_of c.args.lines.now) c.requires.tables.names in
+    record {
+      entry = position-map (λ line. is_executable line.stmt) line_of c.args.lines.now ∙ (sym c.entry.ensures ∙ c.in-Some.is);
+      dummies = (λ i. map (first_slot (sym bounds i) (keys names.facts)) (sym c.arguments.ensures i)) ∙ c.in_ok-dummies.ensures.slots;
+      initial = c.in_ok-initial.ensures.initial;
+    }

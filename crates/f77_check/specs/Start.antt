@@ -1,0 +1,61 @@
+-- Where a run of a program starts: its first executable statement, its dummy arguments, and what DATA gives each element of a name
+-- (ANSI X3.9-1978, section 9 and 15.9).
+use Rattle.std.specs.Prelude.{◌≡◌, ℕ, ◌&&◌, ◌==◌, Bool, false, true, List, [], ◌∷◌, map, Option, Some, replicate, position}
+use Rattle.std.specs.List.{find, flat_map}
+use Rattle.std.specs.Option.{option_and_then, option_map_or}
+use Rattle.std.specs.Str.{bytes_eq}
+use Rattle.f77_syntax.specs.Parsing.{LineFields}
+use Rattle.f77_syntax.specs.Tree.{GroupFields, Statement}
+use Rattle.f77_syntax.specs.declared.data.Constant.{Constant}
+use Rattle.f77_check.specs.declared.start.Start.{Start}
+use Rattle.f77_check.specs.Blocks.{first_numbers}
+use Rattle.f77_check.specs.Labels.{statement_at}
+use Rattle.f77_check.specs.Names.{Symbol, bounds_of}
+use Rattle.f77_check.specs.Presets.{elements, groups_of}
+use Rattle.f77_check.specs.Slots.{first_slot}
+
+abbrev pub dummies_of : Statement → List Symbol
+dummies_of (Statement.Subroutine name names) = names
+dummies_of _ = []
+
+-- the dummy arguments, in order
+abbrev pub dummies : List LineFields → List Symbol
+dummies program = option_map_or dummies_of (statement_at program 0) []
+
+-- an element of a name
+abbrev pub Cell : Type 0
+Cell = Symbol × ℕ
+
+abbrev pub cells : List LineFields → List Symbol → List Cell
+cells p names = flat_map (λ name. map (λ k. (name, k)) (first_numbers (elements p name))) names
+
+abbrev pub pairs : {A B : Type 0} → List A → List B → List (A × B)
+pairs [] bs = []
+pairs (a ∷ rest) [] = []
+pairs (a ∷ rest) (b ∷ bs) = (a, b) ∷ pairs rest bs
+
+-- the elements that a group of DATA gives a constant, each with it
+abbrev pub presets_of : List LineFields → GroupFields → List (Cell × Constant)
+presets_of p g = pairs (cells p g.names) (flat_map (λ v. replicate v.times v.constant) g.values)
+
+abbrev pub presets : List LineFields → List (Cell × Constant)
+presets p = flat_map (λ line. flat_map (presets_of p) (groups_of line.stmt)) p
+
+abbrev pub is_cell : Cell → Cell → Bool
+is_cell a b = bytes_eq a.0 b.0 && a.1 == b.1
+
+abbrev pub preset_at : List LineFields → Symbol → ℕ → Option Constant
+preset_at p name k = option_and_then (λ given. Some given.1) (find (λ given. is_cell (name, k) given.0) (presets p))
+
+abbrev pub is_executable : Statement → Bool
+is_executable (Statement.Subroutine name names) = false
+is_executable (Statement.Declare kind ds) = false
+is_executable (Statement.Dimension ds) = false
+is_executable (Statement.Preset gs) = false
+is_executable _ = true
+
+-- What a run of a program starts with: its first executable statement, the first slot of each dummy argument, and what DATA gives each slot.
+pub record IsStartOf (program : List LineFields) (names : List Symbol) (start : Start) : Type 0 where
+  pub entry : position (λ line. is_executable line.stmt) program ≡ Some start.entry
+  pub dummies : map (first_slot (bounds_of program) names) (dummies program) ≡ map (λ slot. Some slot) start.dummies.items
+  pub initial : start.initial.items ≡ flat_map (λ name. map (preset_at program name) (first_numbers (elements program name))) names

@@ -1,0 +1,220 @@
+//! What a run of a program starts with.
+
+ghost use Rattle.std.specs.Prelude.{◌≡◌, ◌++◌, true, Some, map, position, IfOk, IfErr, OnOk};
+ghost use Rattle.std.specs.List.{flat_map, list_all};
+ghost use Rattle.indexmap.specs.IndexMap.{keys};
+ghost use Rattle.f77_syntax.specs.Data.{data_group_of};
+ghost use Rattle.f77_syntax.specs.Parsing.{line_of};
+ghost use Rattle.f77_syntax.specs.StatementView.{statement_of};
+ghost use Rattle.f77_check.specs.Blocks.{first_numbers};
+ghost use Rattle.f77_check.specs.Initial as given;
+ghost use Rattle.f77_check.specs.Initial.{HasSlots, slots_of, groups_kept};
+ghost use Rattle.f77_check.specs.Kept.{is_kept};
+ghost use Rattle.f77_check.specs.NameTable.{bounds_at};
+ghost use Rattle.f77_check.specs.Presets as presets;
+ghost use Rattle.f77_check.specs.Presets.{elements};
+ghost use Rattle.f77_check.specs.Ready.{CanResolve};
+ghost use Rattle.f77_check.specs.Slots.{first_slot};
+ghost use Rattle.f77_check.specs.Start as start;
+ghost use Rattle.f77_check.specs.Start.{IsStartOf, preset_at};
+ghost use Rattle.f77_check.specs.declared.fault.CheckFault.TheVariants.{Memory};
+
+use crate::fault::CheckFault;
+use crate::heading::arguments;
+use crate::names::product;
+use crate::resolve::Resolver;
+use f77_syntax::{Constant, DataGroup, Line, Name, Stmt, Value};
+use std::alloc::Global;
+
+/// What a run of a program starts with. Statements and slots are numbered from 0.
+#[derive(Drop)]
+pub struct Start {
+    /// The first executable statement.
+    pub entry: usize,
+    /// The first slot of each dummy argument, in order.
+    pub dummies: Vec<usize>,
+    /// What DATA gives each slot (section 9).
+    pub initial: Vec<Option<Constant>>,
+}
+
+fn is_executable(stmt: &Stmt) -> bool
+    ensures { result ≡ start.is_executable (statement_of stmt.now) }
+{
+    match stmt {
+        Stmt::Subroutine { .. }
+        | Stmt::Declare { .. }
+        | Stmt::Dimension { .. }
+        | Stmt::Preset { .. } => false,
+        Stmt::Assign { .. }
+        | Stmt::Goto { .. }
+        | Stmt::ArithIf { .. }
+        | Stmt::LogicalIf { .. }
+        | Stmt::BlockIf { .. }
+        | Stmt::ElseIf { .. }
+        | Stmt::Else
+        | Stmt::EndIf
+        | Stmt::Loop { .. }
+        | Stmt::Continue
+        | Stmt::Return
+        | Stmt::Stop
+        | Stmt::Trap
+        | Stmt::End => true,
+    }
+}
+
+/// The first executable statement.
+fn entry(lines: &[Line]) -> Option<usize>
+    ensures { result ≡ position (λ line. start.is_executable (statement_of line.stmt)) lines.now }
+{
+    lines.iter().position(|line| is_executable(&line.stmt))
+}
+
+/// The groups of a DATA statement, none of another.
+fn groups(stmt: &Stmt) -> &[DataGroup]
+    ensures { map data_group_of result.now ≡ presets.groups_of (statement_of stmt.now) }
+{
+    match stmt {
+        Stmt::Preset { groups } => groups,
+        Stmt::Subroutine { .. }
+        | Stmt::Declare { .. }
+        | Stmt::Dimension { .. }
+        | Stmt::Assign { .. }
+        | Stmt::Goto { .. }
+        | Stmt::ArithIf { .. }
+        | Stmt::LogicalIf { .. }
+        | Stmt::BlockIf { .. }
+        | Stmt::ElseIf { .. }
+        | Stmt::Else
+        | Stmt::EndIf
+        | Stmt::Loop { .. }
+        | Stmt::Continue
+        | Stmt::Return
+        | Stmt::Stop
+        | Stmt::Trap
+        | Stmt::End => &[],
+    }
+}
+
+/// Gives a slot its value, unless it has one.
+fn give(held: &mut [Option<Constant>], slot: usize, constant: Constant)
+    ensures { held.new ≡ given.give constant held.old slot }
+{
+    if let Some(None) = held.get(slot) {
+        held[slot] = Some(constant);
+    }
+}
+
+fn give_run(held: &mut [Option<Constant>], slots: &[usize], constant: Constant)
+    ensures { held.new ≡ given.give_run constant held.old slots.now }
+{
+    for slot in slots {
+        give(held, *slot, constant);
+    }
+}
+
+/// Gives the slots the values, one after another, each as often as it is repeated.
+fn give_values(held: &mut [Option<Constant>], slots: &[usize], values: &[Value])
+    ensures { held.new ≡ given.give_values held.old slots.now values.now }
+{
+    let mut rest = slots;
+    for value in values {
+        let count = rest.len().min(value.times as usize);
+        let (front, behind) = rest.split_at(count);
+        give_run(held, front, value.constant);
+        rest = behind;
+    }
+}
+
+impl Resolver {
+    /// Adds the slots of a name.
+    fn add_slots(&self, slots: &mut Vec<usize>, name: &Name) -> Result<(), CheckFault>
+        requires slots { HasSlots self.now }
+        requires kept { is_kept self.now.tables.names name.now ≡ true }
+        ensures slots { OnOk result (slots.new.items ≡ slots.old.items ++ slots_of (bounds_at self.now.tables.names) (keys self.now.tables.names.facts) name.now) }
+        ensures memory { IfErr result (λ fault. fault ≡ Memory) }
+    {
+        let names = &self.tables.names;
+        let first = self.slots.first(names, name);
+        for k in 0..product(names.bounds(name)) as usize {
+            slots.push(first + k)?;
+        }
+        Ok(())
+    }
+
+    /// The slots of names, name by name.
+    fn slots_of(&self, alloc: Global, list: &[Name]) -> Result<Vec<usize>, CheckFault>
+        requires slots { HasSlots self.now }
+        requires kept { list_all (is_kept self.now.tables.names) list.now ≡ true }
+        ensures slots { IfOk result (λ slots. slots.items ≡ flat_map (slots_of (bounds_at self.now.tables.names) (keys self.now.tables.names.facts)) list.now) }
+        ensures memory { IfErr result (λ fault. fault ≡ Memory) }
+    {
+        let mut slots = Vec::new(alloc);
+        for name in list {
+            self.add_slots(&mut slots, name)?;
+        }
+        Ok(slots)
+    }
+
+    /// The first slot of each name.
+    fn first_slots(&self, alloc: Global, list: &[Name]) -> Result<Vec<usize>, CheckFault>
+        requires slots { HasSlots self.now }
+        requires kept { list_all (is_kept self.now.tables.names) list.now ≡ true }
+        ensures slots { IfOk result (λ slots. map (first_slot (bounds_at self.now.tables.names) (keys self.now.tables.names.facts)) list.now ≡ map (λ slot. Some slot) slots.items) }
+        ensures memory { IfErr result (λ fault. fault ≡ Memory) }
+    {
+        let mut slots = Vec::new(alloc);
+        for name in list {
+            slots.push(self.slots.first(&self.tables.names, name))?;
+        }
+        Ok(slots)
+    }
+
+    fn give_groups(
+        &self,
+        alloc: Global,
+        held: &mut [Option<Constant>],
+        groups: &[DataGroup],
+    ) -> Result<(), CheckFault>
+        requires slots { HasSlots self.now }
+        requires kept { groups_kept self.now.tables.names (map data_group_of groups.now) ≡ true }
+        ensures given { OnOk result (held.new ≡ given.give_groups (bounds_at self.now.tables.names) (keys self.now.tables.names.facts) held.old (map data_group_of groups.now)) }
+        ensures memory { IfErr result (λ fault. fault ≡ Memory) }
+    {
+        for group in groups {
+            let slots = self.slots_of(alloc, &group.names)?;
+            give_values(held, &slots, &group.values);
+        }
+        Ok(())
+    }
+
+    /// What DATA gives each slot.
+    fn initial(&self, alloc: Global, lines: &[Line]) -> Result<Vec<Option<Constant>>, CheckFault>
+        requires { CanResolve self.now (map line_of lines.now) }
+        ensures initial { IfOk result (λ initial. initial.items ≡ flat_map (λ name. map (preset_at (map line_of lines.now) name) (first_numbers (elements (map line_of lines.now) name))) (keys self.now.tables.names.facts)) }
+        ensures memory { IfErr result (λ fault. fault ≡ Memory) }
+    {
+        let mut held = vec![in alloc; None; self.slots.count]?;
+        for line in lines {
+            self.give_groups(alloc, &mut held, groups(&line.stmt))?;
+        }
+        Ok(held)
+    }
+
+    /// What a run of a legal program starts with.
+    pub(crate) fn start(&self, alloc: Global, lines: &[Line]) -> Result<Start, CheckFault>
+        requires { CanResolve self.now (map line_of lines.now) }
+        ensures start { IfOk result (λ start. IsStartOf (map line_of lines.now) (keys self.now.tables.names.facts) start) }
+        ensures memory { IfErr result (λ fault. fault ≡ Memory) }
+    {
+        let Some(entry) = entry(lines) else {
+            unreachable!()
+        };
+        let dummies = self.first_slots(alloc, arguments(lines))?;
+        let initial = self.initial(alloc, lines)?;
+        Ok(Start {
+            entry,
+            dummies,
+            initial,
+        })
+    }
+}

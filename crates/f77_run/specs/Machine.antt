@@ -1,0 +1,37 @@
+-- What a machine stands for: its slots are the values of names, its places and its active DOs those of a run.
+use Rattle.std.specs.Prelude.{ℕ, ◌+◌, List, map, option_map}
+use Rattle.std.specs.Option.{option_and_then}
+use Rattle.f77_check.specs.Blocks.{first_numbers}
+use Rattle.f77_check.specs.Names.{Symbol}
+use Rattle.f77_check.specs.Presets.{product}
+use Rattle.f77_check.specs.Slots.{first_slot}
+use Rattle.f77_run.specs.declared.machine.Place.{Place}
+use Rattle.f77_run.specs.declared.machine.Place.TheVariants.{Execute, Increment}
+use Rattle.f77_run.specs.declared.machine.Turn.{Turn}
+use Rattle.f77_run.specs.Evaluation.{held_in}
+use Rattle.f77_run.specs.Moves.{Cells, Turns, State, Move, Goes, Ends, turn_at}
+use Rattle.f77_run.specs.Step as run
+use Rattle.f77_run.specs.Step.{Config, Next, config}
+use Rattle.f77_run.specs.Value.{Store}
+
+-- what each name holds, where names have these bounds, and slots in the order of this list
+abbrev pub values_of : (Symbol → List ℕ) → List Symbol → Cells → Store
+values_of bounds names cells name =
+    map (λ k. option_and_then (λ first. held_in cells (first + k)) (first_slot bounds names name)) (first_numbers (product (bounds name)))
+
+abbrev pub turn_of : Turn → run.Turn
+turn_of turn = record { passes = turn.passes; step = turn.step }
+
+abbrev pub turns_of : Turns → run.Turns
+turns_of turns d = option_map turn_of (turn_at turns d)
+
+abbrev pub placed : Place → run.Place
+placed (Execute i) = run.Execute i
+placed (Increment d) = run.Increment d
+
+abbrev pub config_of : (Symbol → List ℕ) → List Symbol → State → Config
+config_of bounds names s = config (placed s.place) (values_of bounds names s.cells) (turns_of s.turns)
+
+abbrev pub next_of : (Symbol → List ℕ) → List Symbol → Move → Next
+next_of bounds names (Goes s) = run.Goes (config_of bounds names s)
+next_of bounds names (Ends finish cells) = run.Ends finish (values_of bounds names cells)

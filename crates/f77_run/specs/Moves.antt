@@ -1,0 +1,158 @@
+-- One step of a machine over slots: what it does to its place, its slots and its active DOs. Statements are numbered from 0 here.
+use Rattle.std.specs.Prelude.{ℕ, zero, suc, ◌+◌, ◌-◌, List, [], ◌∷◌, Option, Some, None, is_some, slice_get, slice_set, ℤ, pos, negsuc, ◌+ℤ◌, Bool, true, false, if◌then◌else◌, option_map, Result, Ok, Err}
+use Rattle.std.specs.List.{find}
+use Rattle.std.specs.Option.{option_and_then, option_map_or}
+use Rattle.f77_check.specs.declared.action.Action.{Action, Declaration, AssignNumber, AssignTruth, Goto, ArithmeticIf, LogicalIf', Branch, Continue, Loop, Return, Stop, Trap}
+use Rattle.f77_check.specs.declared.action.Jump.{Jump}
+use Rattle.f77_check.specs.declared.resolved.Resolved.{Resolved}
+use Rattle.f77_run.specs.declared.finish.Fault.{Fault}
+use Rattle.f77_run.specs.declared.finish.Fault.TheVariants.{ZeroStep, Trapped}
+use Rattle.f77_run.specs.declared.finish.Finish.{Finish}
+use Rattle.f77_run.specs.declared.finish.Finish.TheVariants.{Returned, Stopped, Failed}
+use Rattle.f77_run.specs.declared.machine.Control.{Control}
+use Rattle.f77_run.specs.declared.machine.Control.TheVariants as control
+use Rattle.f77_run.specs.declared.machine.Machine.{Machine}
+use Rattle.f77_run.specs.declared.machine.Place.{Place}
+use Rattle.f77_run.specs.declared.machine.Place.TheVariants.{Execute, Increment}
+use Rattle.f77_run.specs.declared.machine.Turn.{Turn}
+use Rattle.f77_run.specs.declared.value.Value.{Value}
+use Rattle.f77_run.specs.declared.value.Value.TheVariants as held
+use Rattle.f77_run.specs.Evaluation.{held_in, slot_in, number_in, truth_in}
+use Rattle.f77_run.specs.Number.{in_range, trip_count}
+use Rattle.f77_run.specs.Value.{whole}
+
+abbrev pub Cells : Type 0
+Cells = List (Option Value)
+
+abbrev pub Turns : Type 0
+Turns = List (Option Turn)
+
+pub record State : Type 0 where
+  pub place : Place
+  pub cells : Cells
+  pub turns : Turns
+
+abbrev pub state : Place → Cells → Turns → State
+state place cells turns = record { place = place; cells = cells; turns = turns }
+
+abbrev pub state_of : Machine → State
+state_of m = state m.place m.cells.items m.turns.items
+
+-- what a step leads to: another state, or an end with what the slots hold then
+pub data Move : Type 0 where
+  Goes : State → Move
+  Ends : Finish → Cells → Move
+
+-- what the answer of a step says, with the machine behind it
+abbrev pub move_of : Result Control Fault → Machine → Move
+move_of (Ok control.Goes) m = Goes (state_of m)
+move_of (Ok control.Returns) m = Ends Returned m.cells.items
+move_of (Ok control.Stops) m = Ends Stopped m.cells.items
+move_of (Err fault) m = Ends (Failed fault) m.cells.items
+
+-- a result is used, or its fault ends the run
+abbrev pub used : {A : Type 0} → Result A Fault → Cells → (A → Move) → Move
+used (Ok x) cells f = f x
+used (Err fault) cells f = Ends (Failed fault) cells
+
+-- what an active DO has left
+abbrev pub turn_at : Turns → ℕ → Option Turn
+turn_at turns d = option_and_then (λ turn. turn) (slice_get turns d)
+
+-- the first of these DOs that is active
+abbrev pub innermost : Turns → List ℕ → Option ℕ
+innermost turns ends = find (λ d. is_some (turn_at turns d)) ends
+
+-- where control goes on from a statement that did not jump
+abbrev pub place_behind : Resolved → Turns → Place
+place_behind r turns = option_map_or Increment (innermost turns r.ends.items) (Execute r.next)
+
+abbrev pub go_on : Resolved → Cells → Turns → Move
+go_on r cells turns = Goes (state (place_behind r turns) cells turns)
+
+-- none of these DOs is active any more
+abbrev pub without : Turns → List ℕ → Turns
+without turns [] = turns
+without turns (d ∷ ds) = without (slice_set turns d None) ds
+
+abbrev pub jump_to : Jump → Cells → Turns → Move
+jump_to jump cells turns = Goes (state (Execute jump.target) cells (without turns jump.leaves.items))
+
+abbrev pub by_sign : {A : Type 0} → ℤ → A → A → A → A
+by_sign (negsuc z) a b c = a
+by_sign (pos zero) a b c = b
+by_sign (pos (suc z)) a b c = c
+
+-- the DO d, which ends at this statement, has so many passes to make
+abbrev pub passing : Resolved → ℕ → ℕ → ℤ → Cells → Turns → Move
+passing end d zero step cells turns = go_on end cells (slice_set turns d None)
+passing end d (suc k) step cells turns = Goes (state (Execute (d + 1)) cells (slice_set turns d (Some (record { passes = suc k; step = step }))))
+
+-- the same where the statement has this number, if there is one
+abbrev pub passing_at : List Resolved → ℕ → ℕ → ℕ → ℤ → Cells → Turns → Move
+passing_at statements t d passes step cells turns =
+    option_map_or (λ end. passing end d passes step cells turns) (slice_get statements t) (Goes (state (Execute t) cells turns))
+
+-- the DO d begins with these parameters
+abbrev pub begun : List Resolved → ℕ → ℕ → ℕ → ℤ → ℤ → ℤ → Cells → Turns → Move
+begun statements d variable t first last (pos zero) cells turns = Ends (Failed ZeroStep) cells
+begun statements d variable t first last (pos (suc m)) cells turns =
+    passing_at statements t d (trip_count first last (pos (suc m))) (pos (suc m)) (slice_set cells variable (Some (held.Number first))) turns
+begun statements d variable t first last (negsuc m) cells turns =
+    passing_at statements t d (trip_count first last (negsuc m)) (negsuc m) (slice_set cells variable (Some (held.Number first))) turns
+
+abbrev pub chosen : {A : Type 0} → Bool → A → A → A
+chosen true a b = a
+chosen false a b = b
+
+-- the statement i does this
+abbrev pub acted : List Resolved → ℕ → Resolved → Action → Cells → Turns → Move
+acted statements i r Declaration cells turns = Goes (state (Execute i) cells turns)
+acted statements i r (AssignNumber e x) cells turns =
+    used (slot_in cells e) cells (λ k. used (number_in cells x) cells (λ z. go_on r (slice_set cells k (Some (held.Number z))) turns))
+acted statements i r (AssignTruth e x) cells turns =
+    used (slot_in cells e) cells (λ k. used (truth_in cells x) cells (λ b. go_on r (slice_set cells k (Some (held.Truth b))) turns))
+acted statements i r (Goto jump) cells turns = jump_to jump cells turns
+acted statements i r (ArithmeticIf x a b c) cells turns = used (number_in cells x) cells (λ z. jump_to (by_sign z a b c) cells turns)
+acted statements i r (LogicalIf' x p action) cells turns =
+    used (truth_in cells x) cells (λ b. chosen b (acted statements i r action cells turns) (go_on r cells turns))
+acted statements i r (Branch x otherwise) cells turns =
+    used (truth_in cells x) cells (λ b. chosen b (go_on r cells turns) (Goes (state (Execute otherwise) cells turns)))
+acted statements i r Continue cells turns = go_on r cells turns
+acted statements i r (Loop variable first last step t) cells turns =
+    used (number_in cells first) cells
+    (λ a. used (number_in cells last) cells
+    (λ b. used (number_in cells step) cells
+    (λ c. begun statements i variable t a b c cells turns)))
+acted statements i r Return cells turns = Ends Returned cells
+acted statements i r Stop cells turns = Ends Stopped cells
+acted statements i r Trap cells turns = Ends (Failed Trapped) cells
+
+-- the DO d, which does this and has this left, is incremented
+abbrev pub incremented : List Resolved → ℕ → Action → Turn → Cells → Turns → Move
+incremented statements d (Loop variable first last step t) turn cells turns =
+    used (whole (held_in cells variable)) cells
+    (λ z. used (in_range (z +ℤ turn.step)) cells
+    (λ next. passing_at statements t d (turn.passes - 1) turn.step (slice_set cells variable (Some (held.Number next))) turns))
+incremented statements d _ turn cells turns = Goes (state (Increment d) cells turns)
+
+-- it is executed at all, and so is the statement in a logical IF
+abbrev pub is_executed : Action → Bool
+is_executed Declaration = false
+is_executed (LogicalIf' x p action) = is_executed action
+is_executed _ = true
+
+abbrev pub is_loop : Action → Bool
+is_loop (Loop variable first last step t) = true
+is_loop _ = false
+
+-- one step, where control is at a statement that is executed, or at an active DO
+abbrev pub moved : List Resolved → State → Option Move
+moved statements s = at s.place
+  where
+    at : Place → Option Move
+    at (Execute i) =
+        option_and_then (λ r. if is_executed r.action then Some (acted statements i r r.action s.cells s.turns) else None) (slice_get statements i)
+    at (Increment d) =
+        option_and_then (λ r. if is_loop r.action then option_map (λ turn. incremented statements d r.action turn s.cells s.turns) (turn_at s.turns d) else None)
+        (slice_get statements d)

@@ -1,0 +1,345 @@
+//! One step of a machine over slots.
+
+ghost use Rattle.std.specs.Prelude.{◌≡◌, ◌<◌, ◌+◌, ◌^◌, Ok, true, length, slice_set, Some, IsSome};
+ghost use Rattle.f77_check.specs.declared.action.Action.{Loop};
+ghost use Rattle.f77_check.specs.declared.expression.Number.{Number};
+ghost use Rattle.f77_run.specs.Evaluation.{element_within, number_within, condition_within, slot_in, number_in, truth_in};
+ghost use Rattle.f77_run.specs.Moves as moves;
+ghost use Rattle.f77_run.specs.Moves.{Goes, state, state_of, move_of, used, chosen, by_sign, jump_to, passing, passing_at, begun, acted, incremented, is_executed, moved};
+ghost use Rattle.f77_run.specs.Reach.{are_below, jump_within, action_within, all_within};
+ghost use Rattle.f77_run.specs.Value.{given};
+
+use crate::evaluate::{number, slot, truth};
+use crate::finish::Fault;
+use crate::machine::{
+    Control, Machine, Place, Turn, held_number, innermost, leave, set_turn, store,
+};
+use crate::number::{sum, trip_count};
+use crate::value::Value;
+use f77_check::{Action, Condition, Element, Jump, Number, Resolved};
+
+/// Where control goes on from a statement that did not jump.
+fn place_behind(resolved: &Resolved, turns: &[Option<Turn>]) -> Place
+    requires { are_below (length turns.now) resolved.now.ends.items ≡ true }
+    ensures { result ≡ moves.place_behind resolved.now turns.now }
+{
+    match innermost(turns, &resolved.ends) {
+        Some(d) => Place::Increment(d),
+        None => Place::Execute(resolved.next),
+    }
+}
+
+/// Control goes on from a statement that did not jump.
+fn go_on(resolved: &Resolved, machine: &mut Machine) -> Control
+    requires { are_below (length machine.old.turns.items) resolved.now.ends.items ≡ true }
+    ensures moved { move_of (Ok result) machine.new ≡ moves.go_on resolved.now machine.old.cells.items machine.old.turns.items }
+    ensures cells { length machine.new.cells.items ≡ length machine.old.cells.items }
+    ensures turns { length machine.new.turns.items ≡ length machine.old.turns.items }
+{
+    machine.place = place_behind(resolved, &machine.turns);
+    Control::Goes
+}
+
+fn jump(target: &Jump, machine: &mut Machine) -> Control
+    requires { jump_within (length machine.old.turns.items) target.now ≡ true }
+    ensures moved { move_of (Ok result) machine.new ≡ jump_to target.now machine.old.cells.items machine.old.turns.items }
+    ensures cells { length machine.new.cells.items ≡ length machine.old.cells.items }
+    ensures turns { length machine.new.turns.items ≡ length machine.old.turns.items }
+{
+    leave(&mut machine.turns, &target.leaves);
+    machine.place = Place::Execute(target.target);
+    Control::Goes
+}
+
+fn assign_number(
+    resolved: &Resolved,
+    element: &Element,
+    term: &Number,
+    machine: &mut Machine,
+) -> Result<Control, Fault>
+    requires element { element_within (length machine.old.cells.items) element.now ≡ true }
+    requires term { number_within (length machine.old.cells.items) term.now ≡ true }
+    requires ends { are_below (length machine.old.turns.items) resolved.now.ends.items ≡ true }
+    ensures moved { let cells = machine.old.cells.items in move_of result machine.new ≡ used (slot_in cells element.now) cells (λ k. used (number_in cells term.now) cells (λ z. moves.go_on resolved.now (slice_set cells k (Some (Value.Number z))) machine.old.turns.items)) }
+    ensures cells { length machine.new.cells.items ≡ length machine.old.cells.items }
+    ensures turns { length machine.new.turns.items ≡ length machine.old.turns.items }
+{
+    let slot = slot(element, &machine.cells)?;
+    let value = number(term, &machine.cells)?;
+    store(&mut machine.cells, slot, Value::Number(value));
+    Ok(go_on(resolved, machine))
+}
+
+fn assign_truth(
+    resolved: &Resolved,
+    element: &Element,
+    condition: &Condition,
+    machine: &mut Machine,
+) -> Result<Control, Fault>
+    requires element { element_within (length machine.old.cells.items) element.now ≡ true }
+    requires condition { condition_within (length machine.old.cells.items) condition.now ≡ true }
+    requires ends { are_below (length machine.old.turns.items) resolved.now.ends.items ≡ true }
+    ensures moved { let cells = machine.old.cells.items in move_of result machine.new ≡ used (slot_in cells element.now) cells (λ k. used (truth_in cells condition.now) cells (λ b. moves.go_on resolved.now (slice_set cells k (Some (Value.Truth b))) machine.old.turns.items)) }
+    ensures cells { length machine.new.cells.items ≡ length machine.old.cells.items }
+    ensures turns { length machine.new.turns.items ≡ length machine.old.turns.items }
+{
+    let slot = slot(element, &machine.cells)?;
+    let value = truth(condition, &machine.cells)?;
+    store(&mut machine.cells, slot, Value::Truth(value));
+    Ok(go_on(resolved, machine))
+}
+
+/// An arithmetic IF.
+fn jump_by_sign(
+    value: &Number,
+    negative: &Jump,
+    zero: &Jump,
+    positive: &Jump,
+    machine: &mut Machine,
+) -> Result<Control, Fault>
+    requires value { number_within (length machine.old.cells.items) value.now ≡ true }
+    requires negative { jump_within (length machine.old.turns.items) negative.now ≡ true }
+    requires zero { jump_within (length machine.old.turns.items) zero.now ≡ true }
+    requires positive { jump_within (length machine.old.turns.items) positive.now ≡ true }
+    ensures moved { let cells = machine.old.cells.items in move_of result machine.new ≡ used (number_in cells value.now) cells (λ z. jump_to (by_sign z negative.now zero.now positive.now) cells machine.old.turns.items) }
+    ensures cells { length machine.new.cells.items ≡ length machine.old.cells.items }
+    ensures turns { length machine.new.turns.items ≡ length machine.old.turns.items }
+{
+    let value = number(value, &machine.cells)?;
+    if value < 0 {
+        return Ok(jump(negative, machine));
+    }
+    if value == 0 {
+        return Ok(jump(zero, machine));
+    }
+    Ok(jump(positive, machine))
+}
+
+/// A block IF or an ELSE IF.
+fn branch(
+    resolved: &Resolved,
+    condition: &Condition,
+    otherwise: usize,
+    machine: &mut Machine,
+) -> Result<Control, Fault>
+    requires condition { condition_within (length machine.old.cells.items) condition.now ≡ true }
+    requires ends { are_below (length machine.old.turns.items) resolved.now.ends.items ≡ true }
+    ensures moved { let cells = machine.old.cells.items in let turns = machine.old.turns.items in move_of result machine.new ≡ used (truth_in cells condition.now) cells (λ b. chosen b (moves.go_on resolved.now cells turns) (Goes (state (Place.Execute otherwise) cells turns))) }
+    ensures cells { length machine.new.cells.items ≡ length machine.old.cells.items }
+    ensures turns { length machine.new.turns.items ≡ length machine.old.turns.items }
+{
+    if truth(condition, &machine.cells)? {
+        return Ok(go_on(resolved, machine));
+    }
+    machine.place = Place::Execute(otherwise);
+    Ok(Control::Goes)
+}
+
+/// The DO `d`, which ends at this statement, has these passes to make.
+fn pass(end: &Resolved, d: usize, turn: Turn, machine: &mut Machine) -> Control
+    requires ends { are_below (length machine.old.turns.items) end.now.ends.items ≡ true }
+    requires within { d < length machine.old.turns.items }
+    requires number { d + 1 < 2 ^ 64 }
+    ensures moved { move_of (Ok result) machine.new ≡ passing end.now d turn.passes turn.step machine.old.cells.items machine.old.turns.items }
+    ensures cells { length machine.new.cells.items ≡ length machine.old.cells.items }
+    ensures turns { length machine.new.turns.items ≡ length machine.old.turns.items }
+{
+    if turn.passes == 0 {
+        set_turn(&mut machine.turns, d, None);
+        return go_on(end, machine);
+    }
+    set_turn(&mut machine.turns, d, Some(turn));
+    machine.place = Place::Execute(d + 1);
+    Control::Goes
+}
+
+/// The DO `d`, which ends at the statement `terminal`, has these passes to make.
+fn pass_at(
+    statements: &[Resolved],
+    terminal: usize,
+    d: usize,
+    turn: Turn,
+    machine: &mut Machine,
+) -> Control
+    requires statements { all_within (length machine.old.cells.items) (length machine.old.turns.items) statements.now ≡ true }
+    requires terminal { terminal < length statements.now }
+    requires within { d < length machine.old.turns.items }
+    requires number { d + 1 < 2 ^ 64 }
+    ensures moved { move_of (Ok result) machine.new ≡ passing_at statements.now terminal d turn.passes turn.step machine.old.cells.items machine.old.turns.items }
+    ensures cells { length machine.new.cells.items ≡ length machine.old.cells.items }
+    ensures turns { length machine.new.turns.items ≡ length machine.old.turns.items }
+{
+    pass(&statements[terminal], d, turn, machine)
+}
+
+/// The values of the parameters of a DO (11.10).
+#[derive(Clone, Copy)]
+struct Parameters {
+    first: i32,
+    last: i32,
+    step: i32,
+}
+
+impl Parameters {
+    fn of(
+        first: &Number,
+        last: &Number,
+        step: &Number,
+        cells: &[Option<Value>],
+    ) -> Result<Parameters, Fault>
+        requires first { number_within (length cells.now) first.now ≡ true }
+        requires last { number_within (length cells.now) last.now ≡ true }
+        requires step { number_within (length cells.now) step.now ≡ true }
+        ensures { result ≡ given (number_in cells.now first.now) (λ a. given (number_in cells.now last.now) (λ b. given (number_in cells.now step.now) (λ c. Ok (record { first = a; last = b; step = c })))) }
+    {
+        let first = number(first, cells)?;
+        let last = number(last, cells)?;
+        let step = number(step, cells)?;
+        Ok(Parameters { first, last, step })
+    }
+}
+
+/// Begins the DO `d`.
+fn begin(
+    statements: &[Resolved],
+    d: usize,
+    variable: usize,
+    terminal: usize,
+    parameters: Parameters,
+    machine: &mut Machine,
+) -> Result<Control, Fault>
+    requires statements { all_within (length machine.old.cells.items) (length machine.old.turns.items) statements.now ≡ true }
+    requires terminal { terminal < length statements.now }
+    requires variable { variable < length machine.old.cells.items }
+    requires within { d < length machine.old.turns.items }
+    requires number { d + 1 < 2 ^ 64 }
+    ensures moved { move_of result machine.new ≡ begun statements.now d variable terminal parameters.first parameters.last parameters.step machine.old.cells.items machine.old.turns.items }
+    ensures cells { length machine.new.cells.items ≡ length machine.old.cells.items }
+    ensures turns { length machine.new.turns.items ≡ length machine.old.turns.items }
+{
+    let Parameters { first, last, step } = parameters;
+    if step == 0 {
+        return Err(Fault::ZeroStep);
+    }
+    store(&mut machine.cells, variable, Value::Number(first));
+    let passes = trip_count(first, last, step);
+    Ok(pass_at(statements, terminal, d, Turn { passes, step }, machine))
+}
+
+/// Increments the DO `d`, which has this left.
+fn increment(
+    statements: &[Resolved],
+    d: usize,
+    variable: usize,
+    terminal: usize,
+    turn: Turn,
+    machine: &mut Machine,
+) -> Result<Control, Fault>
+    requires statements { all_within (length machine.old.cells.items) (length machine.old.turns.items) statements.now ≡ true }
+    requires terminal { terminal < length statements.now }
+    requires variable { variable < length machine.old.cells.items }
+    requires within { d < length machine.old.turns.items }
+    requires number { d + 1 < 2 ^ 64 }
+    ensures moved { (first last step : Number) → move_of result machine.new ≡ incremented statements.now d (Loop variable first last step terminal) turn machine.old.cells.items machine.old.turns.items }
+    ensures cells { length machine.new.cells.items ≡ length machine.old.cells.items }
+    ensures turns { length machine.new.turns.items ≡ length machine.old.turns.items }
+{
+    let value = held_number(&machine.cells, variable)?;
+    let next = sum(value, turn.step)?;
+    store(&mut machine.cells, variable, Value::Number(next));
+    let left = Turn {
+        passes: turn.passes.saturating_sub(1),
+        step: turn.step,
+    };
+    Ok(pass_at(statements, terminal, d, left, machine))
+}
+
+/// Executes the statement `i`, or the statement in a logical IF of its own.
+pub(crate) fn execute(
+    statements: &[Resolved],
+    i: usize,
+    resolved: &Resolved,
+    action: &Action,
+    machine: &mut Machine,
+) -> Result<Control, Fault>
+    requires number { i + 1 < 2 ^ 64 }
+    requires executed { is_executed action.now ≡ true }
+    requires action { action_within (length machine.old.cells.items) (length machine.old.turns.items) action.now ≡ true }
+    requires ends { are_below (length machine.old.turns.items) resolved.now.ends.items ≡ true }
+    requires statements { all_within (length machine.old.cells.items) (length machine.old.turns.items) statements.now ≡ true }
+    requires long { length statements.now ≡ length machine.old.turns.items }
+    requires within { i < length statements.now }
+    ensures moved { move_of result machine.new ≡ acted statements.now i resolved.now action.now machine.old.cells.items machine.old.turns.items }
+    ensures cells { length machine.new.cells.items ≡ length machine.old.cells.items }
+    ensures turns { length machine.new.turns.items ≡ length machine.old.turns.items }
+{
+    match action {
+        Action::Declaration => unreachable!(),
+        Action::AssignNumber(element, value) => assign_number(resolved, element, value, machine),
+        Action::AssignTruth(element, value) => assign_truth(resolved, element, value, machine),
+        Action::Goto(target) => Ok(jump(target, machine)),
+        Action::ArithmeticIf {
+            value,
+            negative,
+            zero,
+            positive,
+        } => jump_by_sign(value, negative, zero, positive, machine),
+        Action::LogicalIf { condition, action } => {
+            if truth(condition, &machine.cells)? {
+                return execute(statements, i, resolved, action, machine);
+            }
+            Ok(go_on(resolved, machine))
+        }
+        Action::Branch {
+            condition,
+            otherwise,
+        } => branch(resolved, condition, *otherwise, machine),
+        Action::Continue => Ok(go_on(resolved, machine)),
+        Action::Loop {
+            variable,
+            first,
+            last,
+            step,
+            terminal,
+        } => {
+            let parameters = Parameters::of(first, last, step, &machine.cells)?;
+            begin(statements, i, *variable, *terminal, parameters, machine)
+        }
+        Action::Return => Ok(Control::Returns),
+        Action::Stop => Ok(Control::Stops),
+        Action::Trap => Err(Fault::Trapped),
+    }
+}
+
+/// One step.
+#[tactic(auto, using(crate::proofs::Steps::executed_within, crate::proofs::Steps::incremented_within))]
+pub(crate) fn step(statements: &[Resolved], machine: &mut Machine) -> Result<Control, Fault>
+    requires statements { all_within (length machine.old.cells.items) (length machine.old.turns.items) statements.now ≡ true }
+    requires long { length statements.now ≡ length machine.old.turns.items }
+    requires short { length statements.now < 2 ^ 32 }
+    requires moves { IsSome (moved statements.now (state_of machine.old)) }
+    ensures moved { moved statements.now (state_of machine.old) ≡ Some (move_of result machine.new) }
+    ensures cells { length machine.new.cells.items ≡ length machine.old.cells.items }
+    ensures turns { length machine.new.turns.items ≡ length machine.old.turns.items }
+{
+    match machine.place {
+        Place::Execute(i) => {
+            let resolved = &statements[i];
+            execute(statements, i, resolved, &resolved.action, machine)
+        }
+        Place::Increment(d) => {
+            let Action::Loop {
+                variable,
+                terminal,
+                ..
+            } = &statements[d].action
+            else {
+                unreachable!()
+            };
+            let Some(turn) = machine.turns[d] else {
+                unreachable!()
+            };
+            increment(statements, d, *variable, *terminal, turn, machine)
+        }
+    }
+}

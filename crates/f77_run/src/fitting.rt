@@ -1,0 +1,60 @@
+//! Which arguments fit dummy arguments.
+
+ghost use Rattle.std.specs.Prelude.{◌≡◌, ℕ, ◌+◌, ◌==◌, false, length, Some, Err, IfOk, IfSome, IfErr};
+ghost use Rattle.f77_run.specs.Interpreter as run;
+ghost use Rattle.f77_run.specs.Interpreter.{AreFitting, first_misfit, is_count, refusal};
+ghost use Rattle.f77_run.specs.declared.outcome.RunFault.TheVariants as fault;
+
+use crate::argument::Arg;
+use crate::outcome::RunFault;
+use f77_check::Shape;
+use f77_syntax::Kind;
+
+fn has_count(elements: Option<u32>, count: usize) -> bool
+    ensures { result ≡ is_count elements count }
+{
+    elements.is_some_and(|elements| elements as usize == count)
+}
+
+fn has_shape(shape: &Shape, argument: &Arg) -> bool
+    ensures { result ≡ run.has_shape shape.now argument.now }
+{
+    match argument {
+        Arg::Int(_) => matches!(shape.kind, Kind::Integer) && shape.elements.is_none(),
+        Arg::Truth(_) => matches!(shape.kind, Kind::Logical) && shape.elements.is_none(),
+        Arg::Ints(numbers) => {
+            matches!(shape.kind, Kind::Integer)
+                && has_count(shape.elements, numbers.as_slice().len())
+        }
+        Arg::Truths(truths) => {
+            matches!(shape.kind, Kind::Logical)
+                && has_count(shape.elements, truths.as_slice().len())
+        }
+    }
+}
+
+/// The number from 0 of the first argument that has not its shape.
+pub(crate) fn misfit(shapes: &[Shape], arguments: &[Arg]) -> Option<usize>
+    ensures { result ≡ first_misfit shapes.now arguments.now }
+{
+    shapes
+        .iter()
+        .zip(arguments)
+        .position(|(shape, argument)| !has_shape(shape, argument))
+}
+
+/// Tells arguments that do not fit: N2 before N3.
+#[tactic(auto, using(crate::proofs::Misfits::misfit_within))]
+pub(crate) fn fit(shapes: &[Shape], arguments: &[Arg]) -> Result<(), RunFault>
+    ensures fitting { IfOk result (λ _. AreFitting shapes.now arguments.now) }
+    ensures refused { IfSome (refusal shapes.now arguments.now) (λ e. result ≡ Err e) }
+    ensures fault { IfErr result (λ e. refusal shapes.now arguments.now ≡ Some e) }
+{
+    if arguments.len() != shapes.len() {
+        return Err(RunFault::ArgumentCount);
+    }
+    match misfit(shapes, arguments) {
+        Some(index) => Err(RunFault::ArgumentShape(index + 1)),
+        None => Ok(()),
+    }
+}

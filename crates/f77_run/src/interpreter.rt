@@ -1,0 +1,156 @@
+//! Runs of checked programs.
+
+ghost use Rattle.std.specs.Prelude.{◌≡◌, ◌⊎◌, map, option_map, replicate, Some, None, Err, IfOk, IfErr, IfSome};
+ghost use Rattle.f77_syntax.specs.Parsing.{line_of};
+ghost use Rattle.f77_run.specs.Interpreter as meaning;
+ghost use Rattle.f77_run.specs.Interpreter.{AreFitting, AreArguments, IsOutcomeOf, Tells, refusal, values_in};
+ghost use Rattle.f77_run.specs.Running.{Site, IsRunning, config_at};
+ghost use Rattle.f77_run.specs.Site.{site_of, held, HoldsDummies};
+ghost use Rattle.f77_run.specs.Start.{IsStart, constant_value};
+ghost use Rattle.f77_run.specs.declared.outcome.RunFault.TheVariants as fault;
+
+use crate::argument::Arg;
+use crate::finish::{Fault, Finish};
+use crate::fitting::fit;
+use crate::machine::{Machine, Place, Turn};
+use crate::outcome::{Outcome, RunFault};
+use crate::passing::{arguments as held_arguments, fill_all};
+use crate::running::go;
+use crate::value::Value;
+use crate::values::Values;
+use f77_check::Checked;
+use f77_syntax::Constant;
+use std::alloc::Global;
+
+fn value(constant: Option<Constant>) -> Option<Value>
+    ensures { result ≡ option_map constant_value constant }
+{
+    match constant {
+        Some(Constant::Number(number)) => Some(Value::Number(number)),
+        Some(Constant::Truth(truth)) => Some(Value::Truth(truth)),
+        None => None,
+    }
+}
+
+/// What DATA gives each slot.
+fn initial(alloc: Global, constants: &[Option<Constant>]) -> Result<Vec<Option<Value>>, RunFault>
+    ensures cells { IfOk result (λ cells. cells.items ≡ map (option_map constant_value) constants.now) }
+    ensures memory { IfErr result (λ e. e ≡ fault.Memory) }
+{
+    let mut cells = Vec::with_capacity(alloc, constants.len())?;
+    for constant in constants {
+        cells.push(value(*constant))?;
+    }
+    Ok(cells)
+}
+
+/// The outcome of a run that failed.
+fn told(fault: Fault) -> Outcome
+    ensures { result ≡ meaning.told fault }
+{
+    match fault {
+        Fault::Overflow => Outcome::Overflow,
+        Fault::DivideByZero => Outcome::DivideByZero,
+        Fault::ZeroPower => Outcome::ZeroPower,
+        Fault::BadSubscript => Outcome::BadSubscript,
+        Fault::ZeroStep => Outcome::ZeroStep,
+        Fault::Undefined => Outcome::Undefined,
+        Fault::Trapped => Outcome::Trapped,
+    }
+}
+
+/// So many DOs, none of them active.
+fn no_turns(alloc: Global, count: usize) -> Result<Vec<Option<Turn>>, RunFault>
+    ensures turns { IfOk result (λ turns. turns.items ≡ replicate count None) }
+    ensures memory { IfErr result (λ e. e ≡ fault.Memory) }
+{
+    Ok(vec![in alloc; None; count]?)
+}
+
+/// A machine at the start of a run.
+fn begin(alloc: Global, checked: &Checked, arguments: &[Arg]) -> Result<Machine, RunFault>
+    requires { AreFitting checked.now.arguments arguments.now }
+    ensures running { IfOk result (λ machine. IsRunning (site_of checked.now arguments.now) checked.now.statements machine) }
+    ensures starts { IfOk result (λ machine. IsStart (map line_of checked.now.program) (map values_in arguments.now) (config_at (site_of checked.now arguments.now) machine)) }
+    ensures memory { IfErr result (λ e. e ≡ fault.Memory) }
+{
+    let start = checked.start();
+    let mut cells = initial(alloc, &start.initial)?;
+    fill_all(&mut cells, &start.dummies, arguments);
+    let turns = no_turns(alloc, checked.count())?;
+    Ok(Machine {
+        place: Place::Execute(start.entry),
+        cells,
+        turns,
+    })
+}
+
+/// What the dummy arguments hold.
+fn dummies(alloc: Global, checked: &Checked, machine: &Machine) -> Result<Values<Arg>, RunFault>
+    requires { HoldsDummies checked.now machine.now }
+    ensures arguments { IfOk result (λ arguments. AreArguments (map line_of checked.now.program) (held checked.now machine.now.cells.items) arguments) }
+    ensures memory { IfErr result (λ e. e ≡ fault.Memory) }
+{
+    held_arguments(
+        alloc,
+        checked.arguments(),
+        &checked.start().dummies,
+        &machine.cells,
+    )
+}
+
+/// What is told of an end.
+fn answer(
+    alloc: Global,
+    checked: &Checked,
+    finish: Finish,
+    machine: &Machine,
+) -> Result<Outcome, RunFault>
+    requires { HoldsDummies checked.now machine.now }
+    ensures tells { IfOk result (λ outcome. Tells (map line_of checked.now.program) finish (held checked.now machine.now.cells.items) outcome) }
+    ensures memory { IfErr result (λ e. e ≡ fault.Memory) }
+{
+    match finish {
+        Finish::Returned => Ok(Outcome::Returned(dummies(alloc, checked, machine)?)),
+        Finish::Stopped => Ok(Outcome::Stopped(dummies(alloc, checked, machine)?)),
+        Finish::Failed(fault) => Ok(told(fault)),
+        Finish::StepLimit => Ok(Outcome::StepLimit),
+    }
+}
+
+/// The outcome of a run with arguments that fit.
+fn outcome(
+    alloc: Global,
+    checked: &Checked,
+    arguments: &[Arg],
+    steps: u32,
+) -> Result<Outcome, RunFault>
+    ghost at: { Site }
+    requires site { at ≡ site_of checked.now arguments.now }
+    requires fitting { AreFitting checked.now.arguments arguments.now }
+    ensures outcome { IfOk result (λ outcome. IsOutcomeOf (map line_of checked.now.program) arguments.now steps outcome) }
+    ensures memory { IfErr result (λ e. e ≡ fault.Memory) }
+{
+    let mut machine = begin(alloc, checked, arguments)?;
+    let finish = go(checked.statements(), &mut machine, steps);
+    answer(alloc, checked, finish, &machine)
+}
+
+/// Runs a program with these values of its dummy arguments, in order, for so many steps at most: its outcome.
+///
+/// N2 and N3 are told before any step, and want of memory, N1, in place of any outcome.
+pub fn run(
+    alloc: Global,
+    checked: &Checked,
+    arguments: &[Arg],
+    steps: u32,
+) -> Result<Outcome, RunFault>
+    ensures outcome { IfOk result (λ outcome. IsOutcomeOf (map line_of checked.now.program) arguments.now steps outcome) }
+    ensures refused { IfSome (refusal checked.now.arguments arguments.now) (λ e. result ≡ Err e) }
+    ensures fault { IfErr result (λ e. (e ≡ fault.Memory) ⊎ (refusal checked.now.arguments arguments.now ≡ Some e)) }
+{
+    match fit(checked.arguments(), arguments) {
+        Ok(()) => outcome(alloc, checked, arguments, steps),
+        Err(fault) => Err(fault),
+    }
+}

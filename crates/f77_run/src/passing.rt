@@ -1,0 +1,152 @@
+//! How arguments are put into the slots of dummy arguments, and taken from them.
+
+ghost use Rattle.std.specs.Prelude.{◌≡◌, ◌+◌, ◌≤◌, true, length, map, Some, IfOk, IfErr};
+ghost use Rattle.std.specs.List.{list_all};
+ghost use Rattle.f77_syntax.specs.declared.tree.Kind.TheVariants as kind;
+ghost use Rattle.f77_run.specs.Interpreter.{AreFitting, has_shape, values_in};
+ghost use Rattle.f77_run.specs.Spans.{AllHold, AreWithin, HaveRoom, all_filled, filled, size_of, span};
+ghost use Rattle.f77_check.specs.Start.{pairs};
+ghost use Rattle.f77_run.specs.Typed.{HasValues, has_kind};
+ghost use Rattle.f77_run.specs.declared.outcome.RunFault.TheVariants as fault;
+ghost use Rattle.f77_run.specs.declared.value.Value.TheVariants as held;
+
+use crate::argument::Arg;
+use crate::outcome::RunFault;
+use crate::value::Value;
+use crate::values::Values;
+use f77_check::Shape;
+use f77_syntax::Kind;
+use std::alloc::Global;
+
+fn fill_numbers(cells: &mut Vec<Option<Value>>, first: usize, numbers: &[i32])
+    requires { first + length numbers.now ≤ length cells.old.items }
+    ensures { cells.new.items ≡ filled cells.old.items first (map (λ z. held.Number z) numbers.now) }
+{
+    for (offset, number) in numbers.iter().enumerate() {
+        cells[first + offset] = Some(Value::Number(*number));
+    }
+}
+
+fn fill_truths(cells: &mut Vec<Option<Value>>, first: usize, truths: &[bool])
+    requires { first + length truths.now ≤ length cells.old.items }
+    ensures { cells.new.items ≡ filled cells.old.items first (map (λ b. held.Truth b) truths.now) }
+{
+    for (offset, truth) in truths.iter().enumerate() {
+        cells[first + offset] = Some(Value::Truth(*truth));
+    }
+}
+
+/// Puts an argument into the slots from `first` on.
+pub(crate) fn fill(cells: &mut Vec<Option<Value>>, first: usize, argument: &Arg)
+    requires { first + length (values_in argument.now) ≤ length cells.old.items }
+    ensures { cells.new.items ≡ filled cells.old.items first (values_in argument.now) }
+{
+    match argument {
+        Arg::Int(number) => cells[first] = Some(Value::Number(*number)),
+        Arg::Truth(truth) => cells[first] = Some(Value::Truth(*truth)),
+        Arg::Ints(numbers) => fill_numbers(cells, first, numbers.as_slice()),
+        Arg::Truths(truths) => fill_truths(cells, first, truths.as_slice()),
+    }
+}
+
+/// Puts each argument into the slots of its dummy argument.
+pub(crate) fn fill_all(cells: &mut Vec<Option<Value>>, dummies: &[usize], arguments: &[Arg])
+    requires { HaveRoom (length cells.old.items) (pairs dummies.now arguments.now) }
+    ensures { cells.new.items ≡ all_filled cells.old.items (pairs dummies.now arguments.now) }
+{
+    for (first, argument) in dummies.iter().zip(arguments) {
+        fill(cells, *first, argument);
+    }
+}
+
+fn number(cell: Option<Value>) -> i32
+    requires { has_kind kind.Integer cell ≡ true }
+    ensures { Some (held.Number result) ≡ cell }
+{
+    match cell {
+        Some(Value::Number(number)) => number,
+        Some(Value::Truth(_)) | None => unreachable!(),
+    }
+}
+
+fn truth(cell: Option<Value>) -> bool
+    requires { has_kind kind.Logical cell ≡ true }
+    ensures { Some (held.Truth result) ≡ cell }
+{
+    match cell {
+        Some(Value::Truth(truth)) => truth,
+        Some(Value::Number(_)) | None => unreachable!(),
+    }
+}
+
+fn numbers(alloc: Global, cells: &[Option<Value>]) -> Result<Vec<i32>, RunFault>
+    requires { list_all (has_kind kind.Integer) cells.now ≡ true }
+    ensures values { IfOk result (λ numbers. map (λ z. Some (held.Number z)) numbers.items ≡ cells.now) }
+    ensures memory { IfErr result (λ e. e ≡ fault.Memory) }
+{
+    let mut numbers = Vec::with_capacity(alloc, cells.len())?;
+    for cell in cells {
+        numbers.push(number(*cell))?;
+    }
+    Ok(numbers)
+}
+
+fn truths(alloc: Global, cells: &[Option<Value>]) -> Result<Vec<bool>, RunFault>
+    requires { list_all (has_kind kind.Logical) cells.now ≡ true }
+    ensures values { IfOk result (λ truths. map (λ b. Some (held.Truth b)) truths.items ≡ cells.now) }
+    ensures memory { IfErr result (λ e. e ≡ fault.Memory) }
+{
+    let mut truths = Vec::with_capacity(alloc, cells.len())?;
+    for cell in cells {
+        truths.push(truth(*cell))?;
+    }
+    Ok(truths)
+}
+
+/// What a dummy argument of this shape holds.
+pub(crate) fn argument(
+    alloc: Global,
+    shape: &Shape,
+    first: usize,
+    cells: &[Option<Value>],
+) -> Result<Arg, RunFault>
+    requires within { first + size_of shape.now ≤ length cells.now }
+    requires holds { HasValues shape.now.kind (size_of shape.now) (span first (size_of shape.now) cells.now) }
+    ensures shape { IfOk result (λ argument. has_shape shape.now argument ≡ true) }
+    ensures values { IfOk result (λ argument. map (λ v. Some v) (values_in argument) ≡ span first (size_of shape.now) cells.now) }
+    ensures memory { IfErr result (λ e. e ≡ fault.Memory) }
+{
+    match (shape.kind, shape.elements) {
+        (Kind::Integer, None) => Ok(Arg::Int(number(cells[first]))),
+        (Kind::Logical, None) => Ok(Arg::Truth(truth(cells[first]))),
+        (Kind::Integer, Some(count)) => {
+            let numbers = numbers(alloc, &cells[first..first + count as usize])?;
+            Ok(Arg::Ints(Values::new(numbers)))
+        }
+        (Kind::Logical, Some(count)) => {
+            let truths = truths(alloc, &cells[first..first + count as usize])?;
+            Ok(Arg::Truths(Values::new(truths)))
+        }
+    }
+}
+
+/// What all dummy arguments hold, in order.
+pub(crate) fn arguments(
+    alloc: Global,
+    shapes: &[Shape],
+    dummies: &[usize],
+    cells: &[Option<Value>],
+) -> Result<Values<Arg>, RunFault>
+    requires long { length dummies.now ≡ length shapes.now }
+    requires within { AreWithin (length cells.now) (pairs shapes.now dummies.now) }
+    requires hold { AllHold cells.now (pairs shapes.now dummies.now) }
+    ensures fitting { IfOk result (λ arguments. AreFitting shapes.now arguments) }
+    ensures values { IfOk result (λ arguments. map (λ argument. map (λ v. Some v) (values_in argument)) arguments ≡ map (λ pair. span pair.1 (size_of pair.0) cells.now) (pairs shapes.now dummies.now)) }
+    ensures memory { IfErr result (λ e. e ≡ fault.Memory) }
+{
+    let mut arguments = Vec::new(alloc);
+    for (shape, first) in shapes.iter().zip(dummies) {
+        arguments.push(argument(alloc, shape, *first, cells)?)?;
+    }
+    Ok(Values::new(arguments))
+}
