@@ -1,4 +1,11 @@
 mod Commands
+mod Getters
+mod Suites
 mod Sources
 mod Answered
+mod OptionRows
+mod Accepted
+mod OneProgram
+mod OneExecution
 mod OneAnswer
+mod Executions

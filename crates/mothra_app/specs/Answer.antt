@@ -2,6 +2,7 @@
 use Rattle.std.specs.Prelude.{◌≡◌, ◌≢◌, ◌⊎◌, ℕ, List, Result, Ok, Err}
 use Rattle.clap.specs.declared.error.kind.ErrorKind.{ErrorKind}
 use Rattle.clap.specs.declared.error.kind.ErrorKind.TheVariants as kind
+use Rattle.mothra_app.specs.Executing.{IsExecuted}
 use Rattle.mothra_app.specs.Fault.{IsMemory}
 use Rattle.mothra_app.specs.Job.{JobRead}
 use Rattle.mothra_app.specs.Line.{line_of}
@@ -9,7 +10,7 @@ use Rattle.mothra_app.specs.Printing.{IsPrinted}
 use Rattle.mothra_app.specs.declared.fault.Fault.{Fault}
 use Rattle.mothra_app.specs.declared.fault.Fault.TheVariants.{Job}
 use Rattle.mothra_app.specs.declared.request.Request.{Request}
-use Rattle.mothra_app.specs.declared.request.Request.TheVariants.{Print}
+use Rattle.mothra_app.specs.declared.request.Request.TheVariants.{Print, Exec}
 use Rattle.mothra_app.specs.declared.status.Status.{Status}
 use Rattle.mothra_app.specs.declared.status.Status.TheVariants as status
 
@@ -21,12 +22,13 @@ Outcome = Result (List ℕ) Fault
 abbrev pub IsOutcome : Request → JobRead → Outcome → Type 0
 IsOutcome request (Err fault) outcome = outcome ≡ Err (Job fault)
 IsOutcome Print (Ok job) outcome = IsPrinted job.source outcome
+IsOutcome (Exec test steps) (Ok job) outcome = IsExecuted job test steps outcome
 
 -- the line of the first fault
 abbrev pub IsFaultLine : Request → JobRead → List ℕ → Type 0
 IsFaultLine request read text = (fault : Fault) × IsOutcome request read (Err fault) × (text ≡ line_of fault)
 
--- the line of want of memory: that of J1, F1 or S1
+-- the line of want of memory: that of J1, F1, S1, C1 or N1
 abbrev pub IsMemoryLine : List ℕ → Type 0
 IsMemoryLine text = (fault : Fault) × IsMemory fault × (text ≡ line_of fault)
 

@@ -1,10 +1,30 @@
 -- The command line of the program: `mothra` with one level of subcommands.
-use Rattle.std.specs.Prelude.{true, [], codes}
-use Rattle.clap.specs.Words.{App, Shape, with_subcommand}
+use Rattle.std.specs.Prelude.{true, Some, [], ◌∷◌, codes}
+use Rattle.clap.specs.Words.{App, Rule, Shape, new_rule, with_subcommand}
 use Rattle.clap.specs.Simple.{new_shape}
+use Rattle.clap.specs.declared.builder.value_parser.ValueParser.TheVariants.{Unsigned}
 
 abbrev pub print_shape : Shape
 print_shape = new_shape (codes "print")
+
+-- `--test`: the number of a test, which has to be given
+abbrev pub test_rule : Rule
+test_rule = record (new_rule (codes "test")) {
+  long = Some (codes "test");
+  required = true;
+  parser = Some (Unsigned 1 256);
+}
+
+-- `--steps`: the limit on steps, 10000 where it is not given
+abbrev pub steps_rule : Rule
+steps_rule = record (new_rule (codes "steps")) {
+  long = Some (codes "steps");
+  parser = Some (Unsigned 1 1000000);
+  defaults = codes "10000" ∷ [];
+}
+
+abbrev pub exec_shape : Shape
+exec_shape = record (new_shape (codes "exec")) { rules = test_rule ∷ steps_rule ∷ [] }
 
 -- a subcommand is needed, and `help` is none
 abbrev pub bare : App
@@ -14,4 +34,4 @@ bare = record {
 }
 
 unfoldable pub mothra : App
-mothra = with_subcommand bare print_shape
+mothra = with_subcommand (with_subcommand bare print_shape) exec_shape

@@ -3,11 +3,14 @@ pub mod Input
 pub mod Output
 pub mod Command
 pub mod Request
+pub mod Suite
 pub mod Job
 pub mod Fault
 pub mod Line
 pub mod Program
 pub mod Printing
+pub mod OutcomeLine
+pub mod Executing
 pub mod Status
 pub mod Answer
 pub mod Serving

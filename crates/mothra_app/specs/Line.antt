@@ -6,8 +6,12 @@ use Rattle.f77_source.specs.declared.fault.FormFault.{FormFault}
 use Rattle.f77_source.specs.declared.fault.FormFault.TheVariants as form
 use Rattle.f77_syntax.specs.declared.fault.SyntaxFault.{SyntaxFault}
 use Rattle.f77_syntax.specs.declared.fault.SyntaxFault.TheVariants as syntax
+use Rattle.f77_check.specs.declared.fault.CheckFault.{CheckFault}
+use Rattle.f77_check.specs.declared.fault.CheckFault.TheVariants as check
+use Rattle.f77_run.specs.declared.outcome.RunFault.{RunFault}
+use Rattle.f77_run.specs.declared.outcome.RunFault.TheVariants as run
 use Rattle.mothra_app.specs.declared.fault.Fault.{Fault}
-use Rattle.mothra_app.specs.declared.fault.Fault.TheVariants.{Job, Form, Syntax}
+use Rattle.mothra_app.specs.declared.fault.Fault.TheVariants.{Job, Form, Syntax, Check, Run}
 use Rattle.mothra_app.specs.declared.job.JobFault.{JobFault}
 use Rattle.mothra_app.specs.declared.job.JobFault.TheVariants as job
 
@@ -31,7 +35,10 @@ abbrev pub job_line : JobFault → List ℕ
 job_line job.Memory = plain_line (codes "J1")
 job_line job.NotJson = plain_line (codes "J2")
 job_line (job.Key name) = named_line (codes "J3") name
+job_line (job.Suite test) = numbered_line (codes "J4") test
+job_line job.TooManyTests = plain_line (codes "J6")
 job_line job.TooLarge = plain_line (codes "J7")
+job_line (job.NoTest test) = numbered_line (codes "J8") test
 
 abbrev pub form_line : FormFault → List ℕ
 form_line form.Memory = plain_line (codes "F1")
@@ -53,7 +60,30 @@ syntax_line syntax.NoSubroutine = plain_line (codes "S7")
 syntax_line syntax.NoEnd = plain_line (codes "S8")
 syntax_line (syntax.AfterEnd line) = numbered_line (codes "S9") line
 
+abbrev pub check_line : CheckFault → List ℕ
+check_line check.Memory = plain_line (codes "C1")
+check_line (check.RealName name) = named_line (codes "C2") name
+check_line (check.Twice name) = named_line (codes "C3") name
+check_line (check.TypeClash line) = numbered_line (codes "C4") line
+check_line (check.Dimensions line) = numbered_line (codes "C5") line
+check_line (check.DoubleLabel label) = numbered_line (codes "C6") label
+check_line (check.NoLabel line) = numbered_line (codes "C7") line
+check_line (check.BadTarget line) = numbered_line (codes "C8") line
+check_line (check.IntoBlock line) = numbered_line (codes "C9") line
+check_line (check.BadTerminal line) = numbered_line (codes "C10") line
+check_line (check.Nesting line) = numbered_line (codes "C11") line
+check_line (check.DoVariable line) = numbered_line (codes "C12") line
+check_line (check.BadData line) = numbered_line (codes "C13") line
+check_line check.TooMany = plain_line (codes "C14")
+
+abbrev pub run_line : RunFault → List ℕ
+run_line run.Memory = plain_line (codes "N1")
+run_line run.ArgumentCount = plain_line (codes "N2")
+run_line (run.ArgumentShape argument) = numbered_line (codes "N3") argument
+
 unfoldable pub line_of : Fault → List ℕ
 line_of (Job fault) = job_line fault
 line_of (Form fault) = form_line fault
 line_of (Syntax fault) = syntax_line fault
+line_of (Check fault) = check_line fault
+line_of (Run fault) = run_line fault

@@ -6,6 +6,7 @@ ghost use Rattle.mothra_app.specs.Answer.{IsOutcome, IsAnswer, IsRefusal};
 ghost use Rattle.mothra_app.specs.Fault.{IsMemory};
 ghost use Rattle.mothra_app.specs.Job.{job_of};
 
+use crate::executing::execute;
 use crate::fault::Fault;
 use crate::job::read_job;
 use crate::line::line_of;
@@ -32,6 +33,7 @@ fn outcome_of(alloc: Global, request: Request, bytes: &[u8]) -> Result<String, F
     let job = read_job(alloc, bytes)?;
     match request {
         Request::Print => print_source(alloc, job.source()),
+        Request::Exec { test, steps } => execute(alloc, &job, test, steps),
     }
 }
 

@@ -4,6 +4,8 @@ ghost use Rattle.std.specs.Prelude.{◌≡◌};
 ghost use Rattle.mothra_app.specs.declared.fault.Fault.TheVariants as fault;
 
 use crate::job::JobFault;
+use f77_check::CheckFault;
+use f77_run::RunFault;
 use f77_source::FormFault;
 use f77_syntax::SyntaxFault;
 
@@ -13,6 +15,8 @@ pub(crate) enum Fault {
     Job(JobFault),
     Form(FormFault),
     Syntax(SyntaxFault),
+    Check(CheckFault),
+    Run(RunFault),
 }
 
 impl From<JobFault> for Fault {
@@ -36,5 +40,21 @@ impl From<SyntaxFault> for Fault {
 
     fn from(fault: SyntaxFault) -> Fault {
         Fault::Syntax(fault)
+    }
+}
+
+impl From<CheckFault> for Fault {
+    ghost from_gives = { λ f e. e ≡ fault.Check f };
+
+    fn from(fault: CheckFault) -> Fault {
+        Fault::Check(fault)
+    }
+}
+
+impl From<RunFault> for Fault {
+    ghost from_gives = { λ f e. e ≡ fault.Run f };
+
+    fn from(fault: RunFault) -> Fault {
+        Fault::Run(fault)
     }
 }

@@ -4,13 +4,17 @@ ghost use Rattle.std.specs.Prelude.{◌≡◌, ◌⊎◌, ◌<◌, Err, find, le
 ghost use Rattle.std.specs.BTreeMap.{keys};
 ghost use Rattle.serde_json.specs.Errors.{IsMemory};
 ghost use Rattle.serde_json.specs.Find.{get, as_str};
-ghost use Rattle.serde_json.specs.View.{view as value_of, members_view};
+ghost use Rattle.serde_json.specs.View.{view as value_of, items_view, members_view};
 ghost use Rattle.mothra_app.specs.Job as definition;
-ghost use Rattle.mothra_app.specs.Job.{job_of, is_known};
+ghost use Rattle.mothra_app.specs.Job.{job_of, is_known, suite_items, test_at};
+ghost use Rattle.mothra_app.specs.Suite.{suite_of};
+ghost use Rattle.mothra_app.specs.declared.job.JobFault.TheVariants as fault;
 
 use crate::key::Key;
+use crate::suite::suite;
+use f77_run::{Arg, Values};
 use serde_json::{Map, Value};
-use std::alloc::Global;
+use std::alloc::{AllocError, AllocFailed, Global};
 use std::marker::Model;
 use thiserror::Error;
 
@@ -18,6 +22,7 @@ use thiserror::Error;
 #[derive(Drop)]
 pub struct Job {
     source: String,
+    suite: Values<Values<Arg>>,
 }
 
 impl Model for Job {
@@ -26,7 +31,7 @@ impl Model for Job {
 
     ghost Value = { JobFields };
 
-    ghost view = { λ j. record { source = string_bytes j.source } };
+    ghost view = { λ j. record { source = string_bytes j.source; suite = j.suite } };
 }
 
 impl Job {
@@ -35,6 +40,23 @@ impl Job {
         ensures { result.now ≡ self.now.source }
     {
         self.source.as_str()
+    }
+
+    /// The tests, at most 256, in order: each is the values of dummy arguments. It takes no memory.
+    pub fn suite(&self) -> &[Values<Arg>]
+        ensures { result.now ≡ self.now.suite }
+    {
+        self.suite.as_slice()
+    }
+
+    /// The values of the test of this number, where there is one. The first is number 1. It takes no memory.
+    pub fn test(&self, number: u32) -> Option<&[Arg]>
+        ensures { option_map (λ values. values.now) result ≡ test_at self.now.suite number }
+    {
+        if number == 0 {
+            return None;
+        }
+        Some(self.suite().get(number as usize - 1)?.as_slice())
     }
 }
 
@@ -47,20 +69,47 @@ pub enum JobFault {
     /// J2: no JSON text, or no object at its top.
     #[error("the job is no JSON object")]
     NotJson,
-    /// J3: `source` is absent or no text, or this key is unknown.
+    /// J3: `source` is absent or no text, `suite` is no list, or this key is unknown.
     #[error("a key of the job is absent, unknown or of the wrong kind")]
     Key(Key),
+    /// J4: the test of this number, from 1, is no list of numbers of the INTEGER range, truth values, and lists of
+    /// either that are not empty.
+    #[error("test {0} is no list of values of dummy arguments")]
+    Suite(usize),
+    /// J6: there are more than 256 tests.
+    #[error("the suite has more than 256 tests")]
+    TooManyTests,
     /// J7: the job has more than 1,048,576 bytes.
     #[error("the job has more than 1048576 bytes")]
     TooLarge,
+    /// J8: the suite has no test of this number.
+    #[error("the suite has no test {0}")]
+    NoTest(u32),
+}
+
+impl From<AllocError> for JobFault {
+    ghost from_gives = { λ _ e. e ≡ fault.Memory };
+
+    fn from(_error: AllocError) -> JobFault {
+        JobFault::Memory
+    }
+}
+
+impl<T: Drop> From<AllocFailed<T>> for JobFault {
+    ghost from_gives = { λ _ e. e ≡ fault.Memory };
+
+    fn from(_error: AllocFailed<T>) -> JobFault {
+        JobFault::Memory
+    }
 }
 
 const MOST_BYTES: usize = 1_048_576;
 
 /// The job that the bytes are.
 ///
-/// Of several faults the first in this order is told: J7, J2, J3 at `source`, J3 at the first unknown key by its bytes.
-/// Of a key that stands twice the last value counts.
+/// Of several faults the first in this order is told: J7, J2, J3 at `source`, J3 at `suite`, J3 at the first unknown
+/// key by its bytes, J6, J4 at the first test. J8 is of the command `exec` alone. Of a key that stands twice the last
+/// value counts, and a job without `suite` has no test.
 #[tactic(auto, unfolding(crate::specs::Job::job_of))]
 pub fn read_job(alloc: Global, bytes: &[u8]) -> Result<Job, JobFault>
     ensures job { (result ≡ job_of bytes.now) ⊎ (result ≡ Err JobFault.Memory) }
@@ -93,7 +142,7 @@ fn job_in(alloc: Global, value: &Value) -> Result<Job, JobFault>
     ensures { (result ≡ definition.job_in (value_of value.now)) ⊎ (result ≡ Err JobFault.Memory) }
 {
     match value.as_object() {
-        Some(members) => with_source(alloc, source_in(value), members),
+        Some(members) => with_source(alloc, source_in(value), suite_in(value), members),
         None => Err(JobFault::NotJson),
     }
 }
@@ -105,24 +154,50 @@ fn source_in(value: &Value) -> Option<&str>
     value.get("source")?.as_str()
 }
 
-/// The job with this source, where no key is unknown.
+/// The values of the list at the key `suite`: none where there is no such key.
+fn suite_in(value: &Value) -> Option<&[Value]>
+    ensures { option_map (λ values. items_view values.now) result ≡ suite_items (get (codes "suite") (value_of value.now)) }
+{
+    match value.get("suite") {
+        Some(suite) => Some(suite.as_array()?.as_slice()),
+        None => Some(&[]),
+    }
+}
+
+/// The job with this source and the tests that the values are.
+fn with_tests(alloc: Global, source: &str, values: &[Value]) -> Result<Job, JobFault>
+    ensures { (result ≡ definition.with_tests source.now (suite_of (items_view values.now)))
+        ⊎ (result ≡ Err JobFault.Memory) }
+{
+    match suite(alloc, values) {
+        Ok(suite) => Ok(Job {
+            source: String::from_str(alloc, source)?,
+            suite,
+        }),
+        Err(fault) => Err(fault),
+    }
+}
+
+/// The job with this source and these tests, where no key is unknown.
 fn with_source(
     alloc: Global,
     source: Option<&str>,
+    suite: Option<&[Value]>,
     members: &Map<String, Value>,
 ) -> Result<Job, JobFault>
-    ensures { (result ≡ definition.with_source (option_map (λ s. s.now) source.entry) (members_view members.now.entries))
+    ensures { (result ≡ definition.with_source (option_map (λ s. s.now) source.entry)
+        (option_map (λ values. items_view values.now) suite.entry) (members_view members.now.entries))
         ⊎ (result ≡ Err JobFault.Memory) }
 {
     let Some(source) = source else {
         return Err(key_fault(alloc, "source"));
     };
-    if let Some(key) = unknown_key(members) {
-        return Err(key_fault(alloc, key.as_str()));
-    }
-    match String::from_str(alloc, source) {
-        Ok(source) => Ok(Job { source }),
-        Err(_) => Err(JobFault::Memory),
+    let Some(values) = suite else {
+        return Err(key_fault(alloc, "suite"));
+    };
+    match unknown_key(members) {
+        Some(key) => Err(key_fault(alloc, key.as_str())),
+        None => with_tests(alloc, source, values),
     }
 }
 
@@ -130,7 +205,9 @@ fn with_source(
 fn unknown_key(members: &Map<String, Value>) -> Option<&String>
     ensures { option_map (λ s. s.now) result ≡ find (λ k. not (is_known (string_bytes k))) (keys members.now) }
 {
-    members.keys().find(|key| key.as_str() != "source")
+    members
+        .keys()
+        .find(|key| key.as_str() != "source" && key.as_str() != "suite")
 }
 
 /// The fault of a key.

@@ -5,6 +5,7 @@ ghost use Rattle.clap.specs.Words.{Text};
 ghost use Rattle.mothra_app.specs.Serving.{IsServed};
 ghost use Rattle.mothra_app.specs.declared.status.Status.{Status};
 
+use f77_run::law::one_outcome;
 use f77_source::law::one_reading;
 use f77_syntax::law::one_program;
 
@@ -15,4 +16,5 @@ pub fn one_answer()
 {
     one_reading();
     one_program();
+    one_outcome();
 }

@@ -3,18 +3,21 @@
 
 mod answer;
 mod command;
+mod executing;
 mod fault;
 mod input;
 mod job;
 mod key;
 pub mod law;
 mod line;
+mod outcome_line;
 mod output;
 mod printing;
 mod program;
 mod request;
 mod serving;
 mod status;
+mod suite;
 #[cfg(test)]
 mod tests;
 mod watched;

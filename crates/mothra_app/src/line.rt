@@ -5,6 +5,8 @@ ghost use Rattle.mothra_app.specs.Line as definition;
 
 use crate::fault::Fault;
 use crate::job::JobFault;
+use f77_check::CheckFault;
+use f77_run::RunFault;
 use f77_source::FormFault;
 use f77_syntax::SyntaxFault;
 use std::alloc::{AllocError, Global};
@@ -16,11 +18,18 @@ fn plain_line(alloc: Global, code: &str) -> Result<String, AllocError>
     format!(in alloc; "FAULT {code}\n")
 }
 
+/// The line of a fault with the number of a test or an argument.
+fn counted_line(alloc: Global, code: &str, number: usize) -> Result<String, AllocError>
+    ensures { IfOk result (λ s. string_bytes s ≡ definition.numbered_line code.now number) }
+{
+    format!(in alloc; "FAULT {code} {number}\n")
+}
+
 /// The line of a fault with a number.
 fn numbered_line(alloc: Global, code: &str, number: u32) -> Result<String, AllocError>
     ensures { IfOk result (λ s. string_bytes s ≡ definition.numbered_line code.now number) }
 {
-    format!(in alloc; "FAULT {code} {number}\n")
+    counted_line(alloc, code, number as usize)
 }
 
 /// The line of a fault with a name.
@@ -52,7 +61,10 @@ fn job_line(alloc: Global, fault: &JobFault) -> Result<String, AllocError>
         JobFault::Memory => plain_line(alloc, "J1"),
         JobFault::NotJson => plain_line(alloc, "J2"),
         JobFault::Key(key) => named_line(alloc, "J3", key.as_str()),
+        JobFault::Suite(test) => counted_line(alloc, "J4", *test),
+        JobFault::TooManyTests => plain_line(alloc, "J6"),
         JobFault::TooLarge => plain_line(alloc, "J7"),
+        JobFault::NoTest(test) => numbered_line(alloc, "J8", *test),
     }
 }
 
@@ -86,8 +98,39 @@ fn syntax_line(alloc: Global, fault: SyntaxFault) -> Result<String, AllocError>
     }
 }
 
-#[tactic(auto, unfolding(crate::specs::Line::line_of))]
+fn check_line(alloc: Global, fault: &CheckFault) -> Result<String, AllocError>
+    ensures { IfOk result (λ s. string_bytes s ≡ definition.check_line fault.now) }
+{
+    match fault {
+        CheckFault::Memory => plain_line(alloc, "C1"),
+        CheckFault::RealName(name) => named_line(alloc, "C2", name.as_str()),
+        CheckFault::Twice(name) => named_line(alloc, "C3", name.as_str()),
+        CheckFault::TypeClash(line) => numbered_line(alloc, "C4", *line),
+        CheckFault::Dimensions(line) => numbered_line(alloc, "C5", *line),
+        CheckFault::DoubleLabel(label) => numbered_line(alloc, "C6", *label),
+        CheckFault::NoLabel(line) => numbered_line(alloc, "C7", *line),
+        CheckFault::BadTarget(line) => numbered_line(alloc, "C8", *line),
+        CheckFault::IntoBlock(line) => numbered_line(alloc, "C9", *line),
+        CheckFault::BadTerminal(line) => numbered_line(alloc, "C10", *line),
+        CheckFault::Nesting(line) => numbered_line(alloc, "C11", *line),
+        CheckFault::DoVariable(line) => numbered_line(alloc, "C12", *line),
+        CheckFault::BadData(line) => numbered_line(alloc, "C13", *line),
+        CheckFault::TooMany => plain_line(alloc, "C14"),
+    }
+}
+
+fn run_line(alloc: Global, fault: RunFault) -> Result<String, AllocError>
+    ensures { IfOk result (λ s. string_bytes s ≡ definition.run_line fault) }
+{
+    match fault {
+        RunFault::Memory => plain_line(alloc, "N1"),
+        RunFault::ArgumentCount => plain_line(alloc, "N2"),
+        RunFault::ArgumentShape(argument) => counted_line(alloc, "N3", argument),
+    }
+}
+
 /// The line that tells the fault: FAULT, its code, and its detail where it has one, ended by LF.
+#[tactic(auto, unfolding(crate::specs::Line::line_of))]
 pub(crate) fn line_of(alloc: Global, fault: &Fault) -> Result<String, AllocError>
     ensures { IfOk result (λ s. string_bytes s ≡ definition.line_of fault.now) }
 {
@@ -95,5 +138,7 @@ pub(crate) fn line_of(alloc: Global, fault: &Fault) -> Result<String, AllocError
         Fault::Job(fault) => job_line(alloc, fault),
         Fault::Form(fault) => form_line(alloc, *fault),
         Fault::Syntax(fault) => syntax_line(alloc, *fault),
+        Fault::Check(fault) => check_line(alloc, fault),
+        Fault::Run(fault) => run_line(alloc, *fault),
     }
 }

@@ -1,7 +1,7 @@
 //! What the words ask for.
 
 ghost use Rattle.std.specs.Prelude.{◌≡◌, IfOk, Some, map, option_and_then};
-ghost use Rattle.clap.specs.Words.{fault_of, subcommand_rows_of, FailsBy};
+ghost use Rattle.clap.specs.Words.{fault_of, found_of, rows_of, subcommand_rows_of, FailsBy};
 ghost use Rattle.mothra_app.specs.Command.{mothra};
 ghost use Rattle.mothra_app.specs.Request as asked;
 
@@ -14,24 +14,37 @@ use std::convert::AsStr;
 #[derive(Debug, Drop, Clone, Copy, PartialEq, Eq)]
 pub(crate) enum Request {
     Print,
+    /// The number of the test, from 1, and the limit on steps.
+    Exec { test: u32, steps: u32 },
+}
+
+/// The number that an option has.
+fn number_at(matches: &ArgMatches<'_>, name: &str) -> Option<u32>
+    ensures { result ≡ asked.number_at name.now (rows_of (found_of matches.now)) }
+{
+    matches.get_one(name)
 }
 
 /// What the subcommand of this name asks for.
-fn request_named(name: &str) -> Option<Request>
-    ensures { result ≡ asked.request_named name.now }
+fn request_named(name: &str, matches: &ArgMatches<'_>) -> Option<Request>
+    ensures { result ≡ asked.request_met (name.now, rows_of (found_of matches.now)) }
 {
-    if name == "print" {
-        return Some(Request::Print);
+    match name {
+        "print" => Some(Request::Print),
+        "exec" => Some(Request::Exec {
+            test: number_at(matches, "test")?,
+            steps: number_at(matches, "steps")?,
+        }),
+        _ => None,
     }
-    None
 }
 
 /// What the subcommand that was met asks for.
 fn request_met(matches: &ArgMatches<'_>) -> Option<Request>
     ensures { result ≡ option_and_then asked.request_met (subcommand_rows_of matches.now) }
 {
-    let (name, _) = matches.subcommand()?;
-    request_named(name)
+    let (name, options) = matches.subcommand()?;
+    request_named(name, options)
 }
 
 /// What the words ask for, or why they are refused. The first word is the program's name.

@@ -1,9 +1,10 @@
-use Rattle.std.proofs.Common.{◌≡◌, ◌⊎◌, ◌∙◌, inl, inr, sym, ap, refl, not, true, false, Bool, List, [], ◌∷◌, ℕ, Option, Some, None, String, Ok, Err, option_map, string_bytes, Global, find}
+use Rattle.std.proofs.Common.{◌≡◌, ◌⊎◌, ◌∙◌, inl, inr, sym, ap, refl, subst, not, true, false, Bool, List, [], ◌∷◌, ℕ, Option, Some, None, String, Err, option_map, string_bytes, Global, find}
 use Rattle.std.specs.Map.{keys_of}
-use Rattle.serde_json.specs.Data.{Members}
-use Rattle.serde_json.specs.View.{members_view}
+use Rattle.serde_json.specs.Data.{Items, Members}
+use Rattle.serde_json.specs.View.{items_view, members_view}
 use Rattle.serde_json.specs.declared.value.Value.{Value}
-use Rattle.mothra_app.specs.Job.{JobRead, first_unknown, is_known, with_source}
+use Rattle.mothra_app.specs.Job.{JobRead, first_unknown, is_known, with_source, with_tests}
+use Rattle.mothra_app.specs.Suite.{suite_of}
 use Rattle.mothra_app.specs.declared.job.JobFault.{JobFault}
 use Rattle.mothra_app.specs.declared.job.JobFault.TheVariants.{Memory, Key}
 use Rattle.mothra_app.proofs.job.with_source.Goals as goal
@@ -21,13 +22,13 @@ by_keys : (es : List (String Global × Value)) → first_unknown (members_view e
 by_keys [] = refl
 by_keys (e ∷ es) = first_step e es (is_known (string_bytes e.0)) refl (by_keys es)
 
-refused : (source : Option (List ℕ)) (ms : Members) (text key : List ℕ) → source ≡ Some text → first_unknown ms ≡ Some key
-    → with_source source ms ≡ Err (Key key)
-refused source ms text key is unknown = rw (is, unknown) refl
+refused : (source : Option (List ℕ)) (suite : Option Items) (ms : Members) (text key : List ℕ) (items : Items) → source ≡ Some text → suite ≡ Some items
+    → first_unknown ms ≡ Some key → with_source source suite ms ≡ Err (Key key)
+refused source suite ms text key items is are unknown = rw (is, are, unknown) refl
 
-taken : (source : Option (List ℕ)) (ms : Members) (text : List ℕ) → source ≡ Some text → first_unknown ms ≡ None
-    → with_source source ms ≡ Ok (record { source = text })
-taken source ms text is none = rw (is, none) refl
+taken : (source : Option (List ℕ)) (suite : Option Items) (ms : Members) (text : List ℕ) (items : Items) → source ≡ Some text → suite ≡ Some items
+    → first_unknown ms ≡ None → with_source source suite ms ≡ with_tests text (suite_of items)
+taken source suite ms text items is are none = rw (is, are, none) refl
 
 of_key : (fault : JobFault) (key : List ℕ) (read answer : JobRead) → answer ≡ Err fault → (fault ≡ Key key) ⊎ (fault ≡ Memory) → read ≡ Err (Key key)
     → (answer ≡ read) ⊎ (answer ≡ Err Memory)
@@ -36,11 +37,15 @@ of_key fault key read answer gives (inr is) e = inr (gives ∙ ap Err is)
 
 pub returns-in-Some-unknown_key : goal.returns-in-Some-unknown_key
 returns-in-Some-unknown_key c =
-    let unknown = by_keys c.args.members.now.entries ∙ ap (option_map string_bytes) (sym c.in-Some-unknown_key.ensures) in
-    let is = refused (option_map (λ s. s.now) c.args.source) _ c.in-Some.source.now _ (ap (option_map (λ s. s.now)) c.in-Some.is) (unknown ∙ ap Some (sym c.as_str.ensures.value)) in
-    of_key _ c.as_str.result.now _ _ refl c.key_fault-in-Some-unknown_key.ensures is
+    let text = ap (option_map (λ s. s.now)) c.in-Some.is in
+    let items = ap (option_map (λ values. items_view values.now)) c.in-Some-suite.is in
+    let unknown = by_keys c.args.members.now.entries ∙ ap (option_map string_bytes) (sym c.in-Some-unknown_key.ensures) ∙ ap Some (sym c.as_str.ensures.value) in
+    of_key _ c.as_str.result.now _ _ refl c.key_fault-in-Some-unknown_key.ensures (refused _ _ _ c.in-Some.source.now _ _ text items unknown)
 
-pub returns-in-Ok : goal.returns-in-Ok
-returns-in-Ok c =
-    let none = by_keys c.args.members.now.entries ∙ ap (option_map string_bytes) (sym c.in_default-unknown_key.ensures) in
-    inl (sym (taken (option_map (λ s. s.now) c.args.source) _ _ (ap (option_map (λ s. s.now)) c.in-Some.is ∙ ap Some (sym c.in-Ok.ensures.ok)) none))
+pub returns-in-None : goal.returns-in-None
+returns-in-None c =
+    let text = ap (option_map (λ s. s.now)) c.in-Some.is in
+    let items = ap (option_map (λ values. items_view values.now)) c.in-Some-suite.is in
+    let none = by_keys c.args.members.now.entries ∙ ap (option_map string_bytes) (sym c.in-None.ensures) in
+    let same = taken _ _ _ c.in-Some.source.now (items_view c.in-Some-suite.values.now) text items none in
+    subst (λ (r : JobRead). (c.with_tests.result ≡ r) ⊎ (c.with_tests.result ≡ Err Memory)) (sym same) c.with_tests.ensures

@@ -8,5 +8,6 @@ returns c = λ words bytes status other text also. one_answer words bytes status
   cards_or_fault = c.one_reading.ensures.either;
   one_program = c.one_program.ensures.lines;
   one_syntax_fault = c.one_program.ensures.fault;
+  one_run = c.one_outcome.ensures.answer;
   program_or_fault = c.one_program.ensures.either;
 }

@@ -4,7 +4,7 @@ use Rattle.mothra_app.proofs.request.request_of.Goals as goal
 
 pub unwrap-requires : goal.unwrap-requires
 unwrap-requires g c =
-    is_asked (map g.S.AsStr.text c.args.words.now) _ c.request_met.result c.in_ok-matches.ensures.matches c.in_ok-matches.ensures.present c.request_met.ensures
+    is_asked (map g.S.AsStr.text c.args.words.now) _ c.request_met.result c.in_ok-matches.ensures.kinds c.in_ok-matches.ensures.matches c.in_ok-matches.ensures.present c.request_met.ensures
 
 pub returns-clause-request : goal.returns-clause-request
 returns-clause-request g c =

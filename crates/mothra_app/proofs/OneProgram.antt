@@ -1,0 +1,89 @@
+-- A source has one program at most, or one fault.
+use Rattle.std.proofs.Common.{arith, ◌≡◌, ◌∙◌, ℕ, List, [], sym, ap, refl, subst, Some, None, Result, Ok, Err}
+use Rattle.std.specs.List.{slice_get}
+use Rattle.f77_source.specs.Card.{CardFields}
+use Rattle.f77_source.specs.Read as form
+use Rattle.f77_source.specs.Read.{AreCards, lines}
+use Rattle.f77_source.specs.declared.fault.FormFault.{FormFault}
+use Rattle.f77_syntax.specs.Parsing as syntax
+use Rattle.f77_syntax.specs.Parsing.{LineFields, AreLines}
+use Rattle.f77_syntax.specs.declared.fault.SyntaxFault.{SyntaxFault}
+use Rattle.f77_check.specs.Legal.{faults, first_fault}
+use Rattle.f77_check.specs.declared.fault.CheckFault.{CheckFault}
+use Rattle.f77_run.specs.Interpreter.{OneAnswer}
+use Rattle.mothra_app.specs.Executing.{IsLegalProgramOf}
+use Rattle.mothra_app.specs.Program.{IsProgramOf}
+use Rattle.mothra_app.specs.declared.fault.Fault.{Fault}
+use Rattle.mothra_app.specs.declared.fault.Fault.TheVariants.{Form, Syntax, Check}
+
+-- the laws of the crates below
+pub record Laws : Type 0 where
+  pub one_list : (source : List ℕ) (cards others : List CardFields) → AreCards 1 (lines source) cards → AreCards 1 (lines source) others → cards ≡ others
+  pub one_form_fault : (source : List ℕ) (fault other : FormFault) → form.IsFirstFault (lines source) fault → form.IsFirstFault (lines source) other → fault ≡ other
+  pub cards_or_fault : (source : List ℕ) (cards : List CardFields) (fault : FormFault) → AreCards 1 (lines source) cards → form.IsFirstFault (lines source) fault → ⊥
+  pub one_program : (cards : List CardFields) (program others : List LineFields) → AreLines None cards program → AreLines None cards others → program ≡ others
+  pub one_syntax_fault : (cards : List CardFields) (fault other : SyntaxFault) → syntax.IsFirstFault None cards fault → syntax.IsFirstFault None cards other → fault ≡ other
+  pub one_run : OneAnswer
+  pub program_or_fault : (cards : List CardFields) (program : List LineFields) (fault : SyntaxFault) → AreLines None cards program → syntax.IsFirstFault None cards fault → ⊥
+
+abbrev pub Read : Type 0
+Read = Result (List LineFields) Fault
+
+pub one_read : {source : List ℕ} {read other : Read} → Laws → IsProgramOf source read → IsProgramOf source other → read ≡ other
+one_read laws (IsProgramOf.too_large x) (IsProgramOf.too_large y) = refl
+one_read laws (IsProgramOf.too_large x) (IsProgramOf.no_cards y g) = absurd (omega arith)
+one_read laws (IsProgramOf.too_large x) (IsProgramOf.no_program y also g) = absurd (omega arith)
+one_read laws (IsProgramOf.too_large x) (IsProgramOf.program y also q) = absurd (omega arith)
+one_read laws (IsProgramOf.no_cards x f) (IsProgramOf.too_large y) = absurd (omega arith)
+one_read laws (IsProgramOf.no_cards x f) (IsProgramOf.no_cards y g) = ap (λ fault. Err (Form fault)) (laws.one_form_fault _ _ _ f g)
+one_read laws (IsProgramOf.no_cards x f) (IsProgramOf.no_program y also g) = absurd (laws.cards_or_fault _ _ _ also f)
+one_read laws (IsProgramOf.no_cards x f) (IsProgramOf.program y also q) = absurd (laws.cards_or_fault _ _ _ also f)
+one_read laws (IsProgramOf.no_program x are f) (IsProgramOf.too_large y) = absurd (omega arith)
+one_read laws (IsProgramOf.no_program x are f) (IsProgramOf.no_cards y g) = absurd (laws.cards_or_fault _ _ _ are g)
+one_read laws (IsProgramOf.no_program {fault = fault} x are f) (IsProgramOf.no_program y also g) =
+    let same = laws.one_list _ _ _ are also in
+    ap (λ z. Err (Syntax z)) (laws.one_syntax_fault _ _ _ (subst (λ cards. syntax.IsFirstFault None cards fault) same f) g)
+one_read laws (IsProgramOf.no_program {fault = fault} x are f) (IsProgramOf.program y also q) =
+    let same = laws.one_list _ _ _ are also in
+    absurd (laws.program_or_fault _ _ _ q (subst (λ cards. syntax.IsFirstFault None cards fault) same f))
+one_read laws (IsProgramOf.program x are p) (IsProgramOf.too_large y) = absurd (omega arith)
+one_read laws (IsProgramOf.program x are p) (IsProgramOf.no_cards y g) = absurd (laws.cards_or_fault _ _ _ are g)
+one_read laws (IsProgramOf.program {program = program} x are p) (IsProgramOf.no_program y also g) =
+    let same = laws.one_list _ _ _ are also in
+    absurd (laws.program_or_fault _ _ _ (subst (λ cards. AreLines None cards program) same p) g)
+one_read laws (IsProgramOf.program {program = program} x are p) (IsProgramOf.program y also q) =
+    let same = laws.one_list _ _ _ are also in
+    ap Ok (laws.one_program _ _ _ (subst (λ cards. AreLines None cards program) same p) q)
+
+pub same_fault : (f g : Fault) → (let read : Read = Err f in let other : Read = Err g in read ≡ other) → f ≡ g
+same_fault f g e = cc
+
+pub same_program : (p q : List LineFields) → (let read : Read = Ok p in let other : Read = Ok q in read ≡ other) → p ≡ q
+same_program p q e = cc
+
+pub never_both : {A : Type 0} (p : List LineFields) (f : Fault) → (let read : Read = Ok p in let other : Read = Err f in read ≡ other) → A
+never_both p f e = absurd (cc)
+
+-- a list has no first item where it is empty
+pub first_of_none : {A B : Type 0} (items : List A) (x : A) → items ≡ [] → slice_get items 0 ≡ Some x → B
+first_of_none items x none first =
+    let is : None ≡ Some x = sym (ap (λ list. slice_get list 0) none) ∙ first in absurd (cc)
+
+same_check : (f g : CheckFault) (p q : List LineFields) → p ≡ q → first_fault p ≡ Some f → first_fault q ≡ Some g → f ≡ g
+same_check f g p q same first also =
+    let some : Some f ≡ Some g = sym first ∙ ap first_fault same ∙ also in cc
+
+-- a source is one legal program at most, or has one first fault
+pub one_legal : {source : List ℕ} {read other : Read} → Laws → IsLegalProgramOf source read → IsLegalProgramOf source other → read ≡ other
+one_legal laws (IsLegalProgramOf.no_program p) (IsLegalProgramOf.no_program q) = one_read laws p q
+one_legal laws (IsLegalProgramOf.no_program p) (IsLegalProgramOf.not_legal q first) = never_both _ _ (one_read laws q p)
+one_legal laws (IsLegalProgramOf.no_program p) (IsLegalProgramOf.legal q legal) = never_both _ _ (one_read laws q p)
+one_legal laws (IsLegalProgramOf.not_legal p first) (IsLegalProgramOf.no_program q) = never_both _ _ (one_read laws p q)
+one_legal laws (IsLegalProgramOf.not_legal p first) (IsLegalProgramOf.not_legal q also) =
+    ap (λ fault. Err (Check fault)) (same_check _ _ _ _ (same_program _ _ (one_read laws p q)) first also)
+one_legal laws (IsLegalProgramOf.not_legal p first) (IsLegalProgramOf.legal q legal) =
+    first_of_none _ _ (ap faults (same_program _ _ (one_read laws p q)) ∙ legal) first
+one_legal laws (IsLegalProgramOf.legal p legal) (IsLegalProgramOf.no_program q) = never_both _ _ (one_read laws p q)
+one_legal laws (IsLegalProgramOf.legal p legal) (IsLegalProgramOf.not_legal q first) =
+    first_of_none _ _ (ap faults (same_program _ _ (one_read laws q p)) ∙ legal) first
+one_legal laws (IsLegalProgramOf.legal p legal) (IsLegalProgramOf.legal q also) = one_read laws p q

@@ -1,0 +1,30 @@
+use Rattle.std.proofs.Common.{◌≡◌, ◌⊎◌, inr, sym, subst, map, Some, Ok, Err, Result, IfSome}
+use Rattle.f77_syntax.specs.Parsing.{line_of}
+use Rattle.f77_run.specs.Interpreter.{refusal}
+use Rattle.f77_run.specs.declared.outcome.Outcome.{Outcome}
+use Rattle.f77_run.specs.declared.outcome.RunFault.{RunFault}
+use Rattle.f77_run.specs.declared.outcome.RunFault.TheVariants as fault
+use Rattle.mothra_app.specs.Fault.{IsMemory, in_run}
+use Rattle.mothra_app.specs.declared.fault.Fault.TheVariants.{Run}
+use Rattle.mothra_app.proofs.Executions.{run_refused, run_is, fits}
+use Rattle.mothra_app.proofs.Sources.{told}
+use Rattle.mothra_app.proofs.executing.run_program.Goals as goal
+
+pub returns-in_err-outcome : goal.returns-in_err-outcome
+returns-in_err-outcome c =
+    let refused = c.in_err-outcome.field-0.0 in
+    told c.from_residual.result _ _ (Run refused) c.from_residual.ensures.1
+    (run_refused (map line_of c.args.checked.now.program) c.args.arguments.now c.args.steps refused
+    (subst (λ list. (refused ≡ fault.Memory) ⊎ (refusal list c.args.arguments.now ≡ Some refused)) c.requires c.in_err-outcome.ensures.fault))
+
+pub returns-in_err-outcome_line : goal.returns-in_err-outcome_line
+returns-in_err-outcome_line c =
+    told c.from_residual-in_err-outcome_line.result _ _ (Run c.in_err-outcome_line.field-0.0) c.from_residual-in_err-outcome_line.ensures.1
+    (inr (subst (λ f. IsMemory (Run f)) (sym c.in_err-outcome_line.ensures.memory) in_run))
+
+pub returns : goal.returns
+returns c =
+    let ok : Result Outcome RunFault = Ok c.in_ok-outcome.outcome in
+    run_is (map line_of c.args.checked.now.program) c.args.arguments.now c.args.steps c.in_ok-outcome.outcome _
+    (fits _ c.in_ok-outcome.outcome (subst (λ list. IfSome (refusal list c.args.arguments.now) (λ e. ok ≡ Err e)) c.requires c.in_ok-outcome.ensures.refused))
+    c.in_ok-outcome.ensures.outcome c.in_ok-outcome_line.ensures.line

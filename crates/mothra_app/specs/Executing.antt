@@ -1,0 +1,38 @@
+-- The command `exec`: what one test of the program of a job comes to.
+use Rattle.std.specs.Prelude.{◌≡◌, ℕ, List, Some, None, Result, Ok, Err}
+use Rattle.f77_syntax.specs.Parsing.{LineFields}
+use Rattle.f77_check.specs.Checked.{shapes}
+use Rattle.f77_check.specs.Legal.{IsLegal, first_fault}
+use Rattle.f77_check.specs.declared.fault.CheckFault.{CheckFault}
+use Rattle.f77_run.specs.Interpreter.{IsOutcomeOf, refusal}
+use Rattle.f77_run.specs.declared.argument.Arg.{Arg}
+use Rattle.f77_run.specs.declared.outcome.Outcome.{Outcome}
+use Rattle.f77_run.specs.declared.outcome.RunFault.{RunFault}
+use Rattle.mothra_app.specs.Job.{JobFields, test_at}
+use Rattle.mothra_app.specs.OutcomeLine.{outcome_line}
+use Rattle.mothra_app.specs.Program.{IsProgramOf}
+use Rattle.mothra_app.specs.declared.fault.Fault.{Fault}
+use Rattle.mothra_app.specs.declared.fault.Fault.TheVariants.{Job, Check, Run}
+use Rattle.mothra_app.specs.declared.job.JobFault.TheVariants.{NoTest}
+
+-- The legal program that a source is, or its first fault.
+pub data IsLegalProgramOf (source : List ℕ) : Result (List LineFields) Fault → Type 0 where
+  no_program : {fault : Fault} → IsProgramOf source (Err fault) → IsLegalProgramOf source (Err fault)
+  not_legal : {program : List LineFields} {fault : CheckFault} → IsProgramOf source (Ok program)
+      → first_fault program ≡ Some fault → IsLegalProgramOf source (Err (Check fault))
+  legal : {program : List LineFields} → IsProgramOf source (Ok program) → IsLegal program → IsLegalProgramOf source (Ok program)
+
+-- The line of the outcome of a run with these arguments within so many steps, or why the program is not run.
+pub data IsRun (program : List LineFields) (arguments : List Arg) (steps : ℕ) : Result (List ℕ) Fault → Type 0 where
+  misfit : {fault : RunFault} → refusal (shapes program) arguments ≡ Some fault → IsRun program arguments steps (Err (Run fault))
+  outcome : {answer : Outcome} → refusal (shapes program) arguments ≡ None → IsOutcomeOf program arguments steps answer
+      → IsRun program arguments steps (Ok (outcome_line answer))
+
+-- What a test of a job comes to within so many steps. J8 comes behind the faults of the program.
+pub data IsExecuted (job : JobFields) (test steps : ℕ) : Result (List ℕ) Fault → Type 0 where
+  no_program : {fault : Fault} → IsLegalProgramOf job.source (Err fault) → IsExecuted job test steps (Err fault)
+  no_test : {program : List LineFields} → IsLegalProgramOf job.source (Ok program) → test_at job.suite test ≡ None
+      → IsExecuted job test steps (Err (Job (NoTest test)))
+  run : {program : List LineFields} {arguments : List Arg} {outcome : Result (List ℕ) Fault}
+      → IsLegalProgramOf job.source (Ok program) → test_at job.suite test ≡ Some arguments → IsRun program arguments steps outcome
+      → IsExecuted job test steps outcome

@@ -1,0 +1,40 @@
+-- The one line that tells the outcome of a run.
+use Rattle.std.specs.Prelude.{ℕ, Bool, List, [], ◌++◌, codes, flat_map, if◌then◌else◌}
+use Rattle.std.specs.Fmt.{signed_decimal}
+use Rattle.f77_syntax.specs.Joined.{separated}
+use Rattle.f77_run.specs.declared.argument.Arg.{Arg}
+use Rattle.f77_run.specs.declared.argument.Arg.TheVariants.{Int, Truth, Ints, Truths}
+use Rattle.f77_run.specs.declared.outcome.Outcome.{Outcome}
+use Rattle.f77_run.specs.declared.outcome.Outcome.TheVariants as outcome
+
+abbrev pub truth_text : Bool → List ℕ
+truth_text b = if b then codes "T" else codes "F"
+
+-- the elements of an array, joined by commas
+abbrev pub array_text : {A : Type 0} → (A → List ℕ) → List A → List ℕ
+array_text text xs = codes "(" ++ (separated text [] xs ++ codes ")")
+
+abbrev pub argument_text : Arg → List ℕ
+argument_text (Int z) = signed_decimal z
+argument_text (Truth b) = truth_text b
+argument_text (Ints zs) = array_text signed_decimal zs
+argument_text (Truths bs) = array_text truth_text bs
+
+-- each argument after one blank
+abbrev pub arguments_text : List Arg → List ℕ
+arguments_text arguments = flat_map (λ argument. codes " " ++ argument_text argument) arguments
+
+abbrev pub outcome_text : Outcome → List ℕ
+outcome_text (outcome.Returned arguments) = codes "RETURNED" ++ arguments_text arguments
+outcome_text (outcome.Stopped arguments) = codes "STOPPED" ++ arguments_text arguments
+outcome_text outcome.Overflow = codes "OVERFLOW"
+outcome_text outcome.DivideByZero = codes "DIVIDEBYZERO"
+outcome_text outcome.ZeroPower = codes "ZEROPOWER"
+outcome_text outcome.BadSubscript = codes "BADSUBSCRIPT"
+outcome_text outcome.ZeroStep = codes "ZEROSTEP"
+outcome_text outcome.Undefined = codes "UNDEFINED"
+outcome_text outcome.Trapped = codes "TRAPPED"
+outcome_text outcome.StepLimit = codes "STEPLIMIT"
+
+abbrev pub outcome_line : Outcome → List ℕ
+outcome_line answer = outcome_text answer ++ codes "\n"

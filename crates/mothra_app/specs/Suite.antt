@@ -1,0 +1,62 @@
+-- The test suite of a job: the values that each test gives to the dummy arguments.
+use Rattle.std.specs.Prelude.{ℕ, ◌+◌, ℤ, pos, negsuc, ◌&&◌, not, List, [], ◌∷◌, length, filter_map, position, Option, Some, None, Result, Ok, Err, is_some, option_map, option_and_then, int_le, nat_lt, if◌then◌else◌}
+use Rattle.std.specs.Option.{option_or}
+use Rattle.serde_json.specs.Data.{Data, Items, no_items, item}
+use Rattle.serde_json.specs.Find.{as_array, as_bool, as_i64, as_number}
+use Rattle.f77_run.specs.declared.argument.Arg.{Arg}
+use Rattle.f77_run.specs.declared.argument.Arg.TheVariants.{Int, Truth, Ints, Truths}
+use Rattle.mothra_app.specs.declared.job.JobFault.{JobFault}
+use Rattle.mothra_app.specs.declared.job.JobFault.TheVariants.{TooManyTests, Suite}
+
+-- the tests of a job, or why there are none
+abbrev pub SuiteRead : Type 0
+SuiteRead = Result (List (List Arg)) JobFault
+
+-- the number, where INTEGER holds it
+abbrev pub in_range : ℤ → Option ℤ
+in_range z = if int_le (negsuc 2147483647) z && int_le z (pos 2147483647) then Some z else None
+
+-- the whole number of the INTEGER range that a value is; 1.0, 1e0 and -0 are no whole numbers
+abbrev pub integer : Data → Option ℤ
+integer value = option_and_then in_range (option_and_then as_i64 (as_number value))
+
+-- what each of the items is, where none of them is something else
+abbrev pub each : {A : Type 0} → (Data → Option A) → Items → Option (List A)
+each read no_items = Some []
+each read (item value rest) = option_and_then (λ x. option_map (λ xs. x ∷ xs) (each read rest)) (read value)
+
+-- one number or more, or one truth value or more
+abbrev pub elements : Items → Option Arg
+elements no_items = None
+elements (item value rest) =
+    option_or (option_map (λ zs. Ints zs) (each integer (item value rest))) (option_map (λ bs. Truths bs) (each as_bool (item value rest)))
+
+-- the value of a dummy argument: a number, a truth value, or the elements of an array
+abbrev pub argument : Data → Option Arg
+argument value =
+    option_or (option_map (λ z. Int z) (integer value))
+    (option_or (option_map (λ b. Truth b) (as_bool value)) (option_and_then elements (as_array value)))
+
+-- a test: a list of such values
+abbrev pub test : Data → Option (List Arg)
+test value = option_and_then (each argument) (as_array value)
+
+abbrev pub listed : Items → List Data
+listed no_items = []
+listed (item value rest) = value ∷ listed rest
+
+-- the place, from 0, of the first value that is no test
+abbrev pub first_no_test : List Data → Option ℕ
+first_no_test values = position (λ value. not (is_some (test value))) values
+
+-- all of the values are tests, or J4 at the first that is none: tests are numbered from 1
+abbrev pub all_or_first : Option ℕ → List Data → SuiteRead
+all_or_first None values = Ok (filter_map test values)
+all_or_first (Some i) values = Err (Suite (i + 1))
+
+abbrev pub tests : Items → SuiteRead
+tests items = all_or_first (first_no_test (listed items)) (listed items)
+
+-- J6 comes before J4
+unfoldable pub suite_of : Items → SuiteRead
+suite_of items = if nat_lt 256 (length (listed items)) then Err TooManyTests else tests items

@@ -1,0 +1,55 @@
+//! The command `exec`: the outcome of the program of a job on one of its tests.
+
+ghost use Rattle.std.specs.Prelude.{◌≡◌, ◌⊎◌, Ok, Err, IfOk, MatchResult, map, string_bytes};
+ghost use Rattle.f77_syntax.specs.Parsing.{line_of};
+ghost use Rattle.f77_check.specs.Checked.{shapes};
+ghost use Rattle.mothra_app.specs.Executing.{IsLegalProgramOf, IsRun, IsExecuted};
+ghost use Rattle.mothra_app.specs.Fault.{IsMemory};
+
+use crate::fault::Fault;
+use crate::job::{Job, JobFault};
+use crate::outcome_line::outcome_line;
+use crate::program::program_of;
+use f77_check::{Checked, check};
+use f77_run::{Arg, run};
+use std::alloc::Global;
+
+/// The legal program that a source is.
+fn legal_program_of(alloc: Global, source: &str) -> Result<Checked, Fault>
+    ensures program { MatchResult result
+        (λ checked. IsLegalProgramOf source.now (Ok (map line_of checked.program)))
+        (λ fault. IsLegalProgramOf source.now (Err fault) ⊎ IsMemory fault) }
+    ensures shapes { IfOk result (λ checked. checked.arguments ≡ shapes (map line_of checked.program)) }
+{
+    let program = program_of(alloc, source)?;
+    Ok(check(alloc, &program)?)
+}
+
+/// The line of the outcome of a run.
+fn run_program(
+    alloc: Global,
+    checked: &Checked,
+    arguments: &[Arg],
+    steps: u32,
+) -> Result<String, Fault>
+    requires { checked.now.arguments ≡ shapes (map line_of checked.now.program) }
+    ensures { MatchResult result
+        (λ text. IsRun (map line_of checked.now.program) arguments.now steps (Ok (string_bytes text)))
+        (λ fault. IsRun (map line_of checked.now.program) arguments.now steps (Err fault) ⊎ IsMemory fault) }
+{
+    let outcome = run(alloc, checked, arguments, steps)?;
+    Ok(outcome_line(alloc, &outcome)?)
+}
+
+/// The line of the outcome of a job's program on the test of this number, from 1, within so many steps.
+pub(crate) fn execute(alloc: Global, job: &Job, test: u32, steps: u32) -> Result<String, Fault>
+    ensures { MatchResult result
+        (λ text. IsExecuted job.now test steps (Ok (string_bytes text)))
+        (λ fault. IsExecuted job.now test steps (Err fault) ⊎ IsMemory fault) }
+{
+    let checked = legal_program_of(alloc, job.source())?;
+    match job.test(test) {
+        Some(arguments) => run_program(alloc, &checked, arguments, steps),
+        None => Err(Fault::Job(JobFault::NoTest(test))),
+    }
+}

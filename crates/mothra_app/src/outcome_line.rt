@@ -1,0 +1,100 @@
+//! The one line that tells the outcome of a run.
+
+ghost use Rattle.std.specs.Prelude.{◌≡◌, ◌++◌, IfErr, IfOk, OnOk, string_bytes};
+ghost use Rattle.std.specs.Fmt.{signed_decimal};
+ghost use Rattle.f77_run.specs.declared.outcome.RunFault.TheVariants as fault;
+ghost use Rattle.mothra_app.specs.OutcomeLine as definition;
+
+use f77_run::{Arg, Outcome, RunFault};
+use std::alloc::{AllocError, Global};
+
+fn truth_text(truth: bool) -> &'static str
+    ensures { result.now ≡ definition.truth_text truth }
+{
+    if truth { "T" } else { "F" }
+}
+
+/// Adds the elements of an INTEGER array.
+fn push_numbers(text: &mut String, numbers: &[i32]) -> Result<(), AllocError>
+    ensures { OnOk result (string_bytes text.new ≡ string_bytes text.old ++ definition.array_text signed_decimal numbers.now) }
+{
+    text.push_str("(")?;
+    let mut before = "";
+    for number in numbers {
+        write!(text, "{before}{number}")?;
+        before = ",";
+    }
+    text.push_str(")")
+}
+
+/// Adds the elements of a LOGICAL array.
+fn push_truths(text: &mut String, truths: &[bool]) -> Result<(), AllocError>
+    ensures { OnOk result (string_bytes text.new ≡ string_bytes text.old ++ definition.array_text definition.truth_text truths.now) }
+{
+    text.push_str("(")?;
+    let mut before = "";
+    for truth in truths {
+        text.push_str(before)?;
+        text.push_str(truth_text(*truth))?;
+        before = ",";
+    }
+    text.push_str(")")
+}
+
+/// Adds the value of a dummy argument.
+fn push_argument(text: &mut String, argument: &Arg) -> Result<(), AllocError>
+    ensures { OnOk result (string_bytes text.new ≡ string_bytes text.old ++ definition.argument_text argument.now) }
+{
+    match argument {
+        Arg::Int(number) => write!(text, "{number}"),
+        Arg::Truth(truth) => text.push_str(truth_text(*truth)),
+        Arg::Ints(numbers) => push_numbers(text, numbers.as_slice()),
+        Arg::Truths(truths) => push_truths(text, truths.as_slice()),
+    }
+}
+
+/// Adds the values of all dummy arguments, each after one blank.
+fn push_arguments(text: &mut String, arguments: &[Arg]) -> Result<(), AllocError>
+    ensures { OnOk result (string_bytes text.new ≡ string_bytes text.old ++ definition.arguments_text arguments.now) }
+{
+    for argument in arguments {
+        text.push_str(" ")?;
+        push_argument(text, argument)?;
+    }
+    Ok(())
+}
+
+/// Adds what tells the outcome.
+fn push_outcome(text: &mut String, outcome: &Outcome) -> Result<(), AllocError>
+    ensures { OnOk result (string_bytes text.new ≡ string_bytes text.old ++ definition.outcome_text outcome.now) }
+{
+    match outcome {
+        Outcome::Returned(arguments) => {
+            text.push_str("RETURNED")?;
+            push_arguments(text, arguments.as_slice())
+        }
+        Outcome::Stopped(arguments) => {
+            text.push_str("STOPPED")?;
+            push_arguments(text, arguments.as_slice())
+        }
+        Outcome::Overflow => text.push_str("OVERFLOW"),
+        Outcome::DivideByZero => text.push_str("DIVIDEBYZERO"),
+        Outcome::ZeroPower => text.push_str("ZEROPOWER"),
+        Outcome::BadSubscript => text.push_str("BADSUBSCRIPT"),
+        Outcome::ZeroStep => text.push_str("ZEROSTEP"),
+        Outcome::Undefined => text.push_str("UNDEFINED"),
+        Outcome::Trapped => text.push_str("TRAPPED"),
+        Outcome::StepLimit => text.push_str("STEPLIMIT"),
+    }
+}
+
+/// The line that tells the outcome, ended by LF. Want of memory is told as N1, as of the run.
+pub(crate) fn outcome_line(alloc: Global, outcome: &Outcome) -> Result<String, RunFault>
+    ensures line { IfOk result (λ line. string_bytes line ≡ definition.outcome_line outcome.now) }
+    ensures memory { IfErr result (λ e. e ≡ fault.Memory) }
+{
+    let mut line = String::new(alloc);
+    push_outcome(&mut line, outcome)?;
+    line.push_str("\n")?;
+    Ok(line)
+}
