@@ -254,26 +254,23 @@ fn keeps_the_limit_on_steps(rt: HostRuntime) -> Result<(), Fail> {
 
 #[test]
 fn runs_statements_that_look_like_others(rt: HostRuntime) -> Result<(), Fail> {
-    let odd = |declaration| {
-        [
-            "      SUBROUTINE ODD(I)",
-            declaration,
-            "      DO10I=1",
-            "      DO10I=1,3",
-            "   10 IF(I)=3",
-            END,
-        ]
-    };
-    assert_lines(
-        &rt,
-        &odd("      INTEGER IF(5),DO10I"),
-        &[("[[9]]", "RETURNED 4")],
-    )?;
-    assert_lines(
-        &rt,
-        &odd("      INTEGER IF(5)"),
-        &[("[[9]]", "FAULT C2 DO10I")],
-    )?;
+    for (declaration, want) in [
+        ("      INTEGER IF(5),DO10I", "RETURNED 4"),
+        ("      INTEGER IF(5)", "FAULT C2 DO10I"),
+    ] {
+        assert_lines(
+            &rt,
+            &[
+                "      SUBROUTINE ODD(I)",
+                declaration,
+                "      DO10I=1",
+                "      DO10I=1,3",
+                "   10 IF(I)=3",
+                END,
+            ],
+            &[("[[9]]", want)],
+        )?;
+    }
 
     let mut lines = Vec::new(rt.alloc());
     lines.push("      SUBROUTINE C(K)")?;
