@@ -32,6 +32,3 @@ pub use fault::CheckFault;
 pub use legal::check;
 pub use resolved::Resolved;
 pub use start::Start;
-
-#[cfg(test)]
-mod tests;

@@ -22,6 +22,3 @@ pub use interpreter::run;
 pub use outcome::{Outcome, RunFault};
 pub use value::Value;
 pub use values::Values;
-
-#[cfg(test)]
-mod tests;

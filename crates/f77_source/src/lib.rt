@@ -9,8 +9,6 @@ mod line;
 mod read;
 mod reader;
 mod statement;
-#[cfg(test)]
-mod tests;
 mod write;
 
 pub use card::Card;

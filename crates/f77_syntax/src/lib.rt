@@ -28,8 +28,6 @@ mod scan;
 mod specification;
 mod statement;
 mod subroutine;
-#[cfg(test)]
-mod tests;
 mod tree;
 
 pub use canonical::print_stmt;
