@@ -1,21 +1,30 @@
 //! What a checked program tells: its lines, its dummy arguments and where a run starts.
 
 use crate::sources::{checked, program};
-use f77_check::Start;
-use f77_syntax::{Constant, Kind, print};
+use f77_check::{Shape, Start};
+use f77_syntax::{Constant, print};
 use std::test::Fail;
 
 const SHAPES: &str = "SUBROUTINE S(K,M,P); INTEGER M(3,4); LOGICAL P; P=K.GT.M(1,2); END";
 
+/// The kind of each dummy argument, and its number of elements.
+fn shapes_text(rt: &impl AllocGlobal, shapes: &[Shape]) -> Result<String, Fail> {
+    let mut text = String::new(rt.alloc());
+    for shape in shapes {
+        let kind = shape.kind;
+        let elements = shape.elements;
+        write!(text, "{kind:?} {elements:?};")?;
+    }
+    Ok(text)
+}
+
 #[test]
 fn tells_the_shapes(rt: HostRuntime) -> Result<(), Fail> {
     let checked = checked(&rt, SHAPES)?;
-    let [first, second, third] = checked.arguments() else {
-        return Err(Fail::new("not three arguments"));
-    };
-    assert!(rt; first.kind == Kind::Integer && first.elements == None);
-    assert!(rt; second.kind == Kind::Integer && second.elements == Some(12));
-    assert!(rt; third.kind == Kind::Logical && third.elements == None);
+    assert_eq!(rt;
+        shapes_text(&rt, checked.arguments())?.as_str(),
+        "Integer None;Integer Some(12);Logical None;"
+    );
     Ok(())
 }
 
