@@ -12,6 +12,11 @@ fn show_jump(text: &mut String, jump: &Jump) -> Result<(), Fail> {
     Ok(())
 }
 
+fn show_goto(text: &mut String, jump: &Jump) -> Result<(), Fail> {
+    text.push_str("Goto")?;
+    show_jump(text, jump)
+}
+
 fn show_number_assignment(text: &mut String, target: &Element, value: &Number) -> Result<(), Fail> {
     show_element(text, target)?;
     text.push('=')?;
@@ -58,10 +63,7 @@ fn show_action(text: &mut String, action: &Action) -> Result<(), Fail> {
         Action::Declaration => Ok(text.push_str("Declaration")?),
         Action::AssignNumber(target, value) => show_number_assignment(text, target, value),
         Action::AssignTruth(target, value) => show_truth_assignment(text, target, value),
-        Action::Goto(jump) => {
-            text.push_str("Goto")?;
-            show_jump(text, jump)
-        }
+        Action::Goto(jump) => show_goto(text, jump),
         Action::ArithmeticIf {
             value,
             negative,
