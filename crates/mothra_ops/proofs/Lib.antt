@@ -1,1 +1,2 @@
+mod Codes
 pub mod Operators

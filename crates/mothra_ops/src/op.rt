@@ -124,30 +124,6 @@ impl Op {
         // So any other text gives `None`.
         ensures only { IfSome result (λ op. text.now ≡ code_of op) }
     {
-        match text {
-            "AAR" => Some(Op::Aar),
-            "ABS" => Some(Op::Abs),
-            "ACR" => Some(Op::Acr),
-            "AOR" => Some(Op::Aor),
-            "ASR" => Some(Op::Asr),
-            "CAR" => Some(Op::Car),
-            "CNR" => Some(Op::Cnr),
-            "CRP" => Some(Op::Crp),
-            "CSR" => Some(Op::Csr),
-            "DER" => Some(Op::Der),
-            "DSA" => Some(Op::Dsa),
-            "GLR" => Some(Op::Glr),
-            "LCR" => Some(Op::Lcr),
-            "ROR" => Some(Op::Ror),
-            "RSR" => Some(Op::Rsr),
-            "SAN" => Some(Op::San),
-            "SAR" => Some(Op::Sar),
-            "SCR" => Some(Op::Scr),
-            "SDL" => Some(Op::Sdl),
-            "SRC" => Some(Op::Src),
-            "SVR" => Some(Op::Svr),
-            "UOI" => Some(Op::Uoi),
-            _ => None,
-        }
+        Op::ALL.iter().copied().find(|op| op.code() == text)
     }
 }
