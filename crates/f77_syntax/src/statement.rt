@@ -1,6 +1,7 @@
 //! Statements read from texts.
 
 ghost use Rattle.std.specs.Prelude.{◌≡◌, option_map};
+ghost use Rattle.std.specs.Str.{bytes_eq};
 ghost use Rattle.f77_syntax.specs.Statement as reading;
 ghost use Rattle.f77_syntax.specs.Statement.{simple_at, simple_action_at, action_at, branch_at, else_at, specification_at, keyword_at, statement_at};
 ghost use Rattle.f77_syntax.specs.Tree.{Tree};
@@ -18,24 +19,30 @@ use crate::subroutine::subroutine;
 use crate::tree::{Expr, Kind, Stmt};
 use std::alloc::Global;
 
+fn spells(text: &[u8], word: &str) -> bool
+    ensures { result ≡ bytes_eq text.now word.now }
+{
+    text == word.as_bytes()
+}
+
 /// A statement of one keyword alone.
 #[tactic(auto, unfolding(crate::specs::Statement::word_statement))]
 fn word_statement(text: &[u8]) -> Option<Stmt>
     ensures { option_map statement_of result ≡ reading.word_statement text.now }
 {
-    if text == b"CONTINUE".as_slice() {
+    if spells(text, "CONTINUE") {
         return Some(Stmt::Continue);
     }
-    if text == b"RETURN".as_slice() {
+    if spells(text, "RETURN") {
         return Some(Stmt::Return);
     }
-    if text == b"STOP".as_slice() {
+    if spells(text, "STOP") {
         return Some(Stmt::Stop);
     }
-    if text == b"ENDIF".as_slice() {
+    if spells(text, "ENDIF") {
         return Some(Stmt::EndIf);
     }
-    if text == b"END".as_slice() {
+    if spells(text, "END") {
         return Some(Stmt::End);
     }
     None
