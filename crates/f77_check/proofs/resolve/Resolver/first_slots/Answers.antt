@@ -1,0 +1,19 @@
+use Rattle.std.proofs.Common.{◌∷◌, ◌++◌, [], ℕ, Option, map, get_or, Some, sym, ap, ◌∙◌}
+use Rattle.std.proofs.lemmas.List.{map_more, map-append}
+use Rattle.indexmap.specs.IndexMap.{keys}
+use Rattle.f77_check.specs.Names.{Symbol}
+use Rattle.f77_check.specs.NameTable.{bounds_at}
+use Rattle.f77_check.specs.Slots.{first_slot}
+use Rattle.f77_check.proofs.resolve.Resolver.first_slots.Goals as goal
+
+pub loop-name-preserved : goal.loop-name-preserved
+loop-name-preserved c =
+    let slot : Symbol → Option ℕ = first_slot (bounds_at c.args.self.now.tables.names) (keys c.args.self.now.tables.names.facts) in
+    let i = c.loop-name.name-index in
+    let name = c.name-item.result in
+    let slots = c.loop-name.slots.items in
+    map_more slot c.args.list.now i name c.loop-name-test.true
+    ∙ ap (λ before. before ++ slot (get_or c.args.list.now i name) ∷ []) c.loop-name.invariant
+    ∙ ap (λ last. map (λ slot. Some slot) slots ++ last ∷ []) (ap slot (sym c.name-item.is) ∙ c.first.ensures)
+    ∙ sym (map-append (λ slot. Some slot) slots (c.first.result ∷ []))
+    ∙ ap (map (λ slot. Some slot)) (sym c.in_ok-push.ensures.items)
