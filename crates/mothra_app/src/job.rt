@@ -74,7 +74,7 @@ pub enum JobFault {
     Key(Key),
     /// J4: the test of this number, from 1, is no list of numbers of the INTEGER range, truth values, and lists of
     /// either that are not empty.
-    #[error("test {0} is no list of values of dummy arguments")]
+    #[error("number {0} of the tests is no list of values of dummy arguments")]
     Suite(usize),
     /// J6: there are more than 256 tests.
     #[error("the suite has more than 256 tests")]
@@ -83,7 +83,7 @@ pub enum JobFault {
     #[error("the job has more than 1048576 bytes")]
     TooLarge,
     /// J8: the suite has no test of this number.
-    #[error("the suite has no test {0}")]
+    #[error("the suite has fewer than {0} tests")]
     NoTest(u32),
 }
 
