@@ -18,8 +18,6 @@ mod request;
 mod serving;
 mod status;
 mod suite;
-#[cfg(test)]
-mod tests;
 mod watched;
 
 pub use job::{Job, JobFault, read_job};

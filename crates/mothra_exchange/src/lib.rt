@@ -13,14 +13,14 @@ mod gate;
 mod laws;
 mod locked;
 mod log;
+#[cfg(test)]
+mod lost_races;
 mod rule;
 mod sharing;
 mod state;
 mod table;
 mod table_gate;
 mod tally;
-#[cfg(test)]
-mod tests;
 mod ticket;
 mod view;
 mod word;

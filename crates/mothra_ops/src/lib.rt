@@ -2,7 +2,5 @@
 #![tactic(auto)]
 
 mod op;
-#[cfg(test)]
-mod tests;
 
 pub use op::Op;

@@ -1,15 +1,15 @@
-// A gate that keeps no records and hands its calls on, until it gives up.
-use crate::{Close, Gate, Offer, Take, Tally, Ticket};
+//! A gate that keeps no records and hands its calls on, until it gives up.
+use mothra_exchange::{Close, Gate, Offer, Take, Tally, Ticket};
 use mothra_ops::Op;
 use std::sync::Wait;
 use std::sync::atomic::{AtomicU64, Ordering};
 
 // Round another gate. Of all its offers, takes and closes, those after the first `calls` give up.
 #[derive(Drop)]
-pub(super) struct Stalling<G> {
-    pub(super) inner: G,
-    pub(super) made: AtomicU64,
-    pub(super) calls: u64,
+pub(crate) struct Stalling<G> {
+    pub(crate) inner: G,
+    pub(crate) made: AtomicU64,
+    pub(crate) calls: u64,
 }
 
 impl<G> Stalling<G> {

@@ -1,4 +1,4 @@
-use crate::Op;
+use mothra_ops::Op;
 use std::test::Fail;
 
 // Codes and order as King and Offutt list them.

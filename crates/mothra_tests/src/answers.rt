@@ -1,0 +1,59 @@
+//! What the program answers.
+
+use crate::jobs::job;
+use mothra_app::{Status, Watched, serve};
+use std::process::Abort;
+use std::str::from_utf8;
+use std::test::Fail;
+
+/// The answer to words, which stand between blanks, and the bytes of a job.
+pub(crate) fn answer(
+    rt: &impl AllocGlobal,
+    words: &str,
+    job: &[u8],
+) -> Result<(Status, Vec<u8>), Fail> {
+    let mut list = Vec::new(rt.alloc());
+    for word in words.split_whitespace() {
+        list.push(word)?;
+    }
+    let mut out = Vec::new(rt.alloc());
+    let mut reader = Watched::new(job);
+    let mut writer = Watched::new(&mut out);
+    let status = serve(rt, &list, &mut reader, &mut writer)?;
+    Ok((status, out))
+}
+
+/// Compares an answer with the lines that are wanted. The case is named where they differ.
+pub(crate) fn assert_answer(
+    rt: &(impl AllocGlobal + Abort),
+    words: &str,
+    job: &[u8],
+    want: &str,
+    case: &str,
+) -> Result<(), Fail> {
+    let (status, bytes) = answer(rt, words, job)?;
+    let Ok(text) = from_utf8(&bytes) else {
+        panic!(rt; "{case}: the answer is no text")
+    };
+    assert_eq!(rt; text.strip_suffix('\n'), Some(want), "{case}");
+    let kind = if want.starts_with("FAULT") {
+        Status::Fault
+    } else {
+        Status::Report
+    };
+    assert_eq!(rt; status, kind, "{case}");
+    Ok(())
+}
+
+/// Compares the answer to words, a program and a suite. With no suite the job has no such key.
+pub(crate) fn assert_served(
+    rt: &(impl AllocGlobal + Abort),
+    words: &str,
+    program: &str,
+    suite: &str,
+    want: &str,
+    case: &str,
+) -> Result<(), Fail> {
+    let job = job(rt.alloc(), program, suite)?;
+    assert_answer(rt, words, job.as_bytes(), want, case)
+}

@@ -1,0 +1,77 @@
+//! Two halves of a join take each ticket once.
+ghost use Rattle.mothra_exchange.specs.Table.{IsPassOf};
+
+use crate::offers::offers_all;
+use crate::tickets::counts;
+use mothra_exchange::{Close, Gate, Pass, TableExchange, Take};
+use mothra_ops::Op;
+use std::alloc::{AllocError, Global};
+use std::process::Abort;
+use std::test::Fail;
+use std::thread;
+use std::thread::Threads;
+
+/// Takes until Finished, at most a million times. None where that was not enough.
+fn take_all<const C: u32>(
+    alloc: Global,
+    exchange: &TableExchange<C>,
+    mut pass: Pass,
+) -> Result<Option<Vec<u32>>, AllocError>
+    requires { IsPassOf exchange.now pass }
+{
+    let mut numbers = Vec::new(alloc);
+    for _ in 0..1_000_000 {
+        match exchange.try_take(&mut pass, Op::Aar) {
+            Take::Taken(ticket) => numbers.push(ticket.number)?,
+            Take::Finished => return Ok(Some(numbers)),
+            _ => {}
+        }
+    }
+    Ok(None)
+}
+
+/// What two threads take, each until Finished.
+fn taken_by_two(
+    rt: &(impl AllocGlobal + Threads),
+    exchange: &TableExchange<2_000>,
+    one: Pass,
+    two: Pass,
+) -> (Result<Option<Vec<u32>>, AllocError>, Result<Option<Vec<u32>>, AllocError>)
+    requires one { IsPassOf exchange.now one }
+    requires two { IsPassOf exchange.now two }
+{
+    let alloc = rt.alloc();
+    thread::join(
+        rt,
+        || -> Result<Option<Vec<u32>>, AllocError>
+            requires { IsPassOf exchange.now one }
+        { take_all(alloc, exchange, one) },
+        || -> Result<Option<Vec<u32>>, AllocError>
+            requires { IsPassOf exchange.now two }
+        { take_all(alloc, exchange, two) },
+    )
+}
+
+/// The numbers are 1 to 2,000, each once.
+fn assert_each_once(rt: &impl Abort, left: &[u32], right: &[u32]) {
+    let mut seen = [false; 2_001];
+    for &number in left.iter().chain(right.iter()) {
+        assert!(rt; 1 <= number && number <= 2_000);
+        assert!(rt; !seen[number as usize], "{number} twice");
+        seen[number as usize] = true;
+    }
+    assert!(rt; left.len() + right.len() == 2_000);
+}
+
+#[test]
+fn two_halves_take_each_once(rt: HostRuntime) -> Result<(), Fail> {
+    let (exchange, mut pass) = TableExchange::<2_000>::new(rt.alloc(), counts(Op::Aar, 2_000))?;
+    let one = exchange.split(&mut pass);
+    let two = exchange.split(&mut pass);
+    offers_all(&rt, &exchange, &mut pass, Op::Aar, 2_000);
+    assert!(rt; exchange.try_close(&mut pass, Op::Aar) == Close::Done);
+    let (left, right) = taken_by_two(&rt, &exchange, one, two);
+    let enough = "a million turns were not enough";
+    assert_each_once(&rt, &left?.ok_or(enough)?, &right?.ok_or(enough)?);
+    Ok(())
+}

@@ -1,0 +1,85 @@
+//! Words that are no command, and words that ask for help: nothing is read for them.
+
+use crate::streams::Trickle;
+use mothra_app::{Status, Watched, serve};
+use std::process::Abort;
+use std::test::Fail;
+
+/// The words, which stand between blanks, have this answer, some text is written, and nothing is read.
+fn assert_unread(
+    rt: &(impl AllocGlobal + Abort),
+    words: &str,
+    want: Status,
+) -> Result<(), Fail> {
+    let mut list = Vec::new(rt.alloc());
+    for word in words.split_whitespace() {
+        list.push(word)?;
+    }
+    let mut out: Vec<u8> = Vec::new(rt.alloc());
+    let mut reader = Watched::new(Trickle {
+        bytes: b"",
+        given: 0,
+        fails: true,
+    });
+    let mut writer = Watched::new(&mut out);
+    let status = serve(rt, &list, &mut reader, &mut writer)?;
+    assert!(rt; status == want, "{words}");
+    assert!(rt; !reader.failed() && !writer.failed(), "{words}");
+    assert!(rt; !out.is_empty(), "{words}");
+    Ok(())
+}
+
+/// The same for the words of each row.
+fn assert_all_unread(
+    rt: &(impl AllocGlobal + Abort),
+    rows: &str,
+    want: Status,
+) -> Result<(), Fail> {
+    for words in rows.trim_matches('\n').lines() {
+        assert_unread(rt, words, want)?;
+    }
+    Ok(())
+}
+
+#[test]
+fn refuses_words_that_are_no_command(rt: HostRuntime) -> Result<(), Fail> {
+    assert_unread(&rt, "", Status::Words)?;
+    assert_all_unread(&rt, NO_COMMANDS, Status::Words)
+}
+
+const NO_COMMANDS: &str = "
+mothra
+mothra paint
+mothra list
+mothra help
+mothra print twice
+";
+
+#[test]
+fn refuses_wrong_options(rt: HostRuntime) -> Result<(), Fail> {
+    assert_all_unread(&rt, WRONG_OPTIONS, Status::Words)
+}
+
+const WRONG_OPTIONS: &str = "
+mothra exec
+mothra exec --steps 5
+mothra exec --test
+mothra exec --test 0
+mothra exec --test 257
+mothra exec --test -1
+mothra exec --test x
+mothra exec --test 1 --test 1
+mothra exec --test 1 --steps 0
+mothra exec --test 1 --steps 1000001
+mothra exec --test 1 1
+";
+
+#[test]
+fn gives_help(rt: HostRuntime) -> Result<(), Fail> {
+    assert_all_unread(&rt, HELP, Status::Help)
+}
+
+const HELP: &str = "
+mothra --help
+mothra print --help
+";
