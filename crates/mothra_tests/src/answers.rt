@@ -23,7 +23,24 @@ pub(crate) fn answer(
     Ok((status, out))
 }
 
-/// Compares an answer with the lines that are wanted. The case is named where they differ.
+/// Compares a text with the lines that are wanted. The case is named where they differ.
+fn assert_lines(rt: &impl Abort, bytes: &[u8], want: &str, case: &str) {
+    let Ok(text) = from_utf8(bytes) else {
+        panic!(rt; "{case}: the answer is no text")
+    };
+    assert_eq!(rt; text.strip_suffix('\n'), Some(want), "{case}");
+}
+
+/// A fault is told on a line that begins so, and all else is a report.
+fn status_of(want: &str) -> Status {
+    if want.starts_with("FAULT") {
+        Status::Fault
+    } else {
+        Status::Report
+    }
+}
+
+/// Compares the answer to words and a job with the lines that are wanted.
 pub(crate) fn assert_answer(
     rt: &(impl AllocGlobal + Abort),
     words: &str,
@@ -32,16 +49,8 @@ pub(crate) fn assert_answer(
     case: &str,
 ) -> Result<(), Fail> {
     let (status, bytes) = answer(rt, words, job)?;
-    let Ok(text) = from_utf8(&bytes) else {
-        panic!(rt; "{case}: the answer is no text")
-    };
-    assert_eq!(rt; text.strip_suffix('\n'), Some(want), "{case}");
-    let kind = if want.starts_with("FAULT") {
-        Status::Fault
-    } else {
-        Status::Report
-    };
-    assert_eq!(rt; status, kind, "{case}");
+    assert_lines(rt, &bytes, want, case);
+    assert!(rt; status == status_of(want), "{case}");
     Ok(())
 }
 

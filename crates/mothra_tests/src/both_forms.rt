@@ -2,8 +2,8 @@
 ghost use Rattle.std.specs.Prelude.{◌≡◌, ◌<◌, true};
 
 use crate::tables::halves;
-use crate::tickets::{aar, counts, taken};
-use crate::turns::{TURNS, Turn, turn_of};
+use crate::tickets::{aar, assert_tally, counts, taken};
+use crate::turns::{TURNS, Turn, shown, turn_of};
 use mothra_exchange::{Gate, LockedExchange, Offer, TableExchange, Take};
 use mothra_ops::Op;
 use std::process::Abort;
@@ -22,12 +22,29 @@ fn answer<G: Gate, R: Wait + AllocGlobal>(
 {
     let alloc = rt.alloc();
     let answer = match turn_of(call) {
-        Some(Turn::Offer(ticket)) => format!(in alloc; "{:?}", gate.offer(rt, pass, ticket))?,
-        Some(Turn::Take(op)) => format!(in alloc; "{:?}", gate.take(rt, pass, op))?,
-        Some(Turn::Close(op)) => format!(in alloc; "{:?}", gate.close(rt, pass, op))?,
+        Some(Turn::Offer(ticket)) => shown(alloc, gate.offer(rt, pass, ticket))?,
+        Some(Turn::Take(op)) => shown(alloc, gate.take(rt, pass, op))?,
+        Some(Turn::Close(op)) => shown(alloc, gate.close(rt, pass, op))?,
         None => return Err(call.into()),
     };
     Ok(answer)
+}
+
+/// Each call of the table has its answer.
+fn assert_turns<G: Gate, R: Wait + Abort + AllocGlobal>(
+    rt: &R,
+    gate: &G,
+    pass: &mut G::Pass,
+) -> Result<(), Fail>
+    requires { G.is_pass gate.now pass.old }
+    ensures { G.is_pass gate.now pass.new }
+{
+    for row in TURNS.trim_matches('\n').lines() {
+        let (call, want) = halves(row, " => ")?;
+        let answer = answer(rt, gate, pass, call)?;
+        assert!(rt; answer.as_str() == want, "{row}: {answer}");
+    }
+    Ok(())
 }
 
 fn plays_the_turns<G: Gate + Drop, R: Wait + Abort + AllocGlobal>(
@@ -39,18 +56,11 @@ where
     G::Pass: Drop,
     requires { G.is_pass gate pass }
 {
-    for row in TURNS.trim_matches('\n').lines() {
-        let (call, want) = halves(row, " => ")?;
-        let answer = answer(rt, &gate, &mut pass, call)?;
-        assert_eq!(rt; answer.as_str(), want, "{row}");
-    }
+    assert_turns(rt, &gate, &mut pass)?;
     let tally = gate.finish(pass);
-    assert!(rt; tally.count(Op::Aar) == 3);
-    assert!(rt; tally.offered(Op::Aar) == 3);
-    assert!(rt; tally.handed(Op::Aar) == 3);
-    assert!(rt; tally.closed(Op::Aar));
-    assert!(rt; tally.offered(Op::Abs) == 0 && tally.closed(Op::Abs));
-    assert!(rt; tally.count(Op::Uoi) == 0 && !tally.closed(Op::Uoi));
+    assert_tally(rt, &tally, Op::Aar, [3, 3, 3], true);
+    assert_tally(rt, &tally, Op::Abs, [0, 0, 0], true);
+    assert_tally(rt, &tally, Op::Uoi, [0, 0, 0], false);
     Ok(())
 }
 
@@ -77,7 +87,7 @@ pub(crate) fn splits_and_merges<G: Gate, R: Wait + Abort>(rt: &R, gate: G, mut p
     assert!(rt; gate.take(rt, &mut pass, Op::Aar) == Take::Empty);
     gate.merge(&mut pass, other);
     let tally = gate.finish(pass);
-    assert!(rt; tally.handed(Op::Aar) == 1 && !tally.closed(Op::Aar));
+    assert_tally(rt, &tally, Op::Aar, [3, 1, 1], false);
 }
 
 #[test]

@@ -2,8 +2,8 @@
 ghost use Rattle.mothra_exchange.specs.Table.{IsPassOf};
 
 use crate::offers::offers_all;
-use crate::tickets::{counts, taken};
-use mothra_exchange::{Close, Gate, Offer, Pass, TableExchange, Tally, Ticket};
+use crate::tickets::{assert_tally, counts, taken};
+use mothra_exchange::{Close, Gate, Offer, Pass, TableExchange, Ticket};
 use mothra_ops::Op;
 use std::process::Abort;
 use std::test::Fail;
@@ -25,21 +25,20 @@ fn fills(rt: &impl Abort, exchange: &TableExchange<1_048_575>, pass: &mut Pass)
     assert!(rt; exchange.try_close(pass, Op::Der) == Close::Done);
 }
 
-/// Nothing of the operator was offered, taken or closed.
-fn assert_untouched(rt: &impl Abort, tally: &Tally, op: Op) {
-    assert!(rt; tally.count(op) == 0 && tally.offered(op) == 0 && tally.handed(op) == 0);
-    assert!(rt; !tally.closed(op));
-}
-
 #[test]
 fn fields_can_be_full(rt: HostRuntime) -> Result<(), Fail> {
     let full = counts(Op::Der, 1_048_575);
     let (exchange, mut pass) = TableExchange::<1_048_575>::new(rt.alloc(), full)?;
     fills(&rt, &exchange, &mut pass);
     let tally = exchange.finish(pass);
-    assert!(rt; tally.offered(Op::Der) == 1_048_575 && tally.handed(Op::Der) == 1_048_575);
-    assert!(rt; tally.closed(Op::Der));
-    assert_untouched(&rt, &tally, Op::Csr);
-    assert_untouched(&rt, &tally, Op::Dsa);
+    assert_tally(
+        &rt,
+        &tally,
+        Op::Der,
+        [1_048_575, 1_048_575, 1_048_575],
+        true,
+    );
+    assert_tally(&rt, &tally, Op::Csr, [0, 0, 0], false);
+    assert_tally(&rt, &tally, Op::Dsa, [0, 0, 0], false);
     Ok(())
 }

@@ -16,16 +16,9 @@ pub(crate) const PRINTED: &[u8] = b"      SUBROUTINE ADD(I,J,K)\n      K=I+J\n  
 
 /// The job of a program and a suite, both written as JSON has them. With no suite it has no such key.
 pub(crate) fn job(alloc: Global, program: &str, suite: &str) -> Result<String, AllocError> {
-    let mut text = String::from_str(alloc, "{\"source\":\"")?;
-    for line in program.lines() {
-        text.push_str(line)?;
-        text.push_str("\\n")?;
+    let source = program.replace(alloc, "\n", "\\n")?;
+    if suite.is_empty() {
+        return format!(in alloc; "{{\"source\":\"{source}\\n\"}}");
     }
-    text.push_str("\"")?;
-    if !suite.is_empty() {
-        text.push_str(",\"suite\":")?;
-        text.push_str(suite)?;
-    }
-    text.push_str("}")?;
-    Ok(text)
+    format!(in alloc; "{{\"source\":\"{source}\\n\",\"suite\":{suite}}}")
 }

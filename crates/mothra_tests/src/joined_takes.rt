@@ -30,18 +30,18 @@ fn take_all<const C: u32>(
     Ok(None)
 }
 
-/// What two threads take, each until Finished.
+/// What two threads take, each until Finished, in order.
 fn taken_by_two(
     rt: &(impl AllocGlobal + Threads),
     exchange: &TableExchange<2_000>,
     one: Pass,
     two: Pass,
-) -> (Result<Option<Vec<u32>>, AllocError>, Result<Option<Vec<u32>>, AllocError>)
+) -> Result<Vec<u32>, Fail>
     requires one { IsPassOf exchange.now one }
     requires two { IsPassOf exchange.now two }
 {
     let alloc = rt.alloc();
-    thread::join(
+    let (left, right) = thread::join(
         rt,
         || -> Result<Option<Vec<u32>>, AllocError>
             requires { IsPassOf exchange.now one }
@@ -49,18 +49,20 @@ fn taken_by_two(
         || -> Result<Option<Vec<u32>>, AllocError>
             requires { IsPassOf exchange.now two }
         { take_all(alloc, exchange, two) },
-    )
+    );
+    let enough = "a million turns were not enough";
+    let mut numbers = left?.ok_or(enough)?;
+    numbers.extend_from_slice(&right?.ok_or(enough)?)?;
+    numbers.sort()?;
+    Ok(numbers)
 }
 
-/// The numbers are 1 to 2,000, each once.
-fn assert_each_once(rt: &impl Abort, left: &[u32], right: &[u32]) {
-    let mut seen = [false; 2_001];
-    for &number in left.iter().chain(right.iter()) {
-        assert!(rt; 1 <= number && number <= 2_000);
-        assert!(rt; !seen[number as usize], "{number} twice");
-        seen[number as usize] = true;
+/// In order the numbers are 1 to 2,000, each once.
+fn assert_each_once(rt: &impl Abort, numbers: &[u32]) {
+    for (&number, want) in numbers.iter().zip(1..=2_000) {
+        assert!(rt; number == want, "{number} in the place of {want}");
     }
-    assert!(rt; left.len() + right.len() == 2_000);
+    assert!(rt; numbers.len() == 2_000);
 }
 
 #[test]
@@ -70,8 +72,6 @@ fn two_halves_take_each_once(rt: HostRuntime) -> Result<(), Fail> {
     let two = exchange.split(&mut pass);
     offers_all(&rt, &exchange, &mut pass, Op::Aar, 2_000);
     assert!(rt; exchange.try_close(&mut pass, Op::Aar) == Close::Done);
-    let (left, right) = taken_by_two(&rt, &exchange, one, two);
-    let enough = "a million turns were not enough";
-    assert_each_once(&rt, &left?.ok_or(enough)?, &right?.ok_or(enough)?);
+    assert_each_once(&rt, &taken_by_two(&rt, &exchange, one, two)?);
     Ok(())
 }

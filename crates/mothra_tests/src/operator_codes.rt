@@ -1,25 +1,30 @@
+//! The codes of the operators.
+
 use mothra_ops::Op;
+use std::process::Abort;
 use std::test::Fail;
 
 // Codes and order as King and Offutt list them.
 const CODES: &str =
     "AAR ABS ACR AOR ASR CAR CNR CRP CSR DER DSA GLR LCR ROR RSR SAN SAR SCR SDL SRC SVR UOI";
 
+/// The code is that of the operator of this number, from 0.
+fn assert_code(rt: &impl Abort, index: usize, code: &str) {
+    let Some(op) = Op::of(code) else {
+        panic!(rt; "{code}")
+    };
+    assert!(rt; op.code() == code && op.index() == index, "{code}");
+    assert!(rt; Op::ALL.get(index) == Some(&op), "{code}");
+}
+
 #[test]
-fn codes_stand_in_order(rt: HostRuntime) -> Result<(), Fail> {
+fn codes_stand_in_order(rt: HostRuntime) {
     let mut index = 0;
     for code in CODES.split(' ') {
-        let op = Op::of(code);
-        assert!(rt; op.is_some(), "{code}");
-        if let Some(op) = op {
-            assert_eq!(rt; op.code(), code);
-            assert_eq!(rt; op.index(), index);
-            assert_eq!(rt; Op::ALL[index], op);
-        }
+        assert_code(&rt, index, code);
         index += 1;
     }
     assert_eq!(rt; index, 22);
-    Ok(())
 }
 
 #[test]

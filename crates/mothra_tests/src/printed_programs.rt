@@ -144,9 +144,23 @@ fn continued(alloc: Global, lines: usize) -> Result<String, AllocError> {
 #[test]
 fn joins_continuation_lines(rt: HostRuntime) -> Result<(), Fail> {
     let program = continued(rt.alloc(), 16)?;
-    assert_served(&rt, "mothra print", program.as_str(), "", JOINED, "16 lines")?;
+    assert_served(
+        &rt,
+        "mothra print",
+        program.as_str(),
+        "",
+        JOINED,
+        "16 lines",
+    )?;
     let program = continued(rt.alloc(), 20)?;
-    assert_served(&rt, "mothra print", program.as_str(), "", "FAULT F7 22", "20 lines")
+    assert_served(
+        &rt,
+        "mothra print",
+        program.as_str(),
+        "",
+        "FAULT F7 22",
+        "20 lines",
+    )
 }
 
 const JOINED: &str = "      SUBROUTINE ADD(I,J,K)
@@ -155,12 +169,13 @@ const JOINED: &str = "      SUBROUTINE ADD(I,J,K)
 
 #[test]
 fn breaks_lines_at_column_72(rt: HostRuntime) -> Result<(), Fail> {
-    let alloc = rt.alloc();
-    let first = "+1".repeat(alloc, 16)?;
-    let second = "+1".repeat(alloc, 17)?;
-    let program = format!(in alloc; "      SUBROUTINE ADD(I,J,K)\n      K=1{first}\n     &{second}\n      END")?;
-    let job = job(alloc, program.as_str(), "")?;
+    let job = job(rt.alloc(), LONG, "")?;
     let (_, text) = answer(&rt, "mothra print", job.as_bytes())?;
     assert!(rt; text.as_slice().ends_with(b"+1+\n     +1+1\n      END\n"));
     Ok(())
 }
+
+const LONG: &str = "      SUBROUTINE ADD(I,J,K)
+      K=1+1+1+1+1+1+1+1+1+1+1+1+1+1+1+1+1
+     &+1+1+1+1+1+1+1+1+1+1+1+1+1+1+1+1+1
+      END";

@@ -94,5 +94,12 @@ fn runs_19_continuation_lines(rt: HostRuntime) -> Result<(), Fail> {
     let more = "\n     &+1".repeat(rt.alloc(), 19)?;
     let program = format!(in rt.alloc(); "      SUBROUTINE C(K)\n      K=1{more}\n      END")?;
     let first = "mothra exec --test 1";
-    assert_served(&rt, first, program.as_str(), "[[0]]", "RETURNED 20", "19 lines")
+    assert_served(
+        &rt,
+        first,
+        program.as_str(),
+        "[[0]]",
+        "RETURNED 20",
+        "19 lines",
+    )
 }

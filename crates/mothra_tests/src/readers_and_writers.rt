@@ -72,6 +72,18 @@ fn passes_each_read_on_once(rt: HostRuntime) {
     assert!(rt; reader.failed());
 }
 
+/// One write takes so many of the bytes, and afterwards a write has failed or none has.
+fn assert_takes(
+    rt: &impl Abort,
+    writer: &mut Watched<Narrow<'_>>,
+    bytes: &[u8],
+    count: usize,
+    failed: bool,
+) {
+    assert!(rt; matches!(writer.write(bytes), Ok(taken) if taken == count));
+    assert!(rt; writer.failed() == failed);
+}
+
 #[test]
 fn passes_each_write_on_once(rt: HostRuntime) {
     let mut taken = Vec::new(rt.alloc());
@@ -80,9 +92,9 @@ fn passes_each_write_on_once(rt: HostRuntime) {
         room: 2,
         fails: false,
     });
-    assert!(rt; matches!(writer.write(b"xy"), Ok(1)) && matches!(writer.write(b""), Ok(0)));
-    assert!(rt; !writer.failed() && matches!(writer.write(b"z"), Ok(1)));
-    assert!(rt; !writer.failed() && matches!(writer.write(b"z"), Ok(0)));
-    assert!(rt; writer.failed());
+    assert_takes(&rt, &mut writer, b"xy", 1, false);
+    assert_takes(&rt, &mut writer, b"", 0, false);
+    assert_takes(&rt, &mut writer, b"z", 1, false);
+    assert_takes(&rt, &mut writer, b"z", 0, true);
     assert_eq!(rt; taken.as_slice(), b"xz".as_slice());
 }

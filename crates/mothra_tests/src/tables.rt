@@ -16,6 +16,13 @@ pub(crate) fn halves<'a>(case: &'a str, mark: &str) -> Result<(&'a str, &'a str)
     }
 }
 
+/// The first cell of a row, the suite behind it, which may be absent, and the answer.
+fn cells(row: &str) -> Result<(&str, &str, &str), Fail> {
+    let (given, want) = halves(row, " => ")?;
+    let (first, suite) = given.split_once(" | ").unwrap_or((given, ""));
+    Ok((first, suite, want))
+}
+
 /// Rows `JOB => ANSWER`.
 pub(crate) fn assert_jobs(
     rt: &(impl AllocGlobal + Abort),
@@ -49,8 +56,7 @@ pub(crate) fn assert_calls(
     rows: &str,
 ) -> Result<(), Fail> {
     for row in rows.trim_matches('\n').lines() {
-        let (given, want) = halves(row, " => ")?;
-        let (words, suite) = given.split_once(" | ").unwrap_or((given, ""));
+        let (words, suite, want) = cells(row)?;
         assert_served(rt, words, program, suite, want, row)?;
     }
     Ok(())
@@ -63,8 +69,7 @@ pub(crate) fn assert_statements(
     rows: &str,
 ) -> Result<(), Fail> {
     for row in rows.trim_matches('\n').lines() {
-        let (given, want) = halves(row, " => ")?;
-        let (statement, suite) = given.split_once(" | ").unwrap_or((given, ""));
+        let (statement, suite, want) = cells(row)?;
         let program = SUM.replace(rt.alloc(), "      K=I+J", statement)?;
         assert_served(rt, words, program.as_str(), suite, want, row)?;
     }

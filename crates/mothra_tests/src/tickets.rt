@@ -1,8 +1,9 @@
-//! Tickets, and how many each operator has.
+//! Tickets, and the numbers of an operator.
 ghost use Rattle.std.specs.Prelude.{◌≡◌};
 
-use mothra_exchange::{Take, Ticket};
+use mothra_exchange::{Take, Tally, Ticket};
 use mothra_ops::Op;
+use std::process::Abort;
 
 /// The counts of the operators where one of them has this many, and the others have none.
 pub(crate) fn counts(op: Op, count: u32) -> [u32; 22] {
@@ -24,4 +25,18 @@ pub(crate) fn aar(number: u32) -> Ticket
 /// The answer that hands out a ticket.
 pub(crate) fn taken(op: Op, number: u32) -> Take {
     Take::Taken(Ticket { op, number })
+}
+
+/// How many tickets the operator had, how many were offered, how many handed out, and whether it was closed.
+pub(crate) fn assert_tally(
+    rt: &impl Abort,
+    tally: &Tally,
+    op: Op,
+    numbers: [u32; 3],
+    closed: bool,
+) {
+    assert!(rt; tally.count(op) == numbers[0]);
+    assert!(rt; tally.offered(op) == numbers[1]);
+    assert!(rt; tally.handed(op) == numbers[2]);
+    assert!(rt; tally.closed(op) == closed);
 }

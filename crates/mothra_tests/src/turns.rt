@@ -2,6 +2,8 @@
 
 use mothra_exchange::Ticket;
 use mothra_ops::Op;
+use std::alloc::{AllocError, Global};
+use std::fmt::Debug;
 
 /// Rows `CALL => ANSWER`.
 pub(crate) const TURNS: &str = "
@@ -52,4 +54,9 @@ pub(crate) fn turn_of(call: &str) -> Option<Turn> {
         "close" => Some(Turn::Close(Op::of(of)?)),
         _ => None,
     }
+}
+
+/// An answer as the rows have it.
+pub(crate) fn shown<T: Debug + Drop>(alloc: Global, answer: T) -> Result<String, AllocError> {
+    format!(in alloc; "{answer:?}")
 }

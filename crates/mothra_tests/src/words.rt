@@ -6,11 +6,7 @@ use std::process::Abort;
 use std::test::Fail;
 
 /// The words, which stand between blanks, have this answer, some text is written, and nothing is read.
-fn assert_unread(
-    rt: &(impl AllocGlobal + Abort),
-    words: &str,
-    want: Status,
-) -> Result<(), Fail> {
+fn assert_unread(rt: &(impl AllocGlobal + Abort), words: &str, want: Status) -> Result<(), Fail> {
     let mut list = Vec::new(rt.alloc());
     for word in words.split_whitespace() {
         list.push(word)?;
