@@ -19,12 +19,10 @@ fn assert_code(rt: &impl Abort, index: usize, code: &str) {
 
 #[test]
 fn codes_stand_in_order(rt: HostRuntime) {
-    let mut index = 0;
-    for code in CODES.split(' ') {
+    for (index, code) in CODES.split(' ').enumerate() {
         assert_code(&rt, index, code);
-        index += 1;
     }
-    assert_eq!(rt; index, 22);
+    assert_eq!(rt; CODES.split(' ').count(), 22);
 }
 
 #[test]
