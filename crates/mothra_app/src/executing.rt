@@ -41,6 +41,26 @@ fn run_program(
     Ok(outcome_line(alloc, &outcome)?)
 }
 
+/// The line of the outcome of a job's program, which is legal, on the test of this number.
+fn run_test(
+    alloc: Global,
+    checked: &Checked,
+    job: &Job,
+    test: u32,
+    steps: u32,
+) -> Result<String, Fault>
+    requires program { IsLegalProgramOf job.now.source (Ok (map line_of checked.now.program)) }
+    requires shapes { checked.now.arguments ≡ shapes (map line_of checked.now.program) }
+    ensures { MatchResult result
+        (λ text. IsExecuted job.now test steps (Ok (string_bytes text)))
+        (λ fault. IsExecuted job.now test steps (Err fault) ⊎ IsMemory fault) }
+{
+    match job.test(test) {
+        Some(arguments) => run_program(alloc, checked, arguments, steps),
+        None => Err(Fault::Job(JobFault::NoTest(test))),
+    }
+}
+
 /// The line of the outcome of a job's program on the test of this number, from 1, within so many steps.
 pub(crate) fn execute(alloc: Global, job: &Job, test: u32, steps: u32) -> Result<String, Fault>
     ensures { MatchResult result
@@ -48,8 +68,5 @@ pub(crate) fn execute(alloc: Global, job: &Job, test: u32, steps: u32) -> Result
         (λ fault. IsExecuted job.now test steps (Err fault) ⊎ IsMemory fault) }
 {
     let checked = legal_program_of(alloc, job.source())?;
-    match job.test(test) {
-        Some(arguments) => run_program(alloc, &checked, arguments, steps),
-        None => Err(Fault::Job(JobFault::NoTest(test))),
-    }
+    run_test(alloc, &checked, job, test, steps)
 }
