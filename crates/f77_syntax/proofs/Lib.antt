@@ -17,6 +17,7 @@ mod Views
 mod Gives
 mod Loops
 mod Numbers
+mod NameGives
 mod Operators
 mod Back
 mod StatementBack

@@ -17,6 +17,9 @@ use Rattle.f77_syntax.specs.Assignment.{ended, reference_behind, reference_at, v
 use Rattle.f77_syntax.specs.Subroutine.{is_comma, names_at, before_close, arguments_at, subroutine_at}
 use Rattle.f77_syntax.specs.View.{tree_of, trees, place_of, clip, clip_all, Fails}
 use Rattle.f77_syntax.specs.StatementView.{clip_statement}
+use Rattle.f77_syntax.specs.Declaration.{name_at}
+use Rattle.f77_syntax.specs.declared.fault.ReadError.TheVariants.{Memory, Unknown}
+use Rattle.f77_syntax.proofs.NameGives.{not_named}
 use Rattle.f77_syntax.proofs.Steps.{and_true}
 use Rattle.f77_syntax.proofs.Words.{word_whole}
 use Rattle.f77_syntax.proofs.Complete.{name_words}
@@ -188,6 +191,10 @@ naming_ends names new rest text name n some h none is added =
     let named : list_all is_name new ≡ true =
     ap (list_all is_name) (added ∙ ap (λ z. names ++ z ∷ []) is) ∙ list_all-append is_name names (word rest ∷ []) ∙ rw (n.named, h) refl in
     rw (some, all, named) refl
+
+pub names_fails : (names : List (List ℕ)) (rest text : List ℕ) (e : ReadError) → Naming names rest text → (length text == 0) ≡ false → Fails e (name_at rest) → Fails e (names_at text)
+names_fails names rest text Memory n some f = tt
+names_fails names rest text Unknown n some f = names_other names rest text n some (not_named rest f)
 
 pub names_empty : (text : List ℕ) → (length text == 0) ≡ true → names_at text ≡ Some []
 unfolding names_at

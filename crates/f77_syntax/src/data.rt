@@ -14,7 +14,7 @@ use crate::expression::{after_byte, past_comma};
 use crate::fault::ReadError;
 use crate::limits::LARGEST;
 use crate::name::{Name, are_named, are_short};
-use crate::scan::{is_name, split_word};
+use crate::names::add_name;
 use std::alloc::{AllocError, Global};
 
 /// A constant of a DATA statement, its sign part of it (ANSI X3.9-1978, section 9).
@@ -69,11 +69,7 @@ fn names(alloc: Global, text: &[u8]) -> Result<(Vec<Name>, &[u8]), ReadError>
     let mut names = Vec::new(alloc);
     let mut rest = text;
     loop {
-        let (front, behind) = split_word(rest);
-        if !is_name(front) {
-            return Err(ReadError::Unknown);
-        }
-        names.push(Name::copy_of(alloc, front)?)?;
+        let behind = add_name(alloc, &mut names, rest)?;
         let Some(next) = after_byte(behind, b',') else {
             return Ok((names, behind));
         };

@@ -19,6 +19,7 @@ mod label;
 pub mod law;
 mod limits;
 mod name;
+mod names;
 mod node;
 mod operator;
 mod parsing;

@@ -8,6 +8,7 @@ ghost use Rattle.f77_syntax.specs.StatementView.{IsStatement, AreNames};
 use crate::expression::after_byte;
 use crate::fault::ReadError;
 use crate::name::Name;
+use crate::names::add_name;
 use crate::scan::{is_name, split_word};
 use crate::tree::Stmt;
 use std::alloc::Global;
@@ -22,11 +23,7 @@ fn names(alloc: Global, text: &[u8]) -> Result<Vec<Name>, ReadError>
     }
     let mut rest = text;
     loop {
-        let (front, behind) = split_word(rest);
-        if !is_name(front) {
-            return Err(ReadError::Unknown);
-        }
-        names.push(Name::copy_of(alloc, front)?)?;
+        let behind = add_name(alloc, &mut names, rest)?;
         if behind.is_empty() {
             return Ok(names);
         }

@@ -3,8 +3,8 @@ use Rattle.f77_syntax.specs.Declaration.{name_at}
 use Rattle.f77_syntax.proofs.JoinedTexts.{Listing}
 use Rattle.f77_syntax.proofs.data.names.Given as goal
 
-abbrev pub invariant-loop-front : goal.invariant-loop-front
-invariant-loop-front l = Listing (λ (name : List ℕ). name) (λ (name : List ℕ). name) name_at l.names.items l.rest l.text
+abbrev pub invariant-loop-names : goal.invariant-loop-names
+invariant-loop-names l = Listing (λ (name : List ℕ). name) (λ (name : List ℕ). name) name_at l.names.items l.rest l.text
 
-abbrev pub decreases-loop-front : goal.decreases-loop-front
-decreases-loop-front l = length l.rest
+abbrev pub decreases-loop-names : goal.decreases-loop-names
+decreases-loop-names l = length l.rest
