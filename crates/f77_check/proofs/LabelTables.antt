@@ -1,19 +1,21 @@
 -- A table of labels, as one more statement goes in, and what is read from it.
-use Rattle.std.proofs.Common.{◌≡◌, ℕ, suc, List, [], ◌∷◌, ◌++◌, Bool, true, false, cond, refl, sym, ◌∙◌, ap, arith, length, get_or, filter, append-nil}
-use Rattle.std.specs.Prelude.{Option, Some, None, is_some, nat_eq, ◌==◌, ◌||◌, ◌&&◌, option_map, slice_get}
+use Rattle.std.proofs.Common.{◌≡◌, ℕ, suc, List, [], ◌∷◌, ◌++◌, Bool, true, false, cond, refl, sym, ◌∙◌, ap, arith, length, get_or, filter, append-nil, ◌<◌}
+use Rattle.std.specs.Prelude.{Option, Some, None, is_some, nat_eq, ◌==◌, ◌||◌, ◌&&◌, option_map, map, slice_get}
 use Rattle.std.specs.List.{list_any, filter_map, cons_option, find}
 use Rattle.std.specs.Map.{keys_of}
-use Rattle.std.specs.Option.{option_map_or}
+use Rattle.std.specs.Option.{option_and_then, option_map_or}
 use Rattle.std.proofs.lemmas.Bool.{eqb-true}
 use Rattle.std.proofs.lemmas.List.{map-append}
-use Rattle.std.proofs.lemmas.Option.{same_Some}
+use Rattle.std.proofs.lemmas.Option.{same_Some, slice_get-map, slice_get_read}
 use Rattle.std.proofs.lemmas.List.Elements.{filter_map-append}
 use Rattle.std.proofs.lemmas.Map.Entries.{lookup_from_place}
 use Rattle.std.proofs.lemmas.Cmp.{nat_eq_equiv}
 use Rattle.indexmap.specs.IndexMap.{get, keys, insert_entry, Updates, IsUnique}
 use Rattle.indexmap.proofs.CallerLemmas.{insert_entry-new, keys-insert_entry-present}
-use Rattle.f77_syntax.specs.Parsing.{LineFields}
-use Rattle.f77_check.specs.Labels.{labels, bears, is_double, place_of}
+use Rattle.f77_syntax.specs.Parsing.{LineFields, line_of}
+use Rattle.f77_syntax.specs.declared.program.Line.{Line}
+use Rattle.f77_syntax.specs.StatementView.{statement_of}
+use Rattle.f77_check.specs.Labels.{statement_with, labels, bears, is_double, place_of}
 use Rattle.f77_check.specs.LabelTable.{distinct, place_in, noted, IsLabelTable}
 use Rattle.f77_check.specs.declared.labels.Labels.{Labels}
 use Rattle.f77_check.specs.declared.labels.Place.{Place}
@@ -160,3 +162,10 @@ three_jumps test (a ∷ (b ∷ [])) jumps answer long e first rest = absurd (ome
 three_jumps test (a ∷ (b ∷ (c ∷ []))) jumps answer long e first rest =
     rest ∙ sym (ap (list_any test) (sym e) ∙ any_of_three test a b c ∙ ap (λ x. x || (option_map_or test b false || option_map_or test c false)) first)
 three_jumps test (a ∷ (b ∷ (c ∷ (d ∷ more)))) jumps answer long e first rest = absurd (omega (arith, long))
+
+-- the statement that a place gives
+pub statement_found : (lines : List Line) (label : Option ℕ) (l p : ℕ) (line : Line) → label ≡ Some l → place_of (map line_of lines) l ≡ Some p
+    → p < length lines → line ≡ get_or lines p line → Some (statement_of line.stmt) ≡ option_and_then (statement_with (map line_of lines)) label
+statement_found lines label l p line named at within is =
+    let here : slice_get lines p ≡ Some line = slice_get_read lines (length lines) p line refl within is in
+    rw (named, at, slice_get-map line_of lines p, here) refl

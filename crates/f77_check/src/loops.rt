@@ -131,12 +131,10 @@ fn ending_in(
     ensures ends { IfOk result (λ ends. ends.items ≡ table.ending_in terminals.now row.now t) }
     ensures memory { IfErr result (λ e. e ≡ fault.Memory) }
 {
-    let ends = row
-        .iter()
-        .rev()
-        .copied()
-        .filter(|d| ends_at(terminals, *d, t));
-    Ok(ends.collect(alloc)?)
+    let mut ends = row.to_vec(alloc)?;
+    ends.reverse();
+    ends.retain(|d| ends_at(terminals, *d, t));
+    Ok(ends)
 }
 
 impl Ranges {
