@@ -41,6 +41,7 @@ mod Admit
 mod Exact
 mod Cards
 mod NodeParts
+mod ItemTests
 mod NodeStatements
 mod NodeCounts
 mod Copies
