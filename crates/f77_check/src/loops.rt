@@ -108,8 +108,9 @@ fn left_in(
     ensures left { IfOk result (λ left. left.items ≡ table.left_in terminals.now row.now i k) }
     ensures memory { IfErr result (λ e. e ≡ fault.Memory) }
 {
-    let left = row.iter().copied().filter(|d| is_left(terminals, *d, i, k));
-    Ok(left.collect(alloc)?)
+    let mut left = row.to_vec(alloc)?;
+    left.retain(|d| is_left(terminals, *d, i, k));
+    Ok(left)
 }
 
 fn ends_at(terminals: &[Option<usize>], d: usize, t: usize) -> bool
