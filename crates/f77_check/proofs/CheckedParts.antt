@@ -4,8 +4,8 @@ use Rattle.std.specs.Prelude.{None}
 use Rattle.std.specs.List.{list_any}
 use Rattle.std.specs.Str.{bytes_eq}
 use Rattle.indexmap.specs.IndexMap.{keys}
-use Rattle.f77_syntax.specs.Parsing.{LineFields, IsProgram, line_of}
-use Rattle.f77_syntax.specs.declared.program.Line.{Line}
+use Rattle.f77_tree.specs.Parsing.{LineFields, IsProgram, line_of}
+use Rattle.f77_tree.specs.declared.program.Line.{Line}
 use Rattle.f77_check.specs.Checked.{IsChecked, shapes}
 use Rattle.f77_check.specs.CheckedView.{fields_of}
 use Rattle.f77_check.specs.Legal.{IsLegal}

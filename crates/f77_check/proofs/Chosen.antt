@@ -3,9 +3,9 @@ use Rattle.std.proofs.Common.{arith, suc, ◌≡◌, ◌<◌, ◌≤◌, ◌+◌
 use Rattle.std.specs.Prelude.{ℕ, map}
 use Rattle.std.proofs.lemmas.List.{drop_all}
 use Rattle.std.proofs.Math.Seq.{drop-cons}
-use Rattle.f77_syntax.specs.Tree.{Tree, Trees}
-use Rattle.f77_syntax.specs.View.{tree_of, trees}
-use Rattle.f77_syntax.specs.declared.tree.Expr.{Expr}
+use Rattle.f77_tree.specs.Tree.{Tree, Trees}
+use Rattle.f77_tree.specs.View.{tree_of, trees}
+use Rattle.f77_tree.specs.declared.tree.Expr.{Expr}
 use Rattle.f77_check.specs.Dimensions.{count}
 use Rattle.f77_check.specs.Expression.{IsNumber, IsChosen}
 use Rattle.f77_check.specs.Names.{Symbol}

@@ -1,8 +1,8 @@
 -- How many items a list of trees has.
 use Rattle.std.proofs.Common.{◌≡◌, List, [], ◌∷◌, length, refl, ap, suc}
 use Rattle.std.specs.Prelude.{map}
-use Rattle.f77_syntax.specs.declared.tree.Expr.{Expr}
-use Rattle.f77_syntax.specs.View.{tree_of, trees}
+use Rattle.f77_tree.specs.declared.tree.Expr.{Expr}
+use Rattle.f77_tree.specs.View.{tree_of, trees}
 use Rattle.f77_check.specs.Dimensions.{count}
 
 pub count_trees : (items : List Expr) → count (trees (map tree_of items)) ≡ length items

@@ -6,12 +6,12 @@ use Rattle.std.proofs.lemmas.Bool.{and_parts}
 use Rattle.std.proofs.lemmas.List.Folds.{list_all-map}
 use Rattle.std.proofs.lemmas.Map.Made.{is_some-lookup}
 use Rattle.indexmap.specs.IndexMap.{keys}
-use Rattle.f77_syntax.specs.Data.{data_group_of}
-use Rattle.f77_syntax.specs.Node.{NodeOf, group_nodes, names_of}
-use Rattle.f77_syntax.specs.Parsing.{LineFields}
-use Rattle.f77_syntax.specs.Tree.{GroupFields, Statement}
-use Rattle.f77_syntax.specs.declared.data.DataGroup.{DataGroup}
-use Rattle.f77_syntax.specs.declared.data.Value.{Value}
+use Rattle.f77_tree.specs.Data.{data_group_of}
+use Rattle.f77_tree.specs.Node.{NodeOf, group_nodes, names_of}
+use Rattle.f77_tree.specs.Parsing.{LineFields}
+use Rattle.f77_tree.specs.Tree.{GroupFields, Statement}
+use Rattle.f77_tree.specs.declared.data.DataGroup.{DataGroup}
+use Rattle.f77_tree.specs.declared.data.Value.{Value}
 use Rattle.f77_check.specs.declared.names.Names.{Names}
 use Rattle.f77_check.specs.declared.resolve.Resolver.{Resolver}
 use Rattle.f77_check.specs.Initial.{HasSlots, groups_kept}

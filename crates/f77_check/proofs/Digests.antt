@@ -5,8 +5,8 @@ use Rattle.std.specs.List.{cons_option, list_any}
 use Rattle.std.specs.Str.{bytes_eq}
 use Rattle.std.proofs.lemmas.List.{append-nil}
 use Rattle.std.proofs.lemmas.List.Elements.{filter-append, filter_map-append}
-use Rattle.f77_syntax.specs.declared.tree.Kind.{Kind}
-use Rattle.f77_syntax.specs.declared.tree.Kind.TheVariants.{Integer}
+use Rattle.f77_tree.specs.declared.tree.Kind.{Kind}
+use Rattle.f77_tree.specs.declared.tree.Kind.TheVariants.{Integer}
 use Rattle.f77_check.specs.Names.{Symbol, Mention, name_in, is_dummy, kind_in, bounds_in, some_items, first_or, mentions_with}
 use Rattle.f77_check.specs.NameTable.{FactsFields, times, facts_of, once_more, first_said, with_kind, with_bounds, with_fact, no_facts}
 use Rattle.f77_check.proofs.Symbols.{or_false, symbol_symm}

@@ -4,9 +4,9 @@ use Rattle.std.proofs.Common.{◌≡◌, ◌≤◌, ◌<◌, ℕ, zero, suc, ◌
 use Rattle.std.proofs.lemmas.Option.{slice_get-map, slice_get_read}
 use Rattle.std.specs.Prelude.{slice_get, option_map}
 use Rattle.std.specs.List.{enumerate_from}
-use Rattle.f77_syntax.specs.Parsing.{LineFields, line_of}
-use Rattle.f77_syntax.specs.declared.program.Line.{Line}
-use Rattle.f77_syntax.specs.Tree.{Statement}
+use Rattle.f77_tree.specs.Parsing.{LineFields, line_of}
+use Rattle.f77_tree.specs.declared.program.Line.{Line}
+use Rattle.f77_tree.specs.Tree.{Statement}
 use Rattle.f77_check.specs.declared.clause.Clause.{Clause}
 use Rattle.f77_check.specs.Clause.{breaks, fault_at, lines_where}
 use Rattle.f77_check.specs.Legal.{clause_faults}

@@ -5,10 +5,10 @@ use Rattle.std.specs.List.{list_any, enumerate_from, slice_get}
 use Rattle.std.specs.Str.{bytes_eq}
 use Rattle.std.proofs.lemmas.Grind.{flat_map-append}
 use mathlib.Core.Bool.{true≢false}
-use Rattle.f77_syntax.specs.Parsing.{LineFields, line_of}
-use Rattle.f77_syntax.specs.declared.program.Line.{Line}
-use Rattle.f77_syntax.specs.declared.tree.Kind.{Kind}
-use Rattle.f77_syntax.specs.StatementView.{statement_of}
+use Rattle.f77_tree.specs.Parsing.{LineFields, line_of}
+use Rattle.f77_tree.specs.declared.program.Line.{Line}
+use Rattle.f77_tree.specs.declared.tree.Kind.{Kind}
+use Rattle.f77_tree.specs.StatementView.{statement_of}
 use Rattle.f77_check.specs.Clause.{lines_where}
 use Rattle.f77_check.specs.Names.{Symbol, kind_of, bounds_of}
 use Rattle.f77_check.proofs.Lookups.{same_bounds, same_kinds, same_dummy_at}

@@ -8,10 +8,10 @@ use Rattle.std.proofs.lemmas.Bool.{and_parts, eqb-true}
 use Rattle.std.proofs.lemmas.List.{drop-map, map-append}
 use Rattle.std.proofs.lemmas.List.Folds.{find-append}
 use Rattle.std.proofs.lemmas.Simd.{map-map}
-use Rattle.f77_syntax.specs.declared.data.Constant.{Constant}
-use Rattle.f77_syntax.specs.declared.data.Value.{Value}
-use Rattle.f77_syntax.specs.Parsing.{LineFields}
-use Rattle.f77_syntax.specs.Tree.{GroupFields}
+use Rattle.f77_tree.specs.declared.data.Constant.{Constant}
+use Rattle.f77_tree.specs.declared.data.Value.{Value}
+use Rattle.f77_tree.specs.Parsing.{LineFields}
+use Rattle.f77_tree.specs.Tree.{GroupFields}
 use Rattle.f77_check.specs.Blocks.{first_numbers}
 use Rattle.f77_check.specs.Initial.{slots_of, is_free, give, give_run, give_values, give_group, give_groups}
 use Rattle.f77_check.specs.Names.{Symbol, bounds_of}

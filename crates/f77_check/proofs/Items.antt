@@ -2,11 +2,11 @@
 use Rattle.std.proofs.Common.{arith, zero, suc, ◌≡◌, ◌<◌, ◌≤◌, ◌∷◌, List, [], ◌&&◌, Bool, true, length, refl, get_or, ap, sym, ◌∙◌}
 use Rattle.std.specs.Prelude.{ℕ, map}
 use Rattle.std.proofs.lemmas.Bool.{and_parts}
-use Rattle.f77_syntax.specs.Tree.{Tree, Trees}
-use Rattle.f77_syntax.specs.View.{tree_of, trees}
-use Rattle.f77_syntax.specs.declared.tree.Expr.{Expr}
-use Rattle.f77_syntax.specs.declared.tree.Kind.{Kind}
-use Rattle.f77_syntax.specs.declared.tree.Kind.TheVariants.{Integer}
+use Rattle.f77_tree.specs.Tree.{Tree, Trees}
+use Rattle.f77_tree.specs.View.{tree_of, trees}
+use Rattle.f77_tree.specs.declared.tree.Expr.{Expr}
+use Rattle.f77_tree.specs.declared.tree.Kind.{Kind}
+use Rattle.f77_tree.specs.declared.tree.Kind.TheVariants.{Integer}
 use Rattle.f77_check.specs.Dimensions.{fits, all_fit}
 use Rattle.f77_check.specs.Kept.{tree_kept, items_kept}
 use Rattle.f77_check.specs.Kinds.{is_of, are_integer}

@@ -9,9 +9,9 @@ use Rattle.std.proofs.lemmas.List.Concat.{flat_map-cons}
 use Rattle.std.proofs.lemmas.List.Elements.{filter_map-append}
 use Rattle.std.proofs.lemmas.List.Folds.{list_all-append, list_all-map}
 use Rattle.std.proofs.lemmas.Map.Made.{is_some-lookup}
-use Rattle.f77_syntax.specs.Node.{NodeOf, parts, all_parts, tree_nodes, step_nodes, nodes_of, name_of, names_of}
-use Rattle.f77_syntax.specs.Parsing.{LineFields}
-use Rattle.f77_syntax.specs.Tree.{Tree, Trees, DeclFields, Statement}
+use Rattle.f77_tree.specs.Node.{NodeOf, parts, all_parts, tree_nodes, step_nodes, nodes_of, name_of, names_of}
+use Rattle.f77_tree.specs.Parsing.{LineFields}
+use Rattle.f77_tree.specs.Tree.{Tree, Trees, DeclFields, Statement}
 use Rattle.f77_check.specs.declared.names.Names.{Names}
 use Rattle.f77_check.specs.Dimensions.{is_shape, dimensions_fit}
 use Rattle.f77_check.specs.Kept.{is_kept, tree_kept, items_kept, step_kept, names_kept, AreFlat}

@@ -12,9 +12,9 @@ use Rattle.std.proofs.lemmas.Map.Entries.{lookup_from_place}
 use Rattle.std.proofs.lemmas.Cmp.{nat_eq_equiv}
 use Rattle.indexmap.specs.IndexMap.{get, keys, insert_entry, Updates, IsUnique}
 use Rattle.indexmap.proofs.CallerLemmas.{insert_entry-new, keys-insert_entry-present}
-use Rattle.f77_syntax.specs.Parsing.{LineFields, line_of}
-use Rattle.f77_syntax.specs.declared.program.Line.{Line}
-use Rattle.f77_syntax.specs.StatementView.{statement_of}
+use Rattle.f77_tree.specs.Parsing.{LineFields, line_of}
+use Rattle.f77_tree.specs.declared.program.Line.{Line}
+use Rattle.f77_tree.specs.StatementView.{statement_of}
 use Rattle.f77_check.specs.Labels.{statement_with, labels, bears, is_double, place_of}
 use Rattle.f77_check.specs.LabelTable.{distinct, place_in, noted, IsLabelTable}
 use Rattle.f77_check.specs.declared.labels.Labels.{Labels}

@@ -4,19 +4,19 @@ use Rattle.std.specs.Prelude.{map, flat_map, Box}
 use Rattle.std.specs.declared.alloc.Global.{Global}
 use Rattle.std.proofs.lemmas.List.{append-nil, map-append, take_more}
 use Rattle.std.proofs.lemmas.List.Concat.{flat_map-append}
-use Rattle.f77_syntax.specs.declared.data.DataGroup.{DataGroup}
-use Rattle.f77_syntax.specs.declared.tree.Expr.{Expr}
-use Rattle.f77_syntax.specs.declared.tree.Stmt.{Stmt}
-use Rattle.f77_syntax.specs.declared.tree.Stmt.TheVariants.{rolls-ArithIf, rolls-LogicalIf}
-use Rattle.f77_syntax.specs.declared.tree.Stmt.TheVariants as forms
-use Rattle.f77_syntax.specs.declared.tree.Stmt.TheViews as boxed
-use Rattle.f77_syntax.specs.declared.tree.Stmt.TheOpen.{Stmt-F}
-use Rattle.f77_syntax.specs.declared.tree.Stmt.TheFolds.{fold-roll-Stmt}
-use Rattle.f77_syntax.specs.Data.{data_group_of}
-use Rattle.f77_syntax.specs.Node.{NodeOf, tree_nodes, group_nodes, label_nodes, nodes_of}
-use Rattle.f77_syntax.specs.StatementView.{stmt_step, statement_of}
-use Rattle.f77_syntax.specs.Tree.{Statement}
-use Rattle.f77_syntax.specs.View.{tree_of}
+use Rattle.f77_tree.specs.declared.data.DataGroup.{DataGroup}
+use Rattle.f77_tree.specs.declared.tree.Expr.{Expr}
+use Rattle.f77_tree.specs.declared.tree.Stmt.{Stmt}
+use Rattle.f77_tree.specs.declared.tree.Stmt.TheVariants.{rolls-ArithIf, rolls-LogicalIf}
+use Rattle.f77_tree.specs.declared.tree.Stmt.TheVariants as forms
+use Rattle.f77_tree.specs.declared.tree.Stmt.TheViews as boxed
+use Rattle.f77_tree.specs.declared.tree.Stmt.TheOpen.{Stmt-F}
+use Rattle.f77_tree.specs.declared.tree.Stmt.TheFolds.{fold-roll-Stmt}
+use Rattle.f77_tree.specs.Data.{data_group_of}
+use Rattle.f77_tree.specs.Node.{NodeOf, tree_nodes, group_nodes, label_nodes, nodes_of}
+use Rattle.f77_tree.specs.StatementView.{stmt_step, statement_of}
+use Rattle.f77_tree.specs.Tree.{Statement}
+use Rattle.f77_tree.specs.View.{tree_of}
 use Rattle.f77_check.specs.NameTable.{Entries, with_nodes}
 use Rattle.f77_check.proofs.Noting.{nodes_append}
 

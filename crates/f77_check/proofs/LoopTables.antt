@@ -12,8 +12,8 @@ use Rattle.std.proofs.lemmas.List.Elements.{filter-append, filter_agree}
 use Rattle.std.proofs.lemmas.List.Quantifiers.{position-Some}
 use Rattle.std.proofs.lemmas.Map.Views.{any-filter_same}
 use Rattle.std.proofs.lemmas.Option.{slice_get-map, slice_get_past}
-use Rattle.f77_syntax.specs.Parsing.{LineFields}
-use Rattle.f77_syntax.specs.Tree.{Statement}
+use Rattle.f77_tree.specs.Parsing.{LineFields}
+use Rattle.f77_tree.specs.Tree.{Statement}
 use Rattle.f77_check.specs.Blocks.{first_numbers, numbers, has_at, is_end_if, is_alternative, is_level, begins_branch, branch_end, branch_holds}
 use Rattle.f77_check.specs.Labels.{statement_at, place_of, bears, terminal_label}
 use Rattle.f77_check.specs.Loops.{terminal, range_holds, is_left, left_by, ends_at, loops_ending, enclosing, ends_outside, breaks_range, AreNested, goes_in, variable_of, holds_with}

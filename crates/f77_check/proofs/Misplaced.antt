@@ -8,8 +8,8 @@ use Rattle.std.proofs.lemmas.Bool.Decides.{nat_tests}
 use Rattle.std.proofs.lemmas.List.Elements.{filter-append}
 use mathlib.Core.Bool.{true≢false}
 use Rattle.std.specs.Cmp.Lexicographic.{nat_list_eq_equiv, same_text}
-use Rattle.f77_syntax.specs.Data.{data_group_of}
-use Rattle.f77_syntax.specs.declared.data.DataGroup.{DataGroup}
+use Rattle.f77_tree.specs.Data.{data_group_of}
+use Rattle.f77_tree.specs.declared.data.DataGroup.{DataGroup}
 use Rattle.f77_check.specs.Names.{Symbol}
 use Rattle.f77_check.specs.Runs.{misplaces, group_names, names_held}
 

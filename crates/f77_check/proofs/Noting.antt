@@ -10,16 +10,16 @@ use Rattle.std.proofs.lemmas.Option.{none-some, same_Some}
 use Rattle.indexmap.specs.IndexMap.{insert_entry}
 use Rattle.std.specs.Prelude.{Box}
 use Rattle.std.specs.declared.alloc.Global.{Global}
-use Rattle.f77_syntax.specs.declared.operator.Operator.{Operator}
-use Rattle.f77_syntax.specs.declared.tree.Expr.{Expr}
-use Rattle.f77_syntax.specs.declared.tree.Expr.TheVariants.{rolls-Binary}
-use Rattle.f77_syntax.specs.declared.tree.Expr.TheViews as views
-use Rattle.f77_syntax.specs.declared.tree.Expr.TheOpen.{Expr-F}
-use Rattle.f77_syntax.specs.declared.tree.Expr.TheFolds.{fold-roll-Expr}
-use Rattle.f77_syntax.specs.declared.data.Value.{Value}
-use Rattle.f77_syntax.specs.Node.{NodeOf, name_of, parts, all_parts, tree_nodes}
-use Rattle.f77_syntax.specs.Tree.{Tree}
-use Rattle.f77_syntax.specs.View.{trees, tree_of, expr_step, ref_step}
+use Rattle.f77_tree.specs.declared.operator.Operator.{Operator}
+use Rattle.f77_tree.specs.declared.tree.Expr.{Expr}
+use Rattle.f77_tree.specs.declared.tree.Expr.TheVariants.{rolls-Binary}
+use Rattle.f77_tree.specs.declared.tree.Expr.TheViews as views
+use Rattle.f77_tree.specs.declared.tree.Expr.TheOpen.{Expr-F}
+use Rattle.f77_tree.specs.declared.tree.Expr.TheFolds.{fold-roll-Expr}
+use Rattle.f77_tree.specs.declared.data.Value.{Value}
+use Rattle.f77_tree.specs.Node.{NodeOf, name_of, parts, all_parts, tree_nodes}
+use Rattle.f77_tree.specs.Tree.{Tree}
+use Rattle.f77_tree.specs.View.{trees, tree_of, expr_step, ref_step}
 use Rattle.f77_check.specs.declared.names.Facts.{Facts}
 use Rattle.f77_check.specs.declared.mentions.Said.{Said}
 use Rattle.f77_check.specs.declared.mentions.Said.TheVariants as said

@@ -1,11 +1,11 @@
 -- The kinds of operands, by the operator between them.
 use Rattle.std.proofs.Common.{◌≡◌, true, Some, refl}
 use Rattle.std.proofs.lemmas.Bool.{and_parts}
-use Rattle.f77_syntax.specs.Tree.{Tree}
-use Rattle.f77_syntax.specs.declared.operator.Operator.{Operator}
-use Rattle.f77_syntax.specs.declared.operator.Operator.TheVariants.{Equivalent, NotEquivalent, Or, And, Less, LessOrEqual, Equal, NotEqual, GreaterOrEqual, Greater}
-use Rattle.f77_syntax.specs.declared.tree.Kind.{Kind}
-use Rattle.f77_syntax.specs.declared.tree.Kind.TheVariants.{Integer, Logical}
+use Rattle.f77_tree.specs.Tree.{Tree}
+use Rattle.f77_tree.specs.declared.operator.Operator.{Operator}
+use Rattle.f77_tree.specs.declared.operator.Operator.TheVariants.{Equivalent, NotEquivalent, Or, And, Less, LessOrEqual, Equal, NotEqual, GreaterOrEqual, Greater}
+use Rattle.f77_tree.specs.declared.tree.Kind.{Kind}
+use Rattle.f77_tree.specs.declared.tree.Kind.TheVariants.{Integer, Logical}
 use Rattle.f77_check.specs.Expression.{arithmetic_of, relation_of, connective_of}
 use Rattle.f77_check.specs.Kinds.{operand_kind, is_of}
 use Rattle.f77_check.specs.Names.{Symbol}

@@ -1,8 +1,8 @@
 -- What a statement whose names can be looked up gives its parts.
 use Rattle.std.proofs.Common.{◌≡◌, ℕ, true, Option}
 use Rattle.std.proofs.lemmas.Bool.{and_parts}
-use Rattle.f77_syntax.specs.Tree.{Tree, Statement}
-use Rattle.f77_syntax.specs.declared.tree.Kind.TheVariants.{Integer}
+use Rattle.f77_tree.specs.Tree.{Tree, Statement}
+use Rattle.f77_tree.specs.declared.tree.Kind.TheVariants.{Integer}
 use Rattle.f77_check.specs.Dimensions.{fits, step_fits}
 use Rattle.f77_check.specs.Kept.{is_kept, tree_kept, step_kept}
 use Rattle.f77_check.specs.Kinds.{is_of, is_step}

@@ -2,17 +2,17 @@
 use Rattle.std.proofs.Common.{◌≡◌, List, ℕ, Some, ap, sym, ◌∙◌}
 use Rattle.std.specs.Prelude.{Box}
 use Rattle.std.specs.declared.alloc.Global.{Global}
-use Rattle.f77_syntax.specs.declared.operator.Operator.{Operator}
-use Rattle.f77_syntax.specs.declared.operator.Sign.{Sign}
-use Rattle.f77_syntax.specs.declared.operator.Sign.TheVariants.{Minus}
-use Rattle.f77_syntax.specs.declared.tree.Expr.{Expr}
-use Rattle.f77_syntax.specs.declared.tree.Expr.TheVariants.{rolls-Number, rolls-Signed, rolls-Not, rolls-Binary, rolls-ZeroPush}
-use Rattle.f77_syntax.specs.declared.tree.Expr.TheVariants as forms
-use Rattle.f77_syntax.specs.declared.tree.Expr.TheViews as views
-use Rattle.f77_syntax.specs.declared.tree.Expr.TheOpen.{Expr-F}
-use Rattle.f77_syntax.specs.declared.tree.Expr.TheFolds.{fold-roll-Expr}
-use Rattle.f77_syntax.specs.Tree.{Tree}
-use Rattle.f77_syntax.specs.View.{tree_of, expr_step, ref_step}
+use Rattle.f77_tree.specs.declared.operator.Operator.{Operator}
+use Rattle.f77_tree.specs.declared.operator.Sign.{Sign}
+use Rattle.f77_tree.specs.declared.operator.Sign.TheVariants.{Minus}
+use Rattle.f77_tree.specs.declared.tree.Expr.{Expr}
+use Rattle.f77_tree.specs.declared.tree.Expr.TheVariants.{rolls-Number, rolls-Signed, rolls-Not, rolls-Binary, rolls-ZeroPush}
+use Rattle.f77_tree.specs.declared.tree.Expr.TheVariants as forms
+use Rattle.f77_tree.specs.declared.tree.Expr.TheViews as views
+use Rattle.f77_tree.specs.declared.tree.Expr.TheOpen.{Expr-F}
+use Rattle.f77_tree.specs.declared.tree.Expr.TheFolds.{fold-roll-Expr}
+use Rattle.f77_tree.specs.Tree.{Tree}
+use Rattle.f77_tree.specs.View.{tree_of, expr_step, ref_step}
 use Rattle.f77_check.specs.Boxed.{HoldsNumber, HoldsCondition}
 use Rattle.f77_check.specs.Expression.{IsNumber, IsCondition, arithmetic_of, connective_of}
 use Rattle.f77_check.specs.Names.{Symbol}

@@ -1,13 +1,13 @@
 -- The definitions at worked rows.
 use Rattle.std.specs.Prelude.{◌≡◌, refl, ℕ, ℤ, pos, List, [], ◌∷◌, Some, None, codes}
-use Rattle.f77_syntax.specs.Parsing.{LineFields}
-use Rattle.f77_syntax.specs.Tree.{Tree, Trees, DeclFields, Statement}
-use Rattle.f77_syntax.specs.declared.data.Constant.TheVariants.{Number}
-use Rattle.f77_syntax.specs.declared.data.Value.{Value}
-use Rattle.f77_syntax.specs.declared.tree.Kind.TheVariants.{Integer}
-use Rattle.f77_syntax.specs.declared.operator.Operator.TheVariants.{Greater}
+use Rattle.f77_tree.specs.Parsing.{LineFields}
+use Rattle.f77_tree.specs.Tree.{Tree, Trees, DeclFields, Statement}
+use Rattle.f77_tree.specs.declared.data.Constant.TheVariants.{Number}
+use Rattle.f77_tree.specs.declared.data.Value.{Value}
+use Rattle.f77_tree.specs.declared.tree.Kind.TheVariants.{Integer}
+use Rattle.f77_tree.specs.declared.operator.Operator.TheVariants.{Greater}
 use Rattle.f77_check.specs.declared.fault.CheckFault.TheVariants.{RealName, Twice, Dimensions, DoubleLabel, NoLabel, BadTarget, IntoBlock, BadTerminal, Nesting, DoVariable, BadData}
-use Rattle.f77_syntax.specs.Intrinsic.{function_named}
+use Rattle.f77_tree.specs.Intrinsic.{function_named}
 use Rattle.f77_check.specs.Legal.{faults, first_fault}
 
 abbrev line : ℕ → Statement → LineFields

@@ -5,7 +5,7 @@ use Rattle.std.specs.List.{sum}
 use Rattle.std.specs.Map.{keys_of}
 use Rattle.std.proofs.lemmas.Map.Made.{keys_of-map_values}
 use Rattle.indexmap.specs.IndexMap.{keys}
-use Rattle.f77_syntax.specs.Parsing.{LineFields}
+use Rattle.f77_tree.specs.Parsing.{LineFields}
 use Rattle.f77_check.specs.declared.names.Names.{Names}
 use Rattle.f77_check.specs.Legal.{IsLegal}
 use Rattle.f77_check.specs.Names.{Symbol, mentions, symbols, bounds_of, some_items}

@@ -7,11 +7,11 @@ use Rattle.std.proofs.lemmas.List.{append-nil, map-append}
 use Rattle.std.proofs.lemmas.List.Concat.{flat_map-cons}
 use Rattle.std.proofs.lemmas.List.Elements.{filter_map-append}
 use Rattle.std.proofs.lemmas.List.Folds.{list_any-append}
-use Rattle.f77_syntax.specs.Node.{NodeOf, group_nodes, name_of, names_of}
-use Rattle.f77_syntax.specs.Parsing.{LineFields}
-use Rattle.f77_syntax.specs.Tree.{GroupFields, Statement}
-use Rattle.f77_syntax.specs.declared.data.Constant.{Constant}
-use Rattle.f77_syntax.specs.declared.data.Value.{Value}
+use Rattle.f77_tree.specs.Node.{NodeOf, group_nodes, name_of, names_of}
+use Rattle.f77_tree.specs.Parsing.{LineFields}
+use Rattle.f77_tree.specs.Tree.{GroupFields, Statement}
+use Rattle.f77_tree.specs.declared.data.Constant.{Constant}
+use Rattle.f77_tree.specs.declared.data.Value.{Value}
 use Rattle.f77_check.specs.Blocks.{first_numbers}
 use Rattle.f77_check.specs.Names.{Symbol, Mention, name_in, mentions_of, mentions, symbols}
 use Rattle.f77_check.specs.Presets.{elements, groups_of}

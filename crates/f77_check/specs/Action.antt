@@ -1,9 +1,9 @@
 -- Which statement is which with its names and labels looked up: by cases on both. Statements are numbered from 0 here.
 use Rattle.std.specs.Prelude.{◌≡◌, ⊤, ℕ, List, Option, Some, None, pos}
-use Rattle.f77_syntax.specs.Parsing.{LineFields}
-use Rattle.f77_syntax.specs.Tree.{Tree, Trees, Statement}
-use Rattle.f77_syntax.specs.declared.tree.Kind.{Kind}
-use Rattle.f77_syntax.specs.declared.tree.Kind.TheVariants.{Integer, Logical}
+use Rattle.f77_tree.specs.Parsing.{LineFields}
+use Rattle.f77_tree.specs.Tree.{Tree, Trees, Statement}
+use Rattle.f77_tree.specs.declared.tree.Kind.{Kind}
+use Rattle.f77_tree.specs.declared.tree.Kind.TheVariants.{Integer, Logical}
 use Rattle.f77_check.specs.declared.action.Action.{Action, Declaration, AssignNumber, AssignTruth, Goto, ArithmeticIf, LogicalIf', Branch, Continue, Loop, Return, Stop, Trap}
 use Rattle.f77_check.specs.declared.action.Jump.{Jump}
 use Rattle.f77_check.specs.declared.expression.Number.{Number}

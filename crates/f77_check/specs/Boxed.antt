@@ -1,7 +1,7 @@
 -- Expressions on the heap with their names looked up. These do not unfold by themselves, so that a proof need not look inside what it passes on.
 use Rattle.std.specs.Prelude.{ℕ, List, Box}
 use Rattle.std.specs.declared.alloc.Global.{Global}
-use Rattle.f77_syntax.specs.Tree.{Tree}
+use Rattle.f77_tree.specs.Tree.{Tree}
 use Rattle.f77_check.specs.declared.expression.Number.{Number}
 use Rattle.f77_check.specs.declared.expression.Condition.{Condition}
 use Rattle.f77_check.specs.Expression.{IsNumber, IsCondition}

@@ -2,8 +2,8 @@
 use Rattle.std.specs.Prelude.{◌≡◌, ◌⊎◌, ℕ, true, List, [], map, Result, Ok, Err, Some, None, if◌then◌else◌}
 use Rattle.std.specs.List.{list_any, slice_get}
 use Rattle.std.specs.Str.{bytes_eq}
-use Rattle.f77_syntax.specs.Parsing.{LineFields, IsProgram, line_of}
-use Rattle.f77_syntax.specs.declared.program.Line.{Line}
+use Rattle.f77_tree.specs.Parsing.{LineFields, IsProgram, line_of}
+use Rattle.f77_tree.specs.declared.program.Line.{Line}
 use Rattle.f77_check.specs.declared.checked.Shape.{Shape}
 use Rattle.f77_check.specs.declared.fault.CheckFault.{CheckFault}
 use Rattle.f77_check.specs.declared.fault.CheckFault.TheVariants.{Memory}

@@ -1,8 +1,8 @@
 -- The clauses that single statements keep or break, and what is told of one that breaks it.
 use Rattle.std.specs.Prelude.{ℕ, Bool, not, List, map, filter}
 use Rattle.std.specs.List.{enumerate_from}
-use Rattle.f77_syntax.specs.Parsing.{LineFields}
-use Rattle.f77_syntax.specs.Tree.{Statement}
+use Rattle.f77_tree.specs.Parsing.{LineFields}
+use Rattle.f77_tree.specs.Tree.{Statement}
 use Rattle.f77_check.specs.declared.clause.Clause.{Clause}
 use Rattle.f77_check.specs.declared.clause.Clause.TheVariants.{Kinds, Bounds, NamedLabels, Targets, Terminals, Nests, Jumps, Variables}
 use Rattle.f77_check.specs.declared.fault.CheckFault.{CheckFault}

@@ -1,9 +1,9 @@
 -- Bounds, subscripts and arguments (ANSI X3.9-1978, section 5 and 15.10).
 use Rattle.std.specs.Prelude.{ℕ, zero, suc, ◌==◌, ◌&&◌, Bool, true, nat_le, List, length, Option, Some, None}
 use Rattle.std.specs.List.{list_all}
-use Rattle.f77_syntax.specs.Tree.{Tree, Trees, DeclFields, Statement}
-use Rattle.f77_syntax.specs.declared.intrinsic.Intrinsic.{Intrinsic}
-use Rattle.f77_syntax.specs.declared.intrinsic.Intrinsic.TheVariants.{Mod, Iabs, Min0, Max0}
+use Rattle.f77_tree.specs.Tree.{Tree, Trees, DeclFields, Statement}
+use Rattle.f77_tree.specs.declared.intrinsic.Intrinsic.{Intrinsic}
+use Rattle.f77_tree.specs.declared.intrinsic.Intrinsic.TheVariants.{Mod, Iabs, Min0, Max0}
 use Rattle.f77_check.specs.Names.{Symbol}
 
 abbrev pub count : Trees → ℕ

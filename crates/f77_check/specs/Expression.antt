@@ -1,10 +1,10 @@
 -- Which expression is which with its names looked up: by cases on both. Names have these bounds, and slots in the order of this list.
 use Rattle.std.specs.Prelude.{◌≡◌, ℕ, ◌<◌, ◌≤◌, List, [], ◌∷◌, Option, Some, None, pos}
-use Rattle.f77_syntax.specs.Tree.{Tree, Trees}
-use Rattle.f77_syntax.specs.declared.intrinsic.Intrinsic.TheVariants.{Mod, Iabs, Min0, Max0}
-use Rattle.f77_syntax.specs.declared.operator.Operator.{Operator}
-use Rattle.f77_syntax.specs.declared.operator.Operator.TheVariants as operator
-use Rattle.f77_syntax.specs.declared.operator.Sign.TheVariants.{Plus, Minus}
+use Rattle.f77_tree.specs.Tree.{Tree, Trees}
+use Rattle.f77_tree.specs.declared.intrinsic.Intrinsic.TheVariants.{Mod, Iabs, Min0, Max0}
+use Rattle.f77_tree.specs.declared.operator.Operator.{Operator}
+use Rattle.f77_tree.specs.declared.operator.Operator.TheVariants as operator
+use Rattle.f77_tree.specs.declared.operator.Sign.TheVariants.{Plus, Minus}
 use Rattle.f77_check.specs.declared.expression.Arithmetic.{Arithmetic}
 use Rattle.f77_check.specs.declared.expression.Arithmetic.TheVariants as arithmetic
 use Rattle.f77_check.specs.declared.expression.Relation.{Relation}

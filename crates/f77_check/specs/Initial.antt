@@ -3,9 +3,9 @@ use Rattle.std.specs.Prelude.{◌<◌, ◌^◌, ℕ, ◌+◌, Bool, false, not, 
 use Rattle.std.specs.List.{flat_map, list_all}
 use Rattle.std.specs.Option.{option_map_or}
 use Rattle.indexmap.specs.IndexMap.{keys}
-use Rattle.f77_syntax.specs.Tree.{GroupFields}
-use Rattle.f77_syntax.specs.declared.data.Constant.{Constant}
-use Rattle.f77_syntax.specs.declared.data.Value.{Value}
+use Rattle.f77_tree.specs.Tree.{GroupFields}
+use Rattle.f77_tree.specs.declared.data.Constant.{Constant}
+use Rattle.f77_tree.specs.declared.data.Value.{Value}
 use Rattle.f77_check.specs.Blocks.{first_numbers}
 use Rattle.f77_check.specs.Kept.{is_kept}
 use Rattle.f77_check.specs.NameTable.{bounds_at}

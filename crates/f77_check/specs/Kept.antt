@@ -2,7 +2,7 @@
 use Rattle.std.specs.Prelude.{◌≤◌, ◌&&◌, Bool, true, length, is_some, Option, Some, None}
 use Rattle.std.specs.Str.{bytes_eq}
 use Rattle.indexmap.specs.IndexMap.{get}
-use Rattle.f77_syntax.specs.Tree.{Tree, Trees, Statement}
+use Rattle.f77_tree.specs.Tree.{Tree, Trees, Statement}
 use Rattle.f77_check.specs.NameTable.{bounds_at}
 use Rattle.f77_check.specs.Names.{Symbol}
 use Rattle.f77_check.specs.declared.names.Names.{Names}

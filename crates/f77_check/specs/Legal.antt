@@ -2,7 +2,7 @@
 -- clause in the order of the names, the labels or the lines.
 use Rattle.std.specs.Prelude.{◌≡◌, ◌||◌, Bool, nat_lt, List, [], ◌∷◌, ◌++◌, length, map, filter, if◌then◌else◌, Option, is_some}
 use Rattle.std.specs.List.{flat_map, sum, slice_get}
-use Rattle.f77_syntax.specs.Parsing.{LineFields}
+use Rattle.f77_tree.specs.Parsing.{LineFields}
 use Rattle.f77_check.specs.declared.clause.Clause.{Clause}
 use Rattle.f77_check.specs.declared.clause.Clause.TheVariants.{Kinds, Bounds, NamedLabels, Targets, Terminals, Nests, Jumps, Variables}
 use Rattle.f77_check.specs.declared.fault.CheckFault.{CheckFault}

@@ -4,7 +4,7 @@ use Rattle.std.specs.List.{list_any, slice_get}
 use Rattle.std.specs.Option.{option_and_then, option_map_or}
 use Rattle.std.specs.Str.{bytes_eq}
 use Rattle.std.specs.declared.alloc.Global.{Global}
-use Rattle.f77_syntax.specs.Parsing.{LineFields}
+use Rattle.f77_tree.specs.Parsing.{LineFields}
 use Rattle.f77_check.specs.Blocks.{first_numbers, numbers, branch_holds}
 use Rattle.f77_check.specs.Labels.{statement_at}
 use Rattle.f77_check.specs.Loops.{terminal, enclosing, variable_of}

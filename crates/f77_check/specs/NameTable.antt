@@ -3,11 +3,11 @@ use Rattle.std.specs.Prelude.{◌≡◌, ℕ, ◌&&◌, ◌||◌, Bool, true, fa
 use Rattle.std.specs.Option.{option_map_or}
 use Rattle.std.specs.Str.{bytes_eq}
 use Rattle.indexmap.specs.IndexMap.{get}
-use Rattle.f77_syntax.specs.Intrinsic.{function_named}
-use Rattle.f77_syntax.specs.Node.{NodeOf, name_of}
-use Rattle.f77_syntax.specs.Parsing.{LineFields}
-use Rattle.f77_syntax.specs.declared.tree.Kind.{Kind}
-use Rattle.f77_syntax.specs.declared.tree.Kind.TheVariants.{Integer}
+use Rattle.f77_tree.specs.Intrinsic.{function_named}
+use Rattle.f77_tree.specs.Node.{NodeOf, name_of}
+use Rattle.f77_tree.specs.Parsing.{LineFields}
+use Rattle.f77_tree.specs.declared.tree.Kind.{Kind}
+use Rattle.f77_tree.specs.declared.tree.Kind.TheVariants.{Integer}
 use Rattle.f77_check.specs.declared.names.Facts.{Facts}
 use Rattle.f77_check.specs.declared.names.Names.{Names}
 use Rattle.f77_check.specs.declared.names.Times.{Times}

@@ -3,12 +3,12 @@ use Rattle.std.specs.Prelude.{ℕ, suc, ◌*◌, ◌||◌, Bool, not, nat_le, Li
 use Rattle.std.specs.List.{flat_map, list_any}
 use Rattle.std.specs.Cmp.Lexicographic.{pointwise}
 use Rattle.std.specs.Str.{bytes_eq}
-use Rattle.f77_syntax.specs.declared.data.Constant.{Constant}
-use Rattle.f77_syntax.specs.declared.data.Constant.TheVariants.{Number, Truth}
-use Rattle.f77_syntax.specs.declared.tree.Kind.{Kind}
-use Rattle.f77_syntax.specs.declared.tree.Kind.TheVariants.{Integer, Logical}
-use Rattle.f77_syntax.specs.Parsing.{LineFields}
-use Rattle.f77_syntax.specs.Tree.{GroupFields, Statement}
+use Rattle.f77_tree.specs.declared.data.Constant.{Constant}
+use Rattle.f77_tree.specs.declared.data.Constant.TheVariants.{Number, Truth}
+use Rattle.f77_tree.specs.declared.tree.Kind.{Kind}
+use Rattle.f77_tree.specs.declared.tree.Kind.TheVariants.{Integer, Logical}
+use Rattle.f77_tree.specs.Parsing.{LineFields}
+use Rattle.f77_tree.specs.Tree.{GroupFields, Statement}
 use Rattle.f77_check.specs.Kinds.{same_kind}
 use Rattle.f77_check.specs.Names.{Symbol, mentions, dummies_given, kind_of, bounds_of}
 

@@ -1,9 +1,9 @@
 -- What the tables and the statements of a legal program have, by which names are looked up.
 use Rattle.std.specs.Prelude.{◌≡◌, ⊤, ℕ, true, List, [], ◌∷◌, Some, None, IsSome}
 use Rattle.indexmap.specs.IndexMap.{keys}
-use Rattle.f77_syntax.specs.Formed.{is_action}
-use Rattle.f77_syntax.specs.Parsing.{LineFields, IsProgram}
-use Rattle.f77_syntax.specs.Tree.{Tree, Trees, Statement}
+use Rattle.f77_tree.specs.Formed.{is_action}
+use Rattle.f77_tree.specs.Parsing.{LineFields, IsProgram}
+use Rattle.f77_tree.specs.Tree.{Tree, Trees, Statement}
 use Rattle.f77_check.specs.Action.{IsAction, IsAssignment}
 use Rattle.f77_check.specs.Blocks.{branch_end}
 use Rattle.f77_check.specs.BlockTable.{branch_end_at}

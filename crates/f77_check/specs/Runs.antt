@@ -4,9 +4,9 @@ use Rattle.std.specs.Borrow.{Bor}
 use Rattle.std.specs.List.{flat_map, list_any}
 use Rattle.std.specs.Cmp.Lexicographic.{pointwise}
 use Rattle.std.specs.Str.{bytes_eq}
-use Rattle.f77_syntax.specs.declared.data.Value.{Value}
-use Rattle.f77_syntax.specs.declared.tree.Kind.{Kind}
-use Rattle.f77_syntax.specs.Tree.{GroupFields, Statement}
+use Rattle.f77_tree.specs.declared.data.Value.{Value}
+use Rattle.f77_tree.specs.declared.tree.Kind.{Kind}
+use Rattle.f77_tree.specs.Tree.{GroupFields, Statement}
 use Rattle.f77_check.specs.declared.presets.Remaining.{Remaining}
 use Rattle.f77_check.specs.Kinds.{same_kind}
 use Rattle.f77_check.specs.Names.{Symbol}

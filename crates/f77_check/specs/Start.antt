@@ -4,9 +4,9 @@ use Rattle.std.specs.Prelude.{◌≡◌, ℕ, ◌&&◌, ◌==◌, Bool, false, t
 use Rattle.std.specs.List.{find, flat_map}
 use Rattle.std.specs.Option.{option_and_then, option_map_or}
 use Rattle.std.specs.Str.{bytes_eq}
-use Rattle.f77_syntax.specs.Parsing.{LineFields}
-use Rattle.f77_syntax.specs.Tree.{GroupFields, Statement}
-use Rattle.f77_syntax.specs.declared.data.Constant.{Constant}
+use Rattle.f77_tree.specs.Parsing.{LineFields}
+use Rattle.f77_tree.specs.Tree.{GroupFields, Statement}
+use Rattle.f77_tree.specs.declared.data.Constant.{Constant}
 use Rattle.f77_check.specs.declared.start.Start.{Start}
 use Rattle.f77_check.specs.Blocks.{first_numbers}
 use Rattle.f77_check.specs.Labels.{statement_at}

@@ -1,10 +1,10 @@
 -- What the tables are of a program.
 use Rattle.std.specs.Prelude.{ℕ, List, Option, None, if◌then◌else◌}
 use Rattle.std.specs.Option.{option_and_then}
-use Rattle.f77_syntax.specs.Tree.{Statement}
+use Rattle.f77_tree.specs.Tree.{Statement}
 use Rattle.f77_check.specs.Blocks.{begins_branch, branch_end}
 use Rattle.f77_check.specs.Labels.{place_of, terminal_label}
-use Rattle.f77_syntax.specs.Parsing.{LineFields}
+use Rattle.f77_tree.specs.Parsing.{LineFields}
 use Rattle.f77_check.specs.declared.tables.Tables.{Tables}
 use Rattle.f77_check.specs.NameTable.{IsNameTable}
 use Rattle.f77_check.specs.LabelTable.{IsLabelTable}

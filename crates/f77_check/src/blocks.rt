@@ -2,8 +2,8 @@
 
 ghost use Rattle.std.specs.Prelude.{◌≡◌, ℕ, ◌+◌, ◌<◌, ◌^◌, ◌&&◌, ◌||◌, ◌==◌, false, nat_lt, List, length, map, take, slice_index_or, Some, None, IfOk, IfErr};
 ghost use Rattle.std.specs.Option.{option_map_or};
-ghost use Rattle.f77_syntax.specs.Parsing.{LineFields, line_of};
-ghost use Rattle.f77_syntax.specs.StatementView.{statement_of};
+ghost use Rattle.f77_tree.specs.Parsing.{LineFields, line_of};
+ghost use Rattle.f77_tree.specs.StatementView.{statement_of};
 ghost use Rattle.f77_check.specs.Blocks as words;
 ghost use Rattle.f77_check.specs.Blocks.{first_numbers, behind, branch_holds, breaks_block, is_in_block};
 ghost use Rattle.f77_check.specs.BlockTable as table;
@@ -12,7 +12,7 @@ ghost use Rattle.f77_check.specs.Labels.{statement_at};
 ghost use Rattle.f77_check.specs.declared.fault.CheckFault.TheVariants.{Memory};
 
 use crate::fault::CheckFault;
-use f77_syntax::{Line, Stmt};
+use f77_tree::{Line, Stmt};
 use std::alloc::Global;
 
 /// What a statement begins whose end is looked for: a whole block, or a branch of one.

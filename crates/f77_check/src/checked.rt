@@ -2,9 +2,9 @@
 
 ghost use Rattle.std.specs.Prelude.{◌≡◌, length};
 ghost use Rattle.std.specs.Coded.{codes};
-ghost use Rattle.f77_syntax.specs.contracts.tree.Expr as expr;
-ghost use Rattle.f77_syntax.specs.contracts.tree.Stmt as stmt;
-ghost use Rattle.f77_syntax.specs.contracts.program.Line as line;
+ghost use Rattle.f77_tree.specs.contracts.tree.Expr as expr;
+ghost use Rattle.f77_tree.specs.contracts.tree.Stmt as stmt;
+ghost use Rattle.f77_tree.specs.contracts.program.Line as line;
 ghost use Rattle.f77_check.specs.contracts.action.Action as action;
 ghost use Rattle.f77_check.specs.contracts.expression.Condition as condition;
 ghost use Rattle.f77_check.specs.contracts.expression.Element as element;
@@ -15,7 +15,7 @@ ghost use Rattle.f77_check.specs.CheckedView.{fields_of};
 use crate::resolve::Resolver;
 use crate::resolved::Resolved;
 use crate::start::Start;
-use f77_syntax::{Kind, Program};
+use f77_tree::{Kind, Program};
 use std::marker::Model;
 
 /// What a dummy argument is: a variable, or an array of so many elements.

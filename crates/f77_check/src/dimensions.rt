@@ -2,14 +2,14 @@
 
 ghost use Rattle.std.specs.Prelude.{◌≡◌, ◌==◌, length, map, option_map};
 ghost use Rattle.std.specs.List.{list_all};
-ghost use Rattle.f77_syntax.specs.Declaration.{decl_of};
-ghost use Rattle.f77_syntax.specs.View.{tree_of, trees};
-ghost use Rattle.f77_syntax.specs.StatementView.{statement_of};
+ghost use Rattle.f77_tree.specs.Declaration.{decl_of};
+ghost use Rattle.f77_tree.specs.View.{tree_of, trees};
+ghost use Rattle.f77_tree.specs.StatementView.{statement_of};
 ghost use Rattle.f77_check.specs.Dimensions as dimensions;
 ghost use Rattle.f77_check.specs.NameTable.{bounds_at};
 
 use crate::names::Names;
-use f77_syntax::{Decl, Expr, Intrinsic, Name, Stmt};
+use f77_tree::{Decl, Expr, Intrinsic, Name, Stmt};
 
 /// Whether the function takes so many arguments (ANSI X3.9-1978, 15.10, table 5).
 fn takes(function: Intrinsic, count: usize) -> bool

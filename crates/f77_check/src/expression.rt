@@ -3,7 +3,7 @@
 ghost use Rattle.std.specs.Prelude.{◌≡◌};
 ghost use Rattle.f77_check.specs.Expression.{arithmetic_of, relation_of, connective_of};
 
-use f77_syntax::Operator;
+use f77_tree::Operator;
 
 /// An operation on two numbers.
 #[derive(Clone, Copy, Debug, PartialEq, Eq)]

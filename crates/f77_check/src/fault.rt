@@ -3,7 +3,7 @@
 ghost use Rattle.std.specs.Prelude.{◌≡◌};
 ghost use Rattle.f77_check.specs.declared.fault.CheckFault.TheVariants as fault;
 
-use f77_syntax::Name;
+use f77_tree::Name;
 use std::alloc::{AllocError, AllocFailed};
 use thiserror::Error;
 

@@ -2,12 +2,12 @@
 
 ghost use Rattle.std.specs.Prelude.{◌≡◌, [], map, option_map};
 ghost use Rattle.std.specs.Option.{option_map_or};
-ghost use Rattle.f77_syntax.specs.Parsing.{line_of};
-ghost use Rattle.f77_syntax.specs.StatementView.{statement_of};
+ghost use Rattle.f77_tree.specs.Parsing.{line_of};
+ghost use Rattle.f77_tree.specs.StatementView.{statement_of};
 ghost use Rattle.f77_check.specs.Names.{unit_name, unit_name_of};
 ghost use Rattle.f77_check.specs.Start.{dummies, dummies_of};
 
-use f77_syntax::{Line, Name, Stmt};
+use f77_tree::{Line, Name, Stmt};
 
 /// The names of the unit and of its dummy arguments, where this is a SUBROUTINE statement.
 fn heading(stmt: &Stmt) -> Option<(&Name, &[Name])>

@@ -1,13 +1,13 @@
 //! The kinds of expressions, and what statements want of them.
 
 ghost use Rattle.std.specs.Prelude.{◌≡◌, map, option_map};
-ghost use Rattle.f77_syntax.specs.View.{tree_of, trees};
-ghost use Rattle.f77_syntax.specs.StatementView.{statement_of};
+ghost use Rattle.f77_tree.specs.View.{tree_of, trees};
+ghost use Rattle.f77_tree.specs.StatementView.{statement_of};
 ghost use Rattle.f77_check.specs.Kinds as kinds;
 ghost use Rattle.f77_check.specs.NameTable.{kind_at};
 
 use crate::names::Names;
-use f77_syntax::{Expr, Kind, Operator, Stmt};
+use f77_tree::{Expr, Kind, Operator, Stmt};
 
 pub(crate) fn same_kind(left: Kind, right: Kind) -> bool
     ensures { result ≡ kinds.same_kind left right }

@@ -4,15 +4,15 @@ ghost use Rattle.std.specs.Prelude.{◌≡◌, ◌++◌, ℕ, List, [], ◌∷�
 ghost use Rattle.std.specs.List.{filter_map, find, list_any};
 ghost use Rattle.std.specs.Option.{option_and_then, option_map_or};
 ghost use Rattle.indexmap.specs.IndexMap.{get, IsUnique};
-ghost use Rattle.f77_syntax.specs.Parsing.{LineFields, line_of};
-ghost use Rattle.f77_syntax.specs.StatementView.{statement_of};
+ghost use Rattle.f77_tree.specs.Parsing.{LineFields, line_of};
+ghost use Rattle.f77_tree.specs.StatementView.{statement_of};
 ghost use Rattle.f77_check.specs.LabelTable.{IsLabelTable, noted};
 ghost use Rattle.f77_check.specs.Labels as clause;
 ghost use Rattle.f77_check.specs.Labels.{is_double, place_of};
 ghost use Rattle.f77_check.specs.declared.fault.CheckFault.TheVariants as fault;
 
 use crate::fault::CheckFault;
-use f77_syntax::{Line, Stmt};
+use f77_tree::{Line, Stmt};
 use indexmap::IndexMap;
 use std::alloc::Global;
 

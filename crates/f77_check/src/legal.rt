@@ -1,7 +1,7 @@
 //! The check of a program.
 
 ghost use Rattle.std.specs.Prelude.{◌≡◌, ◌⊎◌, List, map, IfOk, IfErr, Some};
-ghost use Rattle.f77_syntax.specs.Parsing.{LineFields, line_of};
+ghost use Rattle.f77_tree.specs.Parsing.{LineFields, line_of};
 ghost use Rattle.f77_check.specs.Checked.{Tells, shapes};
 ghost use Rattle.f77_check.specs.Legal.{IsLegal, first_fault, name_faults, clause_faults, expression_clauses, control_clauses, label_faults, data_faults, size_faults, faults};
 ghost use Rattle.f77_check.specs.LabelTable.{IsLabelTable};
@@ -20,7 +20,7 @@ use crate::resolve::Resolver;
 use crate::shapes::shapes;
 use crate::slots::Slots;
 use crate::tables::Tables;
-use f77_syntax::{Line, Program};
+use f77_tree::{Line, Program};
 use std::alloc::Global;
 
 const MOST_STATEMENTS: usize = 500;

@@ -2,10 +2,10 @@
 
 ghost use Rattle.std.specs.Prelude.{◌≡◌, ◌<◌, ◌==◌, true, map, length, option_map, IfOk, IfErr, List, ℕ};
 ghost use Rattle.indexmap.specs.IndexMap.{keys};
-ghost use Rattle.f77_syntax.specs.Tree.{Tree};
-ghost use Rattle.f77_syntax.specs.View.{tree_of, trees};
-ghost use Rattle.f77_syntax.specs.declared.intrinsic.Intrinsic.TheVariants.{Mod, Iabs};
-ghost use Rattle.f77_syntax.specs.declared.tree.Kind.TheVariants.{Integer, Logical};
+ghost use Rattle.f77_tree.specs.Tree.{Tree};
+ghost use Rattle.f77_tree.specs.View.{tree_of, trees};
+ghost use Rattle.f77_tree.specs.declared.intrinsic.Intrinsic.TheVariants.{Mod, Iabs};
+ghost use Rattle.f77_tree.specs.declared.tree.Kind.TheVariants.{Integer, Logical};
 ghost use Rattle.f77_check.specs.Action.{IsStep};
 ghost use Rattle.f77_check.specs.Boxed.{HoldsNumber, HoldsCondition};
 ghost use Rattle.f77_check.specs.Dimensions.{count, fits, all_fit, step_fits};
@@ -21,7 +21,7 @@ use crate::expression::{Arithmetic, Condition, Connective, Element, Number, Rela
 use crate::fault::CheckFault;
 use crate::names::Names;
 use crate::slots::Slots;
-use f77_syntax::{Expr, Intrinsic, Name, Operator, Sign};
+use f77_tree::{Expr, Intrinsic, Name, Operator, Sign};
 use std::alloc::Global;
 
 /// An INTEGER constant.

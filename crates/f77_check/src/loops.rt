@@ -3,8 +3,8 @@
 ghost use Rattle.std.specs.Prelude.{◌≡◌, ◌&&◌, ◌==◌, false, not, List, filter, length, map, option_map, IfOk, IfErr};
 ghost use Rattle.std.specs.Option.{option_and_then, option_map_or};
 ghost use Rattle.std.specs.Str.{bytes_eq};
-ghost use Rattle.f77_syntax.specs.Parsing.{LineFields, line_of};
-ghost use Rattle.f77_syntax.specs.StatementView.{statement_of};
+ghost use Rattle.f77_tree.specs.Parsing.{LineFields, line_of};
+ghost use Rattle.f77_tree.specs.StatementView.{statement_of};
 ghost use Rattle.f77_check.specs.Labels.{statement_at};
 ghost use Rattle.f77_check.specs.Loops as loops;
 ghost use Rattle.f77_check.specs.LoopTable as table;
@@ -12,7 +12,7 @@ ghost use Rattle.f77_check.specs.LoopTable.{IsTerminals, IsBranches, IsRangeTabl
 ghost use Rattle.f77_check.specs.declared.fault.CheckFault.TheVariants as fault;
 
 use crate::fault::CheckFault;
-use f77_syntax::{Line, Name, Stmt};
+use f77_tree::{Line, Name, Stmt};
 use std::alloc::Global;
 
 /// Where the loops and branches of a program end, and what holds each statement, the outermost first.

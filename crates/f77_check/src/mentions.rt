@@ -3,19 +3,19 @@
 ghost use Rattle.std.specs.Prelude.{◌≡◌, ◌∷◌, ◌++◌, List, ℕ, None, map, flat_map, option_map, OnOk, IfErr};
 ghost use Rattle.std.specs.Str.{bytes_eq};
 ghost use Rattle.indexmap.specs.IndexMap.{get};
-ghost use Rattle.f77_syntax.specs.Data.{data_group_of};
-ghost use Rattle.f77_syntax.specs.Declaration.{decl_of};
-ghost use Rattle.f77_syntax.specs.Node as nodes;
-ghost use Rattle.f77_syntax.specs.Node.{NodeOf, all_parts, tree_nodes, nodes_of};
-ghost use Rattle.f77_syntax.specs.StatementView.{statement_of};
-ghost use Rattle.f77_syntax.specs.View.{trees, tree_of, place_of};
+ghost use Rattle.f77_tree.specs.Data.{data_group_of};
+ghost use Rattle.f77_tree.specs.Declaration.{decl_of};
+ghost use Rattle.f77_tree.specs.Node as nodes;
+ghost use Rattle.f77_tree.specs.Node.{NodeOf, all_parts, tree_nodes, nodes_of};
+ghost use Rattle.f77_tree.specs.StatementView.{statement_of};
+ghost use Rattle.f77_tree.specs.View.{trees, tree_of, place_of};
 ghost use Rattle.f77_check.specs.declared.fault.CheckFault.TheVariants as fault;
 ghost use Rattle.f77_check.specs.Names.{Mention, mentions_of};
 ghost use Rattle.f77_check.specs.NameTable.{fields_of, entries_of, once_more, first_said, with_kind, with_shape, with_bounds, with_fact, no_facts, with_mention, with_mentions, with_nodes, mention_of};
 
 use crate::fault::CheckFault;
 use crate::names::{Facts, Names, Times};
-use f77_syntax::{DataGroup, Decl, Expr, Kind, Name, Ref, Stmt};
+use f77_tree::{DataGroup, Decl, Expr, Kind, Name, Ref, Stmt};
 use std::alloc::Global;
 
 /// What a statement says of a name that it mentions.

@@ -6,8 +6,8 @@ ghost use Rattle.std.specs.Map.Iter.{deref_pair};
 ghost use Rattle.std.specs.Option.{option_and_then, option_map_or};
 ghost use Rattle.std.specs.Str.{bytes_eq};
 ghost use Rattle.indexmap.specs.IndexMap.{values};
-ghost use Rattle.f77_syntax.specs.Intrinsic.{function_named};
-ghost use Rattle.f77_syntax.specs.Parsing.{LineFields, line_of};
+ghost use Rattle.f77_tree.specs.Intrinsic.{function_named};
+ghost use Rattle.f77_tree.specs.Parsing.{LineFields, line_of};
 ghost use Rattle.f77_check.specs.declared.fault.CheckFault.TheVariants as fault;
 ghost use Rattle.f77_check.specs.Legal.{is_array};
 ghost use Rattle.f77_check.specs.Names as named;
@@ -18,7 +18,7 @@ ghost use Rattle.f77_check.specs.Presets as presets;
 ghost use Rattle.f77_check.specs.Presets.{product};
 
 use crate::fault::CheckFault;
-use f77_syntax::{Intrinsic, Kind, Line, Name};
+use f77_tree::{Intrinsic, Kind, Line, Name};
 use indexmap::IndexMap;
 use std::alloc::Global;
 

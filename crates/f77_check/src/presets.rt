@@ -3,9 +3,9 @@
 ghost use Rattle.std.specs.Prelude.{◌≡◌, ◌==◌, ◌||◌, ◌≤◌, ◌*◌, ◌++◌, false, not, [], ◌∷◌, length, map, min, option_map, slice_get, IfOk, IfErr};
 ghost use Rattle.std.specs.List.{list_all, list_any};
 ghost use Rattle.std.specs.Str.{bytes_eq};
-ghost use Rattle.f77_syntax.specs.Data.{data_group_of};
-ghost use Rattle.f77_syntax.specs.Parsing.{line_of};
-ghost use Rattle.f77_syntax.specs.StatementView.{statement_of};
+ghost use Rattle.f77_tree.specs.Data.{data_group_of};
+ghost use Rattle.f77_tree.specs.Parsing.{line_of};
+ghost use Rattle.f77_tree.specs.StatementView.{statement_of};
 ghost use Rattle.f77_check.specs.declared.fault.CheckFault.TheVariants as fault;
 ghost use Rattle.f77_check.specs.Kinds as kinds;
 ghost use Rattle.f77_check.specs.Clause.{lines_where};
@@ -17,7 +17,7 @@ ghost use Rattle.f77_check.specs.Runs.{kinds_in, kinds_left, behind, fills, misp
 use crate::fault::CheckFault;
 use crate::kinds::same_kind;
 use crate::names::Names;
-use f77_syntax::{Constant, DataGroup, Kind, Line, Name, Stmt, Value};
+use f77_tree::{Constant, DataGroup, Kind, Line, Name, Stmt, Value};
 use indexmap::IndexSet;
 use std::alloc::Global;
 

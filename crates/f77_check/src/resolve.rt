@@ -2,11 +2,11 @@
 
 ghost use Rattle.std.specs.Prelude.{◌≡◌, ◌<◌, true, Some, List, length, map, option_map, IfOk, IfErr, IsSome};
 ghost use Rattle.indexmap.specs.IndexMap.{keys};
-ghost use Rattle.f77_syntax.specs.Formed.{is_action};
-ghost use Rattle.f77_syntax.specs.Parsing.{LineFields, line_of};
-ghost use Rattle.f77_syntax.specs.StatementView.{statement_of};
-ghost use Rattle.f77_syntax.specs.Tree.{Statement};
-ghost use Rattle.f77_syntax.specs.View.{place_of, tree_of, trees};
+ghost use Rattle.f77_tree.specs.Formed.{is_action};
+ghost use Rattle.f77_tree.specs.Parsing.{LineFields, line_of};
+ghost use Rattle.f77_tree.specs.StatementView.{statement_of};
+ghost use Rattle.f77_tree.specs.Tree.{Statement};
+ghost use Rattle.f77_tree.specs.View.{place_of, tree_of, trees};
 ghost use Rattle.f77_check.specs.Action.{IsJump};
 ghost use Rattle.f77_check.specs.Labels as labels;
 ghost use Rattle.f77_check.specs.Labels.{jumps_of, statement_at};
@@ -23,7 +23,7 @@ use crate::lookup::{condition, element, number, step};
 use crate::resolved::Resolved;
 use crate::slots::Slots;
 use crate::tables::Tables;
-use f77_syntax::{Expr, Kind, Line, Name, Ref, Stmt};
+use f77_tree::{Expr, Kind, Line, Name, Ref, Stmt};
 use std::alloc::Global;
 
 /// What the names and labels of single statements are looked up in.

@@ -7,7 +7,7 @@ ghost use Rattle.f77_check.specs.declared.fault.CheckFault.TheVariants.{Memory};
 use crate::checked::Shape;
 use crate::fault::CheckFault;
 use crate::names::{Names, product};
-use f77_syntax::Name;
+use f77_tree::Name;
 use std::alloc::Global;
 
 /// The number, 4294967295 for more than that.

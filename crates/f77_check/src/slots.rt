@@ -10,7 +10,7 @@ ghost use Rattle.f77_check.specs.declared.fault.CheckFault.TheVariants.{Memory};
 
 use crate::fault::CheckFault;
 use crate::names::{Names, product};
-use f77_syntax::Name;
+use f77_tree::Name;
 use std::alloc::Global;
 
 /// The first slot of each name, in order of first appearance, and the number of all slots.

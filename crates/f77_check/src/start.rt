@@ -3,9 +3,9 @@
 ghost use Rattle.std.specs.Prelude.{◌≡◌, ◌++◌, true, Some, map, position, IfOk, IfErr, OnOk};
 ghost use Rattle.std.specs.List.{flat_map, list_all};
 ghost use Rattle.indexmap.specs.IndexMap.{keys};
-ghost use Rattle.f77_syntax.specs.Data.{data_group_of};
-ghost use Rattle.f77_syntax.specs.Parsing.{line_of};
-ghost use Rattle.f77_syntax.specs.StatementView.{statement_of};
+ghost use Rattle.f77_tree.specs.Data.{data_group_of};
+ghost use Rattle.f77_tree.specs.Parsing.{line_of};
+ghost use Rattle.f77_tree.specs.StatementView.{statement_of};
 ghost use Rattle.f77_check.specs.Blocks.{first_numbers};
 ghost use Rattle.f77_check.specs.Initial as given;
 ghost use Rattle.f77_check.specs.Initial.{HasSlots, slots_of, groups_kept};
@@ -23,7 +23,7 @@ use crate::fault::CheckFault;
 use crate::heading::arguments;
 use crate::names::product;
 use crate::resolve::Resolver;
-use f77_syntax::{Constant, DataGroup, Line, Name, Stmt, Value};
+use f77_tree::{Constant, DataGroup, Line, Name, Stmt, Value};
 use std::alloc::Global;
 
 /// What a run of a program starts with. Statements and slots are numbered from 0.

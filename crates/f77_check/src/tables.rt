@@ -4,8 +4,8 @@ ghost use Rattle.std.specs.Prelude.{◌≡◌, ◌||◌, List, length, map, slic
 ghost use Rattle.std.specs.Option.{option_map_or};
 ghost use Rattle.f77_check.specs.Blocks.{first_numbers};
 ghost use Rattle.f77_check.specs.Labels.{place_of};
-ghost use Rattle.f77_syntax.specs.Parsing.{LineFields, line_of};
-ghost use Rattle.f77_syntax.specs.StatementView.{statement_of};
+ghost use Rattle.f77_tree.specs.Parsing.{LineFields, line_of};
+ghost use Rattle.f77_tree.specs.StatementView.{statement_of};
 ghost use Rattle.f77_check.specs.Clause as clauses;
 ghost use Rattle.f77_check.specs.Legal.{clause_faults};
 ghost use Rattle.f77_check.specs.Loops as loops;
@@ -23,7 +23,7 @@ use crate::kinds::kinds_agree;
 use crate::labels::{Labels, ends_badly, jumps_badly, jumps_of, names_no_label, terminal_label};
 use crate::loops::{Ranges, sets_variable};
 use crate::names::Names;
-use f77_syntax::{Line, Stmt};
+use f77_tree::{Line, Stmt};
 use std::alloc::Global;
 
 /// What is looked up in a program: its names, its labels, its blocks and its ranges.

@@ -8,8 +8,8 @@ use Rattle.std.proofs.lemmas.Bool.Decides.{nat_tests}
 use Rattle.std.proofs.lemmas.Cmp.{nat_list_eq_equiv}
 use Rattle.std.proofs.lemmas.Map.Views.{any-filter_same}
 use Rattle.std.proofs.lemmas.Slice.Eq.{bytes_eq-Decides}
-use Rattle.f77_syntax.specs.Parsing.{LineFields}
-use Rattle.f77_syntax.specs.Tree.{Statement}
+use Rattle.f77_tree.specs.Parsing.{LineFields}
+use Rattle.f77_tree.specs.Tree.{Statement}
 use Rattle.f77_check.specs.Start.{dummies, dummies_of}
 use Rattle.f77_check.specs.Legal.{IsLegal, name_faults}
 use Rattle.f77_check.specs.Names.{Symbol, Mention, Dummy, name_in, mentions_of, mentions, each_once, symbols, is_real, is_twice, dummies_given}

@@ -2,11 +2,11 @@
 use Rattle.std.proofs.Common.{◌≡◌, refl, ℕ, ℤ, pos, negsuc, List, [], ◌∷◌, Option, Some, None}
 use Rattle.std.specs.Prelude.{codes, map, option_map, position}
 use Rattle.std.specs.Option.{option_and_then}
-use Rattle.f77_syntax.specs.Parsing.{LineFields}
-use Rattle.f77_syntax.specs.Tree.{Tree, Trees, Statement}
-use Rattle.f77_syntax.specs.declared.tree.Kind.TheVariants.{Integer}
-use Rattle.f77_syntax.specs.declared.intrinsic.Intrinsic.TheVariants.{Mod}
-use Rattle.f77_syntax.specs.declared.operator.Operator.TheVariants.{Add, Divide, Power, Less}
+use Rattle.f77_tree.specs.Parsing.{LineFields}
+use Rattle.f77_tree.specs.Tree.{Tree, Trees, Statement}
+use Rattle.f77_tree.specs.declared.tree.Kind.TheVariants.{Integer}
+use Rattle.f77_tree.specs.declared.intrinsic.Intrinsic.TheVariants.{Mod}
+use Rattle.f77_tree.specs.declared.operator.Operator.TheVariants.{Add, Divide, Power, Less}
 use Rattle.f77_check.specs.Start.{is_executable}
 use Rattle.f77_run.specs.declared.finish.Fault.TheVariants.{Overflow, DivideByZero, ZeroPower, BadSubscript, ZeroStep, Undefined}
 use Rattle.f77_run.specs.declared.finish.Finish.{Finish}

@@ -5,8 +5,8 @@ use Rattle.std.specs.Option.{option_map_or, option_and_then}
 use Rattle.std.proofs.lemmas.Bool.{cases_lt, eqb-true}
 use Rattle.std.proofs.lemmas.Bool.Decides.{nat_tests}
 use Rattle.std.proofs.lemmas.Option.{slice_get_past, same_Some}
-use Rattle.f77_syntax.specs.Parsing.{LineFields}
-use Rattle.f77_syntax.specs.Tree.{Tree, Trees, Statement}
+use Rattle.f77_tree.specs.Parsing.{LineFields}
+use Rattle.f77_tree.specs.Tree.{Tree, Trees, Statement}
 use Rattle.f77_check.specs.Blocks.{branch_end, behind}
 use Rattle.f77_check.specs.Labels.{place_of, statement_at, terminal_label}
 use Rattle.f77_check.specs.Loops.{terminal, ends_at}

@@ -1,10 +1,10 @@
 -- The slots that a resolved expression can name are among those of its names.
 use Rattle.std.proofs.Common.{arith, ◌≡◌, ◌≤◌, ℕ, ◌+◌, ◌*◌, true, not, List, [], ◌∷◌, Some, refl, ap}
 use Rattle.std.proofs.lemmas.Bool.{and_from, le-ltb, lt-ltb}
-use Rattle.f77_syntax.specs.Tree.{Tree, Trees}
-use Rattle.f77_syntax.specs.declared.intrinsic.Intrinsic.{Intrinsic}
-use Rattle.f77_syntax.specs.declared.intrinsic.Intrinsic.TheVariants.{Mod, Iabs, Min0, Max0}
-use Rattle.f77_syntax.specs.declared.operator.Sign.TheVariants.{Plus, Minus}
+use Rattle.f77_tree.specs.Tree.{Tree, Trees}
+use Rattle.f77_tree.specs.declared.intrinsic.Intrinsic.{Intrinsic}
+use Rattle.f77_tree.specs.declared.intrinsic.Intrinsic.TheVariants.{Mod, Iabs, Min0, Max0}
+use Rattle.f77_tree.specs.declared.operator.Sign.TheVariants.{Plus, Minus}
 use Rattle.f77_check.specs.declared.expression.Arithmetic.{Arithmetic}
 use Rattle.f77_check.specs.declared.expression.Arithmetic.TheVariants as arithmetic
 use Rattle.f77_check.specs.declared.expression.Element.{Element, Variable, Vector', Matrix'}

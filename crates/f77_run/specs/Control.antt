@@ -2,9 +2,9 @@
 use Rattle.std.specs.Prelude.{◌≡◌, ℕ, ◌+◌, ◌==◌, Bool, true, false, List, Option, Some, None, IsSome}
 use Rattle.std.specs.List.{list_any}
 use Rattle.std.specs.Option.{option_and_then}
-use Rattle.f77_syntax.specs.Formed.{is_action}
-use Rattle.f77_syntax.specs.Parsing.{LineFields, IsProgram}
-use Rattle.f77_syntax.specs.Tree.{Tree, Statement}
+use Rattle.f77_tree.specs.Formed.{is_action}
+use Rattle.f77_tree.specs.Parsing.{LineFields, IsProgram}
+use Rattle.f77_tree.specs.Tree.{Tree, Statement}
 use Rattle.f77_check.specs.Blocks.{has_at, is_alternative, block_end, branch_end}
 use Rattle.f77_check.specs.Labels.{place_of, statement_at, jumps_of, terminal_label}
 use Rattle.f77_check.specs.Loops.{terminal}

@@ -1,7 +1,7 @@
 -- What is answered for a checked program, values of its dummy arguments and a limit on steps.
 use Rattle.std.specs.Prelude.{◌≡◌, ℕ, ◌+◌, ◌==◌, ◌&&◌, Bool, true, false, not, List, [], ◌∷◌, length, map, Option, Some, None, option_map, position, if◌then◌else◌}
-use Rattle.f77_syntax.specs.Parsing.{LineFields}
-use Rattle.f77_syntax.specs.declared.tree.Kind.TheVariants.{Integer, Logical}
+use Rattle.f77_tree.specs.Parsing.{LineFields}
+use Rattle.f77_tree.specs.declared.tree.Kind.TheVariants.{Integer, Logical}
 use Rattle.f77_check.specs.Checked.{shapes}
 use Rattle.f77_check.specs.Kinds.{same_kind}
 use Rattle.f77_check.specs.declared.checked.Shape.{Shape}

@@ -1,9 +1,9 @@
 -- INTEGER values: the exact number first, then the range (ANSI X3.9-1978, 4.3, 6.1.5 and 15.10).
 use Rattle.std.specs.Prelude.{ℕ, zero, suc, ◌^◌, ◌==◌, Bool, true, false, nat_lt, if◌then◌else◌, List, [], ◌∷◌, ℤ, pos, negsuc, ◌+ℤ◌, ◌-ℤ◌, ◌*ℤ◌, int_div, int_rem, Result, Ok, Err}
-use Rattle.f77_syntax.specs.declared.intrinsic.Intrinsic.{Intrinsic}
-use Rattle.f77_syntax.specs.declared.intrinsic.Intrinsic.TheVariants.{Mod, Iabs, Min0, Max0}
-use Rattle.f77_syntax.specs.declared.operator.Sign.{Sign}
-use Rattle.f77_syntax.specs.declared.operator.Sign.TheVariants.{Plus, Minus}
+use Rattle.f77_tree.specs.declared.intrinsic.Intrinsic.{Intrinsic}
+use Rattle.f77_tree.specs.declared.intrinsic.Intrinsic.TheVariants.{Mod, Iabs, Min0, Max0}
+use Rattle.f77_tree.specs.declared.operator.Sign.{Sign}
+use Rattle.f77_tree.specs.declared.operator.Sign.TheVariants.{Plus, Minus}
 use Rattle.f77_run.specs.declared.finish.Fault.{Fault}
 use Rattle.f77_run.specs.declared.finish.Fault.TheVariants.{Overflow, DivideByZero, ZeroPower, Undefined}
 

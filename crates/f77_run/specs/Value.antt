@@ -2,11 +2,11 @@
 use Rattle.std.specs.Prelude.{ℕ, zero, suc, ◌+◌, ◌*◌, ◌&&◌, ◌||◌, Bool, true, false, not, nat_lt, if◌then◌else◌, List, [], ◌∷◌, Option, Some, slice_get, slice_set, ℤ, pos, ◌+ℤ◌, ◌-ℤ◌, ◌*ℤ◌, Result, Ok, Err}
 use Rattle.std.specs.Option.{option_and_then}
 use Rattle.std.specs.Str.{bytes_eq}
-use Rattle.f77_syntax.specs.Tree.{Tree, Trees}
-use Rattle.f77_syntax.specs.declared.operator.Operator.{Operator}
-use Rattle.f77_syntax.specs.declared.operator.Operator.TheVariants.{Equivalent, NotEquivalent, Or, And, Less, LessOrEqual, Equal, NotEqual, GreaterOrEqual, Greater, Add, Subtract, Multiply, Divide, Power}
-use Rattle.f77_syntax.specs.declared.tree.Kind.{Kind}
-use Rattle.f77_syntax.specs.declared.tree.Kind.TheVariants.{Integer, Logical}
+use Rattle.f77_tree.specs.Tree.{Tree, Trees}
+use Rattle.f77_tree.specs.declared.operator.Operator.{Operator}
+use Rattle.f77_tree.specs.declared.operator.Operator.TheVariants.{Equivalent, NotEquivalent, Or, And, Less, LessOrEqual, Equal, NotEqual, GreaterOrEqual, Greater, Add, Subtract, Multiply, Divide, Power}
+use Rattle.f77_tree.specs.declared.tree.Kind.{Kind}
+use Rattle.f77_tree.specs.declared.tree.Kind.TheVariants.{Integer, Logical}
 use Rattle.f77_check.specs.Names.{Symbol}
 use Rattle.f77_run.specs.declared.finish.Fault.{Fault}
 use Rattle.f77_run.specs.declared.finish.Fault.TheVariants.{BadSubscript, Undefined, Trapped}

@@ -8,7 +8,7 @@ ghost use Rattle.f77_run.specs.declared.outcome.RunFault.TheVariants as fault;
 use crate::argument::Arg;
 use crate::outcome::RunFault;
 use f77_check::Shape;
-use f77_syntax::Kind;
+use f77_tree::Kind;
 
 fn has_count(elements: Option<u32>, count: usize) -> bool
     ensures { result ≡ is_count elements count }

@@ -1,7 +1,7 @@
 //! Runs of checked programs.
 
 ghost use Rattle.std.specs.Prelude.{◌≡◌, ◌⊎◌, map, option_map, replicate, Some, None, Err, IfOk, IfErr, IfSome};
-ghost use Rattle.f77_syntax.specs.Parsing.{line_of};
+ghost use Rattle.f77_tree.specs.Parsing.{line_of};
 ghost use Rattle.f77_run.specs.Interpreter as meaning;
 ghost use Rattle.f77_run.specs.Interpreter.{AreFitting, AreArguments, IsOutcomeOf, Tells, refusal, values_in};
 ghost use Rattle.f77_run.specs.Running.{Site, IsRunning, config_at};
@@ -19,7 +19,7 @@ use crate::running::go;
 use crate::value::Value;
 use crate::values::Values;
 use f77_check::Checked;
-use f77_syntax::Constant;
+use f77_tree::Constant;
 use std::alloc::Global;
 
 fn value(constant: Option<Constant>) -> Option<Value>

@@ -2,7 +2,7 @@
 
 ghost use Rattle.std.specs.Prelude.{◌≡◌, ◌+◌, ◌≤◌, true, length, map, Some, IfOk, IfErr};
 ghost use Rattle.std.specs.List.{list_all};
-ghost use Rattle.f77_syntax.specs.declared.tree.Kind.TheVariants as kind;
+ghost use Rattle.f77_tree.specs.declared.tree.Kind.TheVariants as kind;
 ghost use Rattle.f77_run.specs.Interpreter.{AreFitting, has_shape, values_in};
 ghost use Rattle.f77_run.specs.Spans.{AllHold, AreWithin, HaveRoom, all_filled, filled, size_of, span};
 ghost use Rattle.f77_check.specs.Start.{pairs};
@@ -15,7 +15,7 @@ use crate::outcome::RunFault;
 use crate::value::Value;
 use crate::values::Values;
 use f77_check::Shape;
-use f77_syntax::Kind;
+use f77_tree::Kind;
 use std::alloc::Global;
 
 fn fill_numbers(cells: &mut Vec<Option<Value>>, first: usize, numbers: &[i32])

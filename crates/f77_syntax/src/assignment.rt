@@ -1,14 +1,13 @@
 //! Assignments read from texts.
 
-ghost use Rattle.f77_syntax.specs.Assignment.{reference_at, assign_at};
-ghost use Rattle.f77_syntax.specs.View.{Gives};
-ghost use Rattle.f77_syntax.specs.StatementView.{IsStatement, IsReference};
+ghost use Rattle.f77_tree.specs.Assignment.{reference_at, assign_at};
+ghost use Rattle.f77_tree.specs.View.{Gives};
+ghost use Rattle.f77_tree.specs.StatementView.{IsStatement, IsReference};
 
 use crate::expression::{after_byte, closed, expression, list};
-use crate::fault::ReadError;
-use crate::name::Name;
-use crate::scan::{is_name, split_word};
-use crate::tree::{Ref, Stmt};
+use crate::scan::split_word;
+use f77_tree::characters::is_name;
+use f77_tree::{Name, ReadError, Ref, Stmt};
 use std::alloc::Global;
 
 /// Reads a name with its subscripts, and what follows.

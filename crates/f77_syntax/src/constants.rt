@@ -1,13 +1,14 @@
 //! The constants of DATA, read from texts.
 
 ghost use Rattle.std.specs.Prelude.{◌≡◌, pos};
-ghost use Rattle.f77_syntax.specs.Declaration.{number_at};
-ghost use Rattle.f77_syntax.specs.Data as initial;
-ghost use Rattle.f77_syntax.specs.Data.{signed_at, truth_at, constant_at, clip_constant, kept, Finds};
-ghost use Rattle.f77_syntax.specs.View.{clipped};
+ghost use Rattle.f77_tree.specs.Declaration.{number_at};
+ghost use Rattle.f77_tree.specs.Data as initial;
+ghost use Rattle.f77_tree.specs.Data.{signed_at, truth_at, constant_at, clip_constant, kept, Finds};
+ghost use Rattle.f77_tree.specs.View.{clipped};
 
-use crate::data::Constant;
-use crate::scan::{is_number, number, split_word};
+use crate::scan::{number, split_word};
+use f77_tree::Constant;
+use f77_tree::characters::is_number;
 
 /// The number of this size, or -2147483648 where it is too large.
 fn above_zero(size: u32) -> i32

@@ -1,16 +1,15 @@
 //! DO statements read from texts.
 
 ghost use Rattle.std.specs.Prelude.{◌≡◌};
-ghost use Rattle.f77_syntax.specs.DoLoop.{range_at, step_at, parameters_at, loop_at};
-ghost use Rattle.f77_syntax.specs.View.{Gives};
-ghost use Rattle.f77_syntax.specs.StatementView.{IsStatement, IsRange, IsStep};
+ghost use Rattle.f77_tree.specs.DoLoop.{range_at, step_at, parameters_at, loop_at};
+ghost use Rattle.f77_tree.specs.View.{Gives};
+ghost use Rattle.f77_tree.specs.StatementView.{IsStatement, IsRange, IsStep};
 
 use crate::expression::{after_byte, expression, past_comma};
-use crate::fault::ReadError;
 use crate::label::label;
-use crate::name::Name;
-use crate::scan::{is_name, split_word};
-use crate::tree::{Expr, Stmt};
+use crate::scan::split_word;
+use f77_tree::characters::is_name;
+use f77_tree::{Expr, Name, ReadError, Stmt};
 use std::alloc::Global;
 
 /// Reads the label and the DO variable, and what follows the equals sign.

@@ -1,16 +1,13 @@
 //! Expressions read from texts, by recursive descent.
 
 ghost use Rattle.std.specs.Prelude.{◌≡◌, ◌<◌, ◌≤◌, true, length, map, codes, IfOk, option_map};
-ghost use Rattle.f77_syntax.specs.Reading.{reading, close_at, after, word, past_word, start_at, group_at, signed_at, negated_at, dotted_at, word_at, listed, past_comma};
-ghost use Rattle.f77_syntax.specs.Grammar.{is_name};
-ghost use Rattle.f77_syntax.specs.View.{tree_of, trees, Gives, IsTree, IsStart, IsList};
+ghost use Rattle.f77_tree.specs.Reading.{reading, close_at, after, word, past_word, start_at, group_at, signed_at, negated_at, dotted_at, word_at, listed, past_comma};
+ghost use Rattle.f77_tree.specs.Grammar.{is_name};
+ghost use Rattle.f77_tree.specs.View.{tree_of, trees, Gives, IsTree, IsStart, IsList};
 
-use crate::fault::ReadError;
-use crate::intrinsic::Intrinsic;
-use crate::name::Name;
-use crate::operator::Sign;
-use crate::scan::{is_name, is_number, next_operator, number, split_word};
-use crate::tree::{Expr, Ref};
+use crate::scan::{next_operator, number, split_word};
+use f77_tree::characters::{is_name, is_number};
+use f77_tree::{Expr, Intrinsic, Name, ReadError, Ref, Sign};
 use std::alloc::{AllocError, Global};
 
 /// Reads an expression of the wanted level or a tighter one, and what follows it.

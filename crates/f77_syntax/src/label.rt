@@ -1,19 +1,20 @@
 //! Labels read from texts.
 
 ghost use Rattle.std.specs.Prelude.{◌≡◌, true, option_map};
-ghost use Rattle.f77_syntax.specs.Grammar as grammar;
-ghost use Rattle.f77_syntax.specs.Label as labels;
-ghost use Rattle.f77_syntax.specs.StatementGrammar.{label_number};
+ghost use Rattle.f77_tree.specs.Grammar as grammar;
+ghost use Rattle.f77_tree.specs.Label as labels;
+ghost use Rattle.f77_tree.specs.StatementGrammar.{label_number};
 
 use crate::expression::after_byte;
-use crate::scan::{is_number, number, split_digits};
+use crate::scan::{number, split_digits};
+use f77_tree::characters::is_number;
 
 const MOST_DIGITS: usize = 5;
 
 const OUT_OF_RANGE: u32 = 100_000;
 
 /// The number of a label, the least one out of range where it has more than five digits.
-#[tactic(auto, unfolding(crate::specs::StatementGrammar::label_number))]
+#[tactic(auto, unfolding(f77_tree::specs::StatementGrammar::label_number))]
 fn label_number(row: &[u8]) -> u32
     requires { grammar.is_number row.now ≡ true }
     ensures { result ≡ label_number row.now }
@@ -26,7 +27,7 @@ fn label_number(row: &[u8]) -> u32
 }
 
 /// A label, and what follows it.
-#[tactic(auto, unfolding(crate::specs::Label::label_at))]
+#[tactic(auto, unfolding(f77_tree::specs::Label::label_at))]
 pub(crate) fn label(text: &[u8]) -> Option<(u32, &[u8])>
     ensures { option_map (λ x. (x.0, x.1.now)) result ≡ labels.label_at text.now }
 {
@@ -38,7 +39,7 @@ pub(crate) fn label(text: &[u8]) -> Option<(u32, &[u8])>
 }
 
 /// The label that is the whole text.
-#[tactic(auto, unfolding(crate::specs::Label::last_label))]
+#[tactic(auto, unfolding(f77_tree::specs::Label::last_label))]
 pub(crate) fn last_label(text: &[u8]) -> Option<u32>
     ensures { result ≡ labels.last_label text.now }
 {
@@ -47,7 +48,7 @@ pub(crate) fn last_label(text: &[u8]) -> Option<u32>
 }
 
 /// A label with a comma behind it, and what follows.
-#[tactic(auto, unfolding(crate::specs::Label::label_comma))]
+#[tactic(auto, unfolding(f77_tree::specs::Label::label_comma))]
 fn label_comma(text: &[u8]) -> Option<(u32, &[u8])>
     ensures { option_map (λ x. (x.0, x.1.now)) result ≡ labels.label_comma text.now }
 {
@@ -56,7 +57,7 @@ fn label_comma(text: &[u8]) -> Option<(u32, &[u8])>
 }
 
 /// Three labels joined by commas.
-#[tactic(auto, unfolding(crate::specs::Label::labels_at))]
+#[tactic(auto, unfolding(f77_tree::specs::Label::labels_at))]
 pub(crate) fn labels(text: &[u8]) -> Option<(u32, u32, u32)>
     ensures { result ≡ labels.labels_at text.now }
 {

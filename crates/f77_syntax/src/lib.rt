@@ -1,47 +1,25 @@
-//! The statements of the FORTRAN 77 subset as trees: the grammar, the reader and the printer.
+//! Statements and programs read from the texts of cards, and that there is one reading. What the statements are is said by `f77_tree`.
 #![tactic(auto)]
 
 mod assignment;
-mod canonical;
 mod classification;
 mod condition;
 mod constants;
-mod copying;
 mod data;
 mod declaration;
 mod do_loop;
 mod expression;
-mod fault;
-mod formed;
-mod group;
-mod intrinsic;
 mod label;
 pub mod law;
-mod limits;
-mod name;
 mod names;
-mod node;
-mod operator;
 mod parsing;
-mod printing;
-mod program;
 mod scan;
 mod specification;
 mod statement;
 mod subroutine;
-mod tree;
 
-pub use canonical::print_stmt;
-pub use classification::Class;
-pub use data::{Constant, DataGroup, Value};
-pub use declaration::Decl;
-pub use fault::SyntaxFault;
-pub use group::Group;
-pub use intrinsic::Intrinsic;
-pub use name::Name;
-pub use node::Node;
-pub use operator::{Operator, Sign};
+pub use f77_tree::{
+    Constant, DataGroup, Decl, Expr, Group, Intrinsic, Kind, Line, Name, Node, Operator, Program,
+    Ref, Sign, Stmt, SyntaxFault, Value, print, print_stmt,
+};
 pub use parsing::parse;
-pub use printing::print;
-pub use program::{Line, Program};
-pub use tree::{Expr, Kind, Ref, Stmt};

@@ -1,12 +1,12 @@
 //! Names read from texts.
 
 ghost use Rattle.std.specs.Prelude.{◌≡◌, ◌≤◌, ◌++◌, [], ◌∷◌, length, IfOk};
-ghost use Rattle.f77_syntax.specs.Declaration.{name_at};
-ghost use Rattle.f77_syntax.specs.View.{Gives};
+ghost use Rattle.f77_tree.specs.Declaration.{name_at};
+ghost use Rattle.f77_tree.specs.View.{Gives};
 
-use crate::fault::ReadError;
-use crate::name::Name;
-use crate::scan::{is_name, split_word};
+use crate::scan::split_word;
+use f77_tree::characters::is_name;
+use f77_tree::{Name, ReadError};
 use std::alloc::Global;
 
 /// Reads a name, puts it behind the others, and gives what follows it.

@@ -2,20 +2,17 @@
 
 ghost use Rattle.std.specs.Prelude.{◌≡◌, ◌≢◌, ◌⊎◌, List, ◌∷◌, [], ◌++◌, true, false, IfOk, IfErr, MatchResult, map, Some, None, Err};
 ghost use Rattle.f77_source.specs.Card.{CardFields};
-ghost use Rattle.f77_syntax.specs.StatementGrammar.{SpellsStatement};
-ghost use Rattle.f77_syntax.specs.Group.{group_of, may_stand};
-ghost use Rattle.f77_syntax.specs.Parsing.{IsAdmitted, IsRefused, IsFirstFault, AreLines, IsProgram, LineFields, line_of, misplaced, unfinished};
-ghost use Rattle.f77_syntax.specs.Tree.{Statement};
-ghost use Rattle.f77_syntax.specs.StatementView.{statement_of, clip_statement};
-ghost use Rattle.f77_syntax.specs.declared.group.Group.TheVariants.{End};
+ghost use Rattle.f77_tree.specs.StatementGrammar.{SpellsStatement};
+ghost use Rattle.f77_tree.specs.Group.{group_of, may_stand};
+ghost use Rattle.f77_tree.specs.Parsing.{IsAdmitted, IsRefused, IsFirstFault, AreLines, IsProgram, LineFields, line_of, misplaced, unfinished};
+ghost use Rattle.f77_tree.specs.Tree.{Statement};
+ghost use Rattle.f77_tree.specs.StatementView.{statement_of, clip_statement};
+ghost use Rattle.f77_tree.specs.declared.group.Group.TheVariants.{End};
 
-use crate::fault::{ReadError, SyntaxFault};
-use crate::group::{Group, is_end};
-use crate::limits::{is_too_deep, statement_constants, statement_names, statement_nodes};
-use crate::program::{Line, Program};
 use crate::statement::statement;
-use crate::tree::Stmt;
 use f77_source::Card;
+use f77_tree::limits::{is_too_deep, statement_constants, statement_names, statement_nodes};
+use f77_tree::{Group, Line, Program, ReadError, Stmt, SyntaxFault, is_end};
 use std::alloc::Global;
 
 const MOST_CHARACTERS: usize = 1320;

@@ -2,13 +2,14 @@
 
 ghost use Rattle.std.specs.Prelude.{◌≡◌, ◌<◌, ◌≤◌, length, true, option_map, IfSome};
 ghost use Rattle.std.specs.Str.Parse.{digits_value};
-ghost use Rattle.f77_syntax.specs.Grammar as grammar;
-ghost use Rattle.f77_syntax.specs.Reading as reading;
+ghost use Rattle.f77_tree.specs.Grammar as grammar;
+ghost use Rattle.f77_tree.specs.Reading as reading;
 ghost use Rattle.std.specs.List.{list_all};
-ghost use Rattle.f77_syntax.specs.Reading.{word, past_word, digits, past_digits, operator_at};
-ghost use Rattle.f77_syntax.specs.View.{clipped};
+ghost use Rattle.f77_tree.specs.Reading.{word, past_word, digits, past_digits, operator_at};
+ghost use Rattle.f77_tree.specs.View.{clipped};
 
-use crate::operator::Operator;
+use f77_tree::Operator;
+use f77_tree::characters::{is_digit, is_word};
 
 const OPERATORS: [Operator; 15] = [
     Operator::Power,
@@ -27,24 +28,6 @@ const OPERATORS: [Operator; 15] = [
     Operator::Equivalent,
     Operator::NotEquivalent,
 ];
-
-fn is_letter(c: u8) -> bool
-    ensures { result ≡ grammar.is_letter c }
-{
-    c.is_ascii_uppercase()
-}
-
-fn is_digit(c: u8) -> bool
-    ensures { result ≡ grammar.is_digit c }
-{
-    c.is_ascii_digit()
-}
-
-fn is_word(c: u8) -> bool
-    ensures { result ≡ grammar.is_word c }
-{
-    is_letter(c) || is_digit(c)
-}
 
 /// The letters and digits at the front, and what follows them.
 pub(crate) fn split_word(text: &[u8]) -> (&[u8], &[u8])
@@ -71,38 +54,6 @@ pub(crate) fn split_digits(text: &[u8]) -> (&[u8], &[u8])
         }
     }
     text.split_at(text.len())
-}
-
-/// Whether the text is letters and digits, the first of them a letter.
-pub(crate) fn is_name(text: &[u8]) -> bool
-    ensures { result ≡ grammar.is_name text.now }
-{
-    match text.split_first() {
-        None => false,
-        Some((first, rest)) => is_letter(*first) && are_words(rest),
-    }
-}
-
-/// Whether the text is one digit or more.
-pub(crate) fn is_number(text: &[u8]) -> bool
-    ensures { result ≡ grammar.is_number text.now }
-{
-    match text.split_first() {
-        None => false,
-        Some((first, rest)) => is_digit(*first) && are_digits(rest),
-    }
-}
-
-fn are_words(text: &[u8]) -> bool
-    ensures { result ≡ list_all grammar.is_word text.now }
-{
-    text.iter().all(|c| is_word(*c))
-}
-
-fn are_digits(text: &[u8]) -> bool
-    ensures { result ≡ list_all grammar.is_digit text.now }
-{
-    text.iter().all(|c| is_digit(*c))
 }
 
 /// The number that digits write, or the least one that is too large.

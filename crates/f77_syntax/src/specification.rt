@@ -1,13 +1,12 @@
 //! INTEGER, LOGICAL, DIMENSION and DATA statements read from texts.
 
-ghost use Rattle.f77_syntax.specs.Statement.{declared_at, dimension_at, preset_at};
-ghost use Rattle.f77_syntax.specs.View.{Gives};
-ghost use Rattle.f77_syntax.specs.StatementView.{IsStatement};
+ghost use Rattle.f77_tree.specs.Statement.{declared_at, dimension_at, preset_at};
+ghost use Rattle.f77_tree.specs.View.{Gives};
+ghost use Rattle.f77_tree.specs.StatementView.{IsStatement};
 
 use crate::data::groups;
-use crate::declaration::{all_bounded, declarations};
-use crate::fault::ReadError;
-use crate::tree::{Kind, Stmt};
+use crate::declaration::declarations;
+use f77_tree::{Kind, ReadError, Stmt, all_bounded};
 use std::alloc::Global;
 
 /// Reads what follows the keyword of a type statement.

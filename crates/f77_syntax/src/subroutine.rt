@@ -1,16 +1,15 @@
 //! SUBROUTINE statements read from texts.
 
 ghost use Rattle.std.specs.Prelude.{◌≡◌, length, option_map};
-ghost use Rattle.f77_syntax.specs.Subroutine.{names_at, before_close, subroutine_at};
-ghost use Rattle.f77_syntax.specs.View.{Gives};
-ghost use Rattle.f77_syntax.specs.StatementView.{IsStatement, AreNames};
+ghost use Rattle.f77_tree.specs.Subroutine.{names_at, before_close, subroutine_at};
+ghost use Rattle.f77_tree.specs.View.{Gives};
+ghost use Rattle.f77_tree.specs.StatementView.{IsStatement, AreNames};
 
 use crate::expression::after_byte;
-use crate::fault::ReadError;
-use crate::name::Name;
 use crate::names::add_name;
-use crate::scan::{is_name, split_word};
-use crate::tree::Stmt;
+use crate::scan::split_word;
+use f77_tree::characters::is_name;
+use f77_tree::{Name, ReadError, Stmt};
 use std::alloc::Global;
 
 /// Reads names joined by commas, or nothing.

@@ -1,8 +1,8 @@
 //! Copies of programs and statements, which print as what they were made from.
 
 ghost use Rattle.std.specs.Prelude.{◌≡◌, IfOk, IfErr, map};
-ghost use Rattle.f77_syntax.specs.Parsing.{line_of};
-ghost use Rattle.f77_syntax.specs.StatementView.{statement_of};
+ghost use Rattle.f77_tree.specs.Parsing.{line_of};
+ghost use Rattle.f77_tree.specs.StatementView.{statement_of};
 
 use crate::lines::{assign, lines, printed};
 use crate::sources::{read, source};

@@ -7,12 +7,12 @@ use Rattle.clap.specs.Kinds.{HasKind, IsAmong}
 use Rattle.clap.specs.Values.{kind_of}
 use Rattle.clap.specs.declared.error.Error.{Error}
 use Rattle.mothra_app.specs.Answer.{IsAnswer, IsRefusal}
-use Rattle.mothra_app.specs.Command.{mothra}
-use Rattle.mothra_app.specs.Input.{limit, AreAll, IsRead, ReadsUpTo}
+use Rattle.mothra_cli.specs.Command.{mothra}
+use Rattle.mothra_cli.specs.Input.{limit, AreAll, IsRead, ReadsUpTo}
 use Rattle.mothra_app.specs.Job.{job_of}
-use Rattle.mothra_app.specs.Request.{request_of}
+use Rattle.mothra_cli.specs.Request.{request_of}
 use Rattle.mothra_app.specs.Serving.{IsServed, MayBeWritten, IsReadFor, IsAnswered, IsAnsweredBy}
-use Rattle.mothra_app.specs.declared.request.Request.{Request}
+use Rattle.mothra_cli.specs.declared.request.Request.{Request}
 use Rattle.mothra_app.specs.declared.status.Status.{Status}
 use Rattle.mothra_app.specs.declared.status.Status.TheVariants as status
 

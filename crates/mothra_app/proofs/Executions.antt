@@ -1,6 +1,6 @@
 -- From what the check and the run of a program answer to what a test of a job comes to.
 use Rattle.std.proofs.Common.{◌≡◌, ◌⊎◌, inl, inr, ℕ, List, refl, sym, subst, Option, Some, None, Result, Ok, Err, IfSome, MatchResult, String, Global, string_bytes}
-use Rattle.f77_syntax.specs.Parsing.{LineFields}
+use Rattle.f77_tree.specs.Parsing.{LineFields}
 use Rattle.f77_check.specs.Checked.{shapes}
 use Rattle.f77_check.specs.Legal.{IsLegal, first_fault}
 use Rattle.f77_check.specs.declared.fault.CheckFault.{CheckFault}

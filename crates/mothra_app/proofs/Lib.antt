@@ -1,11 +1,7 @@
-mod Commands
-mod Getters
 mod Suites
 mod EachValue
 mod Sources
 mod Answered
-mod OptionRows
-mod Accepted
 mod OneProgram
 mod OneExecution
 mod OneAnswer

@@ -2,17 +2,17 @@
 use Rattle.std.proofs.Common.{◌≡◌, ◌∙◌, ℕ, List, sym, ap, refl, subst, Option, Some, Ok, Err}
 use Rattle.std.specs.List.{slice_get}
 use Rattle.clap.specs.Words.{Text}
-use Rattle.f77_syntax.specs.Printing.{printed, print_faults}
+use Rattle.f77_tree.specs.Printing.{printed, print_faults}
 use Rattle.mothra_app.specs.Answer.{Outcome, IsOutcome}
 use Rattle.mothra_app.specs.Job.{JobRead, job_of}
 use Rattle.mothra_app.specs.Line.{line_of}
 use Rattle.mothra_app.specs.Printing.{IsPrinted}
-use Rattle.mothra_app.specs.Request.{request_of}
+use Rattle.mothra_cli.specs.Request.{request_of}
 use Rattle.mothra_app.specs.Serving.{IsServed}
 use Rattle.mothra_app.specs.declared.fault.Fault.{Fault}
 use Rattle.mothra_app.specs.declared.fault.Fault.TheVariants.{Syntax}
-use Rattle.mothra_app.specs.declared.request.Request.{Request}
-use Rattle.mothra_app.specs.declared.request.Request.TheVariants.{Print, Exec}
+use Rattle.mothra_cli.specs.declared.request.Request.{Request}
+use Rattle.mothra_cli.specs.declared.request.Request.TheVariants.{Print, Exec}
 use Rattle.mothra_app.specs.declared.status.Status.{Status}
 use Rattle.mothra_app.proofs.OneProgram.{Laws, one_read, same_fault, same_program, never_both, first_of_none}
 use Rattle.mothra_app.proofs.OneExecution.{one_executed}

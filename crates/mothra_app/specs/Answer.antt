@@ -9,8 +9,8 @@ use Rattle.mothra_app.specs.Line.{line_of}
 use Rattle.mothra_app.specs.Printing.{IsPrinted}
 use Rattle.mothra_app.specs.declared.fault.Fault.{Fault}
 use Rattle.mothra_app.specs.declared.fault.Fault.TheVariants.{Job}
-use Rattle.mothra_app.specs.declared.request.Request.{Request}
-use Rattle.mothra_app.specs.declared.request.Request.TheVariants.{Print, Exec}
+use Rattle.mothra_cli.specs.declared.request.Request.{Request}
+use Rattle.mothra_cli.specs.declared.request.Request.TheVariants.{Print, Exec}
 use Rattle.mothra_app.specs.declared.status.Status.{Status}
 use Rattle.mothra_app.specs.declared.status.Status.TheVariants as status
 

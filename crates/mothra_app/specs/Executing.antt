@@ -1,6 +1,6 @@
 -- The command `exec`: what one test of the program of a job comes to.
 use Rattle.std.specs.Prelude.{◌≡◌, ℕ, List, Some, None, Result, Ok, Err}
-use Rattle.f77_syntax.specs.Parsing.{LineFields}
+use Rattle.f77_tree.specs.Parsing.{LineFields}
 use Rattle.f77_check.specs.Checked.{shapes}
 use Rattle.f77_check.specs.Legal.{IsLegal, first_fault}
 use Rattle.f77_check.specs.declared.fault.CheckFault.{CheckFault}

@@ -1,8 +1,3 @@
-pub mod Watched
-pub mod Input
-pub mod Output
-pub mod Command
-pub mod Request
 pub mod Suite
 pub mod Job
 pub mod Fault

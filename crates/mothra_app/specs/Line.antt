@@ -4,8 +4,8 @@ use Rattle.std.specs.Fmt.{decimal}
 use Rattle.std.specs.Str.{chars}
 use Rattle.f77_source.specs.declared.fault.FormFault.{FormFault}
 use Rattle.f77_source.specs.declared.fault.FormFault.TheVariants as form
-use Rattle.f77_syntax.specs.declared.fault.SyntaxFault.{SyntaxFault}
-use Rattle.f77_syntax.specs.declared.fault.SyntaxFault.TheVariants as syntax
+use Rattle.f77_tree.specs.declared.fault.SyntaxFault.{SyntaxFault}
+use Rattle.f77_tree.specs.declared.fault.SyntaxFault.TheVariants as syntax
 use Rattle.f77_check.specs.declared.fault.CheckFault.{CheckFault}
 use Rattle.f77_check.specs.declared.fault.CheckFault.TheVariants as check
 use Rattle.f77_run.specs.declared.outcome.RunFault.{RunFault}

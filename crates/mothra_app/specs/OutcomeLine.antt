@@ -1,7 +1,7 @@
 -- The one line that tells the outcome of a run.
 use Rattle.std.specs.Prelude.{ℕ, Bool, List, [], ◌++◌, codes, flat_map, if◌then◌else◌}
 use Rattle.std.specs.Fmt.{signed_decimal}
-use Rattle.f77_syntax.specs.Joined.{separated}
+use Rattle.f77_tree.specs.Joined.{separated}
 use Rattle.f77_run.specs.declared.argument.Arg.{Arg}
 use Rattle.f77_run.specs.declared.argument.Arg.TheVariants.{Int, Truth, Ints, Truths}
 use Rattle.f77_run.specs.declared.outcome.Outcome.{Outcome}

@@ -6,14 +6,14 @@ use Rattle.clap.specs.Kinds.{IsAmong}
 use Rattle.clap.specs.declared.error.kind.ErrorKind.{ErrorKind}
 use Rattle.clap.specs.declared.error.kind.ErrorKind.TheVariants as kind
 use Rattle.mothra_app.specs.Answer.{IsOutcome, IsAnswer, IsMemoryLine}
-use Rattle.mothra_app.specs.Command.{mothra}
-use Rattle.mothra_app.specs.Input.{limit, AreAll, IsRead}
+use Rattle.mothra_cli.specs.Command.{mothra}
+use Rattle.mothra_cli.specs.Input.{limit, AreAll, IsRead}
 use Rattle.mothra_app.specs.Job.{job_of}
 use Rattle.mothra_app.specs.Line.{line_of}
-use Rattle.mothra_app.specs.Output.{AppendsFront}
-use Rattle.mothra_app.specs.Request.{request_of}
+use Rattle.mothra_cli.specs.Output.{AppendsFront}
+use Rattle.mothra_cli.specs.Request.{request_of}
 use Rattle.mothra_app.specs.declared.fault.Fault.{Fault}
-use Rattle.mothra_app.specs.declared.request.Request.{Request}
+use Rattle.mothra_cli.specs.declared.request.Request.{Request}
 use Rattle.mothra_app.specs.declared.status.Status.{Status}
 use Rattle.mothra_app.specs.declared.status.Status.TheVariants as status
 

@@ -1,7 +1,7 @@
 -- How a call of `serve` ends.
 use Rattle.std.specs.Prelude.{Bool, true, false, Result, Ok, Err}
-use Rattle.mothra_app.specs.declared.input.InputFault.{InputFault}
-use Rattle.mothra_app.specs.declared.input.InputFault.TheVariants as input
+use Rattle.mothra_cli.specs.declared.input.InputFault.{InputFault}
+use Rattle.mothra_cli.specs.declared.input.InputFault.TheVariants as input
 use Rattle.mothra_app.specs.declared.status.AppFault.{AppFault}
 use Rattle.mothra_app.specs.declared.status.AppFault.TheVariants.{Memory, Read, Write}
 

@@ -11,10 +11,10 @@ use crate::fault::Fault;
 use crate::job::read_job;
 use crate::line::line_of;
 use crate::printing::print_source;
-use crate::request::Request;
 use crate::status::Status;
 use clap::Error;
 use clap::error::ErrorKind;
+use mothra_cli::Request;
 use std::alloc::{AllocError, Global};
 
 /// A text, and what it is.

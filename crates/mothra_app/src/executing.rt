@@ -1,7 +1,7 @@
 //! The command `exec`: the outcome of the program of a job on one of its tests.
 
 ghost use Rattle.std.specs.Prelude.{◌≡◌, ◌⊎◌, Ok, Err, IfOk, MatchResult, map, string_bytes};
-ghost use Rattle.f77_syntax.specs.Parsing.{line_of};
+ghost use Rattle.f77_tree.specs.Parsing.{line_of};
 ghost use Rattle.f77_check.specs.Checked.{shapes};
 ghost use Rattle.mothra_app.specs.Executing.{IsLegalProgramOf, IsRun, IsExecuted};
 ghost use Rattle.mothra_app.specs.Fault.{IsMemory};

@@ -2,26 +2,21 @@
 #![tactic(auto)]
 
 mod answer;
-mod command;
 mod executing;
 mod fault;
-mod input;
 mod job;
 mod key;
 pub mod law;
 mod line;
 mod outcome_line;
-mod output;
 mod printing;
 mod program;
-mod request;
 mod serving;
 mod status;
 mod suite;
-mod watched;
 
 pub use job::{Job, JobFault, read_job};
 pub use key::Key;
+pub use mothra_cli::Watched;
 pub use serving::serve;
 pub use status::{AppFault, Status};
-pub use watched::Watched;

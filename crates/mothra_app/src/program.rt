@@ -1,7 +1,7 @@
 //! The program of a job.
 
 ghost use Rattle.std.specs.Prelude.{◌⊎◌, Ok, Err, MatchResult, map};
-ghost use Rattle.f77_syntax.specs.Parsing.{line_of};
+ghost use Rattle.f77_tree.specs.Parsing.{line_of};
 ghost use Rattle.mothra_app.specs.Fault.{IsMemory};
 ghost use Rattle.mothra_app.specs.Program.{IsProgramOf};
 

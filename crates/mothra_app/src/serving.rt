@@ -1,17 +1,14 @@
 //! From words and the bytes of a job to the bytes that are written.
 
 ghost use Rattle.std.specs.Prelude.{◌≡◌, ◌≢◌, false, Ok, Err, IfOk, map, string_bytes};
-ghost use Rattle.mothra_app.specs.Input.{limit, IsRead, TakesAtMost};
+ghost use Rattle.mothra_cli.specs.Input.{limit, IsRead, TakesAtMost};
 ghost use Rattle.mothra_app.specs.Serving.{IsAnswered, IsAnsweredBy, WritesWhole, WritesFront};
 ghost use Rattle.mothra_app.specs.Status.{is_read_fault, is_write_fault};
-ghost use Rattle.mothra_app.specs.Watched.{inside, has_failed};
+ghost use Rattle.mothra_cli.specs.Watched.{inside, has_failed};
 
 use crate::answer::{Answer, answer_to, refusal};
-use crate::input::read_input;
-use crate::output::write_whole;
-use crate::request::{Request, request_of};
 use crate::status::{AppFault, Status};
-use crate::watched::Watched;
+use mothra_cli::{Request, Watched, read_input, request_of, write_whole};
 use std::alloc::Global;
 use std::convert::AsStr;
 use std::io::{Read, Write};

@@ -4,7 +4,7 @@ ghost use Rattle.std.specs.Prelude.{◌≡◌};
 ghost use Rattle.mothra_app.specs.Status.{of_input};
 ghost use Rattle.mothra_app.specs.declared.status.AppFault.TheVariants.{Memory};
 
-use crate::input::InputFault;
+use mothra_cli::InputFault;
 use std::alloc::AllocError;
 use thiserror::Error;
 

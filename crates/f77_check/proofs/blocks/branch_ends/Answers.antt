@@ -1,6 +1,6 @@
 use Rattle.std.proofs.Common.{◌≡◌, ◌<◌, ◌++◌, ◌∷◌, [], length, map, get_or, None, false, arith, ap, sym, ◌∙◌}
 use Rattle.std.proofs.lemmas.List.{length-map}
-use Rattle.f77_syntax.specs.Parsing.{line_of}
+use Rattle.f77_tree.specs.Parsing.{line_of}
 use Rattle.f77_check.specs.Blocks.{is_in_block}
 use Rattle.f77_check.specs.BlockTable.{block_end_at, branch_end_at}
 use Rattle.f77_check.proofs.FirstNumbers.{get_or-table, table_more}

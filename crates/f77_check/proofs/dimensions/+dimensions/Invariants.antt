@@ -1,6 +1,6 @@
 use Rattle.std.proofs.Common.{◌≡◌, drop}
 use Rattle.std.specs.Prelude.{map}
-use Rattle.f77_syntax.specs.View.{tree_of, trees}
+use Rattle.f77_tree.specs.View.{tree_of, trees}
 use Rattle.f77_check.specs.Dimensions.{all_fit}
 use Rattle.f77_check.specs.NameTable.{bounds_at}
 use Rattle.f77_check.proofs.dimensions.+dimensions.Given as goal

@@ -1,7 +1,7 @@
 use Rattle.std.proofs.Common.{◌≡◌, drop}
 use Rattle.std.specs.Prelude.{map}
 use Rattle.std.specs.List.{list_all}
-use Rattle.f77_syntax.specs.Declaration.{decl_of}
+use Rattle.f77_tree.specs.Declaration.{decl_of}
 use Rattle.f77_check.specs.Dimensions.{is_shape}
 use Rattle.f77_check.proofs.dimensions.are_shapes.Given as goal
 

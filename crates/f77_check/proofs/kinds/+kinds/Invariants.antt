@@ -1,6 +1,6 @@
 use Rattle.std.proofs.Common.{◌≡◌, drop}
 use Rattle.std.specs.Prelude.{map}
-use Rattle.f77_syntax.specs.View.{tree_of, trees}
+use Rattle.f77_tree.specs.View.{tree_of, trees}
 use Rattle.f77_check.specs.Kinds.{are_integer}
 use Rattle.f77_check.specs.NameTable.{kind_at}
 use Rattle.f77_check.proofs.kinds.+kinds.Given as goal

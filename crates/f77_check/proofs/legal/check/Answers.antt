@@ -1,5 +1,5 @@
 use Rattle.std.proofs.Common.{◌≡◌, None, map, ap, sym, subst, ◌∙◌}
-use Rattle.f77_syntax.specs.Parsing.{IsProgram, line_of}
+use Rattle.f77_tree.specs.Parsing.{IsProgram, line_of}
 use Rattle.f77_check.specs.Checked.{shapes}
 use Rattle.f77_check.specs.Legal.{IsLegal}
 use Rattle.f77_check.specs.Shapes.{shape_at}

@@ -1,6 +1,6 @@
 use Rattle.std.proofs.Common.{◌≡◌, rules, map, ap, inr, Some, ◌∙◌, sym}
 use Rattle.std.specs.Prelude.{option_map}
-use Rattle.f77_syntax.specs.Parsing.{line_of}
+use Rattle.f77_tree.specs.Parsing.{line_of}
 use Rattle.f77_check.specs.declared.fault.CheckFault.TheVariants.{RealName, Twice}
 use Rattle.f77_check.proofs.First.{second_told, nothing_told}
 use Rattle.f77_check.proofs.legal.check_names.Goals as goal

@@ -1,4 +1,4 @@
-use Rattle.f77_syntax.specs.View.{tree_of}
+use Rattle.f77_tree.specs.View.{tree_of}
 use Rattle.f77_check.specs.NameTable.{kind_at}
 use Rattle.f77_check.proofs.Operands.{relation_operands}
 use Rattle.f77_check.proofs.lookup.related.Goals as goal

@@ -1,5 +1,5 @@
 use Rattle.std.proofs.Common.{◌≡◌, ◌++◌, map, drop}
-use Rattle.f77_syntax.specs.Data.{data_group_of}
+use Rattle.f77_tree.specs.Data.{data_group_of}
 use Rattle.f77_check.specs.NameTable.{dummy_at}
 use Rattle.f77_check.specs.Runs.{misplaces, group_names, names_held}
 use Rattle.f77_check.proofs.presets.are_groups_misplaced.Given as goal

@@ -1,5 +1,5 @@
 use Rattle.std.proofs.Common.{◌≡◌, [], map, drop}
-use Rattle.f77_syntax.specs.Parsing.{line_of}
+use Rattle.f77_tree.specs.Parsing.{line_of}
 use Rattle.f77_check.specs.NameTable.{kind_at, bounds_at, dummy_at}
 use Rattle.f77_check.specs.Runs.{names_held}
 use Rattle.f77_check.proofs.FirstBad.{first_bad}

@@ -1,6 +1,6 @@
 use Rattle.std.proofs.Common.{◌≡◌, ◌<◌, length, drop}
 use Rattle.std.specs.Cmp.Lexicographic.{pointwise}
-use Rattle.f77_syntax.specs.Data.{data_group_of}
+use Rattle.f77_tree.specs.Data.{data_group_of}
 use Rattle.f77_check.specs.Kinds.{same_kind}
 use Rattle.f77_check.specs.NameTable.{bounds_at, kind_at}
 use Rattle.f77_check.specs.Runs.{fills, kinds_left, kinds_wanted}

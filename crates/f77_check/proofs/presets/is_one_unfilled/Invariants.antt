@@ -1,7 +1,7 @@
 use Rattle.std.proofs.Common.{◌≡◌, map, drop}
 use Rattle.std.specs.Prelude.{not}
 use Rattle.std.specs.List.{list_any}
-use Rattle.f77_syntax.specs.Data.{data_group_of}
+use Rattle.f77_tree.specs.Data.{data_group_of}
 use Rattle.f77_check.specs.NameTable.{bounds_at, kind_at}
 use Rattle.f77_check.specs.Runs.{fills}
 use Rattle.f77_check.proofs.presets.is_one_unfilled.Given as goal

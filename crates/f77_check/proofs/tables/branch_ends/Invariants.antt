@@ -1,5 +1,5 @@
 use Rattle.std.proofs.Common.{◌≡◌, List, map}
-use Rattle.f77_syntax.specs.Parsing.{LineFields}
+use Rattle.f77_tree.specs.Parsing.{LineFields}
 use Rattle.f77_check.specs.BlockTable.{IsBlockTable}
 use Rattle.f77_check.specs.Blocks.{first_numbers}
 use Rattle.f77_check.specs.Tables.{closed_branch_end}

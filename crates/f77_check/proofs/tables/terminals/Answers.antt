@@ -1,5 +1,5 @@
 use Rattle.std.proofs.Common.{ap, ◌∙◌, ◌++◌, ◌∷◌, []}
-use Rattle.f77_syntax.specs.StatementView.{statement_of}
+use Rattle.f77_tree.specs.StatementView.{statement_of}
 use Rattle.f77_check.specs.Tables.{terminal_of}
 use Rattle.f77_check.proofs.Entries.{pushed}
 use Rattle.f77_check.proofs.tables.terminals.Goals as goal

@@ -1,6 +1,6 @@
 use Rattle.std.proofs.Common.{◌≡◌, List, take, map}
-use Rattle.f77_syntax.specs.Parsing.{LineFields}
-use Rattle.f77_syntax.specs.StatementView.{statement_of}
+use Rattle.f77_tree.specs.Parsing.{LineFields}
+use Rattle.f77_tree.specs.StatementView.{statement_of}
 use Rattle.f77_check.specs.LabelTable.{IsLabelTable}
 use Rattle.f77_check.specs.Tables.{terminal_of}
 use Rattle.f77_check.proofs.tables.terminals.Given as goal

@@ -1,12 +1,12 @@
 use Rattle.std.proofs.Common.{arith, length, sym, ◌∙◌, ap}
 use Rattle.std.proofs.lemmas.List.{map-id}
-use Rattle.f77_syntax.specs.Reading.{after}
-use Rattle.f77_syntax.specs.declared.data.Value.{Value}
-use Rattle.f77_syntax.specs.Data.{clip_value, value_at, data_values_at}
-use Rattle.f77_syntax.specs.declared.fault.ReadError.TheVariants.{Unknown}
-use Rattle.f77_syntax.proofs.Gives.{after_is}
-use Rattle.f77_syntax.proofs.JoinedTexts.{listing_starts, listing_fails, listing_goes_on, listing_ends}
-use Rattle.f77_syntax.proofs.DataGives.{nothing_read, something_read, value_shorter}
+use Rattle.f77_tree.specs.Reading.{after}
+use Rattle.f77_tree.specs.declared.data.Value.{Value}
+use Rattle.f77_tree.specs.Data.{clip_value, value_at, data_values_at}
+use Rattle.f77_tree.specs.declared.fault.ReadError.TheVariants.{Unknown}
+use Rattle.f77_tree.proofs.Gives.{after_is}
+use Rattle.f77_tree.proofs.JoinedTexts.{listing_starts, listing_fails, listing_goes_on, listing_ends}
+use Rattle.f77_tree.proofs.DataGives.{nothing_read, something_read, value_shorter}
 use Rattle.f77_syntax.proofs.data.values.Goals as goal
 
 abbrev itself : Value → Value

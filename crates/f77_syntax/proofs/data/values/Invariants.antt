@@ -1,7 +1,7 @@
 use Rattle.std.proofs.Common.{length}
-use Rattle.f77_syntax.specs.declared.data.Value.{Value}
-use Rattle.f77_syntax.specs.Data.{clip_value, value_at}
-use Rattle.f77_syntax.proofs.JoinedTexts.{Listing}
+use Rattle.f77_tree.specs.declared.data.Value.{Value}
+use Rattle.f77_tree.specs.Data.{clip_value, value_at}
+use Rattle.f77_tree.proofs.JoinedTexts.{Listing}
 use Rattle.f77_syntax.proofs.data.values.Given as goal
 
 abbrev pub invariant-loop-value : goal.invariant-loop-value

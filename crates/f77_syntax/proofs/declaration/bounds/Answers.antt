@@ -1,13 +1,13 @@
 use Rattle.std.proofs.Common.{◌≡◌, ◌≤◌, ℕ, length, true, false, sym, ◌∙◌, ap, subst}
 use Rattle.std.proofs.lemmas.List.{map-id}
 use Rattle.std.specs.Str.Parse.{digits_value}
-use Rattle.f77_syntax.specs.Grammar.{is_number}
-use Rattle.f77_syntax.specs.Reading.{after, past_word}
-use Rattle.f77_syntax.specs.View.{clipped}
-use Rattle.f77_syntax.specs.Declaration.{number_at, bounds_at}
-use Rattle.f77_syntax.specs.declared.fault.ReadError.TheVariants.{Unknown}
-use Rattle.f77_syntax.proofs.JoinedTexts.{listing_starts, listing_fails, listing_goes_on, listing_ends}
-use Rattle.f77_syntax.proofs.DeclarationGives.{no_number, a_number}
+use Rattle.f77_tree.specs.Grammar.{is_number}
+use Rattle.f77_tree.specs.Reading.{after, past_word}
+use Rattle.f77_tree.specs.View.{clipped}
+use Rattle.f77_tree.specs.Declaration.{number_at, bounds_at}
+use Rattle.f77_tree.specs.declared.fault.ReadError.TheVariants.{Unknown}
+use Rattle.f77_tree.proofs.JoinedTexts.{listing_starts, listing_fails, listing_goes_on, listing_ends}
+use Rattle.f77_tree.proofs.DeclarationGives.{no_number, a_number}
 use Rattle.f77_syntax.proofs.declaration.bounds.Goals as goal
 
 pub loop-front-init : goal.loop-front-init

@@ -1,7 +1,7 @@
 use Rattle.std.proofs.Common.{ℕ, length}
-use Rattle.f77_syntax.specs.View.{clipped}
-use Rattle.f77_syntax.specs.Declaration.{number_at}
-use Rattle.f77_syntax.proofs.JoinedTexts.{Listing}
+use Rattle.f77_tree.specs.View.{clipped}
+use Rattle.f77_tree.specs.Declaration.{number_at}
+use Rattle.f77_tree.proofs.JoinedTexts.{Listing}
 use Rattle.f77_syntax.proofs.declaration.bounds.Given as goal
 
 abbrev pub invariant-loop-front : goal.invariant-loop-front

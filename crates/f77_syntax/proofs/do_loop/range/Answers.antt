@@ -1,8 +1,8 @@
 use Rattle.std.proofs.Common.{◌≡◌, true, false, refl, sym}
-use Rattle.f77_syntax.specs.Grammar.{is_name}
-use Rattle.f77_syntax.proofs.BranchGives.{range_none, range_unnamed, range_no_equals, range_whole}
+use Rattle.f77_tree.specs.Grammar.{is_name}
+use Rattle.f77_tree.proofs.BranchGives.{range_none, range_unnamed, range_no_equals, range_whole}
 use Rattle.f77_syntax.proofs.do_loop.range.Goals as goal
-use Rattle.f77_syntax.specs.Reading.{past_comma}
+use Rattle.f77_tree.specs.Reading.{past_comma}
 
 pub returns-in_default : goal.returns-in_default
 returns-in_default c = range_none c.args.text.now (sym c.in_default.ensures)

@@ -1,4 +1,4 @@
-use Rattle.f77_syntax.proofs.Exact.{one_program, one_fault, either_lines_or_fault}
+use Rattle.f77_tree.proofs.Exact.{one_program, one_fault, either_lines_or_fault}
 use Rattle.f77_syntax.proofs.law.one_program.Goals as goal
 
 pub returns-clause-lines : goal.returns-clause-lines

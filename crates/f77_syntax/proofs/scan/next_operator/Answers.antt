@@ -1,5 +1,5 @@
-use Rattle.f77_syntax.specs.Reading.{operator_at}
-use Rattle.f77_syntax.proofs.Operators.{next_shorter}
+use Rattle.f77_tree.specs.Reading.{operator_at}
+use Rattle.f77_tree.proofs.Operators.{next_shorter}
 use Rattle.f77_syntax.proofs.scan.next_operator.Goals as goal
 
 pub returns-clause-found : goal.returns-clause-found

@@ -5,7 +5,7 @@ use Rattle.mothra_app.specs.Job.{JobRead, job_of}
 use Rattle.mothra_app.specs.declared.fault.Fault.TheVariants.{Job}
 use Rattle.mothra_app.specs.declared.job.JobFault.{JobFault}
 use Rattle.mothra_app.specs.declared.job.JobFault.TheVariants.{Memory}
-use Rattle.mothra_app.specs.declared.request.Request.{Request}
+use Rattle.mothra_cli.specs.declared.request.Request.{Request}
 use Rattle.mothra_app.proofs.Sources.{told}
 use Rattle.mothra_app.proofs.answer.outcome_of.Goals as goal
 

@@ -1,5 +1,5 @@
 use Rattle.std.proofs.Common.{◌⊎◌, Ok, Err, map, subst}
-use Rattle.f77_syntax.specs.Parsing.{line_of}
+use Rattle.f77_tree.specs.Parsing.{line_of}
 use Rattle.mothra_app.specs.Executing.{IsLegalProgramOf}
 use Rattle.mothra_app.specs.Fault.{IsMemory}
 use Rattle.mothra_app.proofs.Executions.{executed_refused}

@@ -2,7 +2,7 @@ use Rattle.std.proofs.Common.{◌≡◌, ◌++◌, [], codes, drop, string_bytes
 use Rattle.std.specs.Fmt.{signed_decimal}
 use denote.Text.{Utf8}
 use denote.Shadow.{shadow}
-use Rattle.f77_syntax.specs.Joined.{separated}
+use Rattle.f77_tree.specs.Joined.{separated}
 use Rattle.mothra_app.proofs.outcome_line.push_numbers.Given as goal
 
 -- what is written, and then the text of the other elements, is the text of them all

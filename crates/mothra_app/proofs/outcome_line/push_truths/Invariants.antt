@@ -1,7 +1,7 @@
 use Rattle.std.proofs.Common.{◌≡◌, ◌++◌, [], codes, drop, string_bytes}
 use denote.Text.{Utf8}
 use denote.Shadow.{shadow}
-use Rattle.f77_syntax.specs.Joined.{separated}
+use Rattle.f77_tree.specs.Joined.{separated}
 use Rattle.mothra_app.specs.OutcomeLine.{truth_text}
 use Rattle.mothra_app.proofs.outcome_line.push_truths.Given as goal
 

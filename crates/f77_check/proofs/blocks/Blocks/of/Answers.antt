@@ -1,5 +1,5 @@
 use Rattle.std.proofs.Common.{◌≡◌, map, ◌∙◌}
-use Rattle.f77_syntax.specs.Parsing.{line_of}
+use Rattle.f77_tree.specs.Parsing.{line_of}
 use Rattle.f77_check.specs.Blocks.{is_in_block}
 use Rattle.f77_check.specs.BlockTable.{tabled}
 use Rattle.f77_check.proofs.BlockTables.{closing_table, after_else_table, inside_table}

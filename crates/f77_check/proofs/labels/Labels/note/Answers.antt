@@ -1,5 +1,5 @@
 use Rattle.std.proofs.Common.{◌≡◌, None, rules}
-use Rattle.f77_syntax.specs.Parsing.{line_of}
+use Rattle.f77_tree.specs.Parsing.{line_of}
 use Rattle.f77_check.specs.declared.labels.Labels.{Labels}
 use Rattle.f77_check.proofs.LabelTables.{unlabelled, labelled}
 use Rattle.f77_check.proofs.labels.Labels.note.Goals as goal

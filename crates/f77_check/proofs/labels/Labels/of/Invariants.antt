@@ -1,5 +1,5 @@
 use Rattle.std.proofs.Common.{map, take}
-use Rattle.f77_syntax.specs.Parsing.{line_of}
+use Rattle.f77_tree.specs.Parsing.{line_of}
 use Rattle.f77_check.specs.LabelTable.{IsLabelTable}
 use Rattle.f77_check.proofs.labels.Labels.of.Given as goal
 

@@ -1,6 +1,6 @@
 use Rattle.std.proofs.Common.{ap, sym, ◌∙◌, [], ◌∷◌}
-use Rattle.f77_syntax.specs.Declaration.{decl_of}
-use Rattle.f77_syntax.specs.Node.{NodeOf}
+use Rattle.f77_tree.specs.Declaration.{decl_of}
+use Rattle.f77_tree.specs.Node.{NodeOf}
 use Rattle.f77_check.specs.NameTable.{entries_of, with_nodes}
 use Rattle.f77_check.proofs.Listing.{view_more}
 use Rattle.f77_check.proofs.names.Names.note_declared.Goals as goal

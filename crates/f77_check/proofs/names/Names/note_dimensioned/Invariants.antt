@@ -1,6 +1,6 @@
 use Rattle.std.proofs.Common.{◌≡◌, take}
 use Rattle.std.specs.Prelude.{map}
-use Rattle.f77_syntax.specs.Declaration.{decl_of}
+use Rattle.f77_tree.specs.Declaration.{decl_of}
 use Rattle.f77_check.specs.Names.{Mention}
 use Rattle.f77_check.specs.NameTable.{entries_of, with_mentions}
 use Rattle.f77_check.proofs.names.Names.note_dimensioned.Given as goal

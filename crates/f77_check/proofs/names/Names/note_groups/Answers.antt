@@ -1,6 +1,6 @@
 use Rattle.std.proofs.Common.{ap, sym, ◌∙◌}
-use Rattle.f77_syntax.specs.Data.{data_group_of}
-use Rattle.f77_syntax.specs.Node.{group_nodes}
+use Rattle.f77_tree.specs.Data.{data_group_of}
+use Rattle.f77_tree.specs.Node.{group_nodes}
 use Rattle.f77_check.specs.NameTable.{entries_of, with_nodes}
 use Rattle.f77_check.proofs.Listing.{groups_more}
 use Rattle.f77_check.proofs.names.Names.note_groups.Goals as goal

@@ -1,5 +1,5 @@
 use Rattle.std.proofs.Common.{ap, sym, ◌∙◌, [], ◌∷◌}
-use Rattle.f77_syntax.specs.Node.{NodeOf}
+use Rattle.f77_tree.specs.Node.{NodeOf}
 use Rattle.f77_check.specs.NameTable.{entries_of, with_nodes}
 use Rattle.f77_check.proofs.Listing.{node_more}
 use Rattle.f77_check.proofs.names.Names.note_symbols.Goals as goal

@@ -1,6 +1,6 @@
 use Rattle.std.proofs.Common.{◌+◌, map, sym, subst}
 use Rattle.indexmap.specs.IndexMap.{keys}
-use Rattle.f77_syntax.specs.Parsing.{line_of}
+use Rattle.f77_tree.specs.Parsing.{line_of}
 use Rattle.f77_check.proofs.Sites.{AreFirst, one_more}
 use Rattle.f77_check.proofs.resolve.Resolver.all.Goals as goal
 

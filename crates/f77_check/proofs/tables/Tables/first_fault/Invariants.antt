@@ -1,5 +1,5 @@
 use Rattle.std.proofs.Common.{◌≡◌, map, drop, slice_get}
-use Rattle.f77_syntax.specs.Parsing.{line_of}
+use Rattle.f77_tree.specs.Parsing.{line_of}
 use Rattle.f77_check.specs.Legal.{clause_faults}
 use Rattle.f77_check.specs.Tables.{AreTables}
 use Rattle.f77_check.proofs.tables.Tables.first_fault.Given as goal

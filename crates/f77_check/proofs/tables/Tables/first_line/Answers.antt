@@ -1,6 +1,6 @@
 use Rattle.std.proofs.Common.{◌≤◌, map, length, ◌∙◌, sym, arith}
 use Rattle.std.proofs.lemmas.List.{length-map}
-use Rattle.f77_syntax.specs.Parsing.{line_of}
+use Rattle.f77_tree.specs.Parsing.{line_of}
 use Rattle.f77_check.specs.Clause.{breaks}
 use Rattle.f77_check.proofs.First.{skipped, found, none_left, line_here}
 use Rattle.f77_check.proofs.tables.Tables.first_line.Goals as goal

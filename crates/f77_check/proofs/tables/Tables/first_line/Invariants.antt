@@ -1,5 +1,5 @@
 use Rattle.std.proofs.Common.{◌≡◌, map}
-use Rattle.f77_syntax.specs.Parsing.{line_of}
+use Rattle.f77_tree.specs.Parsing.{line_of}
 use Rattle.f77_check.specs.Clause.{breaks}
 use Rattle.f77_check.specs.Tables.{AreTables}
 use Rattle.f77_check.proofs.First.{first_from}

@@ -1,0 +1,104 @@
+//! The two forms of the exchange answer alike, to calls and to split passes.
+ghost use Rattle.std.specs.Prelude.{◌≡◌, ◌<◌, true};
+
+use crate::tickets::{aar, assert_tally, counts, taken};
+use crate::turns::{TURNS, Turn, parts, shown, turn_of};
+use mothra_exchange::{Gate, LockedExchange, Offer, TableExchange, Take};
+use mothra_ops::Op;
+use std::process::Abort;
+use std::sync::Wait;
+use std::test::Fail;
+
+/// The answer to a call.
+fn answer<G: Gate, R: Wait + AllocGlobal>(
+    rt: &R,
+    gate: &G,
+    pass: &mut G::Pass,
+    call: &str,
+) -> Result<String, Fail>
+    requires { G.is_pass gate.now pass.old }
+    ensures { G.is_pass gate.now pass.new }
+{
+    let alloc = rt.alloc();
+    let answer = match turn_of(call) {
+        Some(Turn::Offer(ticket)) => shown(alloc, gate.offer(rt, pass, ticket))?,
+        Some(Turn::Take(op)) => shown(alloc, gate.take(rt, pass, op))?,
+        Some(Turn::Close(op)) => shown(alloc, gate.close(rt, pass, op))?,
+        None => return Err(call.into()),
+    };
+    Ok(answer)
+}
+
+/// Each call of the table has its answer.
+fn assert_turns<G: Gate, R: Wait + Abort + AllocGlobal>(
+    rt: &R,
+    gate: &G,
+    pass: &mut G::Pass,
+) -> Result<(), Fail>
+    requires { G.is_pass gate.now pass.old }
+    ensures { G.is_pass gate.now pass.new }
+{
+    for row in TURNS.trim_matches('\n').lines() {
+        let (call, want) = parts(row)?;
+        let answer = answer(rt, gate, pass, call)?;
+        assert!(rt; answer.as_str() == want, "{row}: {answer}");
+    }
+    Ok(())
+}
+
+fn plays_the_turns<G: Gate + Drop, R: Wait + Abort + AllocGlobal>(
+    rt: &R,
+    gate: G,
+    mut pass: G::Pass,
+) -> Result<(), Fail>
+where
+    G::Pass: Drop,
+    requires { G.is_pass gate pass }
+{
+    assert_turns(rt, &gate, &mut pass)?;
+    let tally = gate.finish(pass);
+    assert_tally(rt, &tally, Op::Aar, [3, 3, 3], true);
+    assert_tally(rt, &tally, Op::Abs, [0, 0, 0], true);
+    assert_tally(rt, &tally, Op::Uoi, [0, 0, 0], false);
+    Ok(())
+}
+
+#[test]
+fn the_locked_form_answers_the_turns(rt: HostRuntime) -> Result<(), Fail> {
+    let (gate, pass) = LockedExchange::<2>::new(rt.alloc(), counts(Op::Aar, 3))?;
+    plays_the_turns(&rt, gate, pass)
+}
+
+#[test]
+fn the_word_form_answers_the_turns(rt: HostRuntime) -> Result<(), Fail> {
+    let (gate, pass) = TableExchange::<2>::new(rt.alloc(), counts(Op::Aar, 3))?;
+    plays_the_turns(&rt, gate, pass)
+}
+
+/// A pass that is split off after the first offer takes the first ticket.
+pub(crate) fn splits_and_merges<G: Gate, R: Wait + Abort>(rt: &R, gate: G, mut pass: G::Pass)
+    requires own { G.is_pass gate pass }
+    requires part { G.needs_parts ≡ true → 1 < (G.view pass).part }
+{
+    assert!(rt; gate.offer(rt, &mut pass, aar(1)) == Offer::Accepted);
+    let mut other = gate.split(&mut pass);
+    assert!(rt; gate.take(rt, &mut other, Op::Aar) == taken(Op::Aar, 1));
+    assert!(rt; gate.take(rt, &mut pass, Op::Aar) == Take::Empty);
+    gate.merge(&mut pass, other);
+    let tally = gate.finish(pass);
+    assert_tally(rt, &tally, Op::Aar, [3, 1, 1], false);
+}
+
+#[test]
+fn the_locked_form_splits_and_merges(rt: HostRuntime) -> Result<(), Fail> {
+    let (gate, pass) = LockedExchange::<2>::new(rt.alloc(), counts(Op::Aar, 3))?;
+    splits_and_merges(&rt, gate, pass);
+    Ok(())
+}
+
+#[test]
+fn the_word_form_splits_and_merges(rt: HostRuntime) -> Result<(), Fail> {
+    let (gate, pass) = TableExchange::<2>::new(rt.alloc(), counts(Op::Aar, 3))?;
+    splits_and_merges(&rt, gate, pass);
+    Ok(())
+}

@@ -1,0 +1,27 @@
+//! Tests of the operators' codes and of the exchange, as their callers see them.
+#![tactic(auto)]
+
+#[cfg(test)]
+mod both_forms;
+#[cfg(test)]
+mod count_limits;
+#[cfg(test)]
+mod full_fields;
+#[cfg(test)]
+mod gates;
+#[cfg(test)]
+mod joined_takes;
+#[cfg(test)]
+mod logs;
+#[cfg(test)]
+mod offers;
+#[cfg(test)]
+mod operator_codes;
+#[cfg(test)]
+mod refused_exchanges;
+#[cfg(test)]
+mod stalling;
+#[cfg(test)]
+mod tickets;
+#[cfg(test)]
+mod turns;

@@ -1,0 +1,49 @@
+-- Lists that are copied item by item, and what holds such a list.
+use Rattle.std.proofs.Common.{◌≡◌, ℕ, List, [], ◌∷◌, map, refl, sym, ◌∙◌, ap, subst, None}
+use Rattle.std.specs.Prelude.{Vec}
+use Rattle.std.specs.List.{AllZip}
+use Rattle.std.specs.declared.alloc.Global.{Global}
+use Rattle.f77_tree.specs.declared.tree.Stmt.{Stmt}
+use Rattle.f77_tree.specs.declared.tree.Stmt.TheVariants as forms
+use Rattle.f77_tree.specs.declared.tree.Kind.{Kind}
+use Rattle.f77_tree.specs.declared.declaration.Decl.{Decl}
+use Rattle.f77_tree.specs.declared.data.DataGroup.{DataGroup}
+use Rattle.f77_tree.specs.declared.program.Line.{Line}
+use Rattle.f77_tree.specs.Tree.{Statement}
+use Rattle.f77_tree.specs.StatementView.{statement_of}
+use Rattle.f77_tree.specs.Declaration.{decl_of}
+use Rattle.f77_tree.specs.Data.{data_group_of}
+use Rattle.f77_tree.specs.Parsing.{line_of, IsProgram}
+use Rattle.f77_tree.proofs.Views.{subroutine_view, declare_view, dimension_view, preset_view}
+
+same_views : {X A : Type 0} (view : X → A) (xs ys : List X) → AllZip (λ x y. view y ≡ view x) xs ys → map view ys ≡ map view xs
+same_views view [] [] all = refl
+same_views view [] (y ∷ ys) all = absurd all
+same_views view (x ∷ xs) [] all = absurd all
+same_views view (x ∷ xs) (y ∷ ys) all = rw (all.0, same_views view xs ys all.1) refl
+
+pub same_subroutine : (stmt : Stmt) (name copy : List ℕ) (names copies : Vec (List ℕ) Global) → stmt ≡ forms.Subroutine name names → copy ≡ name
+    → copies.items ≡ names.items → statement_of (forms.Subroutine copy copies) ≡ statement_of stmt
+same_subroutine stmt name copy names copies is named same =
+    rw (is, named) (subroutine_view name copies ∙ ap (Statement.Subroutine name) same ∙ sym (subroutine_view name names))
+
+pub same_declaration : (stmt : Stmt) (kind : Kind) (items copies : Vec Decl Global) → stmt ≡ forms.Declare kind items
+    → AllZip (λ x y. decl_of y ≡ decl_of x) items.items copies.items → statement_of (forms.Declare kind copies) ≡ statement_of stmt
+same_declaration stmt kind items copies is all =
+    rw is (declare_view kind copies ∙ ap (Statement.Declare kind) (same_views decl_of items.items copies.items all) ∙ sym (declare_view kind items))
+
+pub same_dimension : (stmt : Stmt) (items copies : Vec Decl Global) → stmt ≡ forms.Dimension items
+    → AllZip (λ x y. decl_of y ≡ decl_of x) items.items copies.items → statement_of (forms.Dimension copies) ≡ statement_of stmt
+same_dimension stmt items copies is all =
+    rw is (dimension_view copies ∙ ap Statement.Dimension (same_views decl_of items.items copies.items all) ∙ sym (dimension_view items))
+
+pub same_preset : (stmt : Stmt) (groups copies : Vec DataGroup Global) → stmt ≡ forms.Preset groups
+    → AllZip (λ x y. data_group_of y ≡ data_group_of x) groups.items copies.items → statement_of (forms.Preset copies) ≡ statement_of stmt
+same_preset stmt groups copies is all =
+    rw is (preset_view copies ∙ ap Statement.Preset (same_views data_group_of groups.items copies.items all) ∙ sym (preset_view groups))
+
+pub same_lines : (lines copies : List Line) → AllZip (λ x y. line_of y ≡ line_of x) lines copies → map line_of copies ≡ map line_of lines
+same_lines lines copies all = same_views line_of lines copies all
+
+pub same_program : (lines copies : List Line) → AllZip (λ x y. line_of y ≡ line_of x) lines copies → IsProgram None (map line_of lines) → IsProgram None (map line_of copies)
+same_program lines copies all is = subst (IsProgram None) (sym (same_lines lines copies all)) is

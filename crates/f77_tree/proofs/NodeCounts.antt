@@ -1,0 +1,68 @@
+-- How many nodes a statement has: as many as the limit counts.
+use Rattle.std.proofs.Common.{arith, ◌≡◌, ℕ, ◌+◌, length, List, [], ◌∷◌, ◌++◌, refl, ◌∙◌, Option, Some, None}
+use Rattle.std.specs.Prelude.{map, flat_map}
+use Rattle.std.proofs.lemmas.List.{length-append, length-map}
+use Rattle.f77_tree.specs.Tree.{Tree, Trees, GroupFields, Statement}
+use Rattle.f77_tree.specs.Limits.{nodes, all_nodes}
+use Rattle.f77_tree.specs.Data as initial
+use Rattle.f77_tree.specs.StatementLimits as limits
+use Rattle.f77_tree.specs.Node.{NodeOf, parts, all_parts, tree_nodes, step_nodes, group_nodes, target_nodes, label_nodes, range_nodes, nodes_of}
+
+mutual
+  parts_counted : (t : Tree) → length (parts t) ≡ nodes t
+  parts_counted (Tree.Number n) = omega arith
+  parts_counted (Tree.Truth b) = omega arith
+  parts_counted (Tree.Reference name items) = omega (arith, all_counted items)
+  parts_counted (Tree.Call f items) = omega (arith, all_counted items)
+  parts_counted (Tree.Signed sign t) = omega (arith, parts_counted t)
+  parts_counted (Tree.Not t) = omega (arith, parts_counted t)
+  parts_counted (Tree.Binary op a b) = omega (arith, length-append (parts a) (parts b), parts_counted a, parts_counted b)
+  parts_counted (Tree.ZeroPush t) = omega (arith, parts_counted t)
+
+  all_counted : (ts : Trees) → length (all_parts ts) ≡ all_nodes ts
+  all_counted Trees.None = refl
+  all_counted (Trees.Then t ts) = omega (arith, length-append (parts t) (all_parts ts), parts_counted t, all_counted ts)
+
+tree_counted : (t : Tree) → length (tree_nodes t) ≡ nodes t
+tree_counted t = length-map (parts t) NodeOf.Part ∙ parts_counted t
+
+step_counted : (c : Option Tree) → length (step_nodes c) ≡ limits.step_nodes c
+step_counted None = refl
+step_counted (Some t) = tree_counted t
+
+group_counted : (g : GroupFields) → length (group_nodes g) ≡ initial.group_nodes g
+group_counted g =
+    omega (arith, length-append (map NodeOf.Named g.names) (map NodeOf.Initial g.values), length-map g.names NodeOf.Named, length-map g.values NodeOf.Initial)
+
+groups_counted : (gs : List GroupFields) → length (flat_map group_nodes gs) ≡ initial.data_nodes gs
+groups_counted [] = refl
+groups_counted (g ∷ gs) = omega (arith, length-append (group_nodes g) (flat_map group_nodes gs), group_counted g, groups_counted gs)
+
+target_counted : (name : List ℕ) (items : Trees) → length (target_nodes name items) ≡ 1 + all_nodes items
+target_counted name items = omega (arith, length-map (all_parts items) NodeOf.Part, all_counted items)
+
+range_counted : (a b : Tree) (c : Option Tree) → length (range_nodes a b c) ≡ nodes a + (nodes b + limits.step_nodes c)
+range_counted a b c =
+    omega (arith, length-append (tree_nodes a) (tree_nodes b ++ step_nodes c), length-append (tree_nodes b) (step_nodes c), tree_counted a, tree_counted b, step_counted c)
+
+pub nodes_counted : (s : Statement) → length (nodes_of s) ≡ limits.statement_nodes s
+nodes_counted (Statement.Subroutine name names) = omega (arith, length-map names NodeOf.Named)
+nodes_counted (Statement.Declare kind ds) = omega (arith, length-map ds NodeOf.Declared)
+nodes_counted (Statement.Dimension ds) = omega (arith, length-map ds NodeOf.Declared)
+nodes_counted (Statement.Preset gs) = omega (arith, groups_counted gs)
+nodes_counted (Statement.Assign name items t) =
+    omega (arith, length-append (target_nodes name items) (tree_nodes t), target_counted name items, tree_counted t)
+nodes_counted (Statement.Goto label) = omega arith
+nodes_counted (Statement.ArithIf t l m n) =
+    omega (arith, length-append (tree_nodes t) (label_nodes l m n), tree_counted t)
+nodes_counted (Statement.LogicalIf t s) = omega (arith, length-append (tree_nodes t) (nodes_of s), tree_counted t, nodes_counted s)
+nodes_counted (Statement.BlockIf t) = omega (arith, tree_counted t)
+nodes_counted (Statement.ElseIf t) = omega (arith, tree_counted t)
+nodes_counted Statement.Else = omega arith
+nodes_counted Statement.EndIf = omega arith
+nodes_counted (Statement.Loop label name a b c) = omega (arith, range_counted a b c)
+nodes_counted Statement.Continue = omega arith
+nodes_counted Statement.Return = omega arith
+nodes_counted Statement.Stop = omega arith
+nodes_counted Statement.Trap = omega arith
+nodes_counted Statement.End = omega arith

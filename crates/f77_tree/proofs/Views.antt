@@ -1,0 +1,89 @@
+-- The tree of each form of expression.
+use Rattle.std.specs.Prelude.{◌≡◌, ℕ, List, map, Bool, Option, option_map, Box, Vec}
+use Rattle.f77_tree.specs.declared.intrinsic.Intrinsic.{Intrinsic}
+use Rattle.std.proofs.Common.{ap, sym, ◌∙◌}
+use Rattle.std.specs.declared.alloc.Global.{Global}
+use Rattle.f77_tree.specs.declared.tree.Expr.{Expr}
+use Rattle.f77_tree.specs.declared.tree.Ref.{Ref}
+use Rattle.f77_tree.specs.declared.operator.Operator.{Operator}
+use Rattle.f77_tree.specs.declared.operator.Sign.{Sign}
+use Rattle.f77_tree.specs.declared.tree.Expr.TheVariants.{Number, Truth, rolls-Number, rolls-Truth, rolls-Reference, rolls-Call, rolls-Signed, rolls-Not, rolls-Binary}
+use Rattle.f77_tree.specs.declared.tree.Expr.TheViews as views
+use Rattle.f77_tree.specs.declared.tree.Expr.TheOpen.{Expr-F}
+use Rattle.f77_tree.specs.declared.tree.Expr.TheFolds.{fold-roll-Expr, fold_out-Ref}
+use Rattle.f77_tree.specs.declared.tree.Stmt.{Stmt}
+use Rattle.f77_tree.specs.declared.tree.Stmt.TheVariants.{rolls-Subroutine, rolls-Declare, rolls-Dimension, rolls-Preset, rolls-Assign, rolls-ArithIf, rolls-LogicalIf, rolls-BlockIf, rolls-ElseIf, rolls-Else, rolls-Loop}
+use Rattle.f77_tree.specs.declared.tree.Stmt.TheVariants as forms
+use Rattle.f77_tree.specs.declared.tree.Stmt.TheViews as boxed
+use Rattle.f77_tree.specs.declared.tree.Stmt.TheOpen.{Stmt-F}
+use Rattle.f77_tree.specs.declared.tree.Stmt.TheFolds.{fold-roll-Stmt}
+use Rattle.f77_tree.specs.Tree.{Tree, Statement}
+use Rattle.f77_tree.specs.View.{trees, expr_step, ref_step, tree_of, place_of}
+use Rattle.f77_tree.specs.StatementView.{stmt_step, statement_of}
+use Rattle.f77_tree.specs.declared.tree.Kind.{Kind}
+use Rattle.f77_tree.specs.declared.declaration.Decl.{Decl}
+use Rattle.f77_tree.specs.declared.data.DataGroup.{DataGroup}
+use Rattle.f77_tree.specs.Declaration.{decl_of}
+use Rattle.f77_tree.specs.Data.{data_group_of}
+
+pub number_view : (n : ℕ) → tree_of (Number n) ≡ Tree.Number n
+number_view n = ap tree_of (sym (rolls-Number n)) ∙ fold-roll-Expr Tree (List ℕ × List Tree) expr_step ref_step (Expr-F.Number n)
+
+pub truth_view : (b : Bool) → tree_of (Truth b) ≡ Tree.Truth b
+truth_view b = ap tree_of (sym (rolls-Truth b)) ∙ fold-roll-Expr Tree (List ℕ × List Tree) expr_step ref_step (Expr-F.Truth b)
+
+pub call_view : (f : Intrinsic) (items : Vec Expr Global) → tree_of (views.Call f items) ≡ Tree.Call f (trees (map tree_of items.items))
+call_view f items = ap tree_of (sym (rolls-Call f items)) ∙ fold-roll-Expr Tree (List ℕ × List Tree) expr_step ref_step (Expr-F.Call f items)
+
+pub signed_view : (sign : Sign) (a : Box Expr Global) → tree_of (views.Signed sign a) ≡ Tree.Signed sign (tree_of a.value)
+signed_view sign a = ap tree_of (sym (rolls-Signed sign a)) ∙ fold-roll-Expr Tree (List ℕ × List Tree) expr_step ref_step (Expr-F.Signed sign a)
+
+pub not_view : (a : Box Expr Global) → tree_of (views.Not a) ≡ Tree.Not (tree_of a.value)
+not_view a = ap tree_of (sym (rolls-Not a)) ∙ fold-roll-Expr Tree (List ℕ × List Tree) expr_step ref_step (Expr-F.Not a)
+
+pub binary_view : (op : Operator) (a b : Box Expr Global) → tree_of (views.Binary op a b) ≡ Tree.Binary op (tree_of a.value) (tree_of b.value)
+binary_view op a b = ap tree_of (sym (rolls-Binary op a b)) ∙ fold-roll-Expr Tree (List ℕ × List Tree) expr_step ref_step (Expr-F.Binary op a b)
+
+pub reference_view : (r : Ref) → tree_of (views.Reference r) ≡ Tree.Reference r.name (trees (map tree_of r.subscripts.items))
+reference_view r =
+    ap tree_of (sym (rolls-Reference r)) ∙ fold-roll-Expr Tree (List ℕ × List Tree) expr_step ref_step (Expr-F.Reference r)
+    ∙ ap (λ x. Tree.Reference x.0 (trees x.1)) (fold_out-Ref Tree (List ℕ × List Tree) expr_step ref_step r)
+
+pub ref_view : (r : Ref) → place_of r ≡ (r.name, map tree_of r.subscripts.items)
+ref_view r = fold_out-Ref Tree (List ℕ × List Tree) expr_step ref_step r
+
+-- the statement of each form
+pub subroutine_view : (name : List ℕ) (arguments : Vec (List ℕ) Global) → statement_of (forms.Subroutine name arguments) ≡ Statement.Subroutine name arguments.items
+subroutine_view name arguments = ap statement_of (sym (rolls-Subroutine name arguments)) ∙ fold-roll-Stmt Statement stmt_step (Stmt-F.Subroutine name arguments)
+
+pub declare_view : (kind : Kind) (items : Vec Decl Global) → statement_of (forms.Declare kind items) ≡ Statement.Declare kind (map decl_of items.items)
+declare_view kind items = ap statement_of (sym (rolls-Declare kind items)) ∙ fold-roll-Stmt Statement stmt_step (Stmt-F.Declare kind items)
+
+pub dimension_view : (items : Vec Decl Global) → statement_of (forms.Dimension items) ≡ Statement.Dimension (map decl_of items.items)
+dimension_view items = ap statement_of (sym (rolls-Dimension items)) ∙ fold-roll-Stmt Statement stmt_step (Stmt-F.Dimension items)
+
+pub preset_view : (groups : Vec DataGroup Global) → statement_of (forms.Preset groups) ≡ Statement.Preset (map data_group_of groups.items)
+preset_view groups = ap statement_of (sym (rolls-Preset groups)) ∙ fold-roll-Stmt Statement stmt_step (Stmt-F.Preset groups)
+
+pub assign_view : (target : Ref) (value : Expr) → statement_of (forms.Assign target value) ≡ Statement.Assign (place_of target).0 (trees (place_of target).1) (tree_of value)
+assign_view target value = ap statement_of (sym (rolls-Assign target value)) ∙ fold-roll-Stmt Statement stmt_step (Stmt-F.Assign target value)
+
+pub arithmetic_view : (value : Expr) (l m n : ℕ) → statement_of (forms.ArithIf value l m n) ≡ Statement.ArithIf (tree_of value) l m n
+arithmetic_view value l m n = ap statement_of (sym (rolls-ArithIf value l m n)) ∙ fold-roll-Stmt Statement stmt_step (Stmt-F.ArithIf value l m n)
+
+pub logical_view : (condition : Expr) (a : Box Stmt Global) → statement_of (boxed.LogicalIf condition a) ≡ Statement.LogicalIf (tree_of condition) (statement_of a.value)
+logical_view condition a = ap statement_of (sym (rolls-LogicalIf condition a)) ∙ fold-roll-Stmt Statement stmt_step (Stmt-F.LogicalIf condition a)
+
+pub block_view : (condition : Expr) → statement_of (forms.BlockIf condition) ≡ Statement.BlockIf (tree_of condition)
+block_view condition = ap statement_of (sym (rolls-BlockIf condition)) ∙ fold-roll-Stmt Statement stmt_step (Stmt-F.BlockIf condition)
+
+pub else_if_view : (condition : Expr) → statement_of (forms.ElseIf condition) ≡ Statement.ElseIf (tree_of condition)
+else_if_view condition = ap statement_of (sym (rolls-ElseIf condition)) ∙ fold-roll-Stmt Statement stmt_step (Stmt-F.ElseIf condition)
+
+pub loop_view : (label : ℕ) (variable : List ℕ) (first last : Expr) (step : Option Expr)
+    → statement_of (forms.Loop label variable first last step) ≡ Statement.Loop label variable (tree_of first) (tree_of last) (option_map tree_of step)
+loop_view label variable first last step =
+    ap statement_of (sym (rolls-Loop label variable first last step)) ∙ fold-roll-Stmt Statement stmt_step (Stmt-F.Loop label variable first last step)
+
+pub else_view : statement_of forms.Else ≡ Statement.Else
+else_view = ap statement_of (sym rolls-Else) ∙ fold-roll-Stmt Statement stmt_step Stmt-F.Else

@@ -1,0 +1,11 @@
+use Rattle.std.proofs.Common.{rules}
+use Rattle.std.proofs.lemmas.List.Elements.{same_from_all_zip}
+use Rattle.f77_tree.proofs.Copies.{same_subroutine}
+use Rattle.f77_tree.proofs.copying.StmtClone.+clone.Goals as goal
+
+pub returns-in_ok-clone-in-Subroutine-2 : goal.returns-in_ok-clone-in-Subroutine-2
+returns-in_ok-clone-in-Subroutine-2 t c =
+    record {
+      cases = same_subroutine c.args.self.now c.in-Subroutine.name c.in_ok-clone-in-Subroutine.field-0 c.in-Subroutine.arguments c.in_ok-clone-in-Subroutine-2.field-0
+          c.in-Subroutine.is (search rules) (search (rules, same_from_all_zip));
+    }

@@ -1,0 +1,22 @@
+use Rattle.std.proofs.Common.{◌≡◌, [], rules, string_bytes}
+use Rattle.std.specs.Prelude.{map}
+use Rattle.f77_source.specs.Write.{card_faults}
+use Rattle.f77_tree.specs.Parsing.{line_of}
+use Rattle.f77_tree.specs.Printing.{card_of, printed}
+use Rattle.f77_tree.proofs.ReadAgain.{program_formed, printed_whole, first_refused, prints_back}
+use Rattle.f77_tree.proofs.printing.print.Goals as goal
+
+pub returns-in-Ok-clause-accepted : goal.returns-in-Ok-clause-accepted
+returns-in-Ok-clause-accepted c =
+    let none : card_faults (map card_of (map line_of c.args.program.now)) ≡ [] = search rules in
+    printed_whole (map line_of c.args.program.now) (program_formed c.lines.ensures.program) none
+
+pub returns-in-Ok-clause-back : goal.returns-in-Ok-clause-back
+returns-in-Ok-clause-back c =
+    let none : card_faults (map card_of (map line_of c.args.program.now)) ≡ [] = search rules in
+    let is : string_bytes c.in-Ok.text ≡ printed (map line_of c.args.program.now) = search rules in
+    prints_back (string_bytes c.in-Ok.text) (map line_of c.args.program.now) c.lines.ensures.program none is c.written_cards_are_read.ensures
+
+pub returns-clause-refused : goal.returns-clause-refused
+returns-clause-refused c =
+    first_refused (map line_of c.args.program.now) c.in-Err.fault c.told.result (program_formed c.lines.ensures.program) c.told.ensures (search rules)

@@ -1,0 +1,43 @@
+-- The order of statements (ANSI X3.9-1978, 3.5).
+use Rattle.std.specs.Prelude.{ℕ, ◌==◌, ◌&&◌, nat_lt, nat_le, Bool, Option, Some, None}
+use Rattle.f77_tree.specs.declared.group.Group.{Group}
+use Rattle.f77_tree.specs.declared.group.Group.TheVariants.{Subroutine, Declaration, Data, Executable, End}
+use Rattle.f77_tree.specs.Tree.{Statement}
+
+abbrev pub group_of : Statement → Group
+group_of (Statement.Subroutine name names) = Subroutine
+group_of (Statement.Declare kind ds) = Declaration
+group_of (Statement.Dimension ds) = Declaration
+group_of (Statement.Preset gs) = Data
+group_of (Statement.Assign name items t) = Executable
+group_of (Statement.Goto label) = Executable
+group_of (Statement.ArithIf t l m n) = Executable
+group_of (Statement.LogicalIf t s) = Executable
+group_of (Statement.BlockIf t) = Executable
+group_of (Statement.ElseIf t) = Executable
+group_of Statement.Else = Executable
+group_of Statement.EndIf = Executable
+group_of (Statement.Loop label name a b c) = Executable
+group_of Statement.Continue = Executable
+group_of Statement.Return = Executable
+group_of Statement.Stop = Executable
+group_of Statement.Trap = Executable
+group_of Statement.End = End
+
+-- the place of a group in a subroutine
+abbrev pub place : Group → ℕ
+place Subroutine = 0
+place Declaration = 1
+place Data = 2
+place Executable = 3
+place End = 4
+
+-- behind the place of a group, which is not the last
+abbrev pub may_follow : ℕ → ℕ → Bool
+may_follow before n = nat_lt 0 n && (nat_le before n && nat_lt before 4)
+
+-- A statement of the second group may stand behind one of the first, and behind none where it is the first: SUBROUTINE
+-- first and only there, then declarations, then DATA, then what is executed, END last and only there.
+abbrev pub may_stand : Option Group → Group → Bool
+may_stand None group = place group == 0
+may_stand (Some before) group = may_follow (place before) (place group)

@@ -1,0 +1,76 @@
+-- The statement that one of the program stands for.
+use Rattle.std.specs.Prelude.{◌≡◌, ℕ, List, Option, option_map, Vec, map}
+use Rattle.std.specs.Borrow.{Bor}
+use Rattle.std.specs.declared.alloc.Global.{Global}
+use Rattle.f77_tree.specs.declared.tree.Expr.{Expr}
+use Rattle.f77_tree.specs.declared.tree.Ref.{Ref}
+use Rattle.f77_tree.specs.declared.name.Name.{Name}
+use Rattle.f77_tree.specs.declared.tree.Stmt.{Stmt}
+use Rattle.f77_tree.specs.declared.tree.Stmt.TheOpen.{Stmt-F}
+use Rattle.f77_tree.specs.declared.tree.Stmt.TheFolds.{fold-Stmt}
+use Rattle.f77_tree.specs.Tree.{Tree, Trees, Statement}
+use Rattle.f77_tree.specs.View.{trees, tree_of, place_of, clip, clip_all}
+use Rattle.f77_tree.specs.Declaration.{decl_of, clip_decl}
+use Rattle.f77_tree.specs.Data.{data_group_of, clip_group}
+
+abbrev pub stmt_step : Stmt-F Statement → Statement
+stmt_step (Stmt-F.Subroutine name arguments) = Statement.Subroutine name arguments.items
+stmt_step (Stmt-F.Declare kind items) = Statement.Declare kind (map decl_of items.items)
+stmt_step (Stmt-F.Dimension items) = Statement.Dimension (map decl_of items.items)
+stmt_step (Stmt-F.Preset groups) = Statement.Preset (map data_group_of groups.items)
+stmt_step (Stmt-F.Assign target value) = Statement.Assign (place_of target).0 (trees (place_of target).1) (tree_of value)
+stmt_step (Stmt-F.Goto label) = Statement.Goto label
+stmt_step (Stmt-F.ArithIf value negative zero positive) = Statement.ArithIf (tree_of value) negative zero positive
+stmt_step (Stmt-F.LogicalIf condition statement) = Statement.LogicalIf (tree_of condition) statement.value
+stmt_step (Stmt-F.BlockIf condition) = Statement.BlockIf (tree_of condition)
+stmt_step (Stmt-F.ElseIf condition) = Statement.ElseIf (tree_of condition)
+stmt_step Stmt-F.Else = Statement.Else
+stmt_step Stmt-F.EndIf = Statement.EndIf
+stmt_step (Stmt-F.Loop label variable first last step) = Statement.Loop label variable (tree_of first) (tree_of last) (option_map tree_of step)
+stmt_step Stmt-F.Continue = Statement.Continue
+stmt_step Stmt-F.Return = Statement.Return
+stmt_step Stmt-F.Stop = Statement.Stop
+stmt_step Stmt-F.Trap = Statement.Trap
+stmt_step Stmt-F.End = Statement.End
+
+-- the statement that one of the program stands for
+abbrev pub statement_of : Stmt → Statement
+statement_of = fold-Stmt Statement stmt_step
+
+-- a statement as it is kept
+abbrev pub clip_statement : Statement → Statement
+clip_statement (Statement.Subroutine name names) = Statement.Subroutine name names
+clip_statement (Statement.Declare kind ds) = Statement.Declare kind (map clip_decl ds)
+clip_statement (Statement.Dimension ds) = Statement.Dimension (map clip_decl ds)
+clip_statement (Statement.Preset gs) = Statement.Preset (map clip_group gs)
+clip_statement (Statement.Assign name items t) = Statement.Assign name (clip_all items) (clip t)
+clip_statement (Statement.Goto label) = Statement.Goto label
+clip_statement (Statement.ArithIf t l m n) = Statement.ArithIf (clip t) l m n
+clip_statement (Statement.LogicalIf t s) = Statement.LogicalIf (clip t) (clip_statement s)
+clip_statement (Statement.BlockIf t) = Statement.BlockIf (clip t)
+clip_statement (Statement.ElseIf t) = Statement.ElseIf (clip t)
+clip_statement Statement.Else = Statement.Else
+clip_statement Statement.EndIf = Statement.EndIf
+clip_statement (Statement.Loop label name a b c) = Statement.Loop label name (clip a) (clip b) (option_map clip c)
+clip_statement Statement.Continue = Statement.Continue
+clip_statement Statement.Return = Statement.Return
+clip_statement Statement.Stop = Statement.Stop
+clip_statement Statement.Trap = Statement.Trap
+clip_statement Statement.End = Statement.End
+
+abbrev pub IsStatement : Stmt → Statement → Type 0
+IsStatement x a = statement_of x ≡ clip_statement a
+
+-- a reference and the text behind it
+abbrev pub IsReference : Ref × Bor (List ℕ) → List ℕ × Trees × List ℕ → Type 0
+IsReference x a = ((place_of x.0).0 ≡ a.0) × (trees (place_of x.0).1 ≡ clip_all a.1) × (x.1.now ≡ a.2)
+
+abbrev pub AreNames : Vec Name Global → List (List ℕ) → Type 0
+AreNames x a = x.items ≡ a
+
+-- the label and the DO variable of a DO, and the text behind
+abbrev pub IsRange : ℕ × List ℕ × Bor (List ℕ) → ℕ × List ℕ × List ℕ → Type 0
+IsRange x a = (x.0 ≡ a.0) × (x.1 ≡ a.1) × (x.2.now ≡ a.2)
+
+abbrev pub IsStep : Option Expr → Option Tree → Type 0
+IsStep x a = option_map tree_of x ≡ option_map clip a

@@ -1,0 +1,55 @@
+//! The characters of names and of numbers.
+
+ghost use Rattle.std.specs.Prelude.{◌≡◌};
+ghost use Rattle.std.specs.List.{list_all};
+ghost use Rattle.f77_tree.specs.Grammar as grammar;
+
+pub fn is_letter(c: u8) -> bool
+    ensures { result ≡ grammar.is_letter c }
+{
+    c.is_ascii_uppercase()
+}
+
+pub fn is_digit(c: u8) -> bool
+    ensures { result ≡ grammar.is_digit c }
+{
+    c.is_ascii_digit()
+}
+
+pub fn is_word(c: u8) -> bool
+    ensures { result ≡ grammar.is_word c }
+{
+    is_letter(c) || is_digit(c)
+}
+
+/// Whether the text is letters and digits, the first of them a letter.
+pub fn is_name(text: &[u8]) -> bool
+    ensures { result ≡ grammar.is_name text.now }
+{
+    match text.split_first() {
+        None => false,
+        Some((first, rest)) => is_letter(*first) && are_words(rest),
+    }
+}
+
+/// Whether the text is one digit or more.
+pub fn is_number(text: &[u8]) -> bool
+    ensures { result ≡ grammar.is_number text.now }
+{
+    match text.split_first() {
+        None => false,
+        Some((first, rest)) => is_digit(*first) && are_digits(rest),
+    }
+}
+
+pub fn are_words(text: &[u8]) -> bool
+    ensures { result ≡ list_all grammar.is_word text.now }
+{
+    text.iter().all(|c| is_word(*c))
+}
+
+pub fn are_digits(text: &[u8]) -> bool
+    ensures { result ≡ list_all grammar.is_digit text.now }
+{
+    text.iter().all(|c| is_digit(*c))
+}

@@ -1,0 +1,177 @@
+//! Copies of statements and of their parts, in memory of their own.
+//!
+//! They are written out, since a derived `clone` says nothing of a type that holds itself.
+
+ghost use Rattle.std.specs.Prelude.{◌≡◌, map, IfOk};
+ghost use Rattle.f77_tree.specs.View.{tree_of, place_of};
+ghost use Rattle.f77_tree.specs.StatementView.{statement_of};
+ghost use Rattle.f77_tree.specs.Declaration.{decl_of};
+ghost use Rattle.f77_tree.specs.Data.{data_group_of};
+ghost use Rattle.f77_tree.specs.Parsing.{line_of};
+
+use crate::data::DataGroup;
+use crate::declaration::Decl;
+use crate::program::Line;
+use crate::tree::{Expr, Ref, Stmt};
+use std::alloc::AllocError;
+
+impl Clone for Expr {
+    ghost is_clone = { λ source copy. tree_of copy ≡ tree_of source };
+
+    #[cycle(copying)]
+    fn clone(&self) -> Result<Expr, AllocError> {
+        match self {
+            Expr::Number(number) => Ok(Expr::Number(*number)),
+            Expr::Truth(truth) => Ok(Expr::Truth(*truth)),
+            Expr::Reference(place) => Ok(Expr::Reference(place.clone()?)),
+            Expr::Call(function, arguments) => Ok(Expr::Call(*function, copy_all(arguments)?)),
+            Expr::Signed(sign, operand) => Ok(Expr::Signed(*sign, copy_boxed(operand)?)),
+            Expr::Not(operand) => Ok(Expr::Not(copy_boxed(operand)?)),
+            Expr::Binary(operator, left, right) => Ok(Expr::Binary(
+                *operator,
+                copy_boxed(left)?,
+                copy_boxed(right)?,
+            )),
+            Expr::ZeroPush(operand) => Ok(Expr::ZeroPush(copy_boxed(operand)?)),
+        }
+    }
+}
+
+impl Clone for Ref {
+    ghost is_clone = { λ source copy. place_of copy ≡ place_of source };
+
+    #[cycle(copying)]
+    fn clone(&self) -> Result<Ref, AllocError> {
+        Ok(Ref {
+            name: self.name.clone()?,
+            subscripts: copy_all(&self.subscripts)?,
+        })
+    }
+}
+
+/// A call of `Box`'s own `clone` would leave the cycle.
+#[cycle(copying)]
+fn copy_boxed(source: &Box<Expr>) -> Result<Box<Expr>, AllocError>
+    ensures { IfOk result (λ copy. tree_of copy.value ≡ tree_of source.now.value) }
+{
+    Ok(Box::new(*Box::allocator(source), Expr::clone(source)?)?)
+}
+
+/// The same for `Vec`'s.
+#[cycle(copying)]
+fn copy_all(items: &Vec<Expr>) -> Result<Vec<Expr>, AllocError>
+    ensures { IfOk result (λ copies. map tree_of copies.items ≡ map tree_of items.now.items) }
+{
+    let mut copies = Vec::with_capacity(*items.allocator(), items.len())?;
+    for item in items {
+        copies.push(item.clone()?)?;
+    }
+    Ok(copies)
+}
+
+impl Clone for Decl {
+    ghost is_clone = { λ source copy. decl_of copy ≡ decl_of source };
+
+    fn clone(&self) -> Result<Decl, AllocError> {
+        Ok(Decl {
+            name: self.name.clone()?,
+            bounds: self.bounds.clone()?,
+        })
+    }
+}
+
+impl Clone for DataGroup {
+    ghost is_clone = { λ source copy. data_group_of copy ≡ data_group_of source };
+
+    fn clone(&self) -> Result<DataGroup, AllocError> {
+        Ok(DataGroup {
+            names: self.names.clone()?,
+            values: self.values.clone()?,
+        })
+    }
+}
+
+impl Clone for Stmt {
+    ghost is_clone = { λ source copy. statement_of copy ≡ statement_of source };
+
+    #[tactic(auto, using(crate::proofs::Copies::same_subroutine, crate::proofs::Copies::same_declaration, crate::proofs::Copies::same_dimension, crate::proofs::Copies::same_preset))]
+    fn clone(&self) -> Result<Stmt, AllocError> {
+        match self {
+            Stmt::Subroutine { name, arguments } => Ok(Stmt::Subroutine {
+                name: name.clone()?,
+                arguments: arguments.clone()?,
+            }),
+            Stmt::Declare { kind, items } => Ok(Stmt::Declare {
+                kind: *kind,
+                items: items.clone()?,
+            }),
+            Stmt::Dimension { items } => Ok(Stmt::Dimension {
+                items: items.clone()?,
+            }),
+            Stmt::Preset { groups } => Ok(Stmt::Preset {
+                groups: groups.clone()?,
+            }),
+            Stmt::Assign { target, value } => Ok(Stmt::Assign {
+                target: target.clone()?,
+                value: value.clone()?,
+            }),
+            Stmt::Goto { label } => Ok(Stmt::Goto { label: *label }),
+            Stmt::ArithIf {
+                value,
+                negative,
+                zero,
+                positive,
+            } => Ok(Stmt::ArithIf {
+                value: value.clone()?,
+                negative: *negative,
+                zero: *zero,
+                positive: *positive,
+            }),
+            Stmt::LogicalIf {
+                condition,
+                statement,
+            } => Ok(Stmt::LogicalIf {
+                condition: condition.clone()?,
+                statement: Box::new(*Box::allocator(statement), Stmt::clone(statement)?)?,
+            }),
+            Stmt::BlockIf { condition } => Ok(Stmt::BlockIf {
+                condition: condition.clone()?,
+            }),
+            Stmt::ElseIf { condition } => Ok(Stmt::ElseIf {
+                condition: condition.clone()?,
+            }),
+            Stmt::Else => Ok(Stmt::Else),
+            Stmt::EndIf => Ok(Stmt::EndIf),
+            Stmt::Loop {
+                label,
+                variable,
+                first,
+                last,
+                step,
+            } => Ok(Stmt::Loop {
+                label: *label,
+                variable: variable.clone()?,
+                first: first.clone()?,
+                last: last.clone()?,
+                step: step.clone()?,
+            }),
+            Stmt::Continue => Ok(Stmt::Continue),
+            Stmt::Return => Ok(Stmt::Return),
+            Stmt::Stop => Ok(Stmt::Stop),
+            Stmt::Trap => Ok(Stmt::Trap),
+            Stmt::End => Ok(Stmt::End),
+        }
+    }
+}
+
+impl Clone for Line {
+    ghost is_clone = { λ source copy. line_of copy ≡ line_of source };
+
+    fn clone(&self) -> Result<Line, AllocError> {
+        Ok(Line {
+            label: self.label,
+            stmt: self.stmt.clone()?,
+            line: self.line,
+        })
+    }
+}

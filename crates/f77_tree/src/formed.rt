@@ -1,0 +1,144 @@
+//! Statements that some text spells.
+
+ghost use Rattle.std.specs.Prelude.{◌≡◌, ◌&&◌, not, true, false, map, option_map};
+ghost use Rattle.std.specs.List.{list_all};
+ghost use Rattle.f77_tree.specs.Grammar as grammar;
+ghost use Rattle.f77_tree.specs.StatementGrammar.{IsFormed};
+ghost use Rattle.f77_tree.specs.Formed as forms;
+ghost use Rattle.f77_tree.specs.View.{tree_of, trees};
+ghost use Rattle.f77_tree.specs.StatementView.{statement_of};
+
+use crate::data::data_formed;
+use crate::declaration::{all_bounded, declaration_formed};
+use crate::intrinsic::Intrinsic;
+use crate::name::{Name, are_named, is_named};
+use crate::tree::{Expr, Stmt};
+
+#[tactic(auto, using(crate::proofs::Forming::some_items))]
+fn is_some_list(items: &[Expr]) -> bool
+    ensures { result ≡ forms.is_some_list (trees (map tree_of items.now)) }
+{
+    !items.is_empty()
+}
+
+/// Whether a name with this list behind it is a call in an expression.
+#[tactic(auto, using(crate::proofs::Forming::called, crate::proofs::Forming::not_called))]
+fn is_call(name: &Name, items: &[Expr]) -> bool
+    ensures { result ≡ grammar.is_call name.now (trees (map tree_of items.now)) }
+{
+    is_some_list(items) && Intrinsic::named(name.as_str().as_bytes()).is_some()
+}
+
+#[tactic(auto, unfolding(crate::specs::Formed::is_reference))]
+fn is_reference(name: &Name, items: &[Expr]) -> bool
+    ensures { result ≡ forms.is_reference name.now (trees (map tree_of items.now)) }
+{
+    is_named(name) && !is_call(name, items)
+}
+
+#[cycle(formed)]
+fn formed(expr: &Expr) -> bool
+    ensures { result ≡ forms.formed (tree_of expr.now) }
+{
+    match expr {
+        Expr::Number(_) | Expr::Truth(_) => true,
+        Expr::Reference(place) => is_reference(&place.name, &place.subscripts)
+            && all_formed(&place.subscripts),
+        Expr::Call(_, arguments) => is_some_list(arguments) && all_formed(arguments),
+        Expr::Signed(_, inner) | Expr::Not(inner) | Expr::ZeroPush(inner) => formed(inner),
+        Expr::Binary(_, left, right) => formed(left) && formed(right),
+    }
+}
+
+#[cycle(formed)]
+fn all_formed(items: &[Expr]) -> bool
+    ensures { result ≡ forms.all_formed (trees (map tree_of items.now)) }
+{
+    for item in items {
+        if !formed(item) {
+            return false;
+        }
+    }
+    true
+}
+
+fn step_formed(step: &Option<Expr>) -> bool
+    ensures { result ≡ forms.step_formed (option_map tree_of step.now) }
+{
+    match step {
+        None => true,
+        Some(step) => formed(step),
+    }
+}
+
+fn statement_formed(stmt: &Stmt) -> bool
+    ensures { result ≡ forms.statement_formed (statement_of stmt.now) }
+{
+    match stmt {
+        Stmt::Subroutine { name, arguments } => is_named(name) && are_named(arguments),
+        Stmt::Declare { items, .. } => declaration_formed(items),
+        Stmt::Dimension { items } => declaration_formed(items) && all_bounded(items),
+        Stmt::Preset { groups } => data_formed(groups),
+        Stmt::Assign { target, value } => {
+            is_named(&target.name) && all_formed(&target.subscripts) && formed(value)
+        }
+        Stmt::ArithIf { value, .. } => formed(value),
+        Stmt::LogicalIf {
+            condition,
+            statement,
+        } => formed(condition) && statement.is_action() && statement_formed(statement),
+        Stmt::BlockIf { condition } | Stmt::ElseIf { condition } => formed(condition),
+        Stmt::Loop {
+            variable,
+            first,
+            last,
+            step,
+            ..
+        } => is_named(variable) && formed(first) && formed(last) && step_formed(step),
+        Stmt::Goto { .. }
+        | Stmt::Else
+        | Stmt::EndIf
+        | Stmt::Continue
+        | Stmt::Return
+        | Stmt::Stop
+        | Stmt::Trap
+        | Stmt::End => true,
+    }
+}
+
+impl Stmt {
+    /// Whether it may stand in a logical IF (11.5): it is no declaration, no DO, and no block IF or logical IF, nor END.
+    pub fn is_action(&self) -> bool
+        ensures { result ≡ forms.is_action (statement_of self.now) }
+    {
+        match self {
+            Stmt::Assign { .. }
+            | Stmt::Goto { .. }
+            | Stmt::ArithIf { .. }
+            | Stmt::Continue
+            | Stmt::Return
+            | Stmt::Stop
+            | Stmt::Trap => true,
+            Stmt::Subroutine { .. }
+            | Stmt::Declare { .. }
+            | Stmt::Dimension { .. }
+            | Stmt::Preset { .. }
+            | Stmt::LogicalIf { .. }
+            | Stmt::BlockIf { .. }
+            | Stmt::ElseIf { .. }
+            | Stmt::Else
+            | Stmt::EndIf
+            | Stmt::Loop { .. }
+            | Stmt::End => false,
+        }
+    }
+
+    /// Whether some text spells the statement, names and constants of any length and size allowed.
+    #[tactic(auto, using(crate::proofs::StatementForming::formed_spelled, crate::proofs::StatementForming::not_formed))]
+    pub fn is_formed(&self) -> bool
+        ensures formed { result ≡ true → IsFormed (statement_of self.now) }
+        ensures unformed { result ≡ false → ¬ (IsFormed (statement_of self.now)) }
+    {
+        statement_formed(self)
+    }
+}

@@ -1,0 +1,85 @@
+//! The groups of statements, and where each may stand.
+
+ghost use Rattle.std.specs.Prelude.{◌≡◌, ◌≢◌, true, false, Some};
+ghost use Rattle.f77_tree.specs.Group as groups;
+ghost use Rattle.f77_tree.specs.Group.{group_of, may_stand};
+ghost use Rattle.f77_tree.specs.StatementView.{statement_of};
+ghost use Rattle.f77_tree.specs.declared.group.Group.TheVariants as Group;
+
+use crate::tree::Stmt;
+
+/// The part of a subroutine that a statement belongs to, in the order of a subroutine (ANSI X3.9-1978, 3.5).
+#[derive(Clone, Copy, Debug, PartialEq, Eq)]
+pub enum Group {
+    /// SUBROUTINE.
+    Subroutine,
+    /// INTEGER, LOGICAL and DIMENSION.
+    Declaration,
+    /// DATA.
+    Data,
+    /// What is executed.
+    Executable,
+    /// END.
+    End,
+}
+
+impl Stmt {
+    /// The group that the statement belongs to.
+    pub fn group(&self) -> Group
+        ensures { result ≡ group_of (statement_of self.now) }
+    {
+        match self {
+            Stmt::Subroutine { .. } => Group::Subroutine,
+            Stmt::Declare { .. } | Stmt::Dimension { .. } => Group::Declaration,
+            Stmt::Preset { .. } => Group::Data,
+            Stmt::Assign { .. }
+            | Stmt::Goto { .. }
+            | Stmt::ArithIf { .. }
+            | Stmt::LogicalIf { .. }
+            | Stmt::BlockIf { .. }
+            | Stmt::ElseIf { .. }
+            | Stmt::Else
+            | Stmt::EndIf
+            | Stmt::Loop { .. }
+            | Stmt::Continue
+            | Stmt::Return
+            | Stmt::Stop
+            | Stmt::Trap => Group::Executable,
+            Stmt::End => Group::End,
+        }
+    }
+}
+
+impl Group {
+    /// Its place in a subroutine.
+    fn place(self) -> u8
+        ensures { result ≡ groups.place self }
+    {
+        match self {
+            Group::Subroutine => 0,
+            Group::Declaration => 1,
+            Group::Data => 2,
+            Group::Executable => 3,
+            Group::End => 4,
+        }
+    }
+
+    /// Whether a statement of this group may stand behind one of that group, or first where there is none.
+    pub fn may_stand(self, before: Option<Group>) -> bool
+        ensures { result ≡ may_stand before self }
+    {
+        let place = self.place();
+        match before {
+            None => place == 0,
+            Some(before) => 0 < place && before.place() <= place && before.place() < 4,
+        }
+    }
+}
+
+/// Whether END was the last.
+pub fn is_end(before: Option<Group>) -> bool
+    ensures yes { result ≡ true → before ≡ Some Group.End }
+    ensures no { result ≡ false → before ≢ Some Group.End }
+{
+    matches!(before, Some(Group::End))
+}

@@ -1,0 +1,266 @@
+//! The limits of a statement.
+
+ghost use Rattle.std.specs.Prelude.{◌≡◌, ◌≤◌, ◌+◌, length, true, false, map, min, if◌then◌else◌, option_map};
+ghost use Rattle.std.specs.List.{list_all};
+ghost use Rattle.f77_tree.specs.Limits as limits;
+ghost use Rattle.f77_tree.specs.StatementLimits as statements;
+ghost use Rattle.f77_tree.specs.Limits.{IsTooDeep, is_short, all_short_names, all_small_constants, all_nodes};
+ghost use Rattle.f77_tree.specs.View.{tree_of, trees};
+ghost use Rattle.f77_tree.specs.StatementView.{statement_of};
+
+use crate::data::{data_constants, data_names, data_nodes};
+use crate::declaration::{declaration_constants, declaration_names, declaration_nodes};
+use crate::name::{are_short, is_short};
+use crate::tree::{Expr, Stmt};
+
+const MOST_OPEN: usize = 40;
+
+pub(crate) const LARGEST: u32 = 2_147_483_647;
+
+fn one_if(holds: bool) -> usize
+    ensures { result ≡ if holds then 1 else 0 }
+{
+    if holds { 1 } else { 0 }
+}
+
+/// Whether some beginning of the text opens over 40 parentheses more than it closes.
+pub fn is_too_deep(text: &[u8]) -> bool
+    requires { length text.now ≤ limits.most_characters }
+    ensures deep { result ≡ true → IsTooDeep text.now }
+    ensures flat { result ≡ false → ¬ (IsTooDeep text.now) }
+{
+    let mut opened: usize = 0;
+    let mut closed: usize = 0;
+    for c in text {
+        opened += one_if(*c == b'(');
+        closed += one_if(*c == b')');
+        if opened > closed + MOST_OPEN {
+            return true;
+        }
+    }
+    false
+}
+
+/// Whether each name in it has six characters at most.
+#[cycle(names)]
+fn short_names(expr: &Expr) -> bool
+    ensures { result ≡ limits.short_names (tree_of expr.now) }
+{
+    match expr {
+        Expr::Number(_) | Expr::Truth(_) => true,
+        Expr::Reference(place) => is_short(&place.name) && all_short_names(&place.subscripts),
+        Expr::Call(_, arguments) => all_short_names(arguments),
+        Expr::Signed(_, inner) | Expr::Not(inner) | Expr::ZeroPush(inner) => short_names(inner),
+        Expr::Binary(_, left, right) => short_names(left) && short_names(right),
+    }
+}
+
+#[cycle(names)]
+fn all_short_names(items: &[Expr]) -> bool
+    ensures { result ≡ all_short_names (trees (map tree_of items.now)) }
+{
+    for item in items {
+        if !short_names(item) {
+            return false;
+        }
+    }
+    true
+}
+
+/// Whether each constant in it is one that INTEGER has.
+#[cycle(constants)]
+fn small_constants(expr: &Expr) -> bool
+    ensures { result ≡ limits.small_constants (tree_of expr.now) }
+{
+    match expr {
+        Expr::Number(n) => *n <= LARGEST,
+        Expr::Truth(_) => true,
+        Expr::Reference(place) => all_small_constants(&place.subscripts),
+        Expr::Call(_, arguments) => all_small_constants(arguments),
+        Expr::Signed(_, inner) | Expr::Not(inner) | Expr::ZeroPush(inner) => small_constants(inner),
+        Expr::Binary(_, left, right) => small_constants(left) && small_constants(right),
+    }
+}
+
+#[cycle(constants)]
+fn all_small_constants(items: &[Expr]) -> bool
+    ensures { result ≡ all_small_constants (trees (map tree_of items.now)) }
+{
+    for item in items {
+        if !small_constants(item) {
+            return false;
+        }
+    }
+    true
+}
+
+/// How many nodes it has, the largest `u32` for more than that.
+#[cycle(nodes)]
+fn nodes(expr: &Expr) -> u32
+    ensures { result ≡ min (limits.nodes (tree_of expr.now)) 4294967295 }
+{
+    match expr {
+        Expr::Number(_) | Expr::Truth(_) => 1,
+        Expr::Reference(place) => all_nodes(&place.subscripts).saturating_add(1),
+        Expr::Call(_, arguments) => all_nodes(arguments).saturating_add(1),
+        Expr::Signed(_, inner) | Expr::Not(inner) | Expr::ZeroPush(inner) => nodes(
+            inner,
+        ).saturating_add(1),
+        Expr::Binary(_, left, right) => nodes(left).saturating_add(nodes(right)).saturating_add(1),
+    }
+}
+
+#[cycle(nodes)]
+fn all_nodes(items: &[Expr]) -> u32
+    ensures { result ≡ min (all_nodes (trees (map tree_of items.now))) 4294967295 }
+{
+    let mut sum: u32 = 0;
+    for item in items {
+        sum = sum.saturating_add(nodes(item));
+    }
+    sum
+}
+
+fn step_names(step: &Option<Expr>) -> bool
+    ensures { result ≡ statements.of_step limits.short_names (option_map tree_of step.now) }
+{
+    match step {
+        None => true,
+        Some(step) => short_names(step),
+    }
+}
+
+/// Whether each name of the statement has six characters at most.
+pub fn statement_names(stmt: &Stmt) -> bool
+    ensures { result ≡ statements.statement_names (statement_of stmt.now) }
+{
+    match stmt {
+        Stmt::Subroutine { name, arguments } => is_short(name) && are_short(arguments),
+        Stmt::Declare { items, .. } | Stmt::Dimension { items } => declaration_names(items),
+        Stmt::Preset { groups } => data_names(groups),
+        Stmt::Assign { target, value } => {
+            is_short(&target.name) && all_short_names(&target.subscripts) && short_names(value)
+        }
+        Stmt::ArithIf { value, .. } => short_names(value),
+        Stmt::LogicalIf {
+            condition,
+            statement,
+        } => short_names(condition) && statement_names(statement),
+        Stmt::BlockIf { condition } | Stmt::ElseIf { condition } => short_names(condition),
+        Stmt::Loop {
+            variable,
+            first,
+            last,
+            step,
+            ..
+        } => is_short(variable) && short_names(first) && short_names(last) && step_names(step),
+        _ => true,
+    }
+}
+
+fn is_label(label: u32) -> bool
+    ensures { result ≡ statements.is_label label }
+{
+    (1..=99999).contains(&label)
+}
+
+fn step_constants(step: &Option<Expr>) -> bool
+    ensures { result ≡ statements.of_step limits.small_constants (option_map tree_of step.now) }
+{
+    match step {
+        None => true,
+        Some(step) => small_constants(step),
+    }
+}
+
+/// Whether each constant and bound of the statement is one that INTEGER has, each repeat too and not 0, and each label 1
+/// to 99999.
+pub fn statement_constants(stmt: &Stmt) -> bool
+    ensures { result ≡ statements.statement_constants (statement_of stmt.now) }
+{
+    match stmt {
+        Stmt::Declare { items, .. } | Stmt::Dimension { items } => declaration_constants(items),
+        Stmt::Preset { groups } => data_constants(groups),
+        Stmt::Assign { target, value } => {
+            all_small_constants(&target.subscripts) && small_constants(value)
+        }
+        Stmt::Goto { label } => is_label(*label),
+        Stmt::ArithIf {
+            value,
+            negative,
+            zero,
+            positive,
+        } => {
+            small_constants(value) && is_label(*negative) && is_label(*zero) && is_label(*positive)
+        }
+        Stmt::LogicalIf {
+            condition,
+            statement,
+        } => small_constants(condition) && statement_constants(statement),
+        Stmt::BlockIf { condition } | Stmt::ElseIf { condition } => small_constants(condition),
+        Stmt::Loop {
+            label,
+            first,
+            last,
+            step,
+            ..
+        } => {
+            is_label(*label)
+                && small_constants(first)
+                && small_constants(last)
+                && step_constants(step)
+        }
+        _ => true,
+    }
+}
+
+fn step_nodes(step: &Option<Expr>) -> u32
+    ensures { result ≡ min (statements.step_nodes (option_map tree_of step.now)) 4294967295 }
+{
+    match step {
+        None => 0,
+        Some(step) => nodes(step),
+    }
+}
+
+/// How many nodes the statement has, the largest `u32` for more than that.
+pub fn statement_nodes(stmt: &Stmt) -> u32
+    ensures { result ≡ min (statements.statement_nodes (statement_of stmt.now)) 4294967295 }
+{
+    match stmt {
+        Stmt::Subroutine { arguments, .. } => u32::try_from(arguments.len())
+            .unwrap_or(u32::MAX)
+            .saturating_add(1),
+        Stmt::Declare { items, .. } | Stmt::Dimension { items } => declaration_nodes(
+            items,
+        ).saturating_add(1),
+        Stmt::Preset { groups } => data_nodes(groups).saturating_add(1),
+        Stmt::Assign { target, value } => {
+            all_nodes(&target.subscripts)
+                .saturating_add(1)
+                .saturating_add(nodes(value))
+                .saturating_add(1)
+        }
+        Stmt::Goto { .. } => 2,
+        Stmt::ArithIf { value, .. } => nodes(value).saturating_add(4),
+        Stmt::LogicalIf {
+            condition,
+            statement,
+        } => nodes(condition)
+            .saturating_add(statement_nodes(statement))
+            .saturating_add(1),
+        Stmt::BlockIf { condition } | Stmt::ElseIf { condition } => nodes(condition).saturating_add(
+            1,
+        ),
+        Stmt::Loop {
+            first,
+            last,
+            step,
+            ..
+        } => nodes(first)
+            .saturating_add(nodes(last))
+            .saturating_add(step_nodes(step))
+            .saturating_add(3),
+        _ => 1,
+    }
+}

@@ -1,0 +1,64 @@
+//! Programs printed in fixed form.
+
+ghost use Rattle.std.specs.Prelude.{◌≡◌, ◌⊎◌, [], Some, IfOk, IfErr, map, string_bytes};
+ghost use Rattle.std.specs.List.{All, slice_get};
+ghost use Rattle.f77_tree.specs.Parsing.{line_of};
+ghost use Rattle.f77_tree.specs.Printing as printing;
+ghost use Rattle.f77_tree.specs.Printing.{printed, print_faults, told, KeepsLimits, ReadsBack};
+
+use crate::canonical::print_stmt;
+use crate::fault::SyntaxFault;
+use crate::program::{Line, Program};
+use f77_source::law::written_cards_are_read;
+use f77_source::{Card, FormFault, write_form};
+use std::alloc::Global;
+
+/// What is told of a card that cannot be written. Canonical texts are printable, so no other refusal comes.
+fn told(fault: FormFault) -> SyntaxFault
+    ensures { result ≡ told fault }
+{
+    match fault {
+        FormFault::BadLabel(line) => SyntaxFault::BadConstant(line),
+        FormFault::TooManyContinuations(line) => SyntaxFault::TooLong(line),
+        _ => SyntaxFault::Memory,
+    }
+}
+
+fn card_of(alloc: Global, line: &Line) -> Result<Card, SyntaxFault>
+    ensures card { IfOk result (λ card. card ≡ printing.card_of (line_of line.now)) }
+    ensures refused { IfErr result (λ fault. fault ≡ SyntaxFault.Memory) }
+{
+    let text = print_stmt(alloc, &line.stmt)?;
+    Ok(Card::new(line.label, text, line.line))
+}
+
+fn cards_of(alloc: Global, lines: &[Line]) -> Result<Vec<Card>, SyntaxFault>
+    ensures cards { IfOk result (λ cards. cards.items ≡ map printing.card_of (map line_of lines.now)) }
+    ensures refused { IfErr result (λ fault. fault ≡ SyntaxFault.Memory) }
+{
+    let mut cards = Vec::new(alloc);
+    for line in lines {
+        cards.push(card_of(alloc, line)?)?;
+    }
+    Ok(cards)
+}
+
+/// The program in fixed form: each line with its label and the canonical text of its statement, ended by LF (ANSI
+/// X3.9-1978, 3.2).
+///
+/// Of several faults the first line's is told: its label (1 to 99999) before the length of its statement (20 lines).
+pub fn print(alloc: Global, program: &Program) -> Result<String, SyntaxFault>
+    ensures text { IfOk result (λ text. string_bytes text ≡ printed (map line_of program.now)) }
+    ensures accepted { IfOk result (λ _. print_faults (map line_of program.now) ≡ []) }
+    ensures refused { IfErr result (λ fault. (slice_get (print_faults (map line_of program.now)) 0 ≡ Some fault) ⊎ (fault ≡ SyntaxFault.Memory)) }
+    // What is printed is read as a program that is alike.
+    ensures back { IfOk result (λ text. All (λ line. KeepsLimits line.stmt) (map line_of program.now)
+        → ReadsBack (string_bytes text) (map line_of program.now)) }
+{
+    written_cards_are_read();
+    let cards = cards_of(alloc, program.lines())?;
+    match write_form(alloc, &cards) {
+        Ok(text) => Ok(text),
+        Err(fault) => Err(told(fault)),
+    }
+}

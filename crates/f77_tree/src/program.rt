@@ -1,0 +1,122 @@
+//! Programs.
+
+ghost use Rattle.std.specs.Prelude.{◌≡◌, List, None, true, false, map, option_map, IfOk, IfSome, IsOk, IsSome, IsNone};
+ghost use Rattle.std.specs.Coded.{codes};
+ghost use Rattle.f77_tree.specs.contracts.tree.Expr as expr;
+ghost use Rattle.f77_tree.specs.contracts.tree.Stmt as stmt;
+ghost use Rattle.f77_tree.specs.Parsing.{IsProgram, MayFollow, line_of, line_at};
+ghost use Rattle.f77_tree.specs.declared.program.Line.{Line};
+
+use crate::fault::SyntaxFault;
+use crate::group::{Group, is_end};
+use crate::tree::Stmt;
+use std::alloc::AllocError;
+use std::marker::Model;
+
+/// A statement with its label, where it has one, and the number of its initial line.
+#[derive(Drop)]
+pub struct Line {
+    pub label: Option<u32>,
+    pub stmt: Stmt,
+    pub line: u32,
+}
+
+/// A subroutine: SUBROUTINE first, then executable statements, END last and only there, each one that some text spells.
+#[derive(Drop)]
+pub struct Program {
+    lines: Vec<Line>,
+}
+
+impl Model for Program {
+    ghost Value = { List Line };
+
+    ghost coded = { Prim.hlevel (codes, expr.the_row.coded, stmt.the_row.coded) };
+
+    ghost view = { λ p. p.lines.items };
+
+    ghost invariant = { λ p. IsProgram None (map line_of p.lines.items) };
+}
+
+impl Clone for Program {
+    ghost is_clone = { λ source copy. map line_of copy ≡ map line_of source };
+
+    #[tactic(auto, using(crate::proofs::Copies::same_lines, crate::proofs::Copies::same_program))]
+    fn clone(&self) -> Result<Program, AllocError> {
+        Ok(Program {
+            lines: self.lines.clone()?,
+        })
+    }
+}
+
+/// Whether the line may follow a statement of this group, or be the first, and some text spells its statement.
+fn may_follow(before: Option<Group>, line: &Line) -> bool
+    ensures yes { result ≡ true → MayFollow before (line_of line.now) }
+    ensures no { result ≡ false → ¬ (MayFollow before (line_of line.now)) }
+{
+    line.stmt.group().may_stand(before) && line.stmt.is_formed()
+}
+
+fn are_program(lines: &[Line]) -> bool
+    ensures yes { result ≡ true → IsProgram None (map line_of lines.now) }
+    ensures no { result ≡ false → ¬ (IsProgram None (map line_of lines.now)) }
+{
+    let mut last = None;
+    for line in lines {
+        if !may_follow(last, line) {
+            return false;
+        }
+        last = Some(line.stmt.group());
+    }
+    is_end(last)
+}
+
+impl Program {
+    pub fn from_lines(lines: Vec<Line>) -> Program
+        requires { IsProgram None (map line_of lines.items) }
+        ensures { result ≡ lines.items }
+    {
+        Program { lines }
+    }
+
+    /// The program of these lines, None where they are none: each statement in its place, and one that some text spells.
+    ///
+    /// It takes no memory.
+    pub fn of(lines: Vec<Line>) -> Result<Option<Program>, SyntaxFault>
+        ensures given { IfOk result (λ answer. IfSome answer (λ program. program ≡ lines.items)) }
+        ensures program { IfOk result (λ answer. IsSome answer → IsProgram None (map line_of lines.items)) }
+        ensures no_program { IfOk result (λ answer. IsNone answer → ¬ (IsProgram None (map line_of lines.items))) }
+        ensures answers { IsOk result }
+    {
+        if are_program(&lines) {
+            Ok(Some(Program { lines }))
+        } else {
+            Ok(None)
+        }
+    }
+
+    /// The lines in order. It takes no memory.
+    pub fn lines(&self) -> &[Line]
+        ensures lines { result.now ≡ self.now }
+        ensures program { IsProgram None (map line_of self.now) }
+    {
+        &self.lines
+    }
+
+    /// The lines in order, given back. It takes no memory.
+    pub fn into_lines(self) -> Vec<Line>
+        ensures lines { result.items ≡ self }
+        ensures program { IsProgram None (map line_of result.items) }
+    {
+        self.lines
+    }
+
+    /// The line of this number, where there is one. SUBROUTINE is number 1. It takes no memory.
+    pub fn line(&self, number: usize) -> Option<&Line>
+        ensures { option_map (λ line. line.now) result ≡ line_at self.now number }
+    {
+        if number == 0 {
+            return None;
+        }
+        self.lines.get(number - 1)
+    }
+}

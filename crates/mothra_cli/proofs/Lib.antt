@@ -1,0 +1,4 @@
+mod Commands
+mod Getters
+mod OptionRows
+mod Accepted

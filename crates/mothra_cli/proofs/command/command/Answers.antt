@@ -1,0 +1,14 @@
+use Rattle.std.proofs.Common.{rules, ◌∙◌, ap, ap₂}
+use Rattle.clap.specs.Words.{App, with_subcommand}
+use Rattle.mothra_cli.specs.Command.{mothra}
+use Rattle.mothra_cli.proofs.command.command.Goals as goal
+
+pub returns-clause-app : goal.returns-clause-app
+unfolding mothra
+returns-clause-app c =
+    let printing = c.in_ok-subcommand.ensures.shape (search rules) ∙ ap₂ with_subcommand c.bare_command.ensures.app c.print_command.ensures.shape in
+    c.in_ok-command.ensures.shape (search rules) ∙ ap₂ with_subcommand printing c.in_ok-exec.ensures.shape
+
+pub returns-clause-needs : goal.returns-clause-needs
+unfolding mothra
+returns-clause-needs c = ap (λ (a : App). a.top.subcommand_required) (returns-clause-app c)

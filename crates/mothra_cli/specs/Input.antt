@@ -1,0 +1,32 @@
+-- What is read of a reader that has these bytes left, None where it does not tell them.
+use Rattle.std.specs.Prelude.{◌≡◌, ◌≤◌, ◌<◌, ℕ, Bool, true, false, List, length, Option, Some, None, Result, Ok, Err, ⊤}
+use Rattle.std.specs.Io.KnownBytes.{Consumes, IsAtEnd}
+use Rattle.mothra_cli.specs.declared.input.InputFault.{InputFault}
+use Rattle.mothra_cli.specs.declared.input.InputFault.TheVariants.{Memory, Read}
+
+-- how many bytes are read at most: one more than a job may have
+abbrev pub limit : ℕ
+limit = 1048577
+
+-- the reader gave these bytes: all that it had, or the first `most`
+abbrev pub ReadsUpTo : ℕ → Option (List ℕ) → Option (List ℕ) → List ℕ → Type 0
+ReadsUpTo most old new bytes = Consumes old new bytes × (length bytes ≤ most) × (length bytes < most → IsAtEnd new)
+
+-- the reader was read to its end, or to this limit
+abbrev pub IsRead : ℕ → Option (List ℕ) → Option (List ℕ) → Type 0
+IsRead most old new = (bytes : List ℕ) × ReadsUpTo most old new bytes
+
+-- the reader lost no more than `most` bytes, from its front
+abbrev pub TakesAtMost : ℕ → Option (List ℕ) → Option (List ℕ) → Type 0
+TakesAtMost most old new = (bytes : List ℕ) × (length bytes ≤ most) × Consumes old new bytes
+
+-- the bytes are all that the reader has, where it tells them
+abbrev pub AreAll : Option (List ℕ) → List ℕ → Type 0
+AreAll None bytes = ⊤
+AreAll (Some left) bytes = bytes ≡ left
+
+-- a read failed
+abbrev pub failed_read : {A : Type 0} → Result A InputFault → Bool
+failed_read (Ok bytes) = false
+failed_read (Err Memory) = false
+failed_read (Err Read) = true

@@ -1,0 +1,5 @@
+pub mod Watched
+pub mod Input
+pub mod Output
+pub mod Command
+pub mod Request

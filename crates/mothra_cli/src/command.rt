@@ -1,0 +1,86 @@
+//! The command line that the program takes: one function for each subcommand and option.
+
+ghost use Rattle.std.specs.Prelude.{◌≡◌, IfOk, map, is_some, true, false};
+ghost use Rattle.clap.specs.Words.{app_of, shape_of, rule_of, fault_of, subcommand_rows_of, subcommand_of, FailsBy};
+ghost use Rattle.clap.specs.declared.builder.command.Command.TheViews.{out-Command};
+ghost use Rattle.mothra_cli.specs.Command.{mothra, bare, print_shape, exec_shape, test_rule, steps_rule};
+
+use clap::builder::ValueParser;
+use clap::{Arg, ArgMatches, Command, Error};
+use std::alloc::{AllocError, Global};
+use std::convert::AsStr;
+
+fn print_command<'a>(alloc: Global) -> Command<'a>
+    ensures shape { shape_of result ≡ print_shape }
+    ensures globals { (out-Command result).has_globals ≡ false }
+{
+    Command::new(alloc, "print").about("Prints the program of the job in fixed form")
+}
+
+/// The program's own command, to which each subcommand is added.
+fn bare_command<'a>(alloc: Global) -> Command<'a>
+    ensures app { app_of result ≡ bare }
+    ensures globals { (out-Command result).has_globals ≡ false }
+{
+    Command::new(alloc, "mothra")
+        .about("Mutation analysis of a FORTRAN 77 subroutine. The job is read from standard input")
+        .subcommand_required(true)
+        .disable_help_subcommand(true)
+}
+
+fn test_option<'a>(alloc: Global) -> Arg<'a>
+    ensures rule { rule_of result ≡ test_rule }
+    ensures global { result.global ≡ false }
+{
+    Arg::new(alloc, "test")
+        .long("test")
+        .help("The number of the test, from 1")
+        .required(true)
+        .value_parser(ValueParser::unsigned(1, 256))
+}
+
+fn steps_option<'a>(alloc: Global) -> Arg<'a>
+    ensures rule { rule_of result ≡ steps_rule }
+    ensures global { result.global ≡ false }
+{
+    Arg::new(alloc, "steps")
+        .long("steps")
+        .help("The limit on steps of a run")
+        .value_parser(ValueParser::unsigned(1, 1_000_000))
+        .default_value("10000")
+}
+
+fn exec_command<'a>(alloc: Global) -> Result<Command<'a>, AllocError>
+    ensures shape { IfOk result (λ c. shape_of c ≡ exec_shape) }
+    ensures globals { IfOk result (λ c. (out-Command c).has_globals ≡ false) }
+{
+    let command = Command::new(alloc, "exec")
+        .about("Prints the outcome of the program of the job on one of its tests")
+        .arg(test_option(alloc))?
+        .arg(steps_option(alloc))?;
+    Ok(command)
+}
+
+fn command<'a>(alloc: Global) -> Result<Command<'a>, AllocError>
+    ensures app { IfOk result (λ c. app_of c ≡ mothra) }
+    ensures globals { IfOk result (λ c. (out-Command c).has_globals ≡ false) }
+    ensures needs { IfOk result (λ c. (out-Command c).subcommand_required ≡ true) }
+{
+    let exec = exec_command(alloc)?;
+    let command = bare_command(alloc)
+        .subcommand(print_command(alloc))?
+        .subcommand(exec)?;
+    Ok(command)
+}
+
+/// What the words say, or why they are refused. The first word is the program's name.
+pub(crate) fn matches_of<'a, S: AsStr>(
+    alloc: Global,
+    words: &'a [S],
+) -> Result<ArgMatches<'a>, Error>
+    ensures kinds { FailsBy (fault_of mothra (map S.text words.entry.now)) result }
+    ensures matches { IfOk result (λ m. subcommand_rows_of m ≡ subcommand_of mothra (map S.text words.entry.now)) }
+    ensures present { IfOk result (λ m. is_some (subcommand_rows_of m) ≡ true) }
+{
+    command(alloc)?.try_get_matches_from(words)
+}

@@ -1,0 +1,13 @@
+//! What the words of the command line ask for, all that the standard input has, and a whole text to the standard output.
+#![tactic(auto)]
+
+mod command;
+mod input;
+mod output;
+mod request;
+mod watched;
+
+pub use input::{InputFault, read_input};
+pub use output::{OutputFault, write_whole};
+pub use request::{Request, request_of};
+pub use watched::Watched;

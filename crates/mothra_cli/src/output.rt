@@ -1,0 +1,32 @@
+//! A whole text to a writer.
+
+ghost use Rattle.std.specs.Prelude.{◌≡◌, false, is_err, OnOk, OnErr};
+ghost use Rattle.std.specs.Io.KnownBytes.{Appends};
+ghost use Rattle.mothra_cli.specs.Watched.{inside, has_failed};
+ghost use Rattle.mothra_cli.specs.Output.{AppendsFront};
+
+use crate::watched::Watched;
+use std::io::Write;
+
+/// A write failed, or took none of some bytes.
+#[derive(Debug, Drop, Clone, Copy, PartialEq, Eq)]
+pub struct OutputFault;
+
+/// Writes the whole text, or a front of it where a write fails or takes no byte. A write that was interrupted has failed, and is
+/// not tried again.
+pub fn write_whole<W: Write>(writer: &mut Watched<W>, text: &[u8]) -> Result<(), OutputFault>
+    requires { has_failed writer.old ≡ false }
+    ensures whole { OnOk result (Appends (W.contents (inside writer.old)) (W.contents (inside writer.new)) text.now) }
+    ensures front { OnErr result (AppendsFront (W.contents (inside writer.old)) (W.contents (inside writer.new)) text.now) }
+    ensures failed { has_failed writer.new ≡ is_err result }
+{
+    let mut written = 0;
+    while written < text.len() {
+        match writer.write(&text[written..]) {
+            Ok(0) => return Err(OutputFault),
+            Ok(count) => written += count,
+            Err(_) => return Err(OutputFault),
+        }
+    }
+    Ok(())
+}

@@ -1,5 +1,0 @@
-use Rattle.mothra_exchange.specs.Table.{IsPassOf}
-use Rattle.mothra_tests.proofs.full_fields.fills.Given as goal
-
-abbrev pub invariant-loop-before : goal.invariant-loop-before
-invariant-loop-before g l = IsPassOf l.exchange l.pass
