@@ -6,18 +6,18 @@ use Rattle.std.specs.Str.{bytes_eq}
 use Rattle.std.proofs.lemmas.Bool.Decides.{nat_tests}
 use Rattle.f77_tree.specs.Parsing.{LineFields}
 use Rattle.f77_tree.specs.Tree.{Statement}
-use Rattle.f77_check.specs.declared.names.Names.{Names}
+use Rattle.f77_legal.specs.declared.names.Names.{Names}
 use Rattle.f77_check.specs.Checked.{shape_of, shapes}
-use Rattle.f77_check.specs.Legal.{IsLegal, is_array, is_too_large, name_faults, clause_faults, expression_clauses, control_clauses, label_faults, data_faults, size_faults}
-use Rattle.f77_check.specs.declared.fault.CheckFault.TheVariants.{TooMany}
-use Rattle.f77_check.specs.Names.{Symbol, Mention, name_in, mentions, mentions_of, symbols, some_items, bounds_of}
-use Rattle.f77_check.specs.NameTable.{IsNameTable}
-use Rattle.f77_check.specs.Presets.{product, elements}
+use Rattle.f77_legal.specs.Legal.{IsLegal, is_array, is_too_large, name_faults, clause_faults, expression_clauses, control_clauses, label_faults, data_faults, size_faults}
+use Rattle.f77_legal.specs.declared.fault.CheckFault.TheVariants.{TooMany}
+use Rattle.f77_legal.specs.Names.{Symbol, Mention, name_in, mentions, mentions_of, symbols, some_items, bounds_of}
+use Rattle.f77_legal.specs.NameTable.{IsNameTable}
+use Rattle.f77_legal.specs.Presets.{product, elements}
 use Rattle.f77_check.specs.Shapes.{elements_in, shape_at}
-use Rattle.f77_check.specs.Start.{dummies, dummies_of}
-use Rattle.f77_check.proofs.Lookups.{same_kind_at, same_bounds_at}
-use Rattle.f77_check.proofs.Sizes.{sum_more}
-use Rattle.f77_check.proofs.Symbols.{or_false, same_symbol, symbol_refl, any_once}
+use Rattle.f77_legal.specs.Heading.{dummies, dummies_of}
+use Rattle.f77_legal.proofs.Lookups.{same_kind_at, same_bounds_at}
+use Rattle.f77_legal.proofs.Sizes.{sum_more}
+use Rattle.f77_legal.proofs.Symbols.{or_false, same_symbol, symbol_refl, any_once}
 
 none_behind : {X : Type 0} (xs ys : List X) → xs ++ ys ≡ [] → ys ≡ []
 none_behind [] ys e = e

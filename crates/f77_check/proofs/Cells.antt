@@ -7,15 +7,15 @@ use Rattle.std.proofs.lemmas.Bool.{eqb-true}
 use Rattle.std.proofs.lemmas.Bool.Decides.{nat_tests}
 use Rattle.std.proofs.lemmas.List.{length-set, get_or-set_same, get_or-set_other, set-append_left, set-append_right, replicate-append-replicate}
 use Rattle.std.proofs.lemmas.Option.{same_Some, slice_get-get_or}
-use Rattle.f77_check.specs.Blocks.{first_numbers}
-use Rattle.f77_check.specs.Names.{Symbol}
-use Rattle.f77_check.specs.Presets.{product}
+use Rattle.f77_legal.specs.Blocks.{first_numbers}
+use Rattle.f77_legal.specs.Names.{Symbol}
+use Rattle.f77_legal.specs.Presets.{product}
 use Rattle.f77_check.specs.Slots.{slot_count, first_slot}
 use Rattle.f77_check.specs.Start.{Cell, is_cell}
-use Rattle.f77_check.proofs.FirstNumbers.{length-table, get_or-table, table_from_each, table_more}
-use Rattle.f77_check.proofs.Positions.{found_there}
+use Rattle.f77_legal.proofs.FirstNumbers.{length-table, get_or-table, table_from_each, table_more}
+use Rattle.f77_legal.proofs.Positions.{found_there}
 use Rattle.f77_check.proofs.SlotCounts.{count_more}
-use Rattle.f77_check.proofs.Symbols.{Apart, same_symbol, symbol_symm, or_false}
+use Rattle.f77_legal.proofs.Symbols.{Apart, same_symbol, symbol_symm, or_false}
 
 module _ {X : Type 0} where
   -- one element has another value

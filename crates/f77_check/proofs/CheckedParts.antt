@@ -8,9 +8,9 @@ use Rattle.f77_tree.specs.Parsing.{LineFields, IsProgram, line_of}
 use Rattle.f77_tree.specs.declared.program.Line.{Line}
 use Rattle.f77_check.specs.Checked.{IsChecked, shapes}
 use Rattle.f77_check.specs.CheckedView.{fields_of}
-use Rattle.f77_check.specs.Legal.{IsLegal}
-use Rattle.f77_check.specs.NameTable.{IsNameTable}
-use Rattle.f77_check.specs.Names.{symbols, bounds_of}
+use Rattle.f77_legal.specs.Legal.{IsLegal}
+use Rattle.f77_legal.specs.NameTable.{IsNameTable}
+use Rattle.f77_legal.specs.Names.{symbols, bounds_of}
 use Rattle.f77_check.specs.Resolved.{AreResolved}
 use Rattle.f77_check.specs.Slots.{slot_count}
 use Rattle.f77_check.specs.SlotTable.{IsSlotTable}
@@ -19,7 +19,7 @@ use Rattle.f77_check.specs.declared.checked.Shape.{Shape}
 use Rattle.f77_check.specs.declared.resolve.Resolver.{Resolver}
 use Rattle.f77_check.specs.declared.resolved.Resolved.{Resolved}
 use Rattle.f77_check.specs.declared.start.Start.{Start}
-use Rattle.f77_check.proofs.Lookups.{same_bounds}
+use Rattle.f77_legal.proofs.Lookups.{same_bounds}
 use Rattle.f77_check.proofs.SlotTables.{keys_are}
 
 pub checked_of : (copy lines : List Line) (arguments : List Shape) (r : Resolver) (statements : List Resolved) (start : Start)

@@ -6,9 +6,9 @@ use Rattle.std.proofs.Math.Seq.{drop-cons}
 use Rattle.f77_tree.specs.Tree.{Tree, Trees}
 use Rattle.f77_tree.specs.View.{tree_of, trees}
 use Rattle.f77_tree.specs.declared.tree.Expr.{Expr}
-use Rattle.f77_check.specs.Dimensions.{count}
+use Rattle.f77_legal.specs.Dimensions.{count}
 use Rattle.f77_check.specs.Expression.{IsNumber, IsChosen}
-use Rattle.f77_check.specs.Names.{Symbol}
+use Rattle.f77_legal.specs.Names.{Symbol}
 use Rattle.f77_check.specs.declared.expression.Arithmetic.{Arithmetic}
 use Rattle.f77_check.specs.declared.expression.Number.{Number, Binary'}
 

@@ -12,16 +12,16 @@ use Rattle.f77_tree.specs.Parsing.{LineFields}
 use Rattle.f77_tree.specs.Tree.{GroupFields, Statement}
 use Rattle.f77_tree.specs.declared.data.DataGroup.{DataGroup}
 use Rattle.f77_tree.specs.declared.data.Value.{Value}
-use Rattle.f77_check.specs.declared.names.Names.{Names}
+use Rattle.f77_legal.specs.declared.names.Names.{Names}
 use Rattle.f77_check.specs.declared.resolve.Resolver.{Resolver}
 use Rattle.f77_check.specs.Initial.{HasSlots, groups_kept}
 use Rattle.f77_check.specs.Kept.{is_kept}
-use Rattle.f77_check.specs.Labels.{statement_at}
-use Rattle.f77_check.specs.Names.{Symbol, name_in, mentions_of}
-use Rattle.f77_check.specs.NameTable.{IsNameTable}
-use Rattle.f77_check.specs.Presets.{groups_of}
+use Rattle.f77_legal.specs.Labels.{statement_at}
+use Rattle.f77_legal.specs.Names.{Symbol, name_in, mentions_of}
+use Rattle.f77_legal.specs.NameTable.{IsNameTable}
+use Rattle.f77_legal.specs.Presets.{groups_of}
 use Rattle.f77_check.specs.Ready.{CanResolve}
-use Rattle.f77_check.specs.Start.{dummies}
+use Rattle.f77_legal.specs.Heading.{dummies}
 use Rattle.f77_check.proofs.Arguments.{dummy_known}
 use Rattle.f77_check.proofs.KeptNames.{and_end, all_among, nodes_kept, kept_append, mentions_at, mentioned_kept, plain_kept}
 use Rattle.f77_check.proofs.SlotTables.{keys_are, slots_few}

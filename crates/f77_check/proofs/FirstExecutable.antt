@@ -8,7 +8,7 @@ use Rattle.f77_tree.specs.Tree.{Statement}
 use Rattle.f77_tree.specs.declared.group.Group.{Group}
 use Rattle.f77_tree.specs.declared.group.Group.TheVariants.{End}
 use Rattle.f77_check.specs.Start.{is_executable}
-use Rattle.f77_check.proofs.Positions.{found_there}
+use Rattle.f77_legal.proofs.Positions.{found_there}
 
 end_group : (s : Statement) → group_of s ≡ End → is_executable s ≡ true
 end_group Statement.End e = refl

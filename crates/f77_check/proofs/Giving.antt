@@ -12,13 +12,13 @@ use Rattle.f77_tree.specs.declared.data.Constant.{Constant}
 use Rattle.f77_tree.specs.declared.data.Value.{Value}
 use Rattle.f77_tree.specs.Parsing.{LineFields}
 use Rattle.f77_tree.specs.Tree.{GroupFields}
-use Rattle.f77_check.specs.Blocks.{first_numbers}
+use Rattle.f77_legal.specs.Blocks.{first_numbers}
 use Rattle.f77_check.specs.Initial.{slots_of, is_free, give, give_run, give_values, give_group, give_groups}
-use Rattle.f77_check.specs.Names.{Symbol, bounds_of}
-use Rattle.f77_check.specs.Presets.{product, groups_of}
+use Rattle.f77_legal.specs.Names.{Symbol, bounds_of}
+use Rattle.f77_legal.specs.Presets.{product, groups_of}
 use Rattle.f77_check.specs.Start.{Cell, cells, pairs, presets_of, is_cell}
 use Rattle.f77_check.proofs.Cells.{slot_from, first_is, laid_out, with_cell, get_laid, set_laid}
-use Rattle.f77_check.proofs.Symbols.{Apart, same_symbol}
+use Rattle.f77_legal.proofs.Symbols.{Apart, same_symbol}
 
 abbrev pub Given : Type 0
 Given = List (Cell × Constant)

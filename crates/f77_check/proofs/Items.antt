@@ -7,11 +7,11 @@ use Rattle.f77_tree.specs.View.{tree_of, trees}
 use Rattle.f77_tree.specs.declared.tree.Expr.{Expr}
 use Rattle.f77_tree.specs.declared.tree.Kind.{Kind}
 use Rattle.f77_tree.specs.declared.tree.Kind.TheVariants.{Integer}
-use Rattle.f77_check.specs.Dimensions.{fits, all_fit}
+use Rattle.f77_legal.specs.Dimensions.{fits, all_fit}
 use Rattle.f77_check.specs.Kept.{tree_kept, items_kept}
-use Rattle.f77_check.specs.Kinds.{is_of, are_integer}
-use Rattle.f77_check.specs.Names.{Symbol}
-use Rattle.f77_check.specs.declared.names.Names.{Names}
+use Rattle.f77_legal.specs.Kinds.{is_of, are_integer}
+use Rattle.f77_legal.specs.Names.{Symbol}
+use Rattle.f77_legal.specs.declared.names.Names.{Names}
 
 -- a list of one item, and of two
 pub only_one : {X : Type 0} (d : X) (xs : List X) → 1 ≤ length xs → length xs < 2 → xs ≡ get_or xs 0 d ∷ []

@@ -12,17 +12,17 @@ use Rattle.std.proofs.lemmas.Map.Made.{is_some-lookup}
 use Rattle.f77_tree.specs.Node.{NodeOf, parts, all_parts, tree_nodes, step_nodes, nodes_of, name_of, names_of}
 use Rattle.f77_tree.specs.Parsing.{LineFields}
 use Rattle.f77_tree.specs.Tree.{Tree, Trees, DeclFields, Statement}
-use Rattle.f77_check.specs.declared.names.Names.{Names}
-use Rattle.f77_check.specs.Dimensions.{is_shape, dimensions_fit}
+use Rattle.f77_legal.specs.declared.names.Names.{Names}
+use Rattle.f77_legal.specs.Dimensions.{is_shape, dimensions_fit}
 use Rattle.f77_check.specs.Kept.{is_kept, tree_kept, items_kept, step_kept, names_kept, AreFlat}
-use Rattle.f77_check.specs.Labels.{statement_at}
-use Rattle.f77_check.specs.Legal.{IsLegal}
-use Rattle.f77_check.specs.Names.{Symbol, Mention, name_in, mentions_of, mentions, bounds_given, bounds_in, some_items, first_or, bounds_of}
-use Rattle.f77_check.specs.NameTable.{IsNameTable}
-use Rattle.f77_check.proofs.Lookups.{same_bounds_at}
-use Rattle.f77_check.proofs.NoFaults.{dimensions_kept}
+use Rattle.f77_legal.specs.Labels.{statement_at}
+use Rattle.f77_legal.specs.Legal.{IsLegal}
+use Rattle.f77_legal.specs.Names.{Symbol, Mention, name_in, mentions_of, mentions, bounds_given, bounds_in, some_items, first_or, bounds_of}
+use Rattle.f77_legal.specs.NameTable.{IsNameTable}
+use Rattle.f77_legal.proofs.Lookups.{same_bounds_at}
+use Rattle.f77_legal.proofs.NoFaults.{dimensions_kept}
 use Rattle.f77_check.proofs.SlotTables.{keys_are}
-use Rattle.f77_check.proofs.Symbols.{symbol_refl, any_once}
+use Rattle.f77_legal.proofs.Symbols.{symbol_refl, any_once}
 
 pub and_true : (a b : Bool) → (a && b) ≡ true → (a ≡ true) × (b ≡ true)
 and_true true b h = (refl, h)

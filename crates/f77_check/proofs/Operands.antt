@@ -7,8 +7,8 @@ use Rattle.f77_tree.specs.declared.operator.Operator.TheVariants.{Equivalent, No
 use Rattle.f77_tree.specs.declared.tree.Kind.{Kind}
 use Rattle.f77_tree.specs.declared.tree.Kind.TheVariants.{Integer, Logical}
 use Rattle.f77_check.specs.Expression.{arithmetic_of, relation_of, connective_of}
-use Rattle.f77_check.specs.Kinds.{operand_kind, is_of}
-use Rattle.f77_check.specs.Names.{Symbol}
+use Rattle.f77_legal.specs.Kinds.{operand_kind, is_of}
+use Rattle.f77_legal.specs.Names.{Symbol}
 use Rattle.f77_check.specs.declared.expression.Arithmetic.{Arithmetic}
 use Rattle.f77_check.specs.declared.expression.Relation.{Relation}
 use Rattle.f77_check.specs.declared.expression.Connective.{Connective}

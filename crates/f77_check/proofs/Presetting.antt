@@ -12,20 +12,20 @@ use Rattle.f77_tree.specs.Parsing.{LineFields, line_of}
 use Rattle.f77_tree.specs.StatementView.{statement_of}
 use Rattle.f77_check.specs.declared.resolve.Resolver.{Resolver}
 use Rattle.f77_check.specs.Initial.{give_groups, groups_kept}
-use Rattle.f77_check.specs.Labels.{statement_at}
-use Rattle.f77_check.specs.Names.{name_in, mentions, bounds_of}
-use Rattle.f77_check.specs.NameTable.{bounds_at}
-use Rattle.f77_check.specs.Presets.{groups_of}
+use Rattle.f77_legal.specs.Labels.{statement_at}
+use Rattle.f77_legal.specs.Names.{name_in, mentions, bounds_of}
+use Rattle.f77_legal.specs.NameTable.{bounds_at}
+use Rattle.f77_legal.specs.Presets.{groups_of}
 use Rattle.f77_check.specs.Ready.{CanResolve}
 use Rattle.f77_check.specs.Slots.{slot_count}
 use Rattle.f77_check.specs.Start.{presets_of}
 use Rattle.f77_check.proofs.Cells.{laid_out, laid_alike}
 use Rattle.f77_check.proofs.DataNames.{kept_among, groups_at}
 use Rattle.f77_check.proofs.Giving.{found_in, presets_in, are_named, groups_given}
-use Rattle.f77_check.proofs.Listing.{one_more}
-use Rattle.f77_check.proofs.Lookups.{same_bounds}
+use Rattle.f77_legal.proofs.Listing.{one_more}
+use Rattle.f77_legal.proofs.Lookups.{same_bounds}
 use Rattle.f77_check.proofs.SlotTables.{keys_are}
-use Rattle.f77_check.proofs.Symbols.{Apart, once_apart}
+use Rattle.f77_legal.proofs.Symbols.{Apart, once_apart}
 
 module _ (lines : List Line) (i : ℕ) (line : Line) (below : i < length lines) (is : line ≡ get_or lines i line) where
   line_at : statement_at (map line_of lines) i ≡ Some (statement_of line.stmt)

@@ -3,11 +3,11 @@ use Rattle.std.proofs.Common.{◌≡◌, ℕ, true, Option}
 use Rattle.std.proofs.lemmas.Bool.{and_parts}
 use Rattle.f77_tree.specs.Tree.{Tree, Statement}
 use Rattle.f77_tree.specs.declared.tree.Kind.TheVariants.{Integer}
-use Rattle.f77_check.specs.Dimensions.{fits, step_fits}
+use Rattle.f77_legal.specs.Dimensions.{fits, step_fits}
 use Rattle.f77_check.specs.Kept.{is_kept, tree_kept, step_kept}
-use Rattle.f77_check.specs.Kinds.{is_of, is_step}
-use Rattle.f77_check.specs.NameTable.{kind_at, bounds_at}
-use Rattle.f77_check.specs.Names.{Symbol}
+use Rattle.f77_legal.specs.Kinds.{is_of, is_step}
+use Rattle.f77_legal.specs.NameTable.{kind_at, bounds_at}
+use Rattle.f77_legal.specs.Names.{Symbol}
 use Rattle.f77_check.specs.Ready.{IsReady}
 use Rattle.f77_check.specs.declared.resolve.Resolver.{Resolver}
 

@@ -15,7 +15,7 @@ use Rattle.f77_tree.specs.Tree.{Tree}
 use Rattle.f77_tree.specs.View.{tree_of, expr_step, ref_step}
 use Rattle.f77_check.specs.Boxed.{HoldsNumber, HoldsCondition}
 use Rattle.f77_check.specs.Expression.{IsNumber, IsCondition, arithmetic_of, connective_of}
-use Rattle.f77_check.specs.Names.{Symbol}
+use Rattle.f77_legal.specs.Names.{Symbol}
 use Rattle.f77_check.specs.declared.expression.Arithmetic.{Arithmetic}
 use Rattle.f77_check.specs.declared.expression.Element.TheViews as resolved
 use Rattle.f77_check.specs.declared.expression.Number.{Number}

@@ -10,23 +10,23 @@ use Rattle.indexmap.specs.IndexMap.{keys}
 use Rattle.f77_tree.specs.Parsing.{LineFields}
 use Rattle.f77_tree.specs.Tree.{Statement}
 use Rattle.f77_check.specs.Action.{IsAction}
-use Rattle.f77_check.specs.Blocks.{behind}
-use Rattle.f77_check.specs.Dimensions.{dimensions_fit}
-use Rattle.f77_check.specs.declared.clause.Clause.TheVariants.{Kinds, Bounds}
-use Rattle.f77_check.specs.Kinds.{kinds_agree}
-use Rattle.f77_check.specs.Labels.{place_of, statement_at, jumps_of}
-use Rattle.f77_check.specs.Loops.{loops_ending}
-use Rattle.f77_check.specs.Names.{Symbol, kind_of, bounds_of}
-use Rattle.f77_check.specs.NameTable.{bounds_at}
+use Rattle.f77_legal.specs.Blocks.{behind}
+use Rattle.f77_legal.specs.Dimensions.{dimensions_fit}
+use Rattle.f77_legal.specs.declared.clause.Clause.TheVariants.{Kinds, Bounds}
+use Rattle.f77_legal.specs.Kinds.{kinds_agree}
+use Rattle.f77_legal.specs.Labels.{place_of, statement_at, jumps_of}
+use Rattle.f77_legal.specs.Loops.{loops_ending}
+use Rattle.f77_legal.specs.Names.{Symbol, kind_of, bounds_of}
+use Rattle.f77_legal.specs.NameTable.{bounds_at}
 use Rattle.f77_check.specs.Ready.{CanResolve, IsReady, AreFound, HasEnd, Does}
 use Rattle.f77_check.specs.Resolved.{IsResolved, AreResolved}
 use Rattle.f77_check.specs.declared.resolve.Resolver.{Resolver}
 use Rattle.f77_check.specs.declared.resolved.Resolved.{Resolved}
-use Rattle.f77_check.proofs.Actions.{inner_acts}
-use Rattle.f77_check.proofs.Flow.{some_branch, some_terminal, some_place}
+use Rattle.f77_legal.proofs.Actions.{inner_acts}
+use Rattle.f77_legal.proofs.Flow.{some_branch, some_terminal, some_place}
 use Rattle.f77_check.proofs.KeptNames.{all_kept, dimensions_two}
-use Rattle.f77_check.proofs.LegalGives.{kept_by, clause_kept, not_false}
-use Rattle.f77_check.proofs.Lookups.{same_kinds, same_bounds}
+use Rattle.f77_legal.proofs.LegalGives.{kept_by, clause_kept, not_false}
+use Rattle.f77_legal.proofs.Lookups.{same_kinds, same_bounds}
 
 module _ (r : Resolver) (p : List LineFields) (can : CanResolve r p) (i : ℕ) where
   pub ready_at : (s : Statement) → statement_at p i ≡ Some s → IsReady r s

@@ -4,12 +4,12 @@ use Rattle.std.specs.Prelude.{Some, None, position, option_map, nat_lt}
 use Rattle.std.specs.List.{position_or_len}
 use Rattle.std.proofs.lemmas.Bool.Decides.{nat_tests}
 use Rattle.std.proofs.lemmas.List.{take-append-drop, length-append, length-drop, take_all}
-use Rattle.f77_check.specs.Blocks.{first_numbers}
-use Rattle.f77_check.specs.Names.{Symbol}
-use Rattle.f77_check.specs.Presets.{product}
+use Rattle.f77_legal.specs.Blocks.{first_numbers}
+use Rattle.f77_legal.specs.Names.{Symbol}
+use Rattle.f77_legal.specs.Presets.{product}
 use Rattle.f77_check.specs.Slots.{slot_count}
-use Rattle.f77_check.proofs.FirstNumbers.{table_more, get_or-table, length-table}
-use Rattle.f77_check.proofs.Sizes.{sum_more}
+use Rattle.f77_legal.proofs.FirstNumbers.{table_more, get_or-table, length-table}
+use Rattle.f77_legal.proofs.Sizes.{sum_more}
 
 -- the next name of a list from the place k on
 record Next (names : List Symbol) (k : ℕ) (name : Symbol) (left : List Symbol) : Type 0 where

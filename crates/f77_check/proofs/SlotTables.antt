@@ -6,16 +6,16 @@ use Rattle.std.specs.Map.{keys_of}
 use Rattle.std.proofs.lemmas.Map.Made.{keys_of-map_values}
 use Rattle.indexmap.specs.IndexMap.{keys}
 use Rattle.f77_tree.specs.Parsing.{LineFields}
-use Rattle.f77_check.specs.declared.names.Names.{Names}
-use Rattle.f77_check.specs.Legal.{IsLegal}
-use Rattle.f77_check.specs.Names.{Symbol, mentions, symbols, bounds_of, some_items}
-use Rattle.f77_check.specs.NameTable.{FactsFields, IsNameTable, fields_of, facts_of, bounds_at}
-use Rattle.f77_check.specs.Presets.{product}
+use Rattle.f77_legal.specs.declared.names.Names.{Names}
+use Rattle.f77_legal.specs.Legal.{IsLegal}
+use Rattle.f77_legal.specs.Names.{Symbol, mentions, symbols, bounds_of, some_items}
+use Rattle.f77_legal.specs.NameTable.{FactsFields, IsNameTable, fields_of, facts_of, bounds_at}
+use Rattle.f77_legal.specs.Presets.{product}
 use Rattle.f77_check.specs.Slots.{slot_count}
-use Rattle.f77_check.proofs.Lookups.{same_bounds}
-use Rattle.f77_check.proofs.NameTables.{rows}
-use Rattle.f77_check.proofs.NoFaults.{few_symbols, few_elements}
-use Rattle.f77_check.proofs.Sizes.{sum_more}
+use Rattle.f77_legal.proofs.Lookups.{same_bounds}
+use Rattle.f77_legal.proofs.NameTables.{rows}
+use Rattle.f77_legal.proofs.NoFaults.{few_symbols, few_elements}
+use Rattle.f77_legal.proofs.Sizes.{sum_more}
 use Rattle.f77_check.proofs.SlotCounts.{count_more}
 
 keys_rows : (f : Symbol → FactsFields) (names : List Symbol) → keys_of (rows f names) ≡ names

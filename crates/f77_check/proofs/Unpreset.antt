@@ -12,11 +12,11 @@ use Rattle.f77_tree.specs.Parsing.{LineFields}
 use Rattle.f77_tree.specs.Tree.{GroupFields, Statement}
 use Rattle.f77_tree.specs.declared.data.Constant.{Constant}
 use Rattle.f77_tree.specs.declared.data.Value.{Value}
-use Rattle.f77_check.specs.Blocks.{first_numbers}
-use Rattle.f77_check.specs.Names.{Symbol, Mention, name_in, mentions_of, mentions, symbols}
-use Rattle.f77_check.specs.Presets.{elements, groups_of}
+use Rattle.f77_legal.specs.Blocks.{first_numbers}
+use Rattle.f77_legal.specs.Names.{Symbol, Mention, name_in, mentions_of, mentions, symbols}
+use Rattle.f77_legal.specs.Presets.{elements, groups_of}
 use Rattle.f77_check.specs.Start.{Cell, cells, pairs, presets_of, presets, is_cell, preset_at}
-use Rattle.f77_check.proofs.Symbols.{or_false, any_once}
+use Rattle.f77_legal.proofs.Symbols.{or_false, any_once}
 
 -- The names of the nodes of DATA are the names of its groups.
 named_are : (names : List Symbol) → filter_map name_of (map NodeOf.Named names) ≡ names

@@ -8,11 +8,11 @@ use Rattle.f77_check.specs.declared.action.Action.{Action, Declaration, AssignNu
 use Rattle.f77_check.specs.declared.action.Jump.{Jump}
 use Rattle.f77_check.specs.declared.expression.Number.{Number}
 use Rattle.f77_check.specs.declared.expression.Number as number
-use Rattle.f77_check.specs.Blocks.{branch_end}
+use Rattle.f77_legal.specs.Blocks.{branch_end}
 use Rattle.f77_check.specs.Expression.{IsElement, IsNumber, IsCondition}
-use Rattle.f77_check.specs.Labels.{place_of}
-use Rattle.f77_check.specs.Loops.{terminal, left_by}
-use Rattle.f77_check.specs.Names.{Symbol}
+use Rattle.f77_legal.specs.Labels.{place_of}
+use Rattle.f77_legal.specs.Loops.{terminal, left_by}
+use Rattle.f77_legal.specs.Names.{Symbol}
 use Rattle.f77_check.specs.Slots.{first_slot}
 
 -- the jump from i to the statement with this label

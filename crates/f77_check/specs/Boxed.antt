@@ -5,7 +5,7 @@ use Rattle.f77_tree.specs.Tree.{Tree}
 use Rattle.f77_check.specs.declared.expression.Number.{Number}
 use Rattle.f77_check.specs.declared.expression.Condition.{Condition}
 use Rattle.f77_check.specs.Expression.{IsNumber, IsCondition}
-use Rattle.f77_check.specs.Names.{Symbol}
+use Rattle.f77_legal.specs.Names.{Symbol}
 
 unfoldable pub HoldsNumber : (Symbol → List ℕ) → List Symbol → Tree → Box Number Global → Type 0
 HoldsNumber bounds names t box = IsNumber bounds names t box.value

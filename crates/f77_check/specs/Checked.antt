@@ -1,18 +1,17 @@
 -- What a checked program is: a legal one, with the shapes of its dummy arguments and what a run of it starts with.
-use Rattle.std.specs.Prelude.{◌≡◌, ◌⊎◌, ℕ, true, List, [], map, Result, Ok, Err, Some, None, if◌then◌else◌}
-use Rattle.std.specs.List.{list_any, slice_get}
+use Rattle.std.specs.Prelude.{◌≡◌, ℕ, true, List, map, Some, None, if◌then◌else◌}
+use Rattle.std.specs.List.{list_any}
 use Rattle.std.specs.Str.{bytes_eq}
 use Rattle.f77_tree.specs.Parsing.{LineFields, IsProgram, line_of}
 use Rattle.f77_tree.specs.declared.program.Line.{Line}
 use Rattle.f77_check.specs.declared.checked.Shape.{Shape}
-use Rattle.f77_check.specs.declared.fault.CheckFault.{CheckFault}
-use Rattle.f77_check.specs.declared.fault.CheckFault.TheVariants.{Memory}
-use Rattle.f77_check.specs.Legal.{is_array, IsLegal}
-use Rattle.f77_check.specs.Names.{Symbol, symbols, kind_of, bounds_of}
-use Rattle.f77_check.specs.Presets.{elements}
+use Rattle.f77_legal.specs.Legal.{is_array, IsLegal}
+use Rattle.f77_legal.specs.Names.{Symbol, symbols, kind_of, bounds_of}
+use Rattle.f77_legal.specs.Presets.{elements}
 use Rattle.f77_check.specs.Resolved.{AreResolved}
 use Rattle.f77_check.specs.Slots.{slot_count}
-use Rattle.f77_check.specs.Start.{dummies, IsStartOf}
+use Rattle.f77_legal.specs.Heading.{dummies}
+use Rattle.f77_check.specs.Start.{IsStartOf}
 use Rattle.f77_check.specs.declared.resolved.Resolved.{Resolved}
 use Rattle.f77_check.specs.declared.start.Start.{Start}
 
@@ -42,8 +41,3 @@ pub record IsChecked (checked : CheckedFields) : Type 0 where
   pub statements : AreResolved (map line_of checked.program) checked.names checked.statements
   pub start : IsStartOf (map line_of checked.program) checked.names checked.start
   pub covered : (name : Symbol) → list_any (bytes_eq name) (symbols (map line_of checked.program)) ≡ true → list_any (bytes_eq name) checked.names ≡ true
-
--- there are no faults; or the first of them is told, or want of memory
-abbrev pub Tells : Result (Unit {0}) CheckFault → List CheckFault → Type 0
-Tells (Ok u) faults = faults ≡ []
-Tells (Err fault) faults = (fault ≡ Memory) ⊎ (slice_get faults 0 ≡ Some fault)

@@ -16,7 +16,7 @@ use Rattle.f77_check.specs.declared.expression.Number.{Number, Constant, TooLarg
 use Rattle.f77_check.specs.declared.expression.Number as number
 use Rattle.f77_check.specs.declared.expression.Condition.{Condition, Not', Related, Connected'}
 use Rattle.f77_check.specs.declared.expression.Condition as condition
-use Rattle.f77_check.specs.Names.{Symbol}
+use Rattle.f77_legal.specs.Names.{Symbol}
 use Rattle.f77_check.specs.Slots.{first_slot}
 
 -- the operators by kind

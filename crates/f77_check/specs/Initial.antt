@@ -6,14 +6,14 @@ use Rattle.indexmap.specs.IndexMap.{keys}
 use Rattle.f77_tree.specs.Tree.{GroupFields}
 use Rattle.f77_tree.specs.declared.data.Constant.{Constant}
 use Rattle.f77_tree.specs.declared.data.Value.{Value}
-use Rattle.f77_check.specs.Blocks.{first_numbers}
+use Rattle.f77_legal.specs.Blocks.{first_numbers}
 use Rattle.f77_check.specs.Kept.{is_kept}
-use Rattle.f77_check.specs.NameTable.{bounds_at}
-use Rattle.f77_check.specs.Names.{Symbol}
-use Rattle.f77_check.specs.Presets.{product}
+use Rattle.f77_legal.specs.NameTable.{bounds_at}
+use Rattle.f77_legal.specs.Names.{Symbol}
+use Rattle.f77_legal.specs.Presets.{product}
 use Rattle.f77_check.specs.Slots.{slot_count, first_slot}
 use Rattle.f77_check.specs.SlotTable.{IsSlotTable}
-use Rattle.f77_check.specs.declared.names.Names.{Names}
+use Rattle.f77_legal.specs.declared.names.Names.{Names}
 use Rattle.f77_check.specs.declared.resolve.Resolver.{Resolver}
 
 -- the slots of a name: none where it is not in the list

@@ -3,9 +3,9 @@ use Rattle.std.specs.Prelude.{◌≤◌, ◌&&◌, Bool, true, length, is_some, 
 use Rattle.std.specs.Str.{bytes_eq}
 use Rattle.indexmap.specs.IndexMap.{get}
 use Rattle.f77_tree.specs.Tree.{Tree, Trees, Statement}
-use Rattle.f77_check.specs.NameTable.{bounds_at}
-use Rattle.f77_check.specs.Names.{Symbol}
-use Rattle.f77_check.specs.declared.names.Names.{Names}
+use Rattle.f77_legal.specs.NameTable.{bounds_at}
+use Rattle.f77_legal.specs.Names.{Symbol}
+use Rattle.f77_legal.specs.declared.names.Names.{Names}
 
 -- the name is in the table
 abbrev pub is_kept : Names → Symbol → Bool

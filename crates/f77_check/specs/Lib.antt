@@ -1,14 +1,3 @@
-pub mod Names
-pub mod NameTable
-pub mod Kinds
-pub mod Dimensions
-pub mod Labels
-pub mod LabelTable
-pub mod Blocks
-pub mod BlockTable
-pub mod Loops
-pub mod LoopTable
-pub mod Presets
 pub mod Slots
 pub mod SlotTable
 pub mod Kept
@@ -17,10 +6,6 @@ pub mod Expression
 pub mod Boxed
 pub mod Action
 pub mod Resolved
-pub mod Runs
-pub mod Clause
-pub mod Tables
-pub mod Legal
 pub mod Start
 pub mod Initial
 pub mod Checked

@@ -5,18 +5,18 @@ use Rattle.f77_tree.specs.Formed.{is_action}
 use Rattle.f77_tree.specs.Parsing.{LineFields, IsProgram}
 use Rattle.f77_tree.specs.Tree.{Tree, Trees, Statement}
 use Rattle.f77_check.specs.Action.{IsAction, IsAssignment}
-use Rattle.f77_check.specs.Blocks.{branch_end}
-use Rattle.f77_check.specs.BlockTable.{branch_end_at}
-use Rattle.f77_check.specs.Dimensions.{dimensions_fit}
+use Rattle.f77_legal.specs.Blocks.{branch_end}
+use Rattle.f77_legal.specs.BlockTable.{branch_end_at}
+use Rattle.f77_legal.specs.Dimensions.{dimensions_fit}
 use Rattle.f77_check.specs.Kept.{names_kept, AreFlat}
-use Rattle.f77_check.specs.Kinds.{kinds_agree}
-use Rattle.f77_check.specs.Labels.{place_of}
-use Rattle.f77_check.specs.Legal.{IsLegal}
-use Rattle.f77_check.specs.Loops.{terminal}
-use Rattle.f77_check.specs.NameTable.{bounds_at, kind_at}
+use Rattle.f77_legal.specs.Kinds.{kinds_agree}
+use Rattle.f77_legal.specs.Labels.{place_of}
+use Rattle.f77_legal.specs.Legal.{IsLegal}
+use Rattle.f77_legal.specs.Loops.{terminal}
+use Rattle.f77_legal.specs.NameTable.{bounds_at, kind_at}
 use Rattle.f77_check.specs.SlotTable.{IsSlotTable}
-use Rattle.f77_check.specs.Names.{Symbol}
-use Rattle.f77_check.specs.Tables.{AreTables}
+use Rattle.f77_legal.specs.Names.{Symbol}
+use Rattle.f77_legal.specs.Tables.{AreTables}
 use Rattle.f77_check.specs.declared.action.Action.{Action}
 use Rattle.f77_check.specs.declared.resolve.Resolver.{Resolver}
 

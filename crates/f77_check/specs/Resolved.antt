@@ -4,10 +4,10 @@ use Rattle.f77_tree.specs.Parsing.{LineFields}
 use Rattle.f77_tree.specs.Tree.{Statement}
 use Rattle.f77_check.specs.declared.resolved.Resolved.{Resolved}
 use Rattle.f77_check.specs.Action.{IsAction}
-use Rattle.f77_check.specs.Blocks.{behind}
-use Rattle.f77_check.specs.Labels.{statement_at}
-use Rattle.f77_check.specs.Loops.{loops_ending}
-use Rattle.f77_check.specs.Names.{Symbol, kind_of, bounds_of}
+use Rattle.f77_legal.specs.Blocks.{behind}
+use Rattle.f77_legal.specs.Labels.{statement_at}
+use Rattle.f77_legal.specs.Loops.{loops_ending}
+use Rattle.f77_legal.specs.Names.{Symbol, kind_of, bounds_of}
 
 pub record IsResolved (program : List LineFields) (names : List Symbol) (i : ℕ) (s : Statement) (r : Resolved) : Type 0 where
   pub action : IsAction (kind_of program) (bounds_of program) names program i s r.action

@@ -1,10 +1,10 @@
 -- The shapes that a table of names gives.
 use Rattle.std.specs.Prelude.{ℕ, List, [], ◌∷◌, min, Option, Some, None}
 use Rattle.f77_check.specs.declared.checked.Shape.{Shape}
-use Rattle.f77_check.specs.declared.names.Names.{Names}
-use Rattle.f77_check.specs.Names.{Symbol}
-use Rattle.f77_check.specs.NameTable.{kind_at, bounds_at}
-use Rattle.f77_check.specs.Presets.{product}
+use Rattle.f77_legal.specs.declared.names.Names.{Names}
+use Rattle.f77_legal.specs.Names.{Symbol}
+use Rattle.f77_legal.specs.NameTable.{kind_at, bounds_at}
+use Rattle.f77_legal.specs.Presets.{product}
 
 -- how many elements these bounds give an array, 4294967295 for more than that
 abbrev pub elements_in : List ℕ → Option ℕ

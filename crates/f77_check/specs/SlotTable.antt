@@ -1,10 +1,10 @@
 -- What a table of slots is of a table of names.
 use Rattle.std.specs.Prelude.{◌≡◌, map, take, length}
 use Rattle.indexmap.specs.IndexMap.{keys}
-use Rattle.f77_check.specs.Blocks.{first_numbers}
-use Rattle.f77_check.specs.NameTable.{bounds_at}
+use Rattle.f77_legal.specs.Blocks.{first_numbers}
+use Rattle.f77_legal.specs.NameTable.{bounds_at}
 use Rattle.f77_check.specs.Slots.{slot_count}
-use Rattle.f77_check.specs.declared.names.Names.{Names}
+use Rattle.f77_legal.specs.declared.names.Names.{Names}
 use Rattle.f77_check.specs.declared.slots.Slots.{Slots}
 
 pub record IsSlotTable (slots : Slots) (names : Names) : Type 0 where

@@ -2,8 +2,8 @@
 use Rattle.std.specs.Prelude.{ℕ, List, map, take, Option, option_map, position}
 use Rattle.std.specs.List.{sum}
 use Rattle.std.specs.Str.{bytes_eq}
-use Rattle.f77_check.specs.Names.{Symbol}
-use Rattle.f77_check.specs.Presets.{product}
+use Rattle.f77_legal.specs.Names.{Symbol}
+use Rattle.f77_legal.specs.Presets.{product}
 
 -- the slots of names with these bounds
 abbrev pub slot_count : (Symbol → List ℕ) → List Symbol → ℕ

@@ -8,19 +8,11 @@ use Rattle.f77_tree.specs.Parsing.{LineFields}
 use Rattle.f77_tree.specs.Tree.{GroupFields, Statement}
 use Rattle.f77_tree.specs.declared.data.Constant.{Constant}
 use Rattle.f77_check.specs.declared.start.Start.{Start}
-use Rattle.f77_check.specs.Blocks.{first_numbers}
-use Rattle.f77_check.specs.Labels.{statement_at}
-use Rattle.f77_check.specs.Names.{Symbol, bounds_of}
-use Rattle.f77_check.specs.Presets.{elements, groups_of}
+use Rattle.f77_legal.specs.Blocks.{first_numbers}
+use Rattle.f77_legal.specs.Heading.{dummies}
+use Rattle.f77_legal.specs.Names.{Symbol, bounds_of}
+use Rattle.f77_legal.specs.Presets.{elements, groups_of}
 use Rattle.f77_check.specs.Slots.{first_slot}
-
-abbrev pub dummies_of : Statement → List Symbol
-dummies_of (Statement.Subroutine name names) = names
-dummies_of _ = []
-
--- the dummy arguments, in order
-abbrev pub dummies : List LineFields → List Symbol
-dummies program = option_map_or dummies_of (statement_at program 0) []
 
 -- an element of a name
 abbrev pub Cell : Type 0

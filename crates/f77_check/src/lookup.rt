@@ -8,19 +8,19 @@ ghost use Rattle.f77_tree.specs.declared.intrinsic.Intrinsic.TheVariants.{Mod, I
 ghost use Rattle.f77_tree.specs.declared.tree.Kind.TheVariants.{Integer, Logical};
 ghost use Rattle.f77_check.specs.Action.{IsStep};
 ghost use Rattle.f77_check.specs.Boxed.{HoldsNumber, HoldsCondition};
-ghost use Rattle.f77_check.specs.Dimensions.{count, fits, all_fit, step_fits};
+ghost use Rattle.f77_legal.specs.Dimensions.{count, fits, all_fit, step_fits};
 ghost use Rattle.f77_check.specs.Expression.{IsElement, IsNumber, IsChosen, IsCondition, arithmetic_of, relation_of, connective_of};
 ghost use Rattle.f77_check.specs.Kept.{is_kept, tree_kept, items_kept, step_kept, AreFlat};
-ghost use Rattle.f77_check.specs.Kinds.{same_kind, result_kind, is_of, are_integer, is_step};
-ghost use Rattle.f77_check.specs.NameTable.{kind_at, bounds_at};
-ghost use Rattle.f77_check.specs.Names.{Symbol};
+ghost use Rattle.f77_legal.specs.Kinds.{same_kind, result_kind, is_of, are_integer, is_step};
+ghost use Rattle.f77_legal.specs.NameTable.{kind_at, bounds_at};
+ghost use Rattle.f77_legal.specs.Names.{Symbol};
 ghost use Rattle.f77_check.specs.SlotTable.{IsSlotTable};
-ghost use Rattle.f77_check.specs.declared.fault.CheckFault.TheVariants.{Memory};
+ghost use Rattle.f77_legal.specs.declared.fault.CheckFault.TheVariants.{Memory};
 
 use crate::expression::{Arithmetic, Condition, Connective, Element, Number, Relation};
-use crate::fault::CheckFault;
-use crate::names::Names;
 use crate::slots::Slots;
+use f77_legal::CheckFault;
+use f77_legal::names::Names;
 use f77_tree::{Expr, Intrinsic, Name, Operator, Sign};
 use std::alloc::Global;
 
@@ -47,7 +47,7 @@ fn operation(operator: Operator) -> Arithmetic
 
 /// A variable or an array element, where it is named.
 #[cycle(numbers)]
-#[tactic(auto, using(crate::proofs::Counts::count_trees, crate::proofs::Items::one_item, crate::proofs::Items::two_items))]
+#[tactic(auto, using(f77_legal::proofs::Counts::count_trees, crate::proofs::Items::one_item, crate::proofs::Items::two_items))]
 pub(crate) fn element(
     alloc: Global,
     names: &Names,
@@ -172,7 +172,7 @@ fn call(
 
 /// A call of MOD.
 #[cycle(numbers)]
-#[tactic(auto, using(crate::proofs::Counts::count_trees, crate::proofs::Items::two_items))]
+#[tactic(auto, using(f77_legal::proofs::Counts::count_trees, crate::proofs::Items::two_items))]
 fn modulus(
     alloc: Global,
     names: &Names,
@@ -199,7 +199,7 @@ fn modulus(
 
 /// A call of IABS.
 #[cycle(numbers)]
-#[tactic(auto, using(crate::proofs::Counts::count_trees, crate::proofs::Items::one_item))]
+#[tactic(auto, using(f77_legal::proofs::Counts::count_trees, crate::proofs::Items::one_item))]
 fn absolute(
     alloc: Global,
     names: &Names,
@@ -222,7 +222,7 @@ fn absolute(
 
 /// The least or the greatest of some numbers.
 #[cycle(numbers)]
-#[tactic(auto, using(crate::proofs::Counts::count_trees))]
+#[tactic(auto, using(f77_legal::proofs::Counts::count_trees))]
 fn chosen(
     alloc: Global,
     names: &Names,

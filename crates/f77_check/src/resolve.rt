@@ -8,21 +8,20 @@ ghost use Rattle.f77_tree.specs.StatementView.{statement_of};
 ghost use Rattle.f77_tree.specs.Tree.{Statement};
 ghost use Rattle.f77_tree.specs.View.{place_of, tree_of, trees};
 ghost use Rattle.f77_check.specs.Action.{IsJump};
-ghost use Rattle.f77_check.specs.Labels as labels;
-ghost use Rattle.f77_check.specs.Labels.{jumps_of, statement_at};
-ghost use Rattle.f77_check.specs.Loops.{terminal};
+ghost use Rattle.f77_legal.specs.Labels as labels;
+ghost use Rattle.f77_legal.specs.Labels.{jumps_of, statement_at};
+ghost use Rattle.f77_legal.specs.Loops.{terminal};
 ghost use Rattle.f77_check.specs.Ready.{CanResolve, IsReady, AreFound, HasBranch, HasEnd, Does, Assigns};
 ghost use Rattle.f77_check.specs.Resolved.{IsResolved, AreResolved};
-ghost use Rattle.f77_check.specs.Tables.{AreTables};
-ghost use Rattle.f77_check.specs.declared.fault.CheckFault.TheVariants.{Memory};
+ghost use Rattle.f77_legal.specs.Tables.{AreTables};
+ghost use Rattle.f77_legal.specs.declared.fault.CheckFault.TheVariants.{Memory};
 
 use crate::action::{Action, Jump};
-use crate::blocks::{next, statement};
-use crate::fault::CheckFault;
 use crate::lookup::{condition, element, number, step};
 use crate::resolved::Resolved;
 use crate::slots::Slots;
-use crate::tables::Tables;
+use f77_legal::blocks::{next, statement};
+use f77_legal::{CheckFault, Tables};
 use f77_tree::{Expr, Kind, Line, Name, Ref, Stmt};
 use std::alloc::Global;
 

@@ -2,11 +2,11 @@
 
 ghost use Rattle.std.specs.Prelude.{◌≡◌, map, min, IfOk, IfErr};
 ghost use Rattle.f77_check.specs.Shapes.{elements_in, shape_at};
-ghost use Rattle.f77_check.specs.declared.fault.CheckFault.TheVariants.{Memory};
+ghost use Rattle.f77_legal.specs.declared.fault.CheckFault.TheVariants.{Memory};
 
 use crate::checked::Shape;
-use crate::fault::CheckFault;
-use crate::names::{Names, product};
+use f77_legal::CheckFault;
+use f77_legal::names::{Names, product};
 use f77_tree::Name;
 use std::alloc::Global;
 

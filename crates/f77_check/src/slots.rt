@@ -3,13 +3,13 @@
 ghost use Rattle.std.specs.Prelude.{◌≡◌, ◌<◌, ◌^◌, true, Some, IfOk, IfErr};
 ghost use Rattle.indexmap.specs.IndexMap.{keys};
 ghost use Rattle.f77_check.specs.Kept.{is_kept};
-ghost use Rattle.f77_check.specs.NameTable.{bounds_at};
+ghost use Rattle.f77_legal.specs.NameTable.{bounds_at};
 ghost use Rattle.f77_check.specs.Slots.{slot_count, first_slot};
 ghost use Rattle.f77_check.specs.SlotTable.{IsSlotTable};
-ghost use Rattle.f77_check.specs.declared.fault.CheckFault.TheVariants.{Memory};
+ghost use Rattle.f77_legal.specs.declared.fault.CheckFault.TheVariants.{Memory};
 
-use crate::fault::CheckFault;
-use crate::names::{Names, product};
+use f77_legal::CheckFault;
+use f77_legal::names::{Names, product};
 use f77_tree::Name;
 use std::alloc::Global;
 

@@ -8,13 +8,14 @@ use Rattle.std.proofs.lemmas.Bool.{and_parts}
 use Rattle.std.proofs.lemmas.Bool.Decides.{nat_tests}
 use Rattle.std.proofs.lemmas.List.{map-append, length-replicate}
 use Rattle.f77_tree.specs.Parsing.{LineFields, line_of}
-use Rattle.f77_check.specs.Blocks.{first_numbers}
+use Rattle.f77_legal.specs.Blocks.{first_numbers}
 use Rattle.f77_check.specs.Checked.{CheckedFields, IsChecked, shapes}
 use Rattle.f77_check.specs.declared.checked.Shape.{Shape}
-use Rattle.f77_check.specs.Names.{Symbol, bounds_of, symbols}
-use Rattle.f77_check.specs.Presets.{elements, product}
+use Rattle.f77_legal.specs.Names.{Symbol, bounds_of, symbols}
+use Rattle.f77_legal.specs.Presets.{elements, product}
 use Rattle.f77_check.specs.Slots.{slot_count}
-use Rattle.f77_check.specs.Start.{dummies, pairs, preset_at}
+use Rattle.f77_legal.specs.Heading.{dummies}
+use Rattle.f77_check.specs.Start.{pairs, preset_at}
 use Rattle.f77_check.proofs.Unpreset.{unpreset}
 use Rattle.f77_run.specs.declared.argument.Arg.{Arg}
 use Rattle.f77_run.specs.declared.value.Value.{Value}

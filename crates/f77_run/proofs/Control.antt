@@ -7,10 +7,10 @@ use Rattle.std.proofs.lemmas.Bool.Decides.{nat_tests}
 use Rattle.f77_tree.specs.Formed.{is_action}
 use Rattle.f77_tree.specs.Parsing.{LineFields}
 use Rattle.f77_tree.specs.Tree.{Tree, Trees, Statement}
-use Rattle.f77_check.specs.Blocks.{has_at, is_alternative, block_end, branch_end, behind}
-use Rattle.f77_check.specs.Labels.{place_of, statement_at, jumps_of, terminal_label}
-use Rattle.f77_check.specs.Loops.{terminal, is_left}
-use Rattle.f77_check.specs.Names.{Symbol, kind_of, bounds_of}
+use Rattle.f77_legal.specs.Blocks.{has_at, is_alternative, block_end, branch_end, behind}
+use Rattle.f77_legal.specs.Labels.{place_of, statement_at, jumps_of, terminal_label}
+use Rattle.f77_legal.specs.Loops.{terminal, is_left}
+use Rattle.f77_legal.specs.Names.{Symbol, kind_of, bounds_of}
 use Rattle.f77_check.specs.Start.{is_executable}
 use Rattle.f77_run.specs.declared.finish.Fault.{Fault}
 use Rattle.f77_run.specs.Control.{Stands, IsPlacedAt, AreLoops, IsPlaced, is_last, Leads, IsSound}

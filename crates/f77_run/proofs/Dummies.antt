@@ -10,11 +10,11 @@ use Rattle.std.proofs.lemmas.Map.Views.{any-filter_same}
 use Rattle.std.proofs.lemmas.Slice.Eq.{bytes_eq-Decides}
 use Rattle.f77_tree.specs.Parsing.{LineFields}
 use Rattle.f77_tree.specs.Tree.{Statement}
-use Rattle.f77_check.specs.Start.{dummies, dummies_of}
-use Rattle.f77_check.specs.Legal.{IsLegal, name_faults}
-use Rattle.f77_check.specs.Names.{Symbol, Mention, Dummy, name_in, mentions_of, mentions, each_once, symbols, is_real, is_twice, dummies_given}
-use Rattle.f77_check.specs.declared.fault.CheckFault.TheVariants.{RealName, Twice}
-use Rattle.f77_check.proofs.LegalGives.{none_before, none_behind, map_none}
+use Rattle.f77_legal.specs.Heading.{dummies, dummies_of}
+use Rattle.f77_legal.specs.Legal.{IsLegal, name_faults}
+use Rattle.f77_legal.specs.Names.{Symbol, Mention, Dummy, name_in, mentions_of, mentions, each_once, symbols, is_real, is_twice, dummies_given}
+use Rattle.f77_legal.specs.declared.fault.CheckFault.TheVariants.{RealName, Twice}
+use Rattle.f77_legal.proofs.LegalGives.{none_before, none_behind, map_none}
 
 -- no name of the list stands in it twice
 abbrev pub AreApart : List Symbol → Type 0

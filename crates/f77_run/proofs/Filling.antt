@@ -7,12 +7,12 @@ use Rattle.std.specs.Str.{bytes_eq}
 use Rattle.std.proofs.lemmas.Bool.{le-leb}
 use Rattle.std.proofs.lemmas.List.{length-map, length-set, ext_get_or}
 use Rattle.f77_tree.specs.Parsing.{LineFields}
-use Rattle.f77_check.specs.Blocks.{first_numbers}
+use Rattle.f77_legal.specs.Blocks.{first_numbers}
 use Rattle.f77_check.specs.Checked.{shape_of, shapes}
-use Rattle.f77_check.specs.Start.{dummies}
-use Rattle.f77_check.specs.Legal.{IsLegal}
-use Rattle.f77_check.specs.Names.{Symbol, bounds_of}
-use Rattle.f77_check.specs.Presets.{product}
+use Rattle.f77_legal.specs.Heading.{dummies}
+use Rattle.f77_legal.specs.Legal.{IsLegal}
+use Rattle.f77_legal.specs.Names.{Symbol, bounds_of}
+use Rattle.f77_legal.specs.Presets.{product}
 use Rattle.f77_check.specs.Slots.{slot_count, first_slot}
 use Rattle.f77_run.specs.declared.argument.Arg.{Arg}
 use Rattle.f77_run.specs.declared.value.Value.{Value}

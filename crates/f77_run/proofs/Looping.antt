@@ -10,10 +10,10 @@ use Rattle.f77_check.specs.declared.expression.Element.{Variable}
 use Rattle.f77_check.specs.declared.expression.Number as number
 use Rattle.f77_check.specs.declared.expression.Number.{Number}
 use Rattle.f77_check.specs.declared.resolved.Resolved.{Resolved}
-use Rattle.f77_check.specs.Labels.{bears, place_of, statement_at, terminal_label}
-use Rattle.f77_check.specs.Loops.{terminal}
-use Rattle.f77_check.specs.Names.{Symbol, bounds_of}
-use Rattle.f77_check.specs.Presets.{product}
+use Rattle.f77_legal.specs.Labels.{bears, place_of, statement_at, terminal_label}
+use Rattle.f77_legal.specs.Loops.{terminal}
+use Rattle.f77_legal.specs.Names.{Symbol, bounds_of}
+use Rattle.f77_legal.specs.Presets.{product}
 use Rattle.f77_check.specs.Resolved.{IsResolved, AreResolved}
 use Rattle.f77_check.specs.Slots.{slot_count, first_slot}
 use Rattle.f77_run.specs.declared.finish.Fault.{Fault}

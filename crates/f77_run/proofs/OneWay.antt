@@ -3,8 +3,8 @@ use Rattle.std.proofs.Common.{◌≡◌, ℕ, zero, suc, ◌-◌, ◌<◌, inl, 
 use Rattle.std.specs.Prelude.{Result, Ok, Err, MatchOption, IsSome, ◌+ℤ◌}
 use Rattle.f77_tree.specs.Parsing.{LineFields}
 use Rattle.f77_tree.specs.Tree.{Tree, Trees, Statement}
-use Rattle.f77_check.specs.Labels.{statement_at}
-use Rattle.f77_check.specs.Names.{Symbol, kind_of, bounds_of}
+use Rattle.f77_legal.specs.Labels.{statement_at}
+use Rattle.f77_legal.specs.Names.{Symbol, kind_of, bounds_of}
 use Rattle.f77_run.specs.declared.finish.Fault.{Fault}
 use Rattle.f77_run.specs.Number.{in_range, trip_count}
 use Rattle.f77_run.specs.Value.{Store, put, number, truth, value, place}

@@ -14,11 +14,11 @@ use Rattle.f77_check.specs.declared.expression.Element.{Variable}
 use Rattle.f77_check.specs.declared.expression.Number.{Number}
 use Rattle.f77_check.specs.declared.resolved.Resolved.{Resolved}
 use Rattle.f77_check.specs.Action.{IsJump, IsStep, IsAssignment, IsAction}
-use Rattle.f77_check.specs.Blocks.{first_numbers}
-use Rattle.f77_check.specs.Dimensions.{dimensions_fit}
-use Rattle.f77_check.specs.Legal.{IsLegal}
-use Rattle.f77_check.specs.Loops.{is_left, ends_at}
-use Rattle.f77_check.specs.Names.{Symbol, kind_of, bounds_of}
+use Rattle.f77_legal.specs.Blocks.{first_numbers}
+use Rattle.f77_legal.specs.Dimensions.{dimensions_fit}
+use Rattle.f77_legal.specs.Legal.{IsLegal}
+use Rattle.f77_legal.specs.Loops.{is_left, ends_at}
+use Rattle.f77_legal.specs.Names.{Symbol, kind_of, bounds_of}
 use Rattle.f77_check.specs.Resolved.{IsResolved, AreResolved}
 use Rattle.f77_check.specs.Slots.{slot_count}
 use Rattle.f77_run.specs.Evaluation.{number_within}

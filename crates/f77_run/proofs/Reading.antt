@@ -8,11 +8,11 @@ use Rattle.std.proofs.lemmas.Cmp.{nat_list_eq_equiv}
 use Rattle.std.proofs.lemmas.List.{length-map}
 use Rattle.f77_tree.specs.Parsing.{LineFields}
 use Rattle.f77_tree.specs.declared.tree.Kind.{Kind}
-use Rattle.f77_check.specs.Blocks.{first_numbers}
+use Rattle.f77_legal.specs.Blocks.{first_numbers}
 use Rattle.f77_check.specs.Checked.{shape_of, shapes}
-use Rattle.f77_check.specs.Start.{dummies}
-use Rattle.f77_check.specs.Names.{Symbol, some_items, kind_of, bounds_of}
-use Rattle.f77_check.specs.Presets.{product, elements}
+use Rattle.f77_legal.specs.Heading.{dummies}
+use Rattle.f77_legal.specs.Names.{Symbol, some_items, kind_of, bounds_of}
+use Rattle.f77_legal.specs.Presets.{product, elements}
 use Rattle.f77_check.specs.Slots.{slot_count, first_slot}
 use Rattle.f77_run.specs.Machine.{values_of}
 use Rattle.f77_run.specs.Moves.{Cells}

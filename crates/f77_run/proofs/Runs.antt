@@ -5,9 +5,9 @@ use Rattle.std.proofs.lemmas.Bool.{or_parts}
 use Rattle.std.proofs.lemmas.Bool.Decides.{nat_tests}
 use Rattle.f77_tree.specs.Parsing.{LineFields}
 use Rattle.f77_check.specs.declared.resolved.Resolved.{Resolved}
-use Rattle.f77_check.specs.Legal.{IsLegal, is_too_large, size_faults}
-use Rattle.f77_check.specs.Names.{bounds_of}
-use Rattle.f77_check.proofs.LegalGives.{kept_by}
+use Rattle.f77_legal.specs.Legal.{IsLegal, is_too_large, size_faults}
+use Rattle.f77_legal.specs.Names.{bounds_of}
+use Rattle.f77_legal.proofs.LegalGives.{kept_by}
 use Rattle.f77_run.specs.declared.finish.Finish.{Finish}
 use Rattle.f77_run.specs.declared.finish.Fault.{Fault}
 use Rattle.f77_run.specs.declared.machine.Control.{Control}

@@ -22,7 +22,7 @@ use Rattle.f77_check.specs.declared.expression.Number as numeric
 use Rattle.f77_check.specs.declared.expression.Condition.{Condition, Not', Related, Connected'}
 use Rattle.f77_check.specs.declared.expression.Condition as condition
 use Rattle.f77_check.specs.Expression.{IsElement, IsNumber, IsChosen, IsCondition, arithmetic_of, relation_of, connective_of}
-use Rattle.f77_check.specs.Names.{Symbol}
+use Rattle.f77_legal.specs.Names.{Symbol}
 use Rattle.f77_check.specs.Slots.{first_slot}
 use Rattle.f77_run.specs.declared.finish.Fault.{Fault}
 use Rattle.f77_run.specs.declared.value.Value.{Value}

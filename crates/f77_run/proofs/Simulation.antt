@@ -10,21 +10,21 @@ use Rattle.f77_tree.specs.Parsing.{LineFields, IsProgram}
 use Rattle.f77_tree.specs.Tree.{Tree, Trees, Statement}
 use Rattle.f77_check.specs.declared.action.Action.{Action, Declaration, AssignNumber, AssignTruth, Goto, ArithmeticIf, LogicalIf', Branch, Continue, Loop, Return, Stop, Trap}
 use Rattle.f77_check.specs.declared.action.Jump.{Jump}
-use Rattle.f77_check.specs.declared.clause.Clause.TheVariants.{Bounds}
+use Rattle.f77_legal.specs.declared.clause.Clause.TheVariants.{Bounds}
 use Rattle.f77_check.specs.declared.expression.Element.{Element, Variable, Vector', Matrix'}
 use Rattle.f77_check.specs.declared.expression.Number.{Number}
 use Rattle.f77_check.specs.declared.resolved.Resolved.{Resolved}
 use Rattle.f77_check.specs.Action.{IsJump, IsStep, IsAssignment, IsAction}
-use Rattle.f77_check.specs.Dimensions.{dimensions_fit}
+use Rattle.f77_legal.specs.Dimensions.{dimensions_fit}
 use Rattle.f77_check.specs.Expression.{IsElement}
-use Rattle.f77_check.specs.Labels.{statement_at}
-use Rattle.f77_check.specs.Legal.{IsLegal}
-use Rattle.f77_check.specs.Names.{Symbol, kind_of, bounds_of}
-use Rattle.f77_check.specs.Presets.{product}
+use Rattle.f77_legal.specs.Labels.{statement_at}
+use Rattle.f77_legal.specs.Legal.{IsLegal}
+use Rattle.f77_legal.specs.Names.{Symbol, kind_of, bounds_of}
+use Rattle.f77_legal.specs.Presets.{product}
 use Rattle.f77_check.specs.Resolved.{IsResolved, AreResolved}
 use Rattle.f77_check.specs.Slots.{slot_count, first_slot}
-use Rattle.f77_check.proofs.Actions.{inner_acts}
-use Rattle.f77_check.proofs.LegalGives.{clause_kept, kept_by, not_false}
+use Rattle.f77_legal.proofs.Actions.{inner_acts}
+use Rattle.f77_legal.proofs.LegalGives.{clause_kept, kept_by, not_false}
 use Rattle.f77_run.specs.declared.finish.Fault.{Fault}
 use Rattle.f77_run.specs.declared.machine.Place.{Place}
 use Rattle.f77_run.specs.declared.machine.Place.TheVariants.{Execute, Increment}

@@ -10,16 +10,16 @@ use Rattle.f77_tree.specs.Parsing.{LineFields, IsProgram}
 use Rattle.f77_tree.specs.Tree.{Tree, Statement}
 use Rattle.f77_tree.specs.declared.group.Group.{Group}
 use Rattle.f77_tree.specs.declared.group.Group.TheVariants.{Executable}
-use Rattle.f77_check.specs.declared.clause.Clause.TheVariants.{Targets, Terminals}
-use Rattle.f77_check.specs.Blocks.{is_end_if, is_alternative, has_at, is_level, block_end, branch_end}
-use Rattle.f77_check.specs.Labels.{bears, place_of, statement_at, statement_with, jumps_of, terminal_label, is_target, is_terminal}
-use Rattle.f77_check.specs.Legal.{IsLegal}
-use Rattle.f77_check.specs.Loops.{terminal}
+use Rattle.f77_legal.specs.declared.clause.Clause.TheVariants.{Targets, Terminals}
+use Rattle.f77_legal.specs.Blocks.{is_end_if, is_alternative, has_at, is_level, block_end, branch_end}
+use Rattle.f77_legal.specs.Labels.{bears, place_of, statement_at, statement_with, jumps_of, terminal_label, is_target, is_terminal}
+use Rattle.f77_legal.specs.Legal.{IsLegal}
+use Rattle.f77_legal.specs.Loops.{terminal}
 use Rattle.f77_check.specs.Start.{is_executable}
-use Rattle.f77_check.proofs.Branches.{found_is}
-use Rattle.f77_check.proofs.Actions.{inner_acts}
-use Rattle.f77_check.proofs.Flow.{some_branch, some_terminal, some_place}
-use Rattle.f77_check.proofs.LegalGives.{clause_kept, kept_by, any_false, not_false, some_of, alternative_closes}
+use Rattle.f77_legal.proofs.Branches.{found_is}
+use Rattle.f77_legal.proofs.Actions.{inner_acts}
+use Rattle.f77_legal.proofs.Flow.{some_branch, some_terminal, some_place}
+use Rattle.f77_legal.proofs.LegalGives.{clause_kept, kept_by, any_false, not_false, some_of, alternative_closes}
 use Rattle.f77_run.specs.Control.{Stands, is_last, Leads, IsSound}
 
 -- a place stands in the program

@@ -7,10 +7,10 @@ use Rattle.std.proofs.lemmas.Bool.Decides.{nat_tests}
 use Rattle.std.proofs.lemmas.Option.{slice_get_past, same_Some}
 use Rattle.f77_tree.specs.Parsing.{LineFields}
 use Rattle.f77_tree.specs.Tree.{Tree, Trees, Statement}
-use Rattle.f77_check.specs.Blocks.{branch_end, behind}
-use Rattle.f77_check.specs.Labels.{place_of, statement_at, terminal_label}
-use Rattle.f77_check.specs.Loops.{terminal, ends_at}
-use Rattle.f77_check.specs.Names.{Symbol, kind_of, bounds_of}
+use Rattle.f77_legal.specs.Blocks.{branch_end, behind}
+use Rattle.f77_legal.specs.Labels.{place_of, statement_at, terminal_label}
+use Rattle.f77_legal.specs.Loops.{terminal, ends_at}
+use Rattle.f77_legal.specs.Names.{Symbol, kind_of, bounds_of}
 use Rattle.f77_run.specs.declared.finish.Fault.{Fault}
 use Rattle.f77_run.specs.declared.finish.Fault.TheVariants.{ZeroStep, Trapped}
 use Rattle.f77_run.specs.declared.finish.Finish.{Finish}

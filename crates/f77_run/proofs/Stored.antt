@@ -7,9 +7,9 @@ use Rattle.std.proofs.lemmas.Bool.{cases_eq}
 use Rattle.std.proofs.lemmas.List.{length-set, get_or-set_same, get_or-set_other, ext_get_or}
 use Rattle.std.proofs.lemmas.Option.{unwrap_or-slice_get}
 use Rattle.std.proofs.lemmas.Slice.Eq.{bytes_eq-Decides}
-use Rattle.f77_check.specs.Blocks.{first_numbers}
-use Rattle.f77_check.specs.Names.{Symbol}
-use Rattle.f77_check.specs.Presets.{product}
+use Rattle.f77_legal.specs.Blocks.{first_numbers}
+use Rattle.f77_legal.specs.Names.{Symbol}
+use Rattle.f77_legal.specs.Presets.{product}
 use Rattle.f77_check.specs.Slots.{slot_count, first_slot}
 use Rattle.f77_run.specs.declared.value.Value.{Value}
 use Rattle.f77_run.specs.Evaluation.{held_in}

@@ -13,9 +13,9 @@ use Rattle.std.proofs.lemmas.Option.{slice_get_past}
 use Rattle.f77_tree.specs.Parsing.{LineFields}
 use Rattle.f77_tree.specs.Tree.{Statement}
 use Rattle.f77_check.specs.declared.resolved.Resolved.{Resolved}
-use Rattle.f77_check.specs.Blocks.{first_numbers}
-use Rattle.f77_check.specs.Loops.{is_left, left_by, ends_at}
-use Rattle.f77_check.specs.Names.{Symbol}
+use Rattle.f77_legal.specs.Blocks.{first_numbers}
+use Rattle.f77_legal.specs.Loops.{is_left, left_by, ends_at}
+use Rattle.f77_legal.specs.Names.{Symbol}
 use Rattle.f77_check.specs.Resolved.{IsResolved}
 use Rattle.f77_run.specs.declared.machine.Place.TheVariants.{Execute, Increment}
 use Rattle.f77_run.specs.declared.machine.Turn.{Turn}

@@ -12,15 +12,15 @@ use Rattle.f77_tree.specs.Tree.{Tree, Trees, Statement}
 use Rattle.f77_tree.specs.declared.tree.Kind.{Kind}
 use Rattle.f77_tree.specs.declared.tree.Kind.TheVariants.{Integer, Logical}
 use Rattle.f77_check.specs.declared.checked.Shape.{Shape}
-use Rattle.f77_check.specs.declared.clause.Clause.TheVariants.{Kinds}
+use Rattle.f77_legal.specs.declared.clause.Clause.TheVariants.{Kinds}
 use Rattle.f77_check.specs.Checked.{shape_of, shapes}
-use Rattle.f77_check.specs.Start.{dummies}
-use Rattle.f77_check.specs.Kinds.{same_kind, kinds_agree}
-use Rattle.f77_check.specs.Labels.{statement_at}
-use Rattle.f77_check.specs.Legal.{IsLegal}
-use Rattle.f77_check.specs.Names.{Symbol, some_items, kind_of, bounds_of}
-use Rattle.f77_check.specs.Presets.{product, elements}
-use Rattle.f77_check.proofs.LegalGives.{clause_kept, kept_by, not_false}
+use Rattle.f77_legal.specs.Heading.{dummies}
+use Rattle.f77_legal.specs.Kinds.{same_kind, kinds_agree}
+use Rattle.f77_legal.specs.Labels.{statement_at}
+use Rattle.f77_legal.specs.Legal.{IsLegal}
+use Rattle.f77_legal.specs.Names.{Symbol, some_items, kind_of, bounds_of}
+use Rattle.f77_legal.specs.Presets.{product, elements}
+use Rattle.f77_legal.proofs.LegalGives.{clause_kept, kept_by, not_false}
 use Rattle.f77_run.specs.declared.argument.Arg.{Arg}
 use Rattle.f77_run.specs.declared.argument.Arg.TheVariants.{Int, Truth, Ints, Truths}
 use Rattle.f77_run.specs.declared.finish.Fault.{Fault}

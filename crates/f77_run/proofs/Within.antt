@@ -13,8 +13,8 @@ use Rattle.f77_check.specs.declared.expression.Number as numeric
 use Rattle.f77_check.specs.declared.expression.Condition.{Condition, Not', Related, Connected'}
 use Rattle.f77_check.specs.declared.expression.Condition as condition
 use Rattle.f77_check.specs.Expression.{IsElement, IsNumber, IsChosen, IsCondition}
-use Rattle.f77_check.specs.Names.{Symbol}
-use Rattle.f77_check.specs.Presets.{product}
+use Rattle.f77_legal.specs.Names.{Symbol}
+use Rattle.f77_legal.specs.Presets.{product}
 use Rattle.f77_check.specs.Slots.{slot_count, first_slot}
 use Rattle.f77_run.specs.Evaluation.{element_within, number_within, condition_within}
 use Rattle.f77_run.proofs.Spans.{span_within}

@@ -5,10 +5,10 @@ use Rattle.std.specs.Option.{option_and_then}
 use Rattle.f77_tree.specs.Formed.{is_action}
 use Rattle.f77_tree.specs.Parsing.{LineFields, IsProgram}
 use Rattle.f77_tree.specs.Tree.{Tree, Statement}
-use Rattle.f77_check.specs.Blocks.{has_at, is_alternative, block_end, branch_end}
-use Rattle.f77_check.specs.Labels.{place_of, statement_at, jumps_of, terminal_label}
-use Rattle.f77_check.specs.Loops.{terminal}
-use Rattle.f77_check.specs.Legal.{IsLegal}
+use Rattle.f77_legal.specs.Blocks.{has_at, is_alternative, block_end, branch_end}
+use Rattle.f77_legal.specs.Labels.{place_of, statement_at, jumps_of, terminal_label}
+use Rattle.f77_legal.specs.Loops.{terminal}
+use Rattle.f77_legal.specs.Legal.{IsLegal}
 use Rattle.f77_check.specs.Start.{is_executable}
 use Rattle.f77_run.specs.Start.{IsStart}
 use Rattle.f77_run.specs.Step.{Config, Place, Execute, Increment, Turns, Next, Goes, Step}

@@ -1,9 +1,9 @@
 -- What a machine stands for: its slots are the values of names, its places and its active DOs those of a run.
 use Rattle.std.specs.Prelude.{ℕ, ◌+◌, List, map, option_map}
 use Rattle.std.specs.Option.{option_and_then}
-use Rattle.f77_check.specs.Blocks.{first_numbers}
-use Rattle.f77_check.specs.Names.{Symbol}
-use Rattle.f77_check.specs.Presets.{product}
+use Rattle.f77_legal.specs.Blocks.{first_numbers}
+use Rattle.f77_legal.specs.Names.{Symbol}
+use Rattle.f77_legal.specs.Presets.{product}
 use Rattle.f77_check.specs.Slots.{first_slot}
 use Rattle.f77_run.specs.declared.machine.Place.{Place}
 use Rattle.f77_run.specs.declared.machine.Place.TheVariants.{Execute, Increment}

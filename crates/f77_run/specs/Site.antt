@@ -2,7 +2,7 @@
 use Rattle.std.specs.Prelude.{◌≡◌, List, length, map}
 use Rattle.f77_tree.specs.Parsing.{line_of}
 use Rattle.f77_check.specs.Checked.{CheckedFields}
-use Rattle.f77_check.specs.Names.{bounds_of}
+use Rattle.f77_legal.specs.Names.{bounds_of}
 use Rattle.f77_check.specs.Slots.{slot_count}
 use Rattle.f77_run.specs.declared.argument.Arg.{Arg}
 use Rattle.f77_run.specs.declared.machine.Machine.{Machine}

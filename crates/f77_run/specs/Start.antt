@@ -5,9 +5,10 @@ use Rattle.std.specs.Str.{bytes_eq}
 use Rattle.f77_tree.specs.Parsing.{LineFields}
 use Rattle.f77_tree.specs.declared.data.Constant.{Constant}
 use Rattle.f77_tree.specs.declared.data.Constant.TheVariants.{Number, Truth}
-use Rattle.f77_check.specs.Blocks.{first_numbers}
-use Rattle.f77_check.specs.Presets.{elements}
-use Rattle.f77_check.specs.Start.{dummies, preset_at, is_executable}
+use Rattle.f77_legal.specs.Blocks.{first_numbers}
+use Rattle.f77_legal.specs.Presets.{elements}
+use Rattle.f77_legal.specs.Heading.{dummies}
+use Rattle.f77_check.specs.Start.{preset_at, is_executable}
 use Rattle.f77_run.specs.Value.{Store}
 use Rattle.f77_run.specs.Step.{Config, config, Execute}
 use Rattle.f77_run.specs.declared.value.Value.{Value}

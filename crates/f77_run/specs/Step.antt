@@ -2,10 +2,10 @@
 use Rattle.std.specs.Prelude.{◌≡◌, ℕ, zero, suc, ◌+◌, ◌-◌, ◌<◌, ◌==◌, ◌⊎◌, Bool, true, false, List, Option, Some, None, IsSome, if◌then◌else◌, ℤ, pos, negsuc, ◌+ℤ◌, Result, Ok, MatchResult, MatchOption}
 use Rattle.f77_tree.specs.Parsing.{LineFields}
 use Rattle.f77_tree.specs.Tree.{Tree, Trees, Statement}
-use Rattle.f77_check.specs.Blocks.{branch_end, behind}
-use Rattle.f77_check.specs.Labels.{place_of, statement_at}
-use Rattle.f77_check.specs.Loops.{terminal, is_left}
-use Rattle.f77_check.specs.Names.{Symbol, kind_of, bounds_of}
+use Rattle.f77_legal.specs.Blocks.{branch_end, behind}
+use Rattle.f77_legal.specs.Labels.{place_of, statement_at}
+use Rattle.f77_legal.specs.Loops.{terminal, is_left}
+use Rattle.f77_legal.specs.Names.{Symbol, kind_of, bounds_of}
 use Rattle.f77_run.specs.declared.finish.Fault.{Fault}
 use Rattle.f77_run.specs.declared.finish.Fault.TheVariants.{ZeroStep, Trapped}
 use Rattle.f77_run.specs.declared.finish.Finish.{Finish}

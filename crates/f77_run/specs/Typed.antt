@@ -5,9 +5,9 @@ use Rattle.std.specs.Str.{bytes_eq}
 use Rattle.f77_tree.specs.Parsing.{LineFields}
 use Rattle.f77_tree.specs.declared.tree.Kind.{Kind}
 use Rattle.f77_tree.specs.declared.tree.Kind.TheVariants.{Integer, Logical}
-use Rattle.f77_check.specs.Start.{dummies}
-use Rattle.f77_check.specs.Names.{Symbol, kind_of}
-use Rattle.f77_check.specs.Presets.{elements}
+use Rattle.f77_legal.specs.Heading.{dummies}
+use Rattle.f77_legal.specs.Names.{Symbol, kind_of}
+use Rattle.f77_legal.specs.Presets.{elements}
 use Rattle.f77_run.specs.declared.value.Value.{Value}
 use Rattle.f77_run.specs.declared.value.Value.TheVariants as held
 use Rattle.f77_run.specs.Value.{Store}

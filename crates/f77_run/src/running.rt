@@ -1,7 +1,7 @@
 //! Steps up to a limit.
 
 ghost use Rattle.std.specs.Prelude.{◌≡◌, length};
-ghost use Rattle.f77_check.specs.Names.{bounds_of};
+ghost use Rattle.f77_legal.specs.Names.{bounds_of};
 ghost use Rattle.f77_check.specs.Slots.{slot_count};
 ghost use Rattle.f77_run.specs.Outcome.{IsOutcome};
 ghost use Rattle.f77_run.specs.Running.{Site, IsRunning, values_at, config_at};

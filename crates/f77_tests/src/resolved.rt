@@ -1,7 +1,7 @@
 //! The resolved statements of programs.
 
 use crate::action_texts::shown;
-use crate::sources::checked;
+use crate::programs::checked;
 use std::process::Abort;
 use std::test::Fail;
 

@@ -1,10 +1,10 @@
 //! Outcomes of assignments.
 
 use crate::outcomes::{assert_outcomes, outcome};
-use crate::rows::parts;
-use crate::sources::checked;
+use crate::programs::checked;
 use std::process::Abort;
 use std::test::Fail;
+use test_programs::parts;
 
 const ASSIGNMENTS: &[&str] = &[
     "K=I/J at -7 2 => Returned -7 2 -3",

@@ -1,11 +1,10 @@
 //! Verdicts on programs.
 
-use crate::rows::parts;
-use crate::sources::program;
 use f77_check::{CheckFault, check};
 use f77_syntax::Name;
 use std::process::Abort;
 use std::test::Fail;
+use test_programs::{parts, program};
 
 fn numbered(rt: &impl AllocGlobal, code: &str, number: u32) -> Result<String, Fail> {
     Ok(format!(in rt.alloc(); "{code} {number}")?)

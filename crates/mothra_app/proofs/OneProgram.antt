@@ -8,8 +8,8 @@ use Rattle.f77_source.specs.declared.fault.FormFault.{FormFault}
 use Rattle.f77_tree.specs.Parsing as syntax
 use Rattle.f77_tree.specs.Parsing.{LineFields, AreLines}
 use Rattle.f77_tree.specs.declared.fault.SyntaxFault.{SyntaxFault}
-use Rattle.f77_check.specs.Legal.{faults, first_fault}
-use Rattle.f77_check.specs.declared.fault.CheckFault.{CheckFault}
+use Rattle.f77_legal.specs.Legal.{faults, first_fault}
+use Rattle.f77_legal.specs.declared.fault.CheckFault.{CheckFault}
 use Rattle.f77_run.specs.Interpreter.{OneAnswer}
 use Rattle.mothra_app.specs.Executing.{IsLegalProgramOf}
 use Rattle.mothra_app.specs.Program.{IsProgramOf}

@@ -2,8 +2,8 @@
 use Rattle.std.specs.Prelude.{◌≡◌, ℕ, List, Some, None, Result, Ok, Err}
 use Rattle.f77_tree.specs.Parsing.{LineFields}
 use Rattle.f77_check.specs.Checked.{shapes}
-use Rattle.f77_check.specs.Legal.{IsLegal, first_fault}
-use Rattle.f77_check.specs.declared.fault.CheckFault.{CheckFault}
+use Rattle.f77_legal.specs.Legal.{IsLegal, first_fault}
+use Rattle.f77_legal.specs.declared.fault.CheckFault.{CheckFault}
 use Rattle.f77_run.specs.Interpreter.{IsOutcomeOf, refusal}
 use Rattle.f77_run.specs.declared.argument.Arg.{Arg}
 use Rattle.f77_run.specs.declared.outcome.Outcome.{Outcome}

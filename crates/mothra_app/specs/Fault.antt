@@ -4,7 +4,7 @@ use Rattle.mothra_app.specs.declared.fault.Fault.TheVariants.{Job, Form, Syntax,
 use Rattle.mothra_app.specs.declared.job.JobFault.TheVariants as job
 use Rattle.f77_source.specs.declared.fault.FormFault.TheVariants as form
 use Rattle.f77_tree.specs.declared.fault.SyntaxFault.TheVariants as syntax
-use Rattle.f77_check.specs.declared.fault.CheckFault.TheVariants as check
+use Rattle.f77_legal.specs.declared.fault.CheckFault.TheVariants as check
 use Rattle.f77_run.specs.declared.outcome.RunFault.TheVariants as run
 
 -- want of memory, which may come in place of any other answer

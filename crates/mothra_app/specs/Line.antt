@@ -6,8 +6,8 @@ use Rattle.f77_source.specs.declared.fault.FormFault.{FormFault}
 use Rattle.f77_source.specs.declared.fault.FormFault.TheVariants as form
 use Rattle.f77_tree.specs.declared.fault.SyntaxFault.{SyntaxFault}
 use Rattle.f77_tree.specs.declared.fault.SyntaxFault.TheVariants as syntax
-use Rattle.f77_check.specs.declared.fault.CheckFault.{CheckFault}
-use Rattle.f77_check.specs.declared.fault.CheckFault.TheVariants as check
+use Rattle.f77_legal.specs.declared.fault.CheckFault.{CheckFault}
+use Rattle.f77_legal.specs.declared.fault.CheckFault.TheVariants as check
 use Rattle.f77_run.specs.declared.outcome.RunFault.{RunFault}
 use Rattle.f77_run.specs.declared.outcome.RunFault.TheVariants as run
 use Rattle.mothra_app.specs.declared.fault.Fault.{Fault}

@@ -1,9 +1,9 @@
 use Rattle.std.proofs.Common.{rules, arith, refl, sym, ◌∙◌, ◌≡◌, ◌<◌, ◌≤◌, ◌+◌, ◌-◌, suc, length}
 use Rattle.std.proofs.lemmas.Grind.{common_steps}
 use Rattle.f77_check.specs.Boxed.{HoldsNumber}
-use Rattle.f77_check.specs.NameTable.{bounds_at}
+use Rattle.f77_legal.specs.NameTable.{bounds_at}
 use Rattle.indexmap.specs.IndexMap.{keys}
-use Rattle.f77_check.proofs.Counts.{count_trees}
+use Rattle.f77_legal.proofs.Counts.{count_trees}
 use Rattle.f77_check.proofs.Deepest.{most_at}
 use Rattle.f77_check.proofs.Items.{only_one, only_two, one_item, two_items, integer_at, fit_at, kept_at}
 use Rattle.f77_check.proofs.Chosen.{chosen_last, chosen_more}

@@ -3,7 +3,7 @@ use Rattle.std.specs.Prelude.{map}
 use Rattle.indexmap.specs.IndexMap.{keys}
 use Rattle.f77_tree.specs.View.{tree_of, trees}
 use Rattle.f77_check.specs.Expression.{IsChosen}
-use Rattle.f77_check.specs.NameTable.{bounds_at}
+use Rattle.f77_legal.specs.NameTable.{bounds_at}
 use Rattle.f77_check.proofs.lookup.+numbers.Given as goal
 
 -- of the items from here on

@@ -1,5 +1,5 @@
 use Rattle.f77_tree.specs.View.{tree_of}
-use Rattle.f77_check.specs.NameTable.{kind_at}
+use Rattle.f77_legal.specs.NameTable.{kind_at}
 use Rattle.f77_check.proofs.Operands.{relation_operands}
 use Rattle.f77_check.proofs.lookup.related.Goals as goal
 

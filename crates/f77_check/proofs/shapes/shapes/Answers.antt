@@ -1,6 +1,6 @@
 use Rattle.std.proofs.Common.{ap, ◌∙◌, ◌++◌, ◌∷◌, []}
 use Rattle.f77_check.specs.Shapes.{shape_at}
-use Rattle.f77_check.proofs.Entries.{pushed}
+use Rattle.f77_legal.proofs.Entries.{pushed}
 use Rattle.f77_check.proofs.shapes.shapes.Goals as goal
 
 pub loop-name-preserved : goal.loop-name-preserved

@@ -1,13 +1,13 @@
 use Rattle.std.proofs.Common.{◌≡◌, ◌+◌, ◌≤◌, ◌++◌, [], ◌∷◌, map, arith, sym, ap, ◌∙◌, append_assoc}
 use Rattle.std.specs.Option.{option_map_or}
 use Rattle.indexmap.specs.IndexMap.{keys}
-use Rattle.f77_check.specs.Blocks.{first_numbers}
-use Rattle.f77_check.specs.NameTable.{bounds_at}
-use Rattle.f77_check.specs.Presets.{product}
+use Rattle.f77_legal.specs.Blocks.{first_numbers}
+use Rattle.f77_legal.specs.NameTable.{bounds_at}
+use Rattle.f77_legal.specs.Presets.{product}
 use Rattle.f77_check.specs.Slots.{slot_count}
 use Rattle.f77_check.proofs.Cells.{slots_end}
 use Rattle.f77_check.proofs.DataNames.{kept_among}
-use Rattle.f77_check.proofs.FirstNumbers.{table_more}
+use Rattle.f77_legal.proofs.FirstNumbers.{table_more}
 use Rattle.f77_check.proofs.resolve.Resolver.add_slots.Goals as goal
 
 pub overflow_add-first : goal.overflow_add-first

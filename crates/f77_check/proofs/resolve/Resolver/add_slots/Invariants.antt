@@ -1,5 +1,5 @@
 use Rattle.std.proofs.Common.{◌≡◌, ◌+◌, ◌++◌, map}
-use Rattle.f77_check.specs.Blocks.{first_numbers}
+use Rattle.f77_legal.specs.Blocks.{first_numbers}
 use Rattle.f77_check.proofs.resolve.Resolver.add_slots.Given as goal
 
 abbrev pub invariant-loop-k : goal.invariant-loop-k

@@ -1,8 +1,8 @@
 use Rattle.std.proofs.Common.{◌∷◌, ◌++◌, [], ℕ, Option, map, get_or, Some, sym, ap, ◌∙◌}
 use Rattle.std.proofs.lemmas.List.{map_more, map-append}
 use Rattle.indexmap.specs.IndexMap.{keys}
-use Rattle.f77_check.specs.Names.{Symbol}
-use Rattle.f77_check.specs.NameTable.{bounds_at}
+use Rattle.f77_legal.specs.Names.{Symbol}
+use Rattle.f77_legal.specs.NameTable.{bounds_at}
 use Rattle.f77_check.specs.Slots.{first_slot}
 use Rattle.f77_check.proofs.resolve.Resolver.first_slots.Goals as goal
 

@@ -1,6 +1,6 @@
 use Rattle.std.proofs.Common.{◌≡◌, map, take, Some}
 use Rattle.indexmap.specs.IndexMap.{keys}
-use Rattle.f77_check.specs.NameTable.{bounds_at}
+use Rattle.f77_legal.specs.NameTable.{bounds_at}
 use Rattle.f77_check.specs.Slots.{first_slot}
 use Rattle.f77_check.proofs.resolve.Resolver.first_slots.Given as goal
 

@@ -4,7 +4,7 @@ use Rattle.std.proofs.lemmas.List.{take_all}
 use Rattle.indexmap.specs.IndexMap.{keys}
 use Rattle.f77_tree.specs.Parsing.{line_of}
 use Rattle.f77_check.specs.Initial.{give_groups, groups_kept}
-use Rattle.f77_check.specs.NameTable.{bounds_at}
+use Rattle.f77_legal.specs.NameTable.{bounds_at}
 use Rattle.f77_check.proofs.DataNames.{has_slots}
 use Rattle.f77_check.proofs.Presetting.{preset_by, none_preset, line_kept, line_given}
 use Rattle.f77_check.proofs.resolve.Resolver.initial.Goals as goal

@@ -1,9 +1,9 @@
 use Rattle.std.proofs.Common.{◌≡◌, sym, subst, ap, ◌∙◌}
 use Rattle.std.specs.Prelude.{Some}
 use Rattle.f77_tree.specs.StatementView.{statement_of}
-use Rattle.f77_check.specs.Blocks.{behind}
-use Rattle.f77_check.specs.Labels.{statement_at}
-use Rattle.f77_check.proofs.Flow.{are_nested, some_behind}
+use Rattle.f77_legal.specs.Blocks.{behind}
+use Rattle.f77_legal.specs.Labels.{statement_at}
+use Rattle.f77_legal.proofs.Flow.{are_nested, some_behind}
 use Rattle.f77_check.proofs.Sites.{ready_at, ends_at, found_at, resolved_at}
 use Rattle.f77_check.proofs.resolve.Resolver.resolved.Goals as goal
 

@@ -2,7 +2,7 @@ use Rattle.std.proofs.Common.{◌≡◌, take}
 use Rattle.std.specs.List.{flat_map}
 use Rattle.indexmap.specs.IndexMap.{keys}
 use Rattle.f77_check.specs.Initial.{slots_of}
-use Rattle.f77_check.specs.NameTable.{bounds_at}
+use Rattle.f77_legal.specs.NameTable.{bounds_at}
 use Rattle.f77_check.proofs.resolve.Resolver.slots_of.Given as goal
 
 abbrev pub invariant-loop-name : goal.invariant-loop-name

@@ -7,8 +7,8 @@ use Rattle.f77_check.specs.Slots.{first_slot}
 use Rattle.f77_check.specs.Start.{is_executable}
 use Rattle.f77_check.proofs.DataNames.{has_slots, dummies_kept}
 use Rattle.f77_check.proofs.FirstExecutable.{first_executable}
-use Rattle.f77_check.proofs.Lookups.{same_bounds}
-use Rattle.f77_check.proofs.Positions.{position-map}
+use Rattle.f77_legal.proofs.Lookups.{same_bounds}
+use Rattle.f77_legal.proofs.Positions.{position-map}
 use Rattle.f77_check.proofs.resolve.Resolver.start.Goals as goal
 
 pub unreachable-requires : goal.unreachable-requires

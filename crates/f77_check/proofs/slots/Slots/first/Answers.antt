@@ -1,7 +1,7 @@
 use Rattle.std.proofs.Common.{rules, ◌<◌, length, sym}
 use Rattle.indexmap.specs.IndexMap.{keys}
 use Rattle.std.specs.Str.{bytes_eq}
-use Rattle.f77_check.specs.NameTable.{bounds_at}
+use Rattle.f77_legal.specs.NameTable.{bounds_at}
 use Rattle.f77_check.proofs.SlotCounts.{start_read, start_within}
 use Rattle.f77_check.proofs.slots.Slots.first.Goals as goal
 

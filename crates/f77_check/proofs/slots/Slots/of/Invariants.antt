@@ -1,5 +1,5 @@
 use Rattle.indexmap.specs.IndexMap.{keys}
-use Rattle.f77_check.specs.NameTable.{bounds_at}
+use Rattle.f77_legal.specs.NameTable.{bounds_at}
 use Rattle.f77_check.proofs.SlotCounts.{IsCounted}
 use Rattle.f77_check.proofs.slots.Slots.of.Given as goal
 

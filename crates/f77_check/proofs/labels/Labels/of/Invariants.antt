@@ -1,7 +1,0 @@
-use Rattle.std.proofs.Common.{map, take}
-use Rattle.f77_tree.specs.Parsing.{line_of}
-use Rattle.f77_check.specs.LabelTable.{IsLabelTable}
-use Rattle.f77_check.proofs.labels.Labels.of.Given as goal
-
-abbrev pub invariant-loop-i : goal.invariant-loop-i
-invariant-loop-i l = IsLabelTable l.labels (map line_of (take l.i l.lines))

@@ -1,9 +1,0 @@
-use Rattle.std.proofs.Common.{rules, ◌≡◌, ap, ◌∙◌, option_map}
-use Rattle.std.specs.Map.Iter.{deref_pair}
-use Rattle.f77_check.proofs.Lookups.{first_real_is}
-use Rattle.f77_check.proofs.names.Names.first_real.Goals as goal
-
-pub returns : goal.returns
-returns c =
-    let same : option_map (λ n. n.now) c.map.result ≡ option_map (λ e. e.0) (option_map deref_pair c.find_real.result) = search rules in
-    λ program is. same ∙ ap (option_map (λ e. e.0)) c.find_real.ensures ∙ first_real_is c.args.self.now program is

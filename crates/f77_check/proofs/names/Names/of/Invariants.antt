@@ -1,7 +1,0 @@
-use Rattle.std.proofs.Common.{◌≡◌, take}
-use Rattle.f77_check.specs.NameTable.{entries_of}
-use Rattle.f77_check.proofs.NameTables.{noted}
-use Rattle.f77_check.proofs.names.Names.of.Given as goal
-
-abbrev pub invariant-loop-line : goal.invariant-loop-line
-invariant-loop-line l = entries_of l.names ≡ noted (take l.line-index l.lines)

@@ -1,6 +1,0 @@
-use Rattle.std.proofs.Common.{◌≡◌, ◌-◌, ◌^◌, min, take}
-use Rattle.f77_check.specs.Presets.{product}
-use Rattle.f77_check.proofs.names.product.Given as goal
-
-abbrev pub invariant-loop-bound : goal.invariant-loop-bound
-invariant-loop-bound l = l.size ≡ min (product (take l.bound-index l.bounds)) (2 ^ 64 - 1)

@@ -1,0 +1,37 @@
+//! The check of a program.
+
+ghost use Rattle.std.specs.Prelude.{◌≡◌, ◌⊎◌, map, IfOk, IfErr, Some};
+ghost use Rattle.f77_tree.specs.Parsing.{line_of};
+ghost use Rattle.f77_check.specs.Checked.{shapes};
+ghost use Rattle.f77_legal.specs.Legal.{IsLegal, first_fault};
+ghost use Rattle.f77_legal.specs.declared.fault.CheckFault.TheVariants.{Memory};
+
+use crate::checked::Checked;
+use crate::resolve::Resolver;
+use crate::shapes::shapes;
+use crate::slots::Slots;
+use f77_legal::heading::arguments;
+use f77_legal::{CheckFault, Tables, judge};
+use f77_tree::Program;
+use std::alloc::Global;
+
+/// Whether the program is legal: it and the shapes of its dummy arguments, or its first fault, clause by clause, in the order of test.
+///
+/// Want of memory is told in place of any answer.
+#[tactic(auto, using(crate::proofs::Arguments::shapes_are, crate::proofs::SlotTables::slots_few, crate::proofs::CheckedParts::checked_of))]
+pub fn check(alloc: Global, program: &Program) -> Result<Checked, CheckFault>
+    ensures legal { IfOk result (λ checked. IsLegal (map line_of program.now)) }
+    ensures program { IfOk result (λ checked. map line_of checked.program ≡ map line_of program.now) }
+    ensures arguments { IfOk result (λ checked. checked.arguments ≡ shapes (map line_of program.now)) }
+    ensures fault { IfErr result (λ fault. (fault ≡ Memory) ⊎ (first_fault (map line_of program.now) ≡ Some fault)) }
+{
+    let lines = program.lines();
+    let tables = Tables::of(alloc, lines)?;
+    judge(alloc, &tables, lines)?;
+    let arguments = shapes(alloc, &tables.names, arguments(lines))?;
+    let slots = Slots::of(alloc, &tables.names)?;
+    let resolver = Resolver { tables, slots };
+    let statements = resolver.all(alloc, lines)?;
+    let start = resolver.start(alloc, lines)?;
+    Ok(Checked::from_parts(program.clone()?, arguments, resolver, statements, start))
+}

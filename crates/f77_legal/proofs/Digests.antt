@@ -1,0 +1,100 @@
+-- The facts of a name, from the mentions of it in order.
+use Rattle.std.proofs.Common.{◌≡◌, List, [], ◌∷◌, ◌++◌, ℕ, true, false, refl, ap, ◌∙◌}
+use Rattle.std.specs.Prelude.{filter, map, filter_map}
+use Rattle.std.specs.List.{cons_option, list_any}
+use Rattle.std.specs.Str.{bytes_eq}
+use Rattle.std.proofs.lemmas.List.{append-nil}
+use Rattle.std.proofs.lemmas.List.Elements.{filter-append, filter_map-append}
+use Rattle.f77_tree.specs.declared.tree.Kind.{Kind}
+use Rattle.f77_tree.specs.declared.tree.Kind.TheVariants.{Integer}
+use Rattle.f77_legal.specs.Names.{Symbol, Mention, name_in, is_dummy, kind_in, bounds_in, some_items, first_or, mentions_with}
+use Rattle.f77_legal.specs.NameTable.{FactsFields, times, facts_of, once_more, first_said, with_kind, with_bounds, with_fact, no_facts}
+use Rattle.f77_legal.proofs.Symbols.{or_false, symbol_symm}
+
+module _ {X : Type 0} where
+  times_push : (xs : List X) (x : X) → times (xs ++ x ∷ []) ≡ once_more (times xs)
+  times_push [] x = refl
+  times_push (y ∷ []) x = refl
+  times_push (y ∷ (z ∷ xs)) x = refl
+
+  first_push : (d : X) (xs : List X) (x : X) → first_or d (xs ++ x ∷ []) ≡ first_said (times xs) x (first_or d xs)
+  first_push d [] x = refl
+  first_push d (y ∷ []) x = refl
+  first_push d (y ∷ (z ∷ xs)) x = refl
+
+abbrev given : List Mention → List Kind → List (List ℕ) → FactsFields
+given ds ks bs = record { dummy = times ds; typed = times ks; kind = first_or Integer ks; dimensioned = times bs; bounds = first_or [] bs }
+
+abbrev digest : List Mention → FactsFields
+digest ms = given (filter is_dummy ms) (filter_map kind_in ms) (filter_map bounds_in ms)
+
+with_kind_push : (ds : List Mention) (ks : List Kind) (bs : List (List ℕ)) (kind : Kind) → given ds (ks ++ kind ∷ []) bs ≡ with_kind (given ds ks bs) kind
+with_kind_push ds ks bs kind = λ i. record {
+  dummy = times ds;
+  typed = times_push ks kind i;
+  kind = first_push Integer ks kind i;
+  dimensioned = times bs;
+  bounds = first_or [] bs;
+}
+
+with_bounds_push : (ds : List Mention) (ks : List Kind) (bs : List (List ℕ)) (bounds : List ℕ)
+    → given ds ks (bs ++ cons_option (some_items bounds) []) ≡ with_bounds (given ds ks bs) bounds
+with_bounds_push ds ks bs [] = ap (given ds ks) (append-nil bs)
+with_bounds_push ds ks bs (b ∷ rest) = λ i. record {
+  dummy = times ds;
+  typed = times ks;
+  kind = first_or Integer ks;
+  dimensioned = times_push bs (b ∷ rest) i;
+  bounds = first_push [] bs (b ∷ rest) i;
+}
+
+given_push : (ds : List Mention) (ks : List Kind) (bs : List (List ℕ)) (m : Mention)
+    → given (ds ++ filter is_dummy (m ∷ [])) (ks ++ filter_map kind_in (m ∷ [])) (bs ++ filter_map bounds_in (m ∷ [])) ≡ with_fact (given ds ks bs) m
+given_push ds ks bs (Mention.Dummy name) = λ i. record {
+  dummy = times_push ds (Mention.Dummy name) i;
+  typed = times (append-nil ks i);
+  kind = first_or Integer (append-nil ks i);
+  dimensioned = times (append-nil bs i);
+  bounds = first_or [] (append-nil bs i);
+}
+given_push ds ks bs (Mention.Typed kind d) =
+    (λ i. given (append-nil ds i) (ks ++ kind ∷ []) (bs ++ cons_option (some_items d.bounds) []))
+    ∙ with_bounds_push ds (ks ++ kind ∷ []) bs d.bounds
+    ∙ ap (λ z. with_bounds z d.bounds) (with_kind_push ds ks bs kind)
+given_push ds ks bs (Mention.Dimensioned d) =
+    (λ i. given (append-nil ds i) (append-nil ks i) (bs ++ cons_option (some_items d.bounds) []))
+    ∙ with_bounds_push ds ks bs d.bounds
+given_push ds ks bs (Mention.Plain name) = λ i. given (append-nil ds i) (append-nil ks i) (append-nil bs i)
+
+digest_push : (ms : List Mention) (m : Mention) → digest (ms ++ m ∷ []) ≡ with_fact (digest ms) m
+digest_push ms m =
+    (λ i. given (filter-append is_dummy ms (m ∷ []) i) (filter_map-append kind_in ms (m ∷ []) i) (filter_map-append bounds_in ms (m ∷ []) i))
+    ∙ given_push (filter is_dummy ms) (filter_map kind_in ms) (filter_map bounds_in ms) m
+
+module _ (ms : List Mention) (m : Mention) (q : Symbol) where
+  mentions_push : mentions_with (ms ++ m ∷ []) q ≡ mentions_with ms q ++ mentions_with (m ∷ []) q
+  mentions_push = filter-append (λ x. bytes_eq q (name_in x)) ms (m ∷ [])
+
+  -- one more mention adds to the facts of its own name, and to no other's
+  pub facts_hit : bytes_eq (name_in m) q ≡ true → facts_of (ms ++ m ∷ []) q ≡ with_fact (facts_of ms q) m
+  facts_hit e =
+      let f : bytes_eq q (name_in m) ≡ true = symbol_symm q (name_in m) ∙ e in
+      let same : mentions_with (m ∷ []) q ≡ m ∷ [] = rw f refl in
+      ap digest (mentions_push ∙ ap (λ z. mentions_with ms q ++ z) same) ∙ digest_push (mentions_with ms q) m
+
+  pub facts_miss : bytes_eq (name_in m) q ≡ false → facts_of (ms ++ m ∷ []) q ≡ facts_of ms q
+  facts_miss e =
+      let f : bytes_eq q (name_in m) ≡ false = symbol_symm q (name_in m) ∙ e in
+      let same : mentions_with (m ∷ []) q ≡ [] = rw f refl in
+      ap digest (mentions_push ∙ ap (λ z. mentions_with ms q ++ z) same ∙ append-nil (mentions_with ms q))
+
+-- of a name that no mention has, nothing is said
+none_with : (ms : List Mention) (q : Symbol) → list_any (bytes_eq q) (map name_in ms) ≡ false → mentions_with ms q ≡ []
+none_with [] q h = refl
+none_with (m ∷ ms) q h =
+    let parts = or_false (bytes_eq q (name_in m)) (list_any (bytes_eq q) (map name_in ms)) h in
+    let apart : bytes_eq q (name_in m) ≡ false = parts.0 in
+    rw apart (none_with ms q parts.1)
+
+pub facts_none : (ms : List Mention) (q : Symbol) → list_any (bytes_eq q) (map name_in ms) ≡ false → facts_of ms q ≡ no_facts
+facts_none ms q h = ap digest (none_with ms q h)

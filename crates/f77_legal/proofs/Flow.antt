@@ -1,0 +1,85 @@
+-- In a legal program control has where to go: behind each statement, from each branch, from the end of each DO and by each jump.
+use Rattle.std.proofs.Common.{◌≡◌, ◌⊎◌, ℕ, ◌+◌, ◌==◌, ◌&&◌, ◌||◌, not, Bool, true, false, inl, inr, List, Option, Some, None, refl, sym, ◌∙◌, ap, subst, length}
+use Rattle.std.specs.Prelude.{IsSome, is_some, if◌then◌else◌}
+use Rattle.std.specs.List.{list_any}
+use Rattle.std.specs.Option.{option_and_then, option_map_or}
+use Rattle.std.proofs.lemmas.Bool.{and_parts, or_left, or_right, or_parts}
+use Rattle.f77_tree.specs.Parsing.{LineFields}
+use Rattle.f77_tree.specs.Tree.{Tree, Statement}
+use Rattle.f77_legal.specs.declared.clause.Clause.TheVariants.{NamedLabels, Nests}
+use Rattle.f77_legal.specs.Blocks.{is_block_if, is_end_if, is_alternative, has_at, is_level, block_end, branch_end, behind, is_in_block, begins_branch}
+use Rattle.f77_legal.specs.BlockTable.{branch_end_at}
+use Rattle.f77_legal.specs.Labels.{place_of, statement_at, jumps_of, terminal_label}
+use Rattle.f77_legal.specs.Legal.{IsLegal}
+use Rattle.f77_legal.specs.Loops.{terminal, ends_outside, breaks_range, AreNested}
+use Rattle.f77_legal.proofs.Branches.{found_is, found_some}
+use Rattle.f77_legal.proofs.LegalGives.{clause_kept, kept_by, any_false, some_of, is_some_of, alternative_in_block, alternative_closes, block_closes}
+
+-- no DO breaks the nesting
+pub are_nested : (program : List LineFields) → IsLegal program → AreNested program
+are_nested program legal d = by (statement_at program d) refl
+  where
+    by : (o : Option Statement) → statement_at program d ≡ o → breaks_range program d ≡ false
+    by None at =
+        let none : terminal program d ≡ None = ap (λ o. option_and_then (place_of program) (option_and_then terminal_label o)) at in
+        ap (λ o. option_map_or (ends_outside program d) o false) none
+    by (Some s) at = (or_parts _ _ (clause_kept Nests program (kept_by program legal).nests d s at)).1
+
+pub some_behind : (program : List LineFields) → IsLegal program → (i : ℕ) → (j : ℕ) × (behind program i ≡ Some j)
+some_behind program legal i = by (has_at is_alternative program (i + 1)) refl
+  where
+    by : (b : Bool) → has_at is_alternative program (i + 1) ≡ b → (j : ℕ) × (behind program i ≡ Some j)
+    by true is =
+        let end = some_of (block_end program (i + 1)) (alternative_closes program (kept_by program legal) (i + 1) is) in
+        (end.0, ap (λ b. if b then block_end program (i + 1) else Some (i + 1)) is ∙ end.1)
+    by false is = (i + 1, ap (λ b. if b then block_end program (i + 1) else Some (i + 1)) is)
+
+-- a branch of a block that has its END IF ends there or before
+branch_ends : (program : List LineFields) (i : ℕ) → IsSome (block_end program i) → (j : ℕ) × (branch_end program i ≡ Some j)
+branch_ends program i some =
+    let e = some_of (block_end program i) some in
+    let found = found_is (λ j. has_at is_end_if program j && is_level program i j) (length program) e.0 e.1 in
+    let parts = and_parts (has_at is_end_if program e.0) (is_level program i e.0) found.0 in
+    let here : ((has_at is_end_if program e.0 || has_at is_alternative program e.0) && is_level program i e.0) ≡ true
+    = ap (λ b. b && is_level program i e.0) (or_left (has_at is_end_if program e.0) (has_at is_alternative program e.0) parts.0) ∙ parts.1 in
+    some_of (branch_end program i) (found_some (λ j. (has_at is_end_if program j || has_at is_alternative program j) && is_level program i j) (length program) e.0 here found.1)
+
+begun_ends : (program : List LineFields) (i : ℕ) → begins_branch program i ≡ true → (j : ℕ) × (branch_end program i ≡ Some j)
+    → (j : ℕ) × (branch_end_at program i ≡ Some j) × (branch_end program i ≡ Some j)
+begun_ends program i begins end = (end.0, ap (λ b. if b then branch_end program i else None) begins ∙ end.1, end.1)
+
+both : (a b : Bool) → a ≡ true → b ≡ true → (a && b) ≡ true
+both true b e f = f
+both false b e f = absurd (cc (e))
+
+pub some_branch : (program : List LineFields) → IsLegal program → (i : ℕ) (t : Tree)
+    → (statement_at program i ≡ Some (Statement.BlockIf t)) ⊎ (statement_at program i ≡ Some (Statement.ElseIf t))
+    → (j : ℕ) × (branch_end_at program i ≡ Some j) × (branch_end program i ≡ Some j)
+some_branch program legal i t (inl at) =
+    let closes = block_closes program (kept_by program legal) i t at in
+    let begins : (has_at is_block_if program i && is_some (block_end program i)) ≡ true = both _ _ (ap (λ o. option_map_or is_block_if o false) at) closes in
+    begun_ends program i (or_left (has_at is_block_if program i && is_some (block_end program i)) (has_at is_alternative program i && is_in_block program i) begins)
+    (branch_ends program i closes)
+some_branch program legal i t (inr at) =
+    let alternative : has_at is_alternative program i ≡ true = ap (λ o. option_map_or is_alternative o false) at in
+    let begins : (has_at is_alternative program i && is_in_block program i) ≡ true = both _ _ alternative (alternative_in_block program (kept_by program legal) i alternative) in
+    begun_ends program i (or_right (has_at is_block_if program i && is_some (block_end program i)) (has_at is_alternative program i && is_in_block program i) begins)
+    (branch_ends program i (alternative_closes program (kept_by program legal) i alternative))
+
+pub some_terminal : (program : List LineFields) → IsLegal program → (i : ℕ) (s : Statement) → statement_at program i ≡ Some s → IsSome (terminal_label s) → IsSome (terminal program i)
+some_terminal program legal i s at names = by (terminal_label s) refl names
+  where
+    by : (o : Option ℕ) → terminal_label s ≡ o → IsSome o → IsSome (terminal program i)
+    by None is some = absurd (cc (some))
+    by (Some label) is some =
+        let named = (or_parts _ _ (clause_kept NamedLabels program (kept_by program legal).labels i s at)).1 in
+        let stands = is_some_of (place_of program label) (sym (ap (λ o. option_map_or (λ label. not (is_some (place_of program label))) o false) is) ∙ named) in
+        let end : terminal program i ≡ place_of program label
+        = ap (λ o. option_and_then (place_of program) (option_and_then terminal_label o)) at ∙ ap (option_and_then (place_of program)) is in
+        subst IsSome (sym end) stands
+
+pub some_place : (program : List LineFields) → IsLegal program → (i : ℕ) (s : Statement) (label : ℕ) → statement_at program i ≡ Some s → list_any (λ l. l == label) (jumps_of s) ≡ true
+    → IsSome (place_of program label)
+some_place program legal i s label at among =
+    let named = (or_parts _ _ (clause_kept NamedLabels program (kept_by program legal).labels i s at)).0 in
+    is_some_of (place_of program label) (any_false (λ label. not (is_some (place_of program label))) (jumps_of s) label named among)

@@ -1,0 +1,171 @@
+-- A table of labels, as one more statement goes in, and what is read from it.
+use Rattle.std.proofs.Common.{◌≡◌, ℕ, suc, List, [], ◌∷◌, ◌++◌, Bool, true, false, cond, refl, sym, ◌∙◌, ap, arith, length, get_or, filter, append-nil, ◌<◌}
+use Rattle.std.specs.Prelude.{Option, Some, None, is_some, nat_eq, ◌==◌, ◌||◌, ◌&&◌, option_map, map, slice_get}
+use Rattle.std.specs.List.{list_any, filter_map, cons_option, find}
+use Rattle.std.specs.Map.{keys_of}
+use Rattle.std.specs.Option.{option_and_then, option_map_or}
+use Rattle.std.proofs.lemmas.Bool.{eqb-true}
+use Rattle.std.proofs.lemmas.List.{map-append}
+use Rattle.std.proofs.lemmas.Option.{same_Some, slice_get-map, slice_get_read}
+use Rattle.std.proofs.lemmas.List.Elements.{filter_map-append}
+use Rattle.std.proofs.lemmas.Map.Entries.{lookup_from_place}
+use Rattle.std.proofs.lemmas.Cmp.{nat_eq_equiv}
+use Rattle.indexmap.specs.IndexMap.{get, keys, insert_entry, Updates, IsUnique}
+use Rattle.indexmap.proofs.CallerLemmas.{insert_entry-new, keys-insert_entry-present}
+use Rattle.f77_tree.specs.Parsing.{LineFields, line_of}
+use Rattle.f77_tree.specs.declared.program.Line.{Line}
+use Rattle.f77_tree.specs.StatementView.{statement_of}
+use Rattle.f77_legal.specs.Labels.{statement_with, labels, bears, is_double, place_of}
+use Rattle.f77_legal.specs.LabelTable.{distinct, place_in, noted, IsLabelTable}
+use Rattle.f77_legal.specs.declared.labels.Labels.{Labels}
+use Rattle.f77_legal.specs.declared.labels.Place.{Place}
+use Rattle.f77_legal.proofs.DistinctLabels.{flipped, distinct-push, find_distinct, find_first}
+use Rattle.f77_legal.proofs.Positions.{first_with, position-push, position_some, twice-push, twice_none}
+
+abbrev at : ℕ → Bool → Place
+at first again = record { first = first; again = again }
+
+-- a label is among those of the program where a statement bears it
+borne_by : (own : Option ℕ) (label : ℕ) (rest : List ℕ) (b : Bool) → b ≡ list_any (nat_eq label) rest
+    → (option_map_or (λ o. o == label) own false || b) ≡ list_any (nat_eq label) (cons_option own rest)
+borne_by None label rest b h = h
+borne_by (Some o) label rest b h = ap (λ x. x || b) (flipped o label) ∙ ap (λ x. nat_eq label o || x) h
+
+borne : (program : List LineFields) (label : ℕ) → list_any (bears label) program ≡ list_any (nat_eq label) (labels program)
+borne [] label = refl
+borne (line ∷ program) label = borne_by line.label label (labels program) (list_any (bears label) program) (borne program label)
+
+placed : (program : List LineFields) (label : ℕ) → is_some (place_of program label) ≡ list_any (nat_eq label) (labels program)
+placed program label = position_some (bears label) program ∙ borne program label
+
+-- The places, with one more statement.
+place_by : (double here : Bool) (o : Option ℕ) (n : ℕ) → (o ≡ None → double ≡ false)
+    → option_map (λ first. at first (double || (here && is_some o))) (first_with o n here)
+    ≡ cond here (Some (noted (option_map (λ first. at first double) o) n)) (option_map (λ first. at first double) o)
+place_by double false None n none = refl
+place_by true false (Some j) n none = refl
+place_by false false (Some j) n none = refl
+place_by double true None n none = rw (none refl) refl
+place_by true true (Some j) n none = refl
+place_by false true (Some j) n none = refl
+
+place_push : (program : List LineFields) (line : LineFields) (q : ℕ)
+    → place_in (program ++ line ∷ []) q ≡ cond (bears q line) (Some (noted (place_in program q) (length program))) (place_in program q)
+place_push program line q =
+    ap (λ o. option_map (λ first. at first (is_double (program ++ line ∷ []) q)) o) (position-push (bears q) program line)
+    ∙ ap (λ b. option_map (λ first. at first b) (first_with (place_of program q) (length program) (bears q line))) (twice-push (bears q) program line)
+    ∙ place_by (is_double program q) (bears q line) (place_of program q) (length program) (twice_none (bears q) program)
+
+-- A statement with no label leaves the table.
+pub unlabelled : (table : Labels) (program : List LineFields) (line : LineFields) → line.label ≡ None → IsLabelTable table program → IsLabelTable table (program ++ line ∷ [])
+unlabelled table program line none is =
+    record {
+      places = λ q.
+          is.places q
+          ∙ sym (place_push program line q ∙ ap (λ own. cond (option_map_or (λ o. o == q) own false) (Some (noted (place_in program q) (length program))) (place_in program q)) none);
+      order =
+          is.order
+          ∙ ap distinct (sym (filter_map-append (λ l. l.label) program (line ∷ []) ∙ ap (λ own. labels program ++ cons_option own []) none ∙ append-nil (labels program)));
+    }
+
+-- A label goes in, or is noted as double.
+here_by : (label q n : ℕ) (b : Bool) (program : List LineFields) (old : Option Place) → nat_eq label q ≡ b → old ≡ place_in program label
+    → cond b (Some (noted old n)) (place_in program q) ≡ cond b (Some (noted (place_in program q) n)) (place_in program q)
+here_by label q n true program old same is = ap (λ o. Some (noted o n)) (is ∙ ap (place_in program) (eqb-true label q same))
+here_by label q n false program old same is = refl
+
+some_mapped : {A B : Type 0} (f : A → B) (o : Option A) → is_some (option_map f o) ≡ is_some o
+some_mapped f None = refl
+some_mapped f (Some x) = refl
+
+keys_by : (old : Labels) (label : ℕ) (place : Place) (o : Option Place) → get nat_eq old.places label ≡ o
+    → keys_of (insert_entry nat_eq old.places.entries label place) ≡ keys old.places ++ cond (is_some o) [] (label ∷ [])
+keys_by old label place None e =
+    ap keys_of (insert_entry-new nat_eq old.places label place e) ∙ map-append (λ e. e.0) old.places.entries ((label, place) ∷ [])
+keys_by old label place (Some found) e =
+    keys-insert_entry-present nat_eq old.places label place (ap is_some e) ∙ sym (append-nil (keys old.places))
+
+pub labelled : (old new : Labels) (program : List LineFields) (line : LineFields) (i label : ℕ) (place : Place)
+    → line.label ≡ Some label → IsLabelTable old program → length program ≡ i → place ≡ noted (get nat_eq old.places label) i
+    → Updates nat_eq old.places new.places label (Some place)
+    → new.places.entries ≡ insert_entry nat_eq old.places.entries label place
+    → IsLabelTable new (program ++ line ∷ [])
+labelled old new program line i label place has is long placed_at updates entries =
+    let before = get nat_eq old.places label in
+    let put : place ≡ noted before (length program) = placed_at ∙ ap (noted before) (sym long) in
+    let own : is_some before ≡ list_any (nat_eq label) (labels program) = ap is_some (is.places label) ∙ some_mapped _ (place_of program label) ∙ placed program label in
+    record {
+      places = λ q.
+          updates.0 q
+          ∙ ap (λ v. cond (nat_eq label q) (Some v) (get nat_eq old.places q)) put
+          ∙ ap (λ o. cond (nat_eq label q) (Some (noted before (length program))) o) (is.places q)
+          ∙ here_by label q (length program) (nat_eq label q) program before refl (is.places label)
+          ∙ sym (place_push program line q ∙ ap (λ x. cond (option_map_or (λ o. o == q) x false) (Some (noted (place_in program q) (length program))) (place_in program q)) has);
+      order =
+          ap keys_of entries
+          ∙ keys_by old label place before refl
+          ∙ ap (λ ks. ks ++ cond (is_some before) [] (label ∷ [])) is.order
+          ∙ ap (λ b. distinct (labels program) ++ cond b [] (label ∷ [])) own
+          ∙ sym (distinct-push (labels program) label)
+          ∙ ap distinct (sym (filter_map-append (λ l. l.label) program (line ∷ []) ∙ ap (λ x. labels program ++ cons_option x []) has));
+    }
+
+-- The first double label, as the entries tell it.
+again_by : (o : Option ℕ) (double : Bool) (place : Place) → option_map (λ first. at first double) o ≡ Some place → place.again ≡ double
+again_by None double place e = cc
+again_by (Some j) double place e = ap (λ p. p.again) (sym (same_Some (at j double) place e))
+
+find_keys : (p : ℕ → Bool) (entries : List (ℕ × Place)) → ((i : ℕ) (e : ℕ × Place) → slice_get entries i ≡ Some e → e.1.again ≡ p e.0)
+    → option_map (λ e. e.0) (find (λ e. e.1.again) entries) ≡ find p (keys_of entries)
+find_keys p [] each = refl
+find_keys p (e ∷ es) each = by e.1.again (p e.0) (each 0 e refl) (find_keys p es (λ i. each (suc i)))
+  where
+    by : (a b : Bool) → a ≡ b → option_map (λ x. x.0) (find (λ x. x.1.again) es) ≡ find p (keys_of es)
+        → option_map (λ x. x.0) (cond a (Some e) (find (λ x. x.1.again) es)) ≡ cond b (Some e.0) (find p (keys_of es))
+    by true true same rest = refl
+    by false false same rest = rest
+    by true false same rest = cc
+    by false true same rest = cc
+
+pub first_double : (table : Labels) (program : List LineFields) → IsUnique nat_eq table.places → IsLabelTable table program
+    → option_map (λ e. e.0) (find (λ e. e.1.again) table.places.entries) ≡ slice_get (filter (is_double program) (labels program)) 0
+first_double table program unique is =
+    find_keys (is_double program) table.places.entries double
+    ∙ ap (find (is_double program)) is.order
+    ∙ find_distinct (is_double program) (labels program)
+    ∙ find_first (is_double program) (labels program)
+  where
+    double : (i : ℕ) (e : ℕ × Place) → slice_get table.places.entries i ≡ Some e → e.1.again ≡ is_double program e.0
+    double i e there = again_by (place_of program e.0) (is_double program e.0) e.1 (sym (is.places e.0) ∙ lookup_from_place nat_eq_equiv table.places.entries i e.0 e.1 unique there)
+
+-- a test of the labels that there are among three
+pub any_of_three : (test : ℕ → Bool) (a b c : Option ℕ)
+    → list_any test (filter_map (λ label. label) (a ∷ (b ∷ (c ∷ [])))) ≡ (option_map_or test a false || (option_map_or test b false || option_map_or test c false))
+any_of_three test a b c = any_given a (b ∷ (c ∷ [])) ∙ ap (λ x. option_map_or test a false || x) (any_given b (c ∷ []) ∙ ap (λ x. option_map_or test b false || x) (any_given c [] ∙ or_false (option_map_or test c false)))
+  where
+    any_given : (o : Option ℕ) (rest : List (Option ℕ)) → list_any test (filter_map (λ label. label) (o ∷ rest)) ≡ (option_map_or test o false || list_any test (filter_map (λ label. label) rest))
+    any_given None rest = refl
+    any_given (Some x) rest = refl
+
+    or_false : (x : Bool) → (x || false) ≡ x
+    or_false true = refl
+    or_false false = refl
+
+-- any of the three jumps that a list gives, where the first does not pass
+pub three_jumps : (test : ℕ → Bool) (given : List (Option ℕ)) (jumps : List ℕ) (answer : Bool) → length given ≡ 3 → filter_map (λ label. label) given ≡ jumps
+    → option_map_or test (get_or given 0 None) false ≡ false
+    → answer ≡ (option_map_or test (get_or given 1 None) false || option_map_or test (get_or given 2 None) false)
+    → answer ≡ list_any test jumps
+three_jumps test [] jumps answer long e first rest = absurd (omega (arith, long))
+three_jumps test (a ∷ []) jumps answer long e first rest = absurd (omega (arith, long))
+three_jumps test (a ∷ (b ∷ [])) jumps answer long e first rest = absurd (omega (arith, long))
+three_jumps test (a ∷ (b ∷ (c ∷ []))) jumps answer long e first rest =
+    rest ∙ sym (ap (list_any test) (sym e) ∙ any_of_three test a b c ∙ ap (λ x. x || (option_map_or test b false || option_map_or test c false)) first)
+three_jumps test (a ∷ (b ∷ (c ∷ (d ∷ more)))) jumps answer long e first rest = absurd (omega (arith, long))
+
+-- the statement that a place gives
+pub statement_found : (lines : List Line) (label : Option ℕ) (l p : ℕ) (line : Line) → label ≡ Some l → place_of (map line_of lines) l ≡ Some p
+    → p < length lines → line ≡ get_or lines p line → Some (statement_of line.stmt) ≡ option_and_then (statement_with (map line_of lines)) label
+statement_found lines label l p line named at within is =
+    let here : slice_get lines p ≡ Some line = slice_get_read lines (length lines) p line refl within is in
+    rw (named, at, slice_get-map line_of lines p, here) refl

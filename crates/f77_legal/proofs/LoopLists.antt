@@ -1,0 +1,108 @@
+-- Two tests of a list: where some element passes the first alone, and where both keep the same elements.
+use Rattle.std.proofs.Common.{◌≡◌, ℕ, zero, suc, ◌<◌, length, slice_get, List, [], ◌∷◌, ◌++◌, Option, Some, None, Bool, true, false, cond, refl, sym, ◌∙◌, ap, subst, inl, inr, arith}
+use Rattle.std.specs.Prelude.{filter, ◌&&◌, ◌||◌, ◌==◌, not}
+use Rattle.std.specs.List.{All, list_any, list_all, find}
+use Rattle.std.specs.Option.{option_or, option_map_or}
+use Rattle.std.proofs.lemmas.Bool.{or_from, or_parts, cases_lt}
+use Rattle.std.proofs.lemmas.Bool.Decides.{Decides-eqb}
+use Rattle.std.proofs.lemmas.List.{length-append}
+use Rattle.std.proofs.lemmas.List.Elements.{All-head, All-tail, filter_passes}
+use Rattle.std.proofs.lemmas.List.Folds.{find-append}
+use Rattle.std.proofs.lemmas.Slice.Eq.{slice_eq-Decides}
+use Rattle.f77_legal.specs.Blocks.{first_numbers}
+use Rattle.f77_legal.specs.Loops.{same_numbers}
+
+-- some element passes p and not q
+abbrev pub left_out : (ℕ → Bool) → (ℕ → Bool) → List ℕ → Bool
+left_out p q xs = list_any (λ x. p x && not (q x)) xs
+
+all_step : (a b c : Bool) → ((not a || b) && not c) ≡ not ((a && not b) || c)
+all_step true true c = refl
+all_step true false c = refl
+all_step false b c = refl
+
+pub all_kept : (p q : ℕ → Bool) (xs : List ℕ) → list_all (λ x. not (p x) || q x) xs ≡ not (left_out p q xs)
+all_kept p q [] = refl
+all_kept p q (x ∷ xs) = ap (λ b. (not (p x) || q x) && b) (all_kept p q xs) ∙ all_step (p x) (q x) (left_out p q xs)
+
+none_out_at : (p q : ℕ → Bool) (x : ℕ) (xs : List ℕ) (b : Bool) → All (λ y. q y ≡ true) (cond b (x ∷ filter p xs) (filter p xs)) → (All (λ y. q y ≡ true) (filter p xs) → left_out p q xs ≡ false) → ((b && not (q x)) || left_out p q xs) ≡ false
+none_out_at p q x xs true h rest =
+    or_from (not (q x)) (left_out p q xs) (ap not (All-head (λ y. q y ≡ true) x (filter p xs) h)) (rest (All-tail (λ y. q y ≡ true) x (filter p xs) h))
+none_out_at p q x xs false h rest = rest h
+
+none_out : (p q : ℕ → Bool) (xs : List ℕ) → All (λ y. q y ≡ true) (filter p xs) → left_out p q xs ≡ false
+none_out p q [] h = refl
+none_out p q (x ∷ xs) h = none_out_at p q x xs (p x) h (none_out p q xs)
+
+same_step : (a b : Bool) (x : ℕ) (xs ys : List ℕ) → (a && not b) ≡ false → (b && not a) ≡ false → xs ≡ ys → cond a (x ∷ xs) xs ≡ cond b (x ∷ ys) ys
+same_step true true x xs ys g h e = ap (λ zs. x ∷ zs) e
+same_step true false x xs ys g h e = absurd (cc)
+same_step false true x xs ys g h e = absurd (cc)
+same_step false false x xs ys g h e = e
+
+same_kept : (p q : ℕ → Bool) (xs : List ℕ) → left_out p q xs ≡ false → left_out q p xs ≡ false → filter p xs ≡ filter q xs
+same_kept p q [] g h = refl
+same_kept p q (x ∷ xs) g h =
+    let front = or_parts (p x && not (q x)) (left_out p q xs) g in
+    let back = or_parts (q x && not (p x)) (left_out q p xs) h in
+    same_step (p x) (q x) x (filter p xs) (filter q xs) front.0 back.0 (same_kept p q xs front.1 back.1)
+
+same_answer : (r b : Bool) → (r ≡ true → b ≡ false) → (b ≡ false → r ≡ true) → r ≡ not b
+same_answer true b f g = rw (f refl) refl
+same_answer false true f g = refl
+same_answer false false f g = g refl
+
+-- two tests keep the same numbers where neither leaves out what the other keeps
+pub same_filters : (p q : ℕ → Bool) (xs : List ℕ) → same_numbers (filter p xs) (filter q xs) ≡ not (left_out p q xs || left_out q p xs)
+same_filters p q xs =
+    let decides = slice_eq-Decides {E = λ a b. a == b} Decides-eqb (filter p xs) (filter q xs) (same_numbers (filter p xs) (filter q xs)) refl in
+    same_answer (same_numbers (filter p xs) (filter q xs)) (left_out p q xs || left_out q p xs)
+    (λ e. or_from (left_out p q xs) (left_out q p xs)
+    (none_out p q xs (subst (All (λ y. q y ≡ true)) (sym (decides.0 e)) (filter_passes q xs)))
+    (none_out q p xs (subst (All (λ y. p y ≡ true)) (decides.0 e) (filter_passes p xs))))
+    (λ e. let parts = or_parts (left_out p q xs) (left_out q p xs) e in decides.1 (same_kept p q xs parts.0 parts.1))
+
+pub any_agree : (p q : ℕ → Bool) → ((x : ℕ) → p x ≡ q x) → (xs : List ℕ) → list_any p xs ≡ list_any q xs
+any_agree p q h xs = ap (λ (test : ℕ → Bool). list_any test xs) (λ i. λ x. h x i)
+
+pub map_agree : (f g : ℕ → Bool) → ((x : ℕ) → f x ≡ g x) → (o : Option ℕ) → option_map_or f o false ≡ option_map_or g o false
+map_agree f g h None = refl
+map_agree f g h (Some x) = h x
+
+pub filter_none : (p : ℕ → Bool) → ((x : ℕ) → p x ≡ false) → (xs : List ℕ) → filter p xs ≡ []
+filter_none p h [] = refl
+filter_none p h (x ∷ xs) = ap (λ b. cond b (x ∷ filter p xs) (filter p xs)) (h x) ∙ filter_none p h xs
+
+-- the number i stands at the place i
+pub count_numbers : (n : ℕ) → length (first_numbers n) ≡ n
+count_numbers zero = refl
+count_numbers (suc n) = let e = count_numbers n in omega (arith, length-append (first_numbers n) (n ∷ []))
+
+get_within : (xs ys : List ℕ) (i : ℕ) → i < length xs → slice_get (xs ++ ys) i ≡ slice_get xs i
+get_within [] ys i lt = absurd (omega arith)
+get_within (x ∷ xs) ys zero lt = refl
+get_within (x ∷ xs) ys (suc i) lt = get_within xs ys i (omega arith)
+
+get_last : (xs : List ℕ) (y : ℕ) → slice_get (xs ++ y ∷ []) (length xs) ≡ Some y
+get_last [] y = refl
+get_last (x ∷ xs) y = get_last xs y
+
+pub get_number : (n i : ℕ) → i < n → slice_get (first_numbers n) i ≡ Some i
+get_number zero i lt = absurd (omega arith)
+get_number (suc n) i lt = elim (cases_lt i n) [
+  | inl below ↦ get_within (first_numbers n) (n ∷ []) i (rw (count_numbers n) below) ∙ get_number n i below
+  | inr above ↦
+      let e : n ≡ i = omega arith in
+      let last = subst (λ k. slice_get (first_numbers n ++ n ∷ []) k ≡ Some n) (count_numbers n) (get_last (first_numbers n) n) in
+      subst (λ k. slice_get (first_numbers n ++ n ∷ []) k ≡ Some k) e last
+]
+
+found_either : (o : Option ℕ) (b : Bool) (n e : ℕ) → ((k : ℕ) → o ≡ Some k → k < n) → option_or o (cond b (Some n) None) ≡ Some e → e < suc n
+found_either None true n e h same = let k : n ≡ e = cc in omega arith
+found_either None false n e h same = absurd (cc)
+found_either (Some k) b n e h same = let s : k ≡ e = cc in let l : k < n = h k refl in omega arith
+
+pub found_within : (p : ℕ → Bool) (n e : ℕ) → find p (first_numbers n) ≡ Some e → e < n
+found_within p zero e h = absurd (cc)
+found_within p (suc n) e h =
+    found_either (find p (first_numbers n)) (p n) n e (found_within p n) (sym (find-append p (first_numbers n) (n ∷ [])) ∙ h)

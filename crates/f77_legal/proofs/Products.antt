@@ -1,0 +1,29 @@
+-- Products that are clipped on the way.
+use Rattle.std.proofs.Common.{arith, ◌≡◌, ◌⊎◌, inl, inr, ℕ, zero, suc, ◌+◌, ◌*◌, ◌<◌, ◌≤◌, List, length, get_or, drop, drop-cons, add-one, refl, sym, ap}
+use Rattle.std.specs.Prelude.{min}
+use Rattle.std.proofs.Math.Nat.{mul_assoc}
+use Rattle.std.proofs.lemmas.Bool.Decides.{nat_tests}
+use Rattle.f77_legal.specs.Presets.{product}
+
+-- a product that was clipped on the way
+clip_product : (n q top most : ℕ) → most ≤ top → min (min n top * q) most ≡ min (n * q) most
+clip_product n zero top most h = omega arith
+clip_product n (suc q) top most h = by (cases n top)
+  where
+    cases : (a b : ℕ) → (a ≤ b) ⊎ (b < a)
+    cases a b = grind (arith, nat_tests)
+
+    by : (n ≤ top) ⊎ (top < n) → min (min n top * suc q) most ≡ min (n * suc q) most
+    by (inl p) = let f : min n top ≡ n = omega arith in rw f refl
+    by (inr p) =
+        let f : min n top ≡ top = omega arith in
+        let x : top ≤ top * suc q = omega arith in
+        let y : n ≤ n * suc q = omega arith in
+        rw f (omega arith)
+
+-- one bound more
+pub product_step : (p f r i most top : ℕ) (bounds : List ℕ) → most ≤ top → i < length bounds → f ≡ get_or bounds i 0 → r ≡ min (p * f) top
+    → min (p * product (drop i bounds)) most ≡ min (r * product (drop (i + 1) bounds)) most
+product_step p f r i most top bounds h q e g =
+    let d : product (drop i bounds) ≡ f * product (drop (i + 1) bounds) = rw (add-one, e) (ap product (drop-cons bounds i 0 q)) in
+    rw (d, g, ← mul_assoc) (sym (clip_product (p * f) (product (drop (i + 1) bounds)) top most h))

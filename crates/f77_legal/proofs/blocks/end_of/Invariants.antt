@@ -1,0 +1,7 @@
+use Rattle.std.specs.Prelude.{map}
+use Rattle.f77_tree.specs.Parsing.{line_of}
+use Rattle.f77_legal.proofs.BlockScan.{Scanning}
+use Rattle.f77_legal.proofs.blocks.end_of.Given as goal
+
+abbrev pub invariant-loop-j : goal.invariant-loop-j
+invariant-loop-j l = Scanning (map line_of l.lines) l.extent l.start l.j l.depth

@@ -1,0 +1,18 @@
+use Rattle.std.proofs.Common.{arith, ◌≡◌, take, ap, sym, ◌∙◌}
+use Rattle.std.proofs.lemmas.Grind.{common_steps}
+use Rattle.f77_tree.specs.StatementView.{statement_of}
+use Rattle.f77_legal.specs.Names.{mentions_of}
+use Rattle.f77_legal.specs.NameTable.{with_mentions}
+use Rattle.f77_legal.proofs.NameTables.{noted, noted_all, noted_more}
+use Rattle.f77_legal.proofs.names.Names.of.Goals as goal
+
+pub loop-line-preserved : goal.loop-line-preserved
+loop-line-preserved c =
+    c.in_ok-note_statement.ensures.noted
+    ∙ ap (λ z. with_mentions z (mentions_of (statement_of c.line-item.result.stmt))) c.loop-line.invariant
+    ∙ sym (noted_more c.args.lines.now c.loop-line.line-index c.line-item.result c.loop-line-test.true c.line-item.is)
+
+pub returns-clause-table : goal.returns-clause-table
+returns-clause-table c =
+    let whole : take c.loop-line.line-index c.args.lines.now ≡ c.args.lines.now = grind (arith, common_steps) in
+    c.loop-line.invariant ∙ ap noted whole ∙ noted_all c.args.lines.now

@@ -1,0 +1,10 @@
+use Rattle.std.proofs.Common.{◌≡◌, List, take, map}
+use Rattle.f77_tree.specs.Parsing.{LineFields}
+use Rattle.f77_tree.specs.StatementView.{statement_of}
+use Rattle.f77_legal.specs.LabelTable.{IsLabelTable}
+use Rattle.f77_legal.specs.Tables.{terminal_of}
+use Rattle.f77_legal.proofs.tables.terminals.Given as goal
+
+abbrev pub invariant-loop-line : goal.invariant-loop-line
+invariant-loop-line l = (program : List LineFields) → IsLabelTable l.labels program
+    → l.ends.items ≡ map (λ line. terminal_of program (statement_of line.stmt)) (take l.line-index l.lines)

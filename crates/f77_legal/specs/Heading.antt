@@ -1,0 +1,15 @@
+-- The dummy arguments of a program (ANSI X3.9-1978, 15.6).
+use Rattle.std.specs.Prelude.{List, []}
+use Rattle.std.specs.Option.{option_map_or}
+use Rattle.f77_tree.specs.Parsing.{LineFields}
+use Rattle.f77_tree.specs.Tree.{Statement}
+use Rattle.f77_legal.specs.Labels.{statement_at}
+use Rattle.f77_legal.specs.Names.{Symbol}
+
+abbrev pub dummies_of : Statement → List Symbol
+dummies_of (Statement.Subroutine name names) = names
+dummies_of _ = []
+
+-- the dummy arguments, in order
+abbrev pub dummies : List LineFields → List Symbol
+dummies program = option_map_or dummies_of (statement_at program 0) []

@@ -1,0 +1,66 @@
+-- Which programs are legal: no clause has a fault. What is told of another is the first of its faults, clause by clause, and within a
+-- clause in the order of the names, the labels or the lines.
+use Rattle.std.specs.Prelude.{◌≡◌, ◌⊎◌, ◌||◌, Bool, nat_lt, List, [], ◌∷◌, ◌++◌, length, map, filter, if◌then◌else◌, Option, Some, is_some, Result, Ok, Err}
+use Rattle.std.specs.List.{flat_map, sum, slice_get}
+use Rattle.f77_tree.specs.Parsing.{LineFields}
+use Rattle.f77_legal.specs.declared.clause.Clause.{Clause}
+use Rattle.f77_legal.specs.declared.clause.Clause.TheVariants.{Kinds, Bounds, NamedLabels, Targets, Terminals, Nests, Jumps, Variables}
+use Rattle.f77_legal.specs.declared.fault.CheckFault.{CheckFault}
+use Rattle.f77_legal.specs.declared.fault.CheckFault.TheVariants.{Memory, RealName, Twice, DoubleLabel, BadData, TooMany}
+use Rattle.f77_legal.specs.Clause.{faults_of, lines_where}
+use Rattle.f77_legal.specs.Names.{Symbol, symbols, is_real, is_twice, bounds_of, some_items}
+use Rattle.f77_legal.specs.Labels.{labels, is_double}
+use Rattle.f77_legal.specs.Presets.{elements, presets_badly}
+
+abbrev pub is_array : List LineFields → Symbol → Bool
+is_array program name = is_some (some_items (bounds_of program name))
+
+-- over 500 statements, 100 variables and arrays, or 10,000 elements over all arrays
+abbrev pub is_too_large : List LineFields → Bool
+is_too_large program =
+    nat_lt 500 (length program)
+    || (nat_lt 100 (length (symbols program))
+    || nat_lt 10000 (sum (map (elements program) (filter (is_array program) (symbols program)))))
+
+abbrev pub name_faults : List LineFields → List CheckFault
+name_faults program = map RealName (filter (is_real program) (symbols program)) ++ map Twice (filter (is_twice program) (symbols program))
+
+abbrev pub clause_faults : List Clause → List LineFields → List CheckFault
+clause_faults clauses program = flat_map (λ clause. faults_of clause program) clauses
+
+abbrev pub label_faults : List LineFields → List CheckFault
+label_faults program = map DoubleLabel (filter (is_double program) (labels program))
+
+abbrev pub data_faults : List LineFields → List CheckFault
+data_faults program = map BadData (lines_where (presets_badly program) program)
+
+abbrev pub size_faults : List LineFields → List CheckFault
+size_faults program = if is_too_large program then TooMany ∷ [] else []
+
+-- what expressions owe, and what jumps and loops do, in the order of test
+abbrev pub expression_clauses : List Clause
+expression_clauses = Kinds ∷ (Bounds ∷ [])
+
+abbrev pub control_clauses : List Clause
+control_clauses = NamedLabels ∷ (Targets ∷ (Terminals ∷ (Nests ∷ (Jumps ∷ (Variables ∷ [])))))
+
+-- all faults of a program, in the order in which they are told
+abbrev pub faults : List LineFields → List CheckFault
+faults program =
+    name_faults program
+    ++ (clause_faults expression_clauses program
+    ++ (label_faults program
+    ++ (clause_faults control_clauses program
+    ++ (data_faults program
+    ++ size_faults program))))
+
+abbrev pub IsLegal : List LineFields → Type 0
+IsLegal program = faults program ≡ []
+
+abbrev pub first_fault : List LineFields → Option CheckFault
+first_fault program = slice_get (faults program) 0
+
+-- there are no faults; or the first of them is told, or want of memory
+abbrev pub Tells : Result (Unit {0}) CheckFault → List CheckFault → Type 0
+Tells (Ok u) faults = faults ≡ []
+Tells (Err fault) faults = (fault ≡ Memory) ⊎ (slice_get faults 0 ≡ Some fault)

@@ -1,0 +1,16 @@
+pub mod Names
+pub mod NameTable
+pub mod Kinds
+pub mod Dimensions
+pub mod Labels
+pub mod LabelTable
+pub mod Heading
+pub mod Blocks
+pub mod BlockTable
+pub mod Loops
+pub mod LoopTable
+pub mod Presets
+pub mod Runs
+pub mod Clause
+pub mod Tables
+pub mod Legal

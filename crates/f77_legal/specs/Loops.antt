@@ -1,0 +1,89 @@
+-- DO loops: their ranges, and what a range may hold (ANSI X3.9-1978, 11.10). Statements are numbered from 0 here.
+use Rattle.std.specs.Prelude.{◌≡◌, ℕ, ◌&&◌, ◌||◌, ◌==◌, Bool, false, not, nat_lt, nat_le, List, filter, reverse, Option, Some, None}
+use Rattle.std.specs.List.{list_any, list_all, starts_with}
+use Rattle.std.specs.Option.{option_and_then, option_map_or}
+use Rattle.std.specs.Cmp.Lexicographic.{pointwise}
+use Rattle.std.specs.Str.{bytes_eq}
+use Rattle.f77_tree.specs.Parsing.{LineFields}
+use Rattle.f77_tree.specs.Tree.{Statement}
+use Rattle.f77_legal.specs.Blocks.{numbers, branch_holds, breaks_block}
+use Rattle.f77_legal.specs.Labels.{statement_at, place_of, terminal_label, jumps_of}
+use Rattle.f77_legal.specs.Names.{Symbol}
+
+-- the terminal statement of a DO
+abbrev pub terminal : List LineFields → ℕ → Option ℕ
+terminal program d = option_and_then (place_of program) (option_and_then terminal_label (statement_at program d))
+
+-- k is in the range of the DO d: behind it, up to its terminal statement
+abbrev pub range_holds : List LineFields → ℕ → ℕ → Bool
+range_holds program d k = nat_lt d k && option_map_or (nat_le k) (terminal program d) false
+
+-- a jump from i to j leaves the DOs whose range holds i and not j
+abbrev pub is_left : List LineFields → ℕ → ℕ → ℕ → Bool
+is_left program i j d = range_holds program d i && not (range_holds program d j)
+
+-- these DOs, the outermost first
+abbrev pub left_by : List LineFields → ℕ → ℕ → List ℕ
+left_by program i j = filter (is_left program i j) (numbers program)
+
+-- the DOs that end at t, the innermost first
+abbrev pub ends_at : List LineFields → ℕ → ℕ → Bool
+ends_at program t d = option_map_or (λ e. e == t) (terminal program d) false
+
+abbrev pub loops_ending : List LineFields → ℕ → List ℕ
+loops_ending program t = reverse (filter (ends_at program t) (numbers program))
+
+-- the branches that hold k, each as the number of the statement that begins it, the outermost first
+abbrev pub branches : List LineFields → ℕ → List ℕ
+branches program k = filter (λ i. branch_holds program i k) (numbers program)
+
+-- the DOs whose range holds k and the branches that hold it, the outermost first
+abbrev pub enclosing : List LineFields → ℕ → List ℕ
+enclosing program k = filter (λ i. range_holds program i k || branch_holds program i k) (numbers program)
+
+abbrev pub same_numbers : List ℕ → List ℕ → Bool
+same_numbers = pointwise (λ a b. a == b)
+
+-- the DO d, which ends at t, ends before it begins, in another branch, or outside of a range that holds it
+abbrev pub ends_outside : List LineFields → ℕ → ℕ → Bool
+ends_outside program d t =
+    not (nat_lt d t
+    && (same_numbers (branches program d) (branches program t)
+    && list_all (λ e. not (range_holds program e d) || range_holds program e t) (numbers program)))
+
+abbrev pub breaks_range : List LineFields → ℕ → Bool
+breaks_range program d = option_map_or (ends_outside program d) (terminal program d) false
+
+-- no DO breaks the nesting
+abbrev pub AreNested : List LineFields → Type 0
+AreNested program = (d : ℕ) → breaks_range program d ≡ false
+
+-- a block or a DO is not nested
+abbrev pub breaks_nesting : List LineFields → ℕ → Bool
+breaks_nesting program i = breaks_block program i || breaks_range program i
+
+-- control goes from i to j, and into a range or a branch from outside of it
+abbrev pub goes_in : List LineFields → ℕ → ℕ → Bool
+goes_in program i j = not (starts_with (λ a b. a == b) (enclosing program i) (enclosing program j))
+
+abbrev pub jumps_in : List LineFields → ℕ → Statement → Bool
+jumps_in program i s = list_any (λ label. option_map_or (goes_in program i) (place_of program label) false) (jumps_of s)
+
+-- the variable that a statement sets by its own rule: the target of an assignment, a DO variable
+abbrev pub set_by : Statement → Option Symbol
+set_by (Statement.Assign name items t) = Some name
+set_by (Statement.LogicalIf t s) = set_by s
+set_by (Statement.Loop label name a b c) = Some name
+set_by _ = None
+
+abbrev pub variable_of : Statement → Option Symbol
+variable_of (Statement.Loop label name a b c) = Some name
+variable_of _ = None
+
+-- the statement i is in the range of the DO d, whose variable this is
+abbrev pub holds_with : List LineFields → ℕ → Symbol → ℕ → Bool
+holds_with program i name d = range_holds program d i && option_map_or (bytes_eq name) (option_and_then variable_of (statement_at program d)) false
+
+-- the statement sets the variable of a DO whose range holds it
+abbrev pub sets_variable : List LineFields → ℕ → Statement → Bool
+sets_variable program i s = option_map_or (λ name. list_any (holds_with program i name) (numbers program)) (set_by s) false

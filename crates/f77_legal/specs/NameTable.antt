@@ -1,0 +1,142 @@
+-- The table of names: each name once, in order of first appearance, with what the program says of it.
+use Rattle.std.specs.Prelude.{◌≡◌, ℕ, ◌&&◌, ◌||◌, Bool, true, false, not, List, [], ◌∷◌, map, fold, filter_map, if◌then◌else◌, Option, is_some}
+use Rattle.std.specs.Option.{option_map_or}
+use Rattle.std.specs.Str.{bytes_eq}
+use Rattle.indexmap.specs.IndexMap.{get}
+use Rattle.f77_tree.specs.Intrinsic.{function_named}
+use Rattle.f77_tree.specs.Node.{NodeOf, name_of}
+use Rattle.f77_tree.specs.Parsing.{LineFields}
+use Rattle.f77_tree.specs.declared.tree.Kind.{Kind}
+use Rattle.f77_tree.specs.declared.tree.Kind.TheVariants.{Integer}
+use Rattle.f77_legal.specs.declared.names.Facts.{Facts}
+use Rattle.f77_legal.specs.declared.names.Names.{Names}
+use Rattle.f77_legal.specs.declared.names.Times.{Times}
+use Rattle.f77_legal.specs.declared.names.Times.TheVariants.{Never, Once, More}
+use Rattle.f77_legal.specs.declared.mentions.Said.{Said}
+use Rattle.f77_legal.specs.declared.mentions.Said.TheVariants as said
+use Rattle.f77_legal.specs.Names.{Symbol, Mention, name_in, mentions, each_once, dummies_given, kinds_given, bounds_given, first_or, some_items, is_integer_name}
+use Rattle.f77_legal.specs.Presets.{product}
+
+abbrev pub kind_at : Names → Symbol → Kind
+kind_at names name = option_map_or (λ facts. facts.kind) (get bytes_eq names.facts name) Integer
+
+abbrev pub bounds_at : Names → Symbol → List ℕ
+bounds_at names name = option_map_or (λ facts. facts.bounds.items) (get bytes_eq names.facts name) []
+
+-- what is said of a name
+pub record FactsFields : Type 0 where
+  pub dummy : Times
+  pub typed : Times
+  pub kind : Kind
+  pub dimensioned : Times
+  pub bounds : List ℕ
+
+abbrev pub fields_of : Facts → FactsFields
+fields_of f = record { dummy = f.dummy; typed = f.typed; kind = f.kind; dimensioned = f.dimensioned; bounds = f.bounds.items }
+
+abbrev pub times : {X : Type 0} → List X → Times
+times [] = Never
+times (x ∷ []) = Once
+times (x ∷ (y ∷ xs)) = More
+
+-- what the mentions say of a name: its kind and its bounds are the first that are given
+abbrev pub facts_of : List Mention → Symbol → FactsFields
+facts_of ms name = record {
+  dummy = times (dummies_given ms name);
+  typed = times (kinds_given ms name);
+  kind = first_or Integer (kinds_given ms name);
+  dimensioned = times (bounds_given ms name);
+  bounds = first_or [] (bounds_given ms name);
+}
+
+abbrev pub Entries : Type 0
+Entries = List (Symbol × FactsFields)
+
+abbrev pub entry_of : Symbol × Facts → Symbol × FactsFields
+entry_of e = (e.0, fields_of e.1)
+
+abbrev pub entries_of : Names → Entries
+entries_of names = map entry_of names.facts.entries
+
+abbrev pub table : List Mention → Entries
+table ms = map (λ name. (name, facts_of ms name)) (each_once (map name_in ms))
+
+-- the table holds the names of the program with their facts
+abbrev pub IsNameTable : Names → List LineFields → Type 0
+IsNameTable names program = entries_of names ≡ table (mentions program)
+
+-- One more mention: what it adds to the facts of its name.
+abbrev pub once_more : Times → Times
+once_more Never = Once
+once_more Once = More
+once_more More = More
+
+abbrev pub first_said : {X : Type 0} → Times → X → X → X
+first_said Never new old = new
+first_said Once new old = old
+first_said More new old = old
+
+abbrev pub with_kind : FactsFields → Kind → FactsFields
+with_kind f kind = record f { typed = once_more f.typed; kind = first_said f.typed kind f.kind }
+
+abbrev pub with_shape : FactsFields → List ℕ → FactsFields
+with_shape f bounds = record f { dimensioned = once_more f.dimensioned; bounds = first_said f.dimensioned bounds f.bounds }
+
+abbrev pub with_bounds : FactsFields → List ℕ → FactsFields
+with_bounds f [] = f
+with_bounds f (bound ∷ bounds) = with_shape f (bound ∷ bounds)
+
+abbrev pub with_fact : FactsFields → Mention → FactsFields
+with_fact f (Mention.Dummy name) = record f { dummy = once_more f.dummy }
+with_fact f (Mention.Typed kind d) = with_bounds (with_kind f kind) d.bounds
+with_fact f (Mention.Dimensioned d) = with_bounds f d.bounds
+with_fact f (Mention.Plain name) = f
+
+abbrev pub no_facts : FactsFields
+no_facts = record { dummy = Never; typed = Never; kind = Integer; dimensioned = Never; bounds = [] }
+
+-- a name that is there keeps its place, and a new one goes last
+abbrev pub with_mention : Entries → Mention → Entries
+with_mention [] m = (name_in m, with_fact no_facts m) ∷ []
+with_mention (e ∷ es) m = if bytes_eq (name_in m) e.0 then (e.0, with_fact e.1 m) ∷ es else e ∷ with_mention es m
+
+abbrev pub with_mentions : Entries → List Mention → Entries
+with_mentions = fold with_mention
+
+-- with the names that the nodes bear, each as a plain mention
+abbrev pub with_nodes : Entries → List NodeOf → Entries
+with_nodes es nodes = with_mentions es (map Mention.Plain (filter_map name_of nodes))
+
+-- the mention of a name of which this is said
+abbrev pub mention_of : Symbol → Said → Mention
+mention_of name said.Dummy = Mention.Dummy name
+mention_of name (said.Typed kind bounds) = Mention.Typed kind (record { name = name; bounds = bounds.now })
+mention_of name (said.Dimensioned bounds) = Mention.Dimensioned (record { name = name; bounds = bounds.now })
+mention_of name said.Plain = Mention.Plain name
+
+-- What the entries tell: a name that is REAL by its first letter, one that is declared twice where the unit has this name, the elements of an array.
+abbrev pub is_never : Times → Bool
+is_never Never = true
+is_never Once = false
+is_never More = false
+
+abbrev pub is_more : Times → Bool
+is_more Never = false
+is_more Once = false
+is_more More = true
+
+abbrev pub dummy_at : Names → Symbol → Bool
+dummy_at names name = option_map_or (λ facts. not (is_never facts.dummy)) (get bytes_eq names.facts name) false
+
+abbrev pub tells_real : Symbol × FactsFields → Bool
+tells_real e = is_never e.1.typed && not (is_integer_name e.0)
+
+abbrev pub tells_twice : Option Symbol → Symbol × FactsFields → Bool
+tells_twice unit e =
+    is_more e.1.typed
+    || (is_more e.1.dimensioned
+    || (is_more e.1.dummy
+    || (option_map_or (bytes_eq e.0) unit false || is_some (function_named e.0))))
+
+abbrev pub array_size : FactsFields → ℕ
+array_size f = if is_some (some_items f.bounds) then product f.bounds else 0

@@ -1,0 +1,56 @@
+-- Initial values and what they are given to (ANSI X3.9-1978, section 9).
+use Rattle.std.specs.Prelude.{ℕ, suc, ◌*◌, ◌||◌, Bool, not, nat_le, List, [], ◌∷◌, filter, take, length, replicate}
+use Rattle.std.specs.List.{flat_map, list_any}
+use Rattle.std.specs.Cmp.Lexicographic.{pointwise}
+use Rattle.std.specs.Str.{bytes_eq}
+use Rattle.f77_tree.specs.declared.data.Constant.{Constant}
+use Rattle.f77_tree.specs.declared.data.Constant.TheVariants.{Number, Truth}
+use Rattle.f77_tree.specs.declared.tree.Kind.{Kind}
+use Rattle.f77_tree.specs.declared.tree.Kind.TheVariants.{Integer, Logical}
+use Rattle.f77_tree.specs.Parsing.{LineFields}
+use Rattle.f77_tree.specs.Tree.{GroupFields, Statement}
+use Rattle.f77_legal.specs.Kinds.{same_kind}
+use Rattle.f77_legal.specs.Names.{Symbol, mentions, dummies_given, kind_of, bounds_of}
+
+abbrev pub product : List ℕ → ℕ
+product [] = 1
+product (bound ∷ bounds) = bound * product bounds
+
+-- how many elements a name has: the product of its bounds, 1 for a variable
+abbrev pub elements : List LineFields → Symbol → ℕ
+elements program name = product (bounds_of program name)
+
+abbrev pub constant_kind : Constant → Kind
+constant_kind (Number z) = Integer
+constant_kind (Truth b) = Logical
+
+-- the kinds of the elements of a group, in order, and of its values, repeats counted
+abbrev pub wanted_kinds : List LineFields → GroupFields → List Kind
+wanted_kinds program g = flat_map (λ name. replicate (elements program name) (kind_of program name)) g.names
+
+abbrev pub given_kinds : GroupFields → List Kind
+given_kinds g = flat_map (λ v. replicate v.times (constant_kind v.constant)) g.values
+
+abbrev pub is_filled : List LineFields → GroupFields → Bool
+is_filled program g = pointwise same_kind (wanted_kinds program g) (given_kinds g)
+
+abbrev pub groups_of : Statement → List GroupFields
+groups_of (Statement.Preset gs) = gs
+groups_of _ = []
+
+abbrev pub is_dummy_name : List LineFields → Symbol → Bool
+is_dummy_name program name = nat_le 1 (length (dummies_given (mentions program) name))
+
+-- the names of DATA
+abbrev pub names_preset : List LineFields → List Symbol
+names_preset program = flat_map (λ line. flat_map (λ g. g.names) (groups_of line.stmt)) program
+
+-- the name has stood in DATA twice when the statement i ends
+abbrev pub is_preset_twice : List LineFields → ℕ → Symbol → Bool
+is_preset_twice program i name = nat_le 2 (length (filter (bytes_eq name) (names_preset (take (suc i) program))))
+
+-- in the statement i a name is a dummy argument or has stood in DATA before, or a group has other values than its names want
+abbrev pub presets_badly : List LineFields → ℕ → Statement → Bool
+presets_badly program i s =
+    list_any (λ name. is_dummy_name program name || is_preset_twice program i name) (flat_map (λ g. g.names) (groups_of s))
+    || list_any (λ g. not (is_filled program g)) (groups_of s)

@@ -1,0 +1,26 @@
+-- What the tables are of a program.
+use Rattle.std.specs.Prelude.{ℕ, List, Option, None, if◌then◌else◌}
+use Rattle.std.specs.Option.{option_and_then}
+use Rattle.f77_tree.specs.Tree.{Statement}
+use Rattle.f77_legal.specs.Blocks.{begins_branch, branch_end}
+use Rattle.f77_legal.specs.Labels.{place_of, terminal_label}
+use Rattle.f77_tree.specs.Parsing.{LineFields}
+use Rattle.f77_legal.specs.declared.tables.Tables.{Tables}
+use Rattle.f77_legal.specs.NameTable.{IsNameTable}
+use Rattle.f77_legal.specs.LabelTable.{IsLabelTable}
+use Rattle.f77_legal.specs.BlockTable.{IsBlockTable}
+use Rattle.f77_legal.specs.LoopTable.{IsRangeTable}
+
+pub record AreTables (tables : Tables) (program : List LineFields) : Type 0 where
+  pub names : IsNameTable tables.names program
+  pub labels : IsLabelTable tables.labels program
+  pub blocks : IsBlockTable tables.blocks program
+  pub ranges : IsRangeTable tables.ranges program
+
+-- the terminal statement that a DO names
+abbrev pub terminal_of : List LineFields → Statement → Option ℕ
+terminal_of program s = option_and_then (place_of program) (terminal_label s)
+
+-- the end of the branch that i begins, of a block that has its END IF
+abbrev pub closed_branch_end : List LineFields → ℕ → Option ℕ
+closed_branch_end program i = if begins_branch program i then branch_end program i else None

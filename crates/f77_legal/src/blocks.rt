@@ -1,0 +1,360 @@
+//! The table of blocks: where each block IF and each branch ends, and what stands in a block.
+
+ghost use Rattle.std.specs.Prelude.{◌≡◌, ℕ, ◌+◌, ◌<◌, ◌^◌, ◌&&◌, ◌||◌, ◌==◌, false, nat_lt, List, length, map, take, slice_index_or, Some, None, IfOk, IfErr};
+ghost use Rattle.std.specs.Option.{option_map_or};
+ghost use Rattle.f77_tree.specs.Parsing.{LineFields, line_of};
+ghost use Rattle.f77_tree.specs.StatementView.{statement_of};
+ghost use Rattle.f77_legal.specs.Blocks as words;
+ghost use Rattle.f77_legal.specs.Blocks.{first_numbers, behind, branch_holds, breaks_block, is_in_block};
+ghost use Rattle.f77_legal.specs.BlockTable as table;
+ghost use Rattle.f77_legal.specs.BlockTable.{tabled, is_end_among, is_before_end, IsBlockTable};
+ghost use Rattle.f77_legal.specs.Labels.{statement_at};
+ghost use Rattle.f77_legal.specs.declared.fault.CheckFault.TheVariants.{Memory};
+
+use crate::fault::CheckFault;
+use f77_tree::{Line, Stmt};
+use std::alloc::Global;
+
+/// What a statement begins whose end is looked for: a whole block, or a branch of one.
+#[derive(Clone, Copy)]
+enum Extent {
+    Block,
+    Branch,
+}
+
+/// The blocks and branches of a program, by its statements in order (ANSI X3.9-1978, 11.6 to 11.9).
+#[derive(Drop)]
+pub struct Blocks {
+    /// Of a block IF its END IF.
+    pub(crate) ends: Vec<Option<usize>>,
+    /// Of a statement that begins a branch the one that ends it.
+    pub(crate) branch_ends: Vec<Option<usize>>,
+    /// Whether it is the END IF of a block IF.
+    pub(crate) closing: Vec<bool>,
+    /// Whether it stands in a block.
+    pub(crate) inside: Vec<bool>,
+    /// Whether it ends a branch that an ELSE begins.
+    pub(crate) after_else: Vec<bool>,
+}
+
+fn is_block_if(stmt: &Stmt) -> bool
+    ensures { result ≡ words.is_block_if (statement_of stmt.now) }
+{
+    match stmt {
+        Stmt::BlockIf { .. } => true,
+        Stmt::Subroutine { .. }
+        | Stmt::Declare { .. }
+        | Stmt::Dimension { .. }
+        | Stmt::Preset { .. }
+        | Stmt::Assign { .. }
+        | Stmt::Goto { .. }
+        | Stmt::ArithIf { .. }
+        | Stmt::LogicalIf { .. }
+        | Stmt::ElseIf { .. }
+        | Stmt::Else
+        | Stmt::EndIf
+        | Stmt::Loop { .. }
+        | Stmt::Continue
+        | Stmt::Return
+        | Stmt::Stop
+        | Stmt::Trap
+        | Stmt::End => false,
+    }
+}
+
+fn is_end_if(stmt: &Stmt) -> bool
+    ensures { result ≡ words.is_end_if (statement_of stmt.now) }
+{
+    matches!(stmt, Stmt::EndIf)
+}
+
+fn is_else(stmt: &Stmt) -> bool
+    ensures { result ≡ words.is_else (statement_of stmt.now) }
+{
+    matches!(stmt, Stmt::Else)
+}
+
+fn is_alternative(stmt: &Stmt) -> bool
+    ensures { result ≡ words.is_alternative (statement_of stmt.now) }
+{
+    match stmt {
+        Stmt::ElseIf { .. } | Stmt::Else => true,
+        Stmt::Subroutine { .. }
+        | Stmt::Declare { .. }
+        | Stmt::Dimension { .. }
+        | Stmt::Preset { .. }
+        | Stmt::Assign { .. }
+        | Stmt::Goto { .. }
+        | Stmt::ArithIf { .. }
+        | Stmt::LogicalIf { .. }
+        | Stmt::BlockIf { .. }
+        | Stmt::EndIf
+        | Stmt::Loop { .. }
+        | Stmt::Continue
+        | Stmt::Return
+        | Stmt::Stop
+        | Stmt::Trap
+        | Stmt::End => false,
+    }
+}
+
+impl Extent {
+    fn stops(self, stmt: &Stmt) -> bool
+        ensures { result ≡ table.stops self (statement_of stmt.now) }
+    {
+        match self {
+            Extent::Block => is_end_if(stmt),
+            Extent::Branch => is_end_if(stmt) || is_alternative(stmt),
+        }
+    }
+
+    /// Whether the statement ends it, where so many blocks are open within.
+    fn ends(self, stmt: &Stmt, depth: usize) -> bool
+        ensures { result ≡ ((depth == 0) && table.stops self (statement_of stmt.now)) }
+    {
+        depth == 0 && self.stops(stmt)
+    }
+}
+
+/// How many blocks are open behind the statement.
+fn depth_behind(stmt: &Stmt, depth: usize) -> usize
+    requires { depth + 1 < 2 ^ 64 }
+    ensures { result ≡ table.depth_behind (statement_of stmt.now) depth }
+{
+    if is_block_if(stmt) {
+        return depth + 1;
+    }
+    if is_end_if(stmt) {
+        return depth.saturating_sub(1);
+    }
+    depth
+}
+
+/// The statement of this number.
+pub fn statement(lines: &[Line], i: usize) -> &Stmt
+    requires { i < length lines.now }
+    ensures { statement_at (map line_of lines.now) i ≡ Some (statement_of result.now) }
+{
+    &lines[i].stmt
+}
+
+/// Where the block or the branch ends that this statement begins.
+#[tactic(auto, using(crate::proofs::BlockScan::scan_start))]
+fn end_of(lines: &[Line], extent: Extent, start: usize) -> Option<usize>
+    requires { start < length lines.now }
+    ensures { result ≡ table.end_of (map line_of lines.now) extent start }
+{
+    let mut depth: usize = 0;
+    for j in start + 1..lines.len() {
+        let stmt = statement(lines, j);
+        if extent.ends(stmt, depth) {
+            return Some(j);
+        }
+        depth = depth_behind(stmt, depth);
+    }
+    None
+}
+
+/// The END IF of a block IF.
+#[tactic(auto, using(crate::proofs::BlockScan::block_end_is))]
+fn block_end_at(lines: &[Line], i: usize) -> Option<usize>
+    requires { i < length lines.now }
+    ensures { result ≡ table.block_end_at (map line_of lines.now) i }
+{
+    if !is_block_if(statement(lines, i)) {
+        return None;
+    }
+    end_of(lines, Extent::Block, i)
+}
+
+/// The end of a branch that an ELSE begins.
+#[tactic(auto, using(crate::proofs::BlockScan::branch_end_is))]
+fn else_end_at(lines: &[Line], i: usize) -> Option<usize>
+    requires { i < length lines.now }
+    ensures { result ≡ table.else_end_at (map line_of lines.now) i }
+{
+    if !is_else(statement(lines, i)) {
+        return None;
+    }
+    end_of(lines, Extent::Branch, i)
+}
+
+/// The end of the branch that a statement begins, which has this END IF or stands in a block.
+#[tactic(auto, using(crate::proofs::BlockScan::branch_end_is))]
+fn branch_end_at(lines: &[Line], i: usize, end: Option<usize>, inside: bool) -> Option<usize>
+    requires { i < length lines.now }
+    ensures { end ≡ table.block_end_at (map line_of lines.now) i → inside ≡ is_in_block (map line_of lines.now) i → result ≡ table.branch_end_at (map line_of lines.now) i }
+{
+    let begins = end.is_some() || (is_alternative(statement(lines, i)) && inside);
+    if !begins {
+        return None;
+    }
+    end_of(lines, Extent::Branch, i)
+}
+
+/// The statement behind this one: the next, or the END IF of the block where the next begins another branch (11.6 to 11.9).
+#[tactic(auto, using(crate::proofs::BlockScan::block_end_is))]
+pub fn next(lines: &[Line], i: usize) -> Option<usize>
+    requires { i < length lines.now }
+    ensures { result ≡ behind (map line_of lines.now) i }
+{
+    match lines.get(i + 1) {
+        Some(line) if is_alternative(&line.stmt) => end_of(lines, Extent::Block, i + 1),
+        _ => Some(i + 1),
+    }
+}
+
+#[tactic(auto, using(crate::proofs::FirstNumbers::table_more))]
+fn block_ends(alloc: Global, lines: &[Line]) -> Result<Vec<Option<usize>>, CheckFault>
+    ensures made { IfOk result (λ ends. ends.items ≡ tabled table.block_end_at (map line_of lines.now)) }
+    ensures memory { IfErr result (λ fault. fault ≡ Memory) }
+{
+    let mut ends = Vec::with_capacity(alloc, lines.len())?;
+    for i in 0..lines.len() {
+        ends.push(block_end_at(lines, i))?;
+    }
+    Ok(ends)
+}
+
+#[tactic(auto, using(crate::proofs::FirstNumbers::table_more))]
+fn else_ends(alloc: Global, lines: &[Line]) -> Result<Vec<Option<usize>>, CheckFault>
+    ensures made { IfOk result (λ ends. ends.items ≡ tabled table.else_end_at (map line_of lines.now)) }
+    ensures memory { IfErr result (λ fault. fault ≡ Memory) }
+{
+    let mut ends = Vec::with_capacity(alloc, lines.len())?;
+    for i in 0..lines.len() {
+        ends.push(else_end_at(lines, i))?;
+    }
+    Ok(ends)
+}
+
+/// The end at this place, none past the last.
+fn end_in(ends: &[Option<usize>], i: usize) -> Option<usize>
+    ensures { result ≡ slice_index_or ends.now i None }
+{
+    ends.get(i).copied().flatten()
+}
+
+/// The mark at this place, false past the last.
+fn is_marked(marks: &[bool], i: usize) -> bool
+    ensures { result ≡ slice_index_or marks.now i false }
+{
+    marks.get(i).copied().unwrap_or(false)
+}
+
+/// Marks the statement that is an end.
+fn mark(marks: &mut [bool], end: Option<usize>)
+    ensures marked { (k : ℕ) → k < length marks.old → slice_index_or marks.new k false ≡ (slice_index_or marks.old k false || option_map_or (λ e. e == k) end false) }
+    ensures long { length marks.new ≡ length marks.old }
+{
+    let Some(place) = end else {
+        return;
+    };
+    if place < marks.len() {
+        marks[place] = true;
+    }
+}
+
+/// Of each statement whether it is one of the ends.
+fn ends_marked(alloc: Global, ends: &[Option<usize>]) -> Result<Vec<bool>, CheckFault>
+    ensures made { IfOk result (λ marks. marks.items ≡ map (is_end_among ends.now) (first_numbers (length ends.now))) }
+    ensures memory { IfErr result (λ fault. fault ≡ Memory) }
+{
+    let mut marks = vec![in alloc; false; ends.len()]?;
+    for end in ends {
+        mark(&mut marks, *end);
+    }
+    Ok(marks)
+}
+
+/// The end that stands behind the others, of those so far and this one.
+fn furthest(reach: usize, end: Option<usize>) -> usize
+    ensures { (k : ℕ) → nat_lt k result ≡ (nat_lt k reach || option_map_or (nat_lt k) end false) }
+{
+    match end {
+        None => reach,
+        Some(place) => reach.max(place),
+    }
+}
+
+/// Of each statement whether one of the ends before its place stands behind it.
+#[tactic(auto, using(crate::proofs::FirstNumbers::table_more))]
+fn insides(alloc: Global, ends: &[Option<usize>]) -> Result<Vec<bool>, CheckFault>
+    ensures made { IfOk result (λ inside. inside.items ≡ map (λ k. is_before_end (take k ends.now) k) (first_numbers (length ends.now))) }
+    ensures memory { IfErr result (λ fault. fault ≡ Memory) }
+{
+    let mut inside = Vec::with_capacity(alloc, ends.len())?;
+    let mut reach: usize = 0;
+    for i in 0..ends.len() {
+        inside.push(i < reach)?;
+        reach = furthest(reach, ends[i]);
+    }
+    Ok(inside)
+}
+
+fn branch_ends(
+    alloc: Global,
+    lines: &[Line],
+    ends: &[Option<usize>],
+    inside: &[bool],
+) -> Result<Vec<Option<usize>>, CheckFault>
+    ensures made { ends.now ≡ tabled table.block_end_at (map line_of lines.now) → inside.now ≡ tabled is_in_block (map line_of lines.now) → IfOk result (λ found. found.items ≡ tabled table.branch_end_at (map line_of lines.now)) }
+    ensures memory { IfErr result (λ fault. fault ≡ Memory) }
+{
+    let mut found = Vec::with_capacity(alloc, lines.len())?;
+    for i in 0..lines.len() {
+        found.push(branch_end_at(lines, i, end_in(ends, i), is_marked(inside, i)))?;
+    }
+    Ok(found)
+}
+
+impl Blocks {
+    /// The table of these lines. Its time grows with the lines, and with those of each block and branch.
+    pub(crate) fn of(alloc: Global, lines: &[Line]) -> Result<Blocks, CheckFault>
+        ensures made { IfOk result (λ blocks. IsBlockTable blocks (map line_of lines.now)) }
+        ensures memory { IfErr result (λ fault. fault ≡ Memory) }
+    {
+        let ends = block_ends(alloc, lines)?;
+        let inside = insides(alloc, &ends)?;
+        let branch_ends = branch_ends(alloc, lines, &ends, &inside)?;
+        let closing = ends_marked(alloc, &ends)?;
+        let after_else = ends_marked(alloc, &else_ends(alloc, lines)?)?;
+        Ok(Blocks {
+            ends,
+            branch_ends,
+            closing,
+            inside,
+            after_else,
+        })
+    }
+
+    fn is_misplaced(&self, stmt: &Stmt, i: usize) -> bool
+        ensures { result ≡ table.is_misplaced self.now (statement_of stmt.now) i }
+    {
+        if is_block_if(stmt) {
+            return end_in(&self.ends, i).is_none();
+        }
+        if is_end_if(stmt) {
+            return !is_marked(&self.closing, i);
+        }
+        is_alternative(stmt) && (!is_marked(&self.inside, i) || is_marked(&self.after_else, i))
+    }
+
+    /// Whether the statement of this number is a block IF, ELSE IF, ELSE or END IF out of its place (11.6 to 11.9).
+    pub(crate) fn breaks(&self, lines: &[Line], i: usize) -> bool
+        ensures { IsBlockTable self.now (map line_of lines.now) → result ≡ breaks_block (map line_of lines.now) i }
+    {
+        if i >= lines.len() {
+            return false;
+        }
+        self.is_misplaced(statement(lines, i), i)
+    }
+
+    /// The statement that ends the branch which the statement of this number begins, None where it begins none.
+    pub fn branch_end(&self, i: usize) -> Option<usize>
+        ensures value { (program : List LineFields) → IsBlockTable self.now program → result ≡ table.branch_end_at program i }
+        ensures holds { (program : List LineFields) (k : ℕ) → IsBlockTable self.now program → (nat_lt i k && option_map_or (nat_lt k) result false) ≡ branch_holds program i k }
+    {
+        end_in(&self.branch_ends, i)
+    }
+}

@@ -1,0 +1,274 @@
+//! The labels of a program: where they stand, and which statements name them.
+
+ghost use Rattle.std.specs.Prelude.{◌≡◌, ◌++◌, ℕ, List, [], ◌∷◌, Option, None, false, filter, length, map, not, nat_eq, is_some, option_map, slice_get, IfOk, IfErr, OnOk};
+ghost use Rattle.std.specs.List.{filter_map, find, list_any};
+ghost use Rattle.std.specs.Option.{option_and_then, option_map_or};
+ghost use Rattle.indexmap.specs.IndexMap.{get, IsUnique};
+ghost use Rattle.f77_tree.specs.Parsing.{LineFields, line_of};
+ghost use Rattle.f77_tree.specs.StatementView.{statement_of};
+ghost use Rattle.f77_legal.specs.LabelTable.{IsLabelTable, noted};
+ghost use Rattle.f77_legal.specs.Labels as clause;
+ghost use Rattle.f77_legal.specs.Labels.{is_double, place_of};
+ghost use Rattle.f77_legal.specs.declared.fault.CheckFault.TheVariants as fault;
+
+use crate::fault::CheckFault;
+use f77_tree::{Line, Stmt};
+use indexmap::IndexMap;
+use std::alloc::Global;
+
+/// Where a label stands.
+#[derive(Clone, Copy, Debug)]
+pub struct Place {
+    /// The first statement that bears it.
+    pub(crate) first: usize,
+    /// Whether a later one bears it too.
+    pub(crate) again: bool,
+}
+
+/// The labels of a program in order of first appearance.
+#[derive(Drop)]
+pub struct Labels {
+    pub(crate) places: IndexMap<u32, Place>,
+}
+
+impl Labels {
+    /// The labels of these lines.
+    pub(crate) fn of(alloc: Global, lines: &[Line]) -> Result<Labels, CheckFault>
+        ensures table { IfOk result (λ table. IsLabelTable table (map line_of lines.now)) }
+        ensures memory { IfErr result (λ e. e ≡ fault.Memory) }
+    {
+        let mut labels = Labels {
+            places: IndexMap::new(alloc),
+        };
+        for (i, line) in lines.iter().enumerate() {
+            labels.note(i, line)?;
+        }
+        Ok(labels)
+    }
+
+    /// The place of the label, once the statement `i` bears it too.
+    fn place_with(&self, label: u32, i: usize) -> Place
+        ensures { result ≡ noted (get nat_eq self.now.places label) i }
+    {
+        match self.places.get(&label) {
+            Some(place) => Place {
+                first: place.first,
+                again: true,
+            },
+            None => Place {
+                first: i,
+                again: false,
+            },
+        }
+    }
+
+    /// Puts the label of the statement `i` into the table of the statements before it.
+    fn note(&mut self, i: usize, line: &Line) -> Result<(), CheckFault>
+        ensures table { OnOk result ((program : List LineFields) → IsLabelTable self.old program → length program ≡ i → IsLabelTable self.new (program ++ line_of line.now ∷ [])) }
+        ensures memory { IfErr result (λ e. e ≡ fault.Memory) }
+    {
+        let Some(label) = line.label else {
+            return Ok(());
+        };
+        let place = self.place_with(label, i);
+        self.places.insert(label, place)?;
+        Ok(())
+    }
+
+    /// The first label that a later statement bears too.
+    fn first_again(&self) -> Option<u32>
+        ensures first { result ≡ option_map (λ e. e.0) (find (λ e. e.1.again) self.now.places.entries) }
+        ensures unique { IsUnique nat_eq self.now.places }
+    {
+        let (label, _) = self.places.iter().find(|(_, place)| place.again)?;
+        Some(*label)
+    }
+
+    /// The first label that stands on two statements (3.4).
+    #[tactic(auto, using(crate::proofs::LabelTables::first_double))]
+    pub(crate) fn first_double(&self) -> Option<u32>
+        ensures { (program : List LineFields) → IsLabelTable self.now program → result ≡ slice_get (filter (is_double program) (clause.labels program)) 0 }
+    {
+        self.first_again()
+    }
+
+    /// The first statement that bears the label.
+    pub fn place(&self, label: u32) -> Option<usize>
+        ensures { (program : List LineFields) → IsLabelTable self.now program → result ≡ place_of program label }
+    {
+        let place = self.places.get(&label)?;
+        Some(place.first)
+    }
+
+    /// Whether the label, if any, stands on no statement.
+    fn misses(&self, label: Option<u32>) -> bool
+        ensures { (program : List LineFields) → IsLabelTable self.now program → result ≡ option_map_or (λ label. not (is_some (place_of program label))) label false }
+    {
+        match label {
+            Some(label) => self.place(label).is_none(),
+            None => false,
+        }
+    }
+
+    /// The statement that bears the label, where there is one.
+    fn statement_with<'a>(&self, lines: &'a [Line], label: Option<u32>) -> Option<&'a Stmt>
+        ensures { IsLabelTable self.now (map line_of lines.now) → option_map (λ stmt. statement_of stmt.now) result ≡ option_and_then (clause.statement_with (map line_of lines.now)) label }
+    {
+        let place = self.place(label?)?;
+        let line = lines.get(place)?;
+        Some(&line.stmt)
+    }
+}
+
+/// The labels that control may go to from a statement (11.1, 11.4, 11.5), three at most.
+pub(crate) fn jumps_of(stmt: &Stmt) -> [Option<u32>; 3]
+    ensures { filter_map (λ label. label) result ≡ clause.jumps_of (statement_of stmt.now) }
+{
+    match stmt {
+        Stmt::Goto { label } => [Some(*label), None, None],
+        Stmt::ArithIf {
+            negative,
+            zero,
+            positive,
+            ..
+        } => [Some(*negative), Some(*zero), Some(*positive)],
+        Stmt::LogicalIf { statement, .. } => jumps_of(statement),
+        Stmt::Subroutine { .. }
+        | Stmt::Declare { .. }
+        | Stmt::Dimension { .. }
+        | Stmt::Preset { .. }
+        | Stmt::Assign { .. }
+        | Stmt::BlockIf { .. }
+        | Stmt::ElseIf { .. }
+        | Stmt::Else
+        | Stmt::EndIf
+        | Stmt::Loop { .. }
+        | Stmt::Continue
+        | Stmt::Return
+        | Stmt::Stop
+        | Stmt::Trap
+        | Stmt::End => [None, None, None],
+    }
+}
+
+/// The label of the terminal statement that a DO names (11.10).
+pub(crate) fn terminal_label(stmt: &Stmt) -> Option<u32>
+    ensures { result ≡ clause.terminal_label (statement_of stmt.now) }
+{
+    match stmt {
+        Stmt::Loop { label, .. } => Some(*label),
+        Stmt::Subroutine { .. }
+        | Stmt::Declare { .. }
+        | Stmt::Dimension { .. }
+        | Stmt::Preset { .. }
+        | Stmt::Assign { .. }
+        | Stmt::Goto { .. }
+        | Stmt::ArithIf { .. }
+        | Stmt::LogicalIf { .. }
+        | Stmt::BlockIf { .. }
+        | Stmt::ElseIf { .. }
+        | Stmt::Else
+        | Stmt::EndIf
+        | Stmt::Continue
+        | Stmt::Return
+        | Stmt::Stop
+        | Stmt::Trap
+        | Stmt::End => None,
+    }
+}
+
+/// Whether a jump of the statement names a label that stands on none.
+#[tactic(auto, using(crate::proofs::LabelTables::any_of_three))]
+fn jumps_nowhere(labels: &Labels, stmt: &Stmt) -> bool
+    ensures { (program : List LineFields) → IsLabelTable labels.now program → result ≡ list_any (λ label. not (is_some (place_of program label))) (clause.jumps_of (statement_of stmt.now)) }
+{
+    let [first, second, third] = jumps_of(stmt);
+    labels.misses(first) || labels.misses(second) || labels.misses(third)
+}
+
+/// Whether the statement names a label that stands on none.
+pub(crate) fn names_no_label(labels: &Labels, stmt: &Stmt) -> bool
+    ensures { (program : List LineFields) → IsLabelTable labels.now program → result ≡ clause.names_no_label program (statement_of stmt.now) }
+{
+    jumps_nowhere(labels, stmt) || labels.misses(terminal_label(stmt))
+}
+
+/// Whether control may go to the statement (11.1, 11.4): it is executable, and no ELSE IF or ELSE (11.7, 11.8).
+pub(crate) fn is_target(stmt: &Stmt) -> bool
+    ensures { result ≡ clause.is_target (statement_of stmt.now) }
+{
+    match stmt {
+        Stmt::Subroutine { .. }
+        | Stmt::Declare { .. }
+        | Stmt::Dimension { .. }
+        | Stmt::Preset { .. }
+        | Stmt::ElseIf { .. }
+        | Stmt::Else => false,
+        Stmt::Assign { .. }
+        | Stmt::Goto { .. }
+        | Stmt::ArithIf { .. }
+        | Stmt::LogicalIf { .. }
+        | Stmt::BlockIf { .. }
+        | Stmt::EndIf
+        | Stmt::Loop { .. }
+        | Stmt::Continue
+        | Stmt::Return
+        | Stmt::Stop
+        | Stmt::Trap
+        | Stmt::End => true,
+    }
+}
+
+/// Whether the label, if any, stands on a statement where control may not go.
+fn leads_badly(labels: &Labels, lines: &[Line], label: Option<u32>) -> bool
+    ensures { IsLabelTable labels.now (map line_of lines.now) → result ≡ option_map_or (λ label. option_map_or (λ target. not (clause.is_target target)) (clause.statement_with (map line_of lines.now) label) false) label false }
+{
+    match labels.statement_with(lines, label) {
+        Some(target) => !is_target(target),
+        None => false,
+    }
+}
+
+/// Whether a jump of the statement leads to one where control may not go.
+#[tactic(auto, using(crate::proofs::LabelTables::any_of_three))]
+pub(crate) fn jumps_badly(labels: &Labels, lines: &[Line], stmt: &Stmt) -> bool
+    ensures { IsLabelTable labels.now (map line_of lines.now) → result ≡ clause.jumps_badly (map line_of lines.now) (statement_of stmt.now) }
+{
+    let [first, second, third] = jumps_of(stmt);
+    leads_badly(labels, lines, first)
+        || leads_badly(labels, lines, second)
+        || leads_badly(labels, lines, third)
+}
+
+/// Whether the statement may be the terminal statement of a DO (11.10).
+pub(crate) fn is_terminal(stmt: &Stmt) -> bool
+    ensures { result ≡ clause.is_terminal (statement_of stmt.now) }
+{
+    match stmt {
+        Stmt::Assign { .. } | Stmt::LogicalIf { .. } | Stmt::Continue | Stmt::Trap => true,
+        Stmt::Subroutine { .. }
+        | Stmt::Declare { .. }
+        | Stmt::Dimension { .. }
+        | Stmt::Preset { .. }
+        | Stmt::Goto { .. }
+        | Stmt::ArithIf { .. }
+        | Stmt::BlockIf { .. }
+        | Stmt::ElseIf { .. }
+        | Stmt::Else
+        | Stmt::EndIf
+        | Stmt::Loop { .. }
+        | Stmt::Return
+        | Stmt::Stop
+        | Stmt::End => false,
+    }
+}
+
+/// Whether the statement is a DO that names one which may be no terminal statement.
+pub(crate) fn ends_badly(labels: &Labels, lines: &[Line], stmt: &Stmt) -> bool
+    ensures { IsLabelTable labels.now (map line_of lines.now) → result ≡ clause.ends_badly (map line_of lines.now) (statement_of stmt.now) }
+{
+    match labels.statement_with(lines, terminal_label(stmt)) {
+        Some(last) => !is_terminal(last),
+        None => false,
+    }
+}

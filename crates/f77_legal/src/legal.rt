@@ -1,0 +1,95 @@
+//! The clauses of legality, in the order of test.
+
+ghost use Rattle.std.specs.Prelude.{◌≡◌, List, map};
+ghost use Rattle.f77_tree.specs.Parsing.{LineFields, line_of};
+ghost use Rattle.f77_legal.specs.Legal.{Tells, name_faults, clause_faults, expression_clauses, control_clauses, label_faults, data_faults, size_faults, faults};
+ghost use Rattle.f77_legal.specs.LabelTable.{IsLabelTable};
+ghost use Rattle.f77_legal.specs.NameTable.{IsNameTable};
+ghost use Rattle.f77_legal.specs.Tables.{AreTables};
+
+use crate::clause::Clause;
+use crate::fault::CheckFault;
+use crate::heading::unit;
+use crate::labels::Labels;
+use crate::names::Names;
+use crate::presets::first_bad_data;
+use crate::tables::Tables;
+use f77_tree::Line;
+use std::alloc::Global;
+
+const MOST_STATEMENTS: usize = 500;
+
+const MOST_NAMES: usize = 100;
+
+const MOST_ELEMENTS: u32 = 10_000;
+
+fn check_names(names: &Names, lines: &[Line]) -> Result<(), CheckFault>
+    ensures { IsNameTable names.now (map line_of lines.now) → Tells result (name_faults (map line_of lines.now)) }
+{
+    if let Some(name) = names.first_real() {
+        return Err(CheckFault::RealName(name.clone()?));
+    }
+    if let Some(name) = names.first_twice(unit(lines)) {
+        return Err(CheckFault::Twice(name.clone()?));
+    }
+    Ok(())
+}
+
+fn check_clauses(tables: &Tables, list: &[Clause], lines: &[Line]) -> Result<(), CheckFault>
+    ensures { AreTables tables.now (map line_of lines.now) → Tells result (clause_faults list.now (map line_of lines.now)) }
+{
+    match tables.first_fault(list, lines) {
+        Some(fault) => Err(fault),
+        None => Ok(()),
+    }
+}
+
+fn check_labels(labels: &Labels) -> Result<(), CheckFault>
+    ensures { (program : List LineFields) → IsLabelTable labels.now program → Tells result (label_faults program) }
+{
+    match labels.first_double() {
+        Some(label) => Err(CheckFault::DoubleLabel(label)),
+        None => Ok(()),
+    }
+}
+
+fn check_data(alloc: Global, names: &Names, lines: &[Line]) -> Result<(), CheckFault>
+    ensures { IsNameTable names.now (map line_of lines.now) → Tells result (data_faults (map line_of lines.now)) }
+{
+    match first_bad_data(alloc, names, lines)? {
+        Some(line) => Err(CheckFault::BadData(line)),
+        None => Ok(()),
+    }
+}
+
+fn check_size(names: &Names, lines: &[Line]) -> Result<(), CheckFault>
+    ensures { IsNameTable names.now (map line_of lines.now) → Tells result (size_faults (map line_of lines.now)) }
+{
+    if lines.len() > MOST_STATEMENTS || names.len() > MOST_NAMES || names.has_over(MOST_ELEMENTS) {
+        return Err(CheckFault::TooMany);
+    }
+    Ok(())
+}
+
+/// The first fault of a program, given its tables, clause by clause, in the order of test; or want of memory.
+pub fn judge(alloc: Global, tables: &Tables, lines: &[Line]) -> Result<(), CheckFault>
+    ensures { AreTables tables.now (map line_of lines.now) → Tells result (faults (map line_of lines.now)) }
+{
+    check_names(&tables.names, lines)?;
+    check_clauses(tables, &[Clause::Kinds, Clause::Bounds], lines)?;
+    check_labels(&tables.labels)?;
+    check_clauses(
+        tables,
+        &[
+            Clause::NamedLabels,
+            Clause::Targets,
+            Clause::Terminals,
+            Clause::Nests,
+            Clause::Jumps,
+            Clause::Variables,
+        ],
+        lines,
+    )?;
+    check_data(alloc, &tables.names, lines)?;
+    check_size(&tables.names, lines)
+}

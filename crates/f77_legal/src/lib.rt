@@ -1,0 +1,25 @@
+//! Which programs are legal: what a program says of its names, labels, blocks and loops, and the first clause that it breaks.
+#![tactic(auto)]
+
+pub mod blocks;
+mod clause;
+mod dimensions;
+mod fault;
+pub mod heading;
+mod kinds;
+mod labels;
+mod legal;
+mod loops;
+mod mentions;
+pub mod names;
+mod presets;
+mod tables;
+
+pub use blocks::Blocks;
+pub use clause::Clause;
+pub use fault::CheckFault;
+pub use labels::Labels;
+pub use legal::judge;
+pub use loops::Ranges;
+pub use names::Names;
+pub use tables::Tables;

@@ -1,0 +1,222 @@
+//! The table of names: each variable and array with what the declarations say of it.
+
+ghost use Rattle.std.specs.Prelude.{◌≡◌, ◌-◌, ◌^◌, List, nat_lt, not, map, filter, sum, min, slice_get, option_map, is_some, length, ◌||◌, false, IfOk, IfErr};
+ghost use Rattle.std.specs.List.{find};
+ghost use Rattle.std.specs.Map.Iter.{deref_pair};
+ghost use Rattle.std.specs.Option.{option_and_then, option_map_or};
+ghost use Rattle.std.specs.Str.{bytes_eq};
+ghost use Rattle.indexmap.specs.IndexMap.{values};
+ghost use Rattle.f77_tree.specs.Intrinsic.{function_named};
+ghost use Rattle.f77_tree.specs.Parsing.{LineFields, line_of};
+ghost use Rattle.f77_legal.specs.declared.fault.CheckFault.TheVariants as fault;
+ghost use Rattle.f77_legal.specs.Legal.{is_array};
+ghost use Rattle.f77_legal.specs.Names as named;
+ghost use Rattle.f77_legal.specs.Names.{Symbol, symbols, is_real, is_twice, unit_name};
+ghost use Rattle.f77_legal.specs.NameTable as table;
+ghost use Rattle.f77_legal.specs.NameTable.{IsNameTable, kind_at, bounds_at, dummy_at, fields_of, entry_of};
+ghost use Rattle.f77_legal.specs.Presets as presets;
+ghost use Rattle.f77_legal.specs.Presets.{product};
+
+use crate::fault::CheckFault;
+use f77_tree::{Intrinsic, Kind, Line, Name};
+use indexmap::IndexMap;
+use std::alloc::Global;
+
+/// Whether something was said of a name: never, once, or more often.
+#[derive(Clone, Copy, Debug, PartialEq, Eq)]
+pub enum Times {
+    Never,
+    Once,
+    More,
+}
+
+/// What the program says of a name.
+#[derive(Drop)]
+pub struct Facts {
+    pub(crate) dummy: Times,
+    pub(crate) typed: Times,
+    pub(crate) kind: Kind,
+    pub(crate) dimensioned: Times,
+    pub(crate) bounds: Vec<u32>,
+}
+
+/// The names of a program in order of first appearance, each with its facts.
+#[derive(Drop)]
+pub struct Names {
+    pub facts: IndexMap<Name, Facts>,
+}
+
+impl Times {
+    fn is_never(self) -> bool
+        ensures { result ≡ table.is_never self }
+    {
+        match self {
+            Times::Never => true,
+            Times::Once => false,
+            Times::More => false,
+        }
+    }
+
+    fn is_more(self) -> bool
+        ensures { result ≡ table.is_more self }
+    {
+        match self {
+            Times::Never => false,
+            Times::Once => false,
+            Times::More => true,
+        }
+    }
+}
+
+/// Whether the first letter is one of I to N (4.1.2).
+fn is_integer_name(name: &Name) -> bool
+    ensures { result ≡ named.is_integer_name name.now }
+{
+    match name.as_str().as_bytes() {
+        [letter, ..] => b'I' <= *letter && *letter <= b'N',
+        [] => false,
+    }
+}
+
+fn tells_real(name: &Name, facts: &Facts) -> bool
+    ensures { result ≡ table.tells_real (name.now, fields_of facts.now) }
+{
+    facts.typed.is_never() && !is_integer_name(name)
+}
+
+fn is_taken(name: &Name, unit: Option<&Name>) -> bool
+    ensures { result ≡ (option_map_or (bytes_eq name.now) (option_map (λ n. n.now) unit.entry) false || is_some (function_named name.now)) }
+{
+    unit.is_some_and(|own| name == own) || Intrinsic::named(name.as_str().as_bytes()).is_some()
+}
+
+fn tells_twice(name: &Name, facts: &Facts, unit: Option<&Name>) -> bool
+    ensures { result ≡ table.tells_twice (option_map (λ n. n.now) unit.entry) (name.now, fields_of facts.now) }
+{
+    facts.typed.is_more()
+        || facts.dimensioned.is_more()
+        || facts.dummy.is_more()
+        || is_taken(name, unit)
+}
+
+/// The product of the bounds, the largest `u64` for more than that.
+pub fn product(bounds: &[u32]) -> u64
+    ensures { result ≡ min (presets.product bounds.now) (2 ^ 64 - 1) }
+{
+    let mut size: u64 = 1;
+    for bound in bounds {
+        size = size.saturating_mul(u64::from(*bound));
+    }
+    size
+}
+
+/// The elements of an array, 0 for a variable.
+fn array_size(facts: &Facts) -> u64
+    ensures { result ≡ min (table.array_size (fields_of facts.now)) (2 ^ 64 - 1) }
+{
+    if facts.bounds.is_empty() {
+        return 0;
+    }
+    product(&facts.bounds)
+}
+
+impl Names {
+    /// The table of the names of these lines.
+    pub(crate) fn of(alloc: Global, lines: &[Line]) -> Result<Names, CheckFault>
+        ensures table { IfOk result (λ names. IsNameTable names (map line_of lines.now)) }
+        ensures memory { IfErr result (λ f. f ≡ fault.Memory) }
+    {
+        let mut names = Names {
+            facts: IndexMap::new(alloc),
+        };
+        for line in lines {
+            names.note_statement(alloc, &line.stmt)?;
+        }
+        Ok(names)
+    }
+
+    /// The kind of a name, INTEGER where no type statement gives one.
+    pub fn kind(&self, name: &Name) -> Kind
+        ensures { result ≡ kind_at self.now name.now }
+    {
+        match self.facts.get(name) {
+            Some(facts) => facts.kind,
+            None => Kind::Integer,
+        }
+    }
+
+    /// The bounds of a name, none for a variable.
+    pub fn bounds(&self, name: &Name) -> &[u32]
+        ensures { result.now ≡ bounds_at self.now name.now }
+    {
+        match self.facts.get(name) {
+            Some(facts) => &facts.bounds,
+            None => &[],
+        }
+    }
+
+    /// Whether the name is a dummy argument.
+    pub(crate) fn is_dummy(&self, name: &Name) -> bool
+        ensures { result ≡ dummy_at self.now name.now }
+    {
+        match self.facts.get(name) {
+            Some(facts) => !facts.dummy.is_never(),
+            None => false,
+        }
+    }
+
+    /// How many names there are.
+    pub(crate) fn len(&self) -> usize
+        ensures { (program : List LineFields) → IsNameTable self.now program → result ≡ length (symbols program) }
+    {
+        self.facts.len()
+    }
+
+    fn find_real(&self) -> Option<(&Name, &Facts)>
+        ensures { option_map deref_pair result ≡ find (λ e. table.tells_real (entry_of e)) self.now.facts.entries }
+    {
+        self.facts
+            .iter()
+            .find(|(name, facts)| tells_real(name, facts))
+    }
+
+    /// The first name that is REAL by its first letter (4.1.2).
+    pub(crate) fn first_real(&self) -> Option<&Name>
+        ensures { (program : List LineFields) → IsNameTable self.now program → option_map (λ name. name.now) result ≡ slice_get (filter (is_real program) (symbols program)) 0 }
+    {
+        self.find_real().map(|(name, _)| name)
+    }
+
+    fn find_twice(&self, unit: Option<&Name>) -> Option<(&Name, &Facts)>
+        ensures { option_map deref_pair result ≡ find (λ e. table.tells_twice (option_map (λ n. n.now) unit.entry) (entry_of e)) self.now.facts.entries }
+    {
+        self.facts
+            .iter()
+            .find(|(name, facts)| tells_twice(name, facts, unit))
+    }
+
+    /// The first name that is typed, given bounds or a dummy argument twice, or that names the unit or a function as well.
+    pub(crate) fn first_twice(&self, unit: Option<&Name>) -> Option<&Name>
+        ensures { (program : List LineFields) → IsNameTable self.now program → option_map (λ n. n.now) unit.entry ≡ unit_name program
+            → option_map (λ name. name.now) result ≡ slice_get (filter (is_twice program) (symbols program)) 0 }
+    {
+        self.find_twice(unit).map(|(name, _)| name)
+    }
+
+    /// The elements of all arrays, the largest `u64` for more than that.
+    fn elements(&self) -> u64
+        ensures { result ≡ min (sum (map (λ f. table.array_size (fields_of f)) (values self.now.facts))) (2 ^ 64 - 1) }
+    {
+        self.facts.values().fold(
+            0,
+            |total: u64, facts| total.saturating_add(array_size(facts)),
+        )
+    }
+
+    /// Whether all arrays have more elements than this.
+    pub(crate) fn has_over(&self, limit: u32) -> bool
+        ensures { (program : List LineFields) → IsNameTable self.now program → result ≡ nat_lt limit (sum (map (presets.elements program) (filter (is_array program) (symbols program)))) }
+    {
+        self.elements() > u64::from(limit)
+    }
+}

@@ -1,0 +1,10 @@
+//! Programs that were checked.
+
+use f77_check::{Checked, check};
+use std::test::Fail;
+use test_programs::program;
+
+/// The program of statements with `; ` between them, checked.
+pub(crate) fn checked(rt: &impl AllocGlobal, statements: &str) -> Result<Checked, Fail> {
+    Ok(check(rt.alloc(), &program(rt, statements)?)?)
+}

@@ -1,0 +1,123 @@
+//! Programs made of lines and of trees, mutants among them.
+
+use crate::lines::{assign, lines, name, printed};
+use f77_syntax::{Expr, Intrinsic, Line, Ref, Stmt};
+use std::process::Abort;
+use std::test::Fail;
+use test_programs::read;
+
+const ADD: &str = "      SUBROUTINE ADD(I,J,K)\n      K=I+J\n      END\n";
+
+/// The lines of the program ADD.
+fn add(rt: &impl AllocGlobal) -> Result<Vec<Line>, Fail> {
+    Ok(read(rt, ADD)?.into_lines())
+}
+
+#[test]
+fn makes_a_program_of_its_lines(rt: HostRuntime) -> Result<(), Fail> {
+    let text = printed(&rt, add(&rt)?)?;
+    assert_eq!(rt; text.as_str(), ADD);
+    Ok(())
+}
+
+#[test]
+fn asks_for_an_end(rt: HostRuntime) -> Result<(), Fail> {
+    let mut without_end = add(&rt)?;
+    without_end.pop();
+    let text = printed(&rt, without_end)?;
+    assert_eq!(rt; text.as_str(), "None");
+    Ok(())
+}
+
+#[test]
+fn asks_for_the_order(rt: HostRuntime) -> Result<(), Fail> {
+    let mut reversed = add(&rt)?;
+    reversed.reverse();
+    let text = printed(&rt, reversed)?;
+    assert_eq!(rt; text.as_str(), "None");
+    Ok(())
+}
+
+/// Compares the program with so many dummy arguments and K = 1 under this label.
+fn assert_labelled(
+    rt: &(impl AllocGlobal + Abort),
+    arguments: usize,
+    label: u32,
+    want: &str,
+) -> Result<(), Fail> {
+    let made = lines(rt, arguments, Some(label), assign(rt, Expr::Number(1))?)?;
+    assert_eq!(rt; printed(rt, made)?.as_str(), want, "{arguments} {label}");
+    Ok(())
+}
+
+#[test]
+fn tests_labels_and_lengths(rt: HostRuntime) -> Result<(), Fail> {
+    assert_labelled(&rt, 0, 5, "      SUBROUTINE A\n    5 K=1\n      END\n")?;
+    assert_labelled(&rt, 0, 0, "BadConstant(8)")?;
+    assert_labelled(&rt, 0, 100000, "BadConstant(8)")?;
+    assert_labelled(&rt, 654, 0, "TooLong(7)")
+}
+
+/// Compares the program with K = the value.
+fn assert_assigned(rt: &(impl AllocGlobal + Abort), value: Expr, want: &str) -> Result<(), Fail> {
+    let made = lines(rt, 0, None, assign(rt, value)?)?;
+    assert_eq!(rt; printed(rt, made)?.as_str(), want);
+    Ok(())
+}
+
+/// MOD(1) as a reference.
+fn reference(rt: &impl AllocGlobal) -> Result<Expr, Fail> {
+    let subscripts = vec![in rt.alloc(); Expr::Number(1)]?;
+    Ok(Expr::Reference(Ref {
+        name: name(rt, "MOD")?,
+        subscripts,
+    }))
+}
+
+#[test]
+fn makes_programs_of_trees(rt: HostRuntime) -> Result<(), Fail> {
+    assert_assigned(&rt, reference(&rt)?, "None")?;
+    let call = Expr::Call(Intrinsic::Mod, Vec::new(rt.alloc()));
+    assert_assigned(&rt, call, "None")?;
+    let pushed = Expr::ZeroPush(Box::new(rt.alloc(), Expr::Number(1))?);
+    assert_assigned(
+        &rt,
+        pushed,
+        "      SUBROUTINE A\n      K=ZPUSH(1)\n      END\n",
+    )
+}
+
+/// A logical IF of a constant.
+fn logical_if(rt: &impl AllocGlobal, truth: bool, inner: Stmt) -> Result<Stmt, Fail> {
+    Ok(Stmt::LogicalIf {
+        condition: Expr::Truth(truth),
+        statement: Box::new(rt.alloc(), inner)?,
+    })
+}
+
+/// Compares the program with IF (.TRUE.) before the statement.
+fn assert_conditional(
+    rt: &(impl AllocGlobal + Abort),
+    inner: Stmt,
+    want: &str,
+) -> Result<(), Fail> {
+    let made = lines(rt, 0, None, logical_if(rt, true, inner)?)?;
+    assert_eq!(rt; printed(rt, made)?.as_str(), want);
+    Ok(())
+}
+
+#[test]
+fn makes_programs_of_mutants(rt: HostRuntime) -> Result<(), Fail> {
+    assert_conditional(
+        &rt,
+        Stmt::Trap,
+        "      SUBROUTINE A\n      IF (.TRUE.) TRAP\n      END\n",
+    )?;
+    assert_conditional(
+        &rt,
+        Stmt::Goto { label: 100000 },
+        "      SUBROUTINE A\n      IF (.TRUE.) GO TO 100000\n      END\n",
+    )?;
+    assert_conditional(&rt, Stmt::Else, "None")?;
+    assert_conditional(&rt, logical_if(&rt, false, Stmt::Stop)?, "None")
+}
