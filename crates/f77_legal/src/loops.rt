@@ -156,6 +156,7 @@ impl Ranges {
         })
     }
 
+    /// The terminal statement of the DO of this number, None for another statement (11.10).
     pub fn terminal(&self, d: usize) -> Option<usize>
         ensures { result ≡ table.end_of self.now.terminals.items d }
     {

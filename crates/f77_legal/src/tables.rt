@@ -74,6 +74,7 @@ fn branch_ends(
 }
 
 impl Tables {
+    /// The tables of a program, by its lines.
     pub fn of(alloc: Global, lines: &[Line]) -> Result<Tables, CheckFault>
         ensures tables { IfOk result (λ tables. AreTables tables (map line_of lines.now)) }
         ensures memory { IfErr result (λ fault. fault ≡ Memory) }

@@ -4,18 +4,21 @@ ghost use Rattle.std.specs.Prelude.{◌≡◌};
 ghost use Rattle.std.specs.List.{list_all};
 ghost use Rattle.f77_tree.specs.Grammar as grammar;
 
+/// An upper-case letter (3.1.1).
 pub fn is_letter(c: u8) -> bool
     ensures { result ≡ grammar.is_letter c }
 {
     c.is_ascii_uppercase()
 }
 
+/// A digit (3.1.2).
 pub fn is_digit(c: u8) -> bool
     ensures { result ≡ grammar.is_digit c }
 {
     c.is_ascii_digit()
 }
 
+/// A letter or a digit, as in a name.
 pub fn is_word(c: u8) -> bool
     ensures { result ≡ grammar.is_word c }
 {
@@ -42,12 +45,14 @@ pub fn is_number(text: &[u8]) -> bool
     }
 }
 
+/// Whether each character is a letter or a digit.
 pub fn are_words(text: &[u8]) -> bool
     ensures { result ≡ list_all grammar.is_word text.now }
 {
     text.iter().all(|c| is_word(*c))
 }
 
+/// Whether each character is a digit.
 pub fn are_digits(text: &[u8]) -> bool
     ensures { result ≡ list_all grammar.is_digit text.now }
 {

@@ -71,6 +71,7 @@ fn are_program(lines: &[Line]) -> bool
 }
 
 impl Program {
+    /// The program of lines that are one. It takes no memory.
     pub fn from_lines(lines: Vec<Line>) -> Program
         requires { IsProgram None (map line_of lines.items) }
         ensures { result ≡ lines.items }
