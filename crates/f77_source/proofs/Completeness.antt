@@ -7,7 +7,7 @@ use Rattle.f77_source.specs.declared.line.LineKind.{LineKind}
 use Rattle.f77_source.specs.declared.line.LineKind.TheVariants.{Comment, Initial, Continuation}
 use Rattle.f77_source.specs.Card.{CardFields, extended}
 use Rattle.f77_source.specs.Line.{kind, own_fault}
-use Rattle.f77_source.specs.Read.{AreCards, no_lines, comment, statement, MayFollow, is_initial, continuations}
+use Rattle.f77_source.specs.Read.{AreCards, no_lines, comment, statement, MayGoOn, is_initial, continuations}
 use Rattle.f77_source.specs.Reader.{Progress, all_cards, initial_card}
 use Rattle.f77_source.proofs.Faults.{no_own_fault, comment_has_no_fault}
 use Rattle.f77_source.proofs.Runs.{taken_by, run}
@@ -47,13 +47,13 @@ follow_step following rest n cards line none later ih card k few = by_kind (kind
 
 -- the lines that follow an initial line go into its card
 follow : (following rest : List (List ℕ)) (n : ℕ) (cards : List CardFields)
-    → All MayFollow following → (card : CardFields) (k : ℕ) → k + length (continuations following) ≤ 19
+    → All MayGoOn following → (card : CardFields) (k : ℕ) → k + length (continuations following) ≤ 19
     → run n (within_statement cards card k) (following ++ rest)
     ≡ run (n + length following) (within_statement cards (with_following card following) (k + length (continuations following))) rest
 follow [] rest n cards all card k few = same_run rest cards _ _ _ _ _ _ (omega arith) (rw append-nil refl) (omega arith)
 follow (line ∷ following) rest n cards all card k few =
-    let h = All-head MayFollow line following all in
-    follow_step following rest n cards line (no_own_fault n line h.1) h.0 (follow following rest (n + 1) cards (All-tail MayFollow line following all)) card k few
+    let h = All-head MayGoOn line following all in
+    follow_step following rest n cards line (no_own_fault n line h.1) h.0 (follow following rest (n + 1) cards (All-tail MayGoOn line following all)) card k few
 
 initial_kind : (line : List ℕ) → is_initial line ≡ true → kind line ≡ Initial
 initial_kind line h = by_kind (kind line) refl

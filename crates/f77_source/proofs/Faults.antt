@@ -4,7 +4,7 @@ use Rattle.std.specs.List.{list_all}
 use Rattle.f77_source.specs.declared.fault.FormFault.{FormFault}
 use Rattle.f77_source.specs.declared.fault.FormFault.TheVariants.{NotAscii, Tab, BadLabel}
 use Rattle.f77_source.specs.declared.line.LineKind.TheVariants.{Comment, Initial, Continuation}
-use Rattle.f77_source.specs.Line.{is_comment, kind, is_blank, column, has_foreign, has_tab, fits_label_field, is_label_field, is_label_character, label_field, label_number, is_well_formed, own_fault}
+use Rattle.f77_source.specs.Line.{is_comment, kind, is_blank, column, has_foreign, has_tab, fits_label_field, is_label_field, is_label_character, label_field, field_number, is_well_formed, own_fault}
 
 pub record Sound (line : List ℕ) : Type 0 where
   pub printable : has_foreign line ≡ false
@@ -73,7 +73,7 @@ no_own_fault n line e = by_test (is_comment line) (has_foreign line) (has_tab li
 -- what a label's columns hold
 pub label_characters : (line : List ℕ) → is_label_field line ≡ true → list_all is_label_character (label_field line) ≡ true
 unfolding is_label_field
-label_characters line e = by_test (list_all is_label_character (label_field line)) (list_all is_blank (label_field line) || not (label_number line == 0)) e
+label_characters line e = by_test (list_all is_label_character (label_field line)) (list_all is_blank (label_field line) || not (field_number line == 0)) e
   where
     by_test : (a b : Bool) → (a && b) ≡ true → a ≡ true
     by_test true b e = refl

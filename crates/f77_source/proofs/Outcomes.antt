@@ -6,6 +6,7 @@ use Rattle.f77_source.specs.declared.fault.FormFault.{FormFault}
 use Rattle.f77_source.specs.declared.fault.FormFault.TheVariants.{Memory, TooLarge, NotAscii, Tab, BadLabel, LooseContinuation, TooManyContinuations}
 use Rattle.f77_source.specs.Card.{CardFields}
 use Rattle.f77_source.specs.Line.{kind, is_comment, own_fault, has_foreign, has_tab, fits_label_field}
+use Rattle.f77_source.specs.Law.{HasCardsOrFault}
 use Rattle.f77_source.specs.Read.{lines, AreCards, IsFirstFault, IsRefusedBy, is_continuation, is_initial, continuations, since_initial, place_fault, line_fault}
 use Rattle.f77_source.specs.Reader.{Progress, nothing_read, all_cards, Steps}
 use Rattle.f77_source.proofs.Runs.{run}
@@ -105,7 +106,7 @@ step_stops source (BadLabel n) step new s h = inr (h s)
 step_stops source (LooseContinuation n) step new s h = inr (h s)
 step_stops source (TooManyContinuations n) step new s h = inr (h s)
 
--- ---- lines are one list of cards at most, or have one first fault
+-- ---- lines are one list of cards, or have one first fault
 
 pub one_list : (source : List ℕ) (cards others : List CardFields) → AreCards 1 (lines source) cards → AreCards 1 (lines source) others → cards ≡ others
 one_list source cards others are also =
@@ -121,3 +122,10 @@ pub cards_or_fault : (source : List ℕ) (cards : List CardFields) (fault : Form
 cards_or_fault source cards fault are first =
     let one = complete 1 (lines source) cards are nothing_read in
     read_no_fault source one.0 fault one.1 first
+
+pub cards_or_first_fault : (source : List ℕ) → HasCardsOrFault source
+cards_or_first_fault source = by_run (run 1 nothing_read (lines source)) refl
+  where
+    by_run : (r : Result Progress FormFault) → run 1 nothing_read (lines source) ≡ r → HasCardsOrFault source
+    by_run (Ok q) e = inl (all_cards q, read_cards source q e)
+    by_run (Err fault) e = inr (fault, first_of source fault e)

@@ -15,8 +15,8 @@ use Rattle.std.proofs.Common.{length-take}
 use Rattle.std.proofs.lemmas.List.{length-map, get_or_default}
 use Rattle.std.proofs.lemmas.List.FromFn.{length-range_with_len}
 use Rattle.f77_source.specs.Card.{CardFields}
-use Rattle.f77_source.specs.Line.{is_blank, counted, label_field, statement_field, column, is_comment, kind, label, label_number, is_label_field, statement_text, is_well_formed}
-use Rattle.f77_source.specs.Read.{AreCards, no_lines, statement, MayFollow, card_of, is_initial, continuations, lines, is_line_end, terminated}
+use Rattle.f77_source.specs.Line.{is_blank, counted, label_field, statement_field, column, is_comment, kind, label, field_number, is_label_field, line_part, is_well_formed}
+use Rattle.f77_source.specs.Read.{AreCards, no_lines, statement, MayGoOn, statement_card, is_initial, continuations, lines, is_line_end, terminated}
 use Rattle.f77_source.specs.Write.{label_text, piece, continuation_count, continuation_line, written_card, written, is_printable, is_bad_label, card_faults}
 use Rattle.f77_source.specs.Law.{squeezed, HasInitialLine, IsReadAs}
 use Rattle.f77_source.specs.declared.line.LineKind.TheVariants.{Initial, Continuation}
@@ -103,7 +103,7 @@ module _ (l : Option ℕ) (rest : List ℕ) (good : is_bad_label l ≡ false) (s
   clean = rw (list_all-append is_printable (label_text l) (32 ∷ rest), label_text_printable l good, printable) refl
 
   label_fits : is_label_field (label_text l ++ 32 ∷ rest) ≡ true
-  unfolding is_label_field label_number
+  unfolding is_label_field field_number
   label_fits = rw (five_columns (label_text l) rest five short, label_text_characters l good, label_text_blank l good) (by_label l good)
     where
       by_label : (l : Option ℕ) → is_bad_label l ≡ false → (not (is_some l) || not (digits_value 10 (filter (λ c. not (is_blank c)) (label_text l)) == 0)) ≡ true
@@ -117,15 +117,15 @@ module _ (l : Option ℕ) (rest : List ℕ) (good : is_bad_label l ≡ false) (s
       rw (no_comment, seventy_two (label_text l) rest five short, p.0, p.1, initial_kind, label_fits) refl
 
   pub initial_label : label (label_text l ++ 32 ∷ rest) ≡ l
-  unfolding label label_number
+  unfolding label field_number
   initial_label = rw (five_columns (label_text l) rest five short, label_text_blank l good) (by_label l good)
     where
       by_label : (l : Option ℕ) → is_bad_label l ≡ false → cond (not (is_some l)) None (Some (digits_value 10 (filter (λ c. not (is_blank c)) (label_text l)))) ≡ l
       by_label None good = refl
       by_label (Some n) good = rw (label_text_number n good) refl
 
-  pub initial_text : statement_text (label_text l ++ 32 ∷ rest) ≡ squeezed rest
-  unfolding statement_text
+  pub initial_text : line_part (label_text l ++ 32 ∷ rest) ≡ squeezed rest
+  unfolding line_part
   initial_text = rw (from_seven (label_text l) rest five short) refl
 
   pub initial_printable : list_all is_printable (label_text l ++ 32 ∷ rest) ≡ true
@@ -150,8 +150,8 @@ module _ (rest : List ℕ) (short : length rest ≤ 66) (printable : list_all is
       let p = printable_clean rest printable in
       rw (no_comment_line, whole, p.0, p.1, continuation_kind) refl
 
-  pub continuation_text : statement_text (32 ∷ 32 ∷ 32 ∷ 32 ∷ 32 ∷ 43 ∷ rest) ≡ squeezed rest
-  unfolding statement_text
+  pub continuation_text : line_part (32 ∷ 32 ∷ 32 ∷ 32 ∷ 32 ∷ 43 ∷ rest) ≡ squeezed rest
+  unfolding line_part
   continuation_text = rw whole refl
 
   pub continuation_printable : list_all is_printable (32 ∷ 32 ∷ 32 ∷ 32 ∷ 32 ∷ 43 ∷ rest) ≡ true
@@ -236,24 +236,24 @@ module _ (text : List ℕ) (printable : list_all is_printable text ≡ true) whe
   kind_at : (k : ℕ) → kind (continuation_of text k) ≡ Continuation
   kind_at k = continuation_kind (piece text k) (piece_length text k) (piece_printable text k printable)
 
-  pub all_follow : (ks : List ℕ) → All MayFollow (map (continuation_of text) ks)
-  all_follow [] = All-nil MayFollow
+  pub all_follow : (ks : List ℕ) → All MayGoOn (map (continuation_of text) ks)
+  all_follow [] = All-nil MayGoOn
   all_follow (k ∷ ks) =
-      All-cons MayFollow (continuation_of text k) (map (continuation_of text) ks)
+      All-cons MayGoOn (continuation_of text k) (map (continuation_of text) ks)
       (rw (kind_at k) refl, continuation_sound (piece text k) (piece_length text k) (piece_printable text k printable)) (all_follow ks)
 
   pub all_continue : (ks : List ℕ) → continuations (map (continuation_of text) ks) ≡ map (continuation_of text) ks
   all_continue [] = refl
   all_continue (k ∷ ks) = rw (kind_at k) (ap (λ ls. continuation_of text k ∷ ls) (all_continue ks))
 
-  pub texts_of : (ks : List ℕ) → flat_map statement_text (map (continuation_of text) ks) ≡ flat_map (λ k. squeezed (piece text k)) ks
+  pub texts_of : (ks : List ℕ) → flat_map line_part (map (continuation_of text) ks) ≡ flat_map (λ k. squeezed (piece text k)) ks
   texts_of [] = refl
   texts_of (k ∷ ks) =
       rw (continuation_text (piece text k) (piece_length text k) (piece_printable text k printable)) (ap (λ rest. squeezed (piece text k) ++ rest) (texts_of ks))
 
 -- the card that is read
 read_card : ℕ → CardFields → CardFields
-read_card n card = card_of n (initial_of card) (continuations_of card)
+read_card n card = statement_card n (initial_of card) (continuations_of card)
 
 read_label : (n : ℕ) (card : CardFields) → Readable card → (read_card n card).label ≡ card.label
 unfolding read_card

@@ -7,8 +7,8 @@ use Rattle.f77_source.specs.declared.fault.FormFault.TheVariants.{TooManyContinu
 use Rattle.std.proofs.lemmas.Bool.Decides.{nat_tests}
 use Rattle.f77_source.specs.declared.line.LineKind.TheVariants.{Comment, Initial, Continuation}
 use Rattle.f77_source.specs.Card.{CardFields, extended}
-use Rattle.f77_source.specs.Line.{kind, statement_text, own_fault}
-use Rattle.f77_source.specs.Read.{AreCards, no_lines, comment, statement, MayFollow, card_of, continuations}
+use Rattle.f77_source.specs.Line.{kind, line_part, own_fault}
+use Rattle.f77_source.specs.Read.{AreCards, no_lines, comment, statement, MayGoOn, statement_card, continuations}
 use Rattle.f77_source.specs.Reader.{Progress, taken, begun, current_gone_on, all_cards, current_card, initial_card}
 use Rattle.f77_source.proofs.Faults.{well_formed}
 use Rattle.f77_source.proofs.Runs as runs
@@ -16,24 +16,24 @@ use Rattle.f77_source.proofs.Runs.{Took, took, and_then, run}
 
 -- the card with the lines that follow it
 abbrev pub with_following : CardFields → List (List ℕ) → CardFields
-with_following card following = record card { text = card.text ++ flat_map statement_text (continuations following) }
+with_following card following = record card { text = card.text ++ flat_map line_part (continuations following) }
 
 -- the cards of the lines from number n on, where a statement may still go on
 abbrev pub Rest : ℕ → Option (CardFields × ℕ) → List (List ℕ) → List CardFields → Type 0
 Rest n None lines cards = AreCards n lines cards
 Rest n (Some s) lines cards =
     (following : List (List ℕ)) × (rest : List (List ℕ)) × (tail : List CardFields)
-    × (lines ≡ following ++ rest) × All MayFollow following × (s.1 + length (continuations following) ≤ 19)
+    × (lines ≡ following ++ rest) × All MayGoOn following × (s.1 + length (continuations following) ≤ 19)
     × AreCards (n + length following) rest tail × (cards ≡ with_following s.0 following ∷ tail)
 
 abbrev pub Within : Option (CardFields × ℕ) → Type 0
 Within None = Unit {0}
 Within (Some s) = s.1 ≤ 19
 
-comment_follows : (n : ℕ) (line : List ℕ) → own_fault n line ≡ None → kind line ≡ Comment → MayFollow line
+comment_follows : (n : ℕ) (line : List ℕ) → own_fault n line ≡ None → kind line ≡ Comment → MayGoOn line
 comment_follows n line none is = (rw is refl, well_formed n line none)
 
-continuation_follows : (n : ℕ) (line : List ℕ) → own_fault n line ≡ None → kind line ≡ Continuation → MayFollow line
+continuation_follows : (n : ℕ) (line : List ℕ) → own_fault n line ≡ None → kind line ≡ Continuation → MayGoOn line
 continuation_follows n line none is = (rw is refl, well_formed n line none)
 
 -- one more line in front
@@ -45,7 +45,7 @@ comment_rest n line (Some s) lines cards none is h = (
   h.1,
   h.2,
   ap (λ ls. line ∷ ls) h.3,
-  All-cons MayFollow line h.0 (comment_follows n line none is) h.4,
+  All-cons MayGoOn line h.0 (comment_follows n line none is) h.4,
   rw is h.5,
   subst (λ m. AreCards m h.1 h.2) (omega arith) h.6,
   h.7 ∙ rw is refl,
@@ -58,7 +58,7 @@ continuation_rest n line s lines cards none is h = (
   h.1,
   h.2,
   ap (λ ls. line ∷ ls) h.3,
-  All-cons MayFollow line h.0 (continuation_follows n line none is) h.4,
+  All-cons MayGoOn line h.0 (continuation_follows n line none is) h.4,
   rw is (omega (arith, h.5)),
   subst (λ m. AreCards m h.1 h.2) (omega arith) h.6,
   h.7 ∙ rw (is, append_assoc) refl,
@@ -69,7 +69,7 @@ opened : (n : ℕ) (line : List ℕ) (lines : List (List ℕ)) (cards : List Car
     → own_fault n line ≡ None → kind line ≡ Initial → Rest (n + 1) (Some (initial_card n line, 0)) lines cards
     → AreCards n (line ∷ lines) cards
 opened n line lines cards none is h =
-    let made : AreCards n (line ∷ (h.0 ++ h.1)) (card_of n line h.0 ∷ h.2) =
+    let made : AreCards n (line ∷ (h.0 ++ h.1)) (statement_card n line h.0 ∷ h.2) =
     statement h.0 (rw is refl) (well_formed n line none) h.4 (omega (arith, h.5)) h.6 in
     rw (h.3, h.7) made
 
@@ -81,7 +81,7 @@ initial_rest n line (Some s) lines cards within h = (
   line ∷ lines,
   cards,
   refl,
-  All-nil MayFollow,
+  All-nil MayGoOn,
   omega (arith, within),
   subst (λ m. AreCards m (line ∷ lines) cards) (omega arith) h,
   rw append-nil refl,
@@ -90,7 +90,7 @@ initial_rest n line (Some s) lines cards within h = (
 -- where no line is left
 no_rest : (n : ℕ) (c : Option (CardFields × ℕ)) → Within c → Rest n c [] (current_card c)
 no_rest n None within = no_lines
-no_rest n (Some s) within = ([], [], [], refl, All-nil MayFollow, omega (arith, within), no_lines, rw append-nil refl)
+no_rest n (Some s) within = ([], [], [], refl, All-nil MayGoOn, omega (arith, within), no_lines, rw append-nil refl)
 
 -- what a run that succeeds has read
 abbrev pub Read : ℕ → Progress → List (List ℕ) → Progress → Type 0

@@ -1,10 +1,11 @@
 -- Written cards are read again.
-use Rattle.std.specs.Prelude.{◌≡◌, ℕ, not, ◌||◌, true, List, map, filter, is_some}
+use Rattle.std.specs.Prelude.{◌≡◌, ◌⊎◌, ℕ, not, ◌||◌, true, List, map, filter, is_some}
 use Rattle.std.specs.List.{list_all}
 use Rattle.std.specs.Char.{to_ascii_uppercase}
 use Rattle.f77_source.specs.Card.{CardFields}
 use Rattle.f77_source.specs.Line.{is_blank}
-use Rattle.f77_source.specs.Read.{AreCards, lines}
+use Rattle.f77_source.specs.Read.{AreCards, IsFirstFault, lines}
+use Rattle.f77_source.specs.declared.fault.FormFault.{FormFault}
 use Rattle.f77_source.specs.Write.{piece}
 
 -- a text as it is read: blanks left out, in upper case
@@ -21,3 +22,8 @@ pub record IsReadAs (source : List ℕ) (cards : List CardFields) : Type 0 where
   pub are : AreCards 1 (lines source) read
   pub labels : map (λ card. card.label) read ≡ map (λ card. card.label) cards
   pub texts : map (λ card. card.text) read ≡ map (λ card. squeezed card.text) cards
+
+-- the lines of the source are cards, or one of them is the first that breaks the form
+abbrev pub HasCardsOrFault : List ℕ → Type 0
+HasCardsOrFault source =
+    ((cards : List CardFields) × AreCards 1 (lines source) cards) ⊎ ((fault : FormFault) × IsFirstFault (lines source) fault)

@@ -39,12 +39,12 @@ kind line =
     else (if is_blank (column line 6) || (column line 6 == 48) then Initial else Continuation)
 
 -- the number of the digits, blanks left out
-unfoldable pub label_number : List ℕ → ℕ
-label_number line = digits_value 10 (filter (λ c. not (is_blank c)) (label_field line))
+unfoldable pub field_number : List ℕ → ℕ
+field_number line = digits_value 10 (filter (λ c. not (is_blank c)) (label_field line))
 
 -- the label of an initial line
 unfoldable pub label : List ℕ → Option ℕ
-label line = if list_all is_blank (label_field line) then None else Some (label_number line)
+label line = if list_all is_blank (label_field line) then None else Some (field_number line)
 
 abbrev pub is_label_character : ℕ → Bool
 is_label_character c = is_ascii_digit c || is_blank c
@@ -53,11 +53,11 @@ is_label_character c = is_ascii_digit c || is_blank c
 unfoldable pub is_label_field : List ℕ → Bool
 is_label_field line =
     list_all is_label_character (label_field line)
-    && (list_all is_blank (label_field line) || not (label_number line == 0))
+    && (list_all is_blank (label_field line) || not (field_number line == 0))
 
 -- what the line adds to its statement: columns 7 to 72, blanks left out, in upper case
-unfoldable pub statement_text : List ℕ → List ℕ
-statement_text line = map to_ascii_uppercase (filter (λ c. not (is_blank c)) (statement_field line))
+unfoldable pub line_part : List ℕ → List ℕ
+line_part line = map to_ascii_uppercase (filter (λ c. not (is_blank c)) (statement_field line))
 
 -- a byte that only a comment or the columns from 73 on may hold, a tab aside
 abbrev pub is_foreign : ℕ → Bool

@@ -5,7 +5,7 @@ use Rattle.std.specs.List.{All, list_any, flat_map, slice_split, take_while}
 use Rattle.std.specs.Option.{option_or}
 use Rattle.std.specs.Str.Lines.{strip_carriage_return}
 use Rattle.f77_source.specs.Card.{CardFields}
-use Rattle.f77_source.specs.Line.{kind, label, statement_text, is_well_formed, own_fault}
+use Rattle.f77_source.specs.Line.{kind, label, line_part, is_well_formed, own_fault}
 use Rattle.f77_source.specs.declared.fault.FormFault.{FormFault}
 use Rattle.f77_source.specs.declared.fault.FormFault.TheVariants.{Memory, TooLarge, LooseContinuation, TooManyContinuations}
 use Rattle.f77_source.specs.declared.line.LineKind.{LineKind}
@@ -44,14 +44,14 @@ abbrev pub continuations : List (List ℕ) → List (List ℕ)
 continuations lines = filter is_continuation lines
 
 -- a line that may follow an initial line in its statement: a continuation line or a comment
-abbrev pub MayFollow : List ℕ → Type 0
-MayFollow line = (is_initial line ≡ false) × (is_well_formed line ≡ true)
+abbrev pub MayGoOn : List ℕ → Type 0
+MayGoOn line = (is_initial line ≡ false) × (is_well_formed line ≡ true)
 
 -- the card of the statement whose initial line is number n, with the lines that follow that line in it
-abbrev pub card_of : ℕ → List ℕ → List (List ℕ) → CardFields
-card_of n initial following = record {
+abbrev pub statement_card : ℕ → List ℕ → List (List ℕ) → CardFields
+statement_card n initial following = record {
   label = label initial;
-  text = statement_text initial ++ flat_map statement_text (continuations following);
+  text = line_part initial ++ flat_map line_part (continuations following);
   line = n;
 }
 
@@ -63,9 +63,9 @@ pub data AreCards : ℕ → List (List ℕ) → List CardFields → Type 0 where
       → AreCards (n + 1) rest cards → AreCards n (line ∷ rest) cards
   statement : {n : ℕ} {initial : List ℕ} (following : List (List ℕ)) {rest : List (List ℕ)} {cards : List CardFields}
       → is_initial initial ≡ true → is_well_formed initial ≡ true
-      → All MayFollow following → length (continuations following) ≤ 19
+      → All MayGoOn following → length (continuations following) ≤ 19
       → AreCards (n + 1 + length following) rest cards
-      → AreCards n (initial ∷ (following ++ rest)) (card_of n initial following ∷ cards)
+      → AreCards n (initial ∷ (following ++ rest)) (statement_card n initial following ∷ cards)
 
 -- the lines behind the last initial line, last line first
 abbrev pub since_initial : List (List ℕ) → List (List ℕ)

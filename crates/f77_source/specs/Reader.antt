@@ -2,7 +2,7 @@
 use Rattle.std.specs.Prelude.{◌≡◌, ℕ, ◌+◌, ◌==◌, if◌then◌else◌, List, [], ◌∷◌, ◌++◌, Option, Some, None, Result, Ok, Err}
 use Rattle.std.specs.Option.{option_map}
 use Rattle.f77_source.specs.Card.{CardFields, extended}
-use Rattle.f77_source.specs.Line.{kind, label, statement_text, own_fault}
+use Rattle.f77_source.specs.Line.{kind, label, line_part, own_fault}
 use Rattle.f77_source.specs.declared.fault.FormFault.{FormFault}
 use Rattle.f77_source.specs.declared.fault.FormFault.TheVariants.{Memory, LooseContinuation, TooManyContinuations}
 use Rattle.f77_source.specs.declared.line.LineKind.{LineKind}
@@ -30,7 +30,7 @@ all_cards p = p.cards ++ current_card p.current
 
 -- an initial line, number n
 abbrev pub initial_card : ℕ → List ℕ → CardFields
-initial_card n line = record { label = label line; text = statement_text line; line = n }
+initial_card n line = record { label = label line; text = line_part line; line = n }
 
 abbrev pub begun : ℕ → List ℕ → Progress → Progress
 begun n line p = record { cards = all_cards p; current = Some (initial_card n line, 0) }

@@ -4,7 +4,7 @@ ghost use Rattle.std.specs.Prelude.{◌≡◌, OnOk, false, string_bytes};
 ghost use Rattle.f77_source.specs.Line.{has_foreign};
 ghost use Rattle.f77_source.specs.Card.{extended};
 
-use crate::line::append_statement_text;
+use crate::line::append_line_part;
 use std::alloc::AllocError;
 use std::marker::Model;
 
@@ -62,6 +62,6 @@ impl Card {
         requires { has_foreign line.now ≡ false }
         ensures { OnOk result (self.new ≡ extended line.now self.old) }
     {
-        append_statement_text(&mut self.text, line)
+        append_line_part(&mut self.text, line)
     }
 }

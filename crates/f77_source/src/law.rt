@@ -3,7 +3,7 @@
 ghost use Rattle.std.specs.Prelude.{◌≡◌, ℕ, [], List};
 ghost use Rattle.std.specs.List.{All};
 ghost use Rattle.f77_source.specs.Card.{CardFields};
-ghost use Rattle.f77_source.specs.Law.{HasInitialLine, IsReadAs};
+ghost use Rattle.f77_source.specs.Law.{HasInitialLine, HasCardsOrFault, IsReadAs};
 ghost use Rattle.f77_source.specs.Read.{lines, AreCards, IsFirstFault};
 ghost use Rattle.f77_source.specs.Write.{card_faults, written};
 ghost use Rattle.f77_source.specs.declared.fault.FormFault.{FormFault};
@@ -14,9 +14,10 @@ pub fn written_cards_are_read()
     ensures { (cards : List CardFields) → card_faults cards ≡ [] → All HasInitialLine cards → IsReadAs (written cards) cards }
 {}
 
-/// Lines are one list of cards at most, or have one first fault, and not both.
+/// Lines are one list of cards, or have one first fault, and not both.
 #[tactic(auto, using(crate::proofs::Outcomes::one_list, crate::proofs::Outcomes::one_first_fault))]
 pub fn one_reading()
+    ensures some { (source : List ℕ) → HasCardsOrFault source }
     ensures cards { (source : List ℕ) (cards others : List CardFields) → AreCards 1 (lines source) cards → AreCards 1 (lines source) others
         → cards ≡ others }
     ensures fault { (source : List ℕ) (fault other : FormFault) → IsFirstFault (lines source) fault → IsFirstFault (lines source) other

@@ -10,10 +10,10 @@ ghost use Rattle.f77_source.specs.Line.{
   statement_field,
   is_comment,
   kind,
-  label_number,
+  field_number,
   label,
   is_label_field,
-  statement_text,
+  line_part,
   is_foreign,
   has_foreign,
   has_tab,
@@ -111,7 +111,7 @@ pub(crate) fn line_kind(line: &[u8]) -> LineKind
 /// The number of the digits of columns 1 to 5, blanks left out.
 fn number_in_label_columns(line: &[u8]) -> u32
     requires { list_all is_label_character (label_field line.now) ≡ true }
-    ensures value { result ≡ label_number line.now }
+    ensures value { result ≡ field_number line.now }
     ensures small { result < 100000 }
 {
     let mut number = 0;
@@ -199,9 +199,9 @@ pub(crate) fn fault_of(line: &[u8], number: u32) -> Option<FormFault>
 }
 
 /// Adds to the text what the line adds to its statement.
-pub(crate) fn append_statement_text(text: &mut String, line: &[u8]) -> Result<(), AllocError>
+pub(crate) fn append_line_part(text: &mut String, line: &[u8]) -> Result<(), AllocError>
     requires { list_any is_foreign (counted line.now) ≡ false }
-    ensures { OnOk result (string_bytes text.new ≡ string_bytes text.old ++ statement_text line.now) }
+    ensures { OnOk result (string_bytes text.new ≡ string_bytes text.old ++ line_part line.now) }
 {
     for c in statement_columns(line) {
         if *c != b' ' {

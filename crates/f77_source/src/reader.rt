@@ -8,7 +8,7 @@ ghost use Rattle.f77_source.specs.declared.line.LineKind.TheVariants.{Initial, C
 
 use crate::card::Card;
 use crate::fault::FormFault;
-use crate::line::{LineKind, append_statement_text, fault_of, label_of, line_kind};
+use crate::line::{LineKind, append_line_part, fault_of, label_of, line_kind};
 use crate::statement::Statement;
 use std::alloc::{AllocError, Global};
 
@@ -26,7 +26,7 @@ fn begin_card(alloc: Global, line: &[u8], number: u32) -> Result<Card, AllocErro
     ensures { IfOk result (λ card. card ≡ initial_card number line.now) }
 {
     let mut text = String::new(alloc);
-    append_statement_text(&mut text, line)?;
+    append_line_part(&mut text, line)?;
     Ok(Card::new(label_of(line), text, number))
 }
 

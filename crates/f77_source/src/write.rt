@@ -156,6 +156,8 @@ pub fn write_form(alloc: Global, cards: &[Card]) -> Result<String, FormFault>
     ensures text { IfOk result (λ text. string_bytes text ≡ written cards.now) }
     ensures accepted { IfOk result (λ _. card_faults cards.now ≡ []) }
     ensures refused { IfErr result (λ fault. (slice_get (card_faults cards.now) 0 ≡ Some fault) ⊎ (fault ≡ FormFault.Memory)) }
+    // A fault is told before any memory is taken.
+    ensures told { (fault : FormFault) → slice_get (card_faults cards.now) 0 ≡ Some fault → IfErr result (λ found. found ≡ fault) }
 {
     if let Some(fault) = first_fault(cards) {
         return Err(fault);

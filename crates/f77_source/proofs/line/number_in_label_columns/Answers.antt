@@ -2,7 +2,7 @@ use Rattle.std.proofs.Common.{◌≡◌, ◌<◌, ◌+◌, ◌*◌, ◌-◌, ◌
 use Rattle.std.proofs.Math.Nat.{pow-succ'}
 use Rattle.std.specs.Str.Parse.{digits_value}
 use Rattle.std.specs.List.{list_all}
-use Rattle.f77_source.specs.Line.{label_number, is_label_character}
+use Rattle.f77_source.specs.Line.{field_number, is_label_character}
 use Rattle.f77_source.proofs.Columns.{dense, dense_blank, dense_more, label_digit, number_more}
 use Rattle.f77_source.proofs.line.number_in_label_columns.Goals.{then-c-ne32, else-c-ne32}
 use Rattle.f77_source.proofs.line.number_in_label_columns.Goals as goal
@@ -29,5 +29,5 @@ loop-c-preserved c =
     ]
 
 pub returns-clause-value : goal.returns-clause-value
-unfolding label_number
+unfolding field_number
 returns-clause-value c = c.loop-c.invariant.0 ∙ ap (λ (xs : List ℕ). digits_value 10 (dense xs)) (take_all _ _ c.loop-c-test.false ∙ c.label_columns-c-items.ensures)

@@ -1,7 +1,7 @@
 use Rattle.std.proofs.Common.{◌≡◌, ◌++◌, take, map, string_bytes}
 use Rattle.std.specs.Char.{to_ascii_uppercase}
 use Rattle.f77_source.proofs.Columns.{dense}
-use Rattle.f77_source.proofs.line.append_statement_text.Given as goal
+use Rattle.f77_source.proofs.line.append_line_part.Given as goal
 
 abbrev pub invariant-loop-c : goal.invariant-loop-c
 invariant-loop-c l = string_bytes l.text ≡ string_bytes l.initial.text ++ map to_ascii_uppercase (dense (take l.c-index l.c-items))

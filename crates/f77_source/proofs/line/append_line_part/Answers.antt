@@ -2,10 +2,10 @@ use Rattle.std.proofs.Common.{◌≡◌, ◌<◌, ℕ, List, false, ◌++◌, ma
 use Rattle.std.specs.Char.{to_ascii_uppercase}
 use Rattle.std.specs.List.{list_any}
 use lib.Utf8.{encode}
-use Rattle.f77_source.specs.Line.{statement_text, counted, is_foreign}
+use Rattle.f77_source.specs.Line.{line_part, counted, is_foreign}
 use Rattle.f77_source.proofs.Columns.{dense, text_blank, text_more, ascii_at}
-use Rattle.f77_source.proofs.line.append_statement_text.Goals.{then-c-ne32+in_ok-push, else-c-ne32}
-use Rattle.f77_source.proofs.line.append_statement_text.Goals as goal
+use Rattle.f77_source.proofs.line.append_line_part.Goals.{then-c-ne32+in_ok-push, else-c-ne32}
+use Rattle.f77_source.proofs.line.append_line_part.Goals as goal
 
 small_at : (items columns : List ℕ) (i : ℕ) → items ≡ drop 6 columns → list_any is_foreign columns ≡ false → i < length items → get_or items i 0 < 128
 small_at items columns i e none h = rw e (ascii_at columns 6 i none (rw e at h))
@@ -21,5 +21,5 @@ loop-c-preserved c = elim c.if-c-ne32.branch [
 ]
 
 pub returns : goal.returns
-unfolding statement_text
+unfolding line_part
 returns c = c.loop-c.invariant ∙ ap (λ (xs : List ℕ). string_bytes c.args.text.now ++ map to_ascii_uppercase (dense xs)) (take_all _ _ c.loop-c-test.false ∙ c.statement_columns-c-items.ensures)
