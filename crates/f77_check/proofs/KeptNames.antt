@@ -9,7 +9,7 @@ use Rattle.std.proofs.lemmas.List.Concat.{flat_map-cons}
 use Rattle.std.proofs.lemmas.List.Elements.{filter_map-append}
 use Rattle.std.proofs.lemmas.List.Folds.{list_all-append, list_all-map}
 use Rattle.std.proofs.lemmas.Map.Made.{is_some-lookup}
-use Rattle.f77_tree.specs.Node.{NodeOf, parts, all_parts, tree_nodes, step_nodes, nodes_of, name_of, names_of}
+use Rattle.f77_tree.specs.Node.{NodeOf, parts, all_parts, tree_nodes, step_parts, nodes_of, name_of, names_of}
 use Rattle.f77_tree.specs.Parsing.{LineFields}
 use Rattle.f77_tree.specs.Tree.{Tree, Trees, DeclFields, Statement}
 use Rattle.f77_legal.specs.declared.names.Names.{Names}
@@ -62,13 +62,19 @@ module _ (names : Names) where
     items_are Trees.None = refl
     items_are (Trees.Then t ts) = parts_append (parts t) (all_parts ts) ∙ (λ i. tree_is t i && items_are ts i)
 
-  step_is : (step : Option Tree) → nodes_kept (step_nodes step) ≡ step_kept names step
+  step_is : (step : Option Tree) → nodes_kept (step_parts step) ≡ step_kept names step
   step_is None = refl
   step_is (Some t) = tree_is t
+
+  -- labels bear no name
+  labels_kept : (labels : List ℕ) (nodes : List NodeOf) → nodes_kept (map NodeOf.Labelled labels ++ nodes) ≡ nodes_kept nodes
+  labels_kept [] nodes = refl
+  labels_kept (label ∷ labels) nodes = labels_kept labels nodes
 
   statement_kept : (s : Statement) → nodes_kept (nodes_of s) ≡ true → names_kept names s ≡ true
   statement_kept (Statement.Assign name items t) h =
       sym (ap (λ b. is_kept names name && b) (kept_append (map NodeOf.Part (all_parts items)) (tree_nodes t) ∙ (λ i. items_are items i && tree_is t i))) ∙ h
+  statement_kept (Statement.ComputedGoto labels t) h = sym (labels_kept labels (tree_nodes t) ∙ tree_is t) ∙ h
   statement_kept (Statement.ArithIf t l m n) h = sym (kept_append (tree_nodes t) _ ∙ and_end (nodes_kept (tree_nodes t)) ∙ tree_is t) ∙ h
   statement_kept (Statement.LogicalIf t s) h =
       let both = and_true (nodes_kept (tree_nodes t)) (nodes_kept (nodes_of s)) (sym (kept_append (tree_nodes t) (nodes_of s)) ∙ h) in
@@ -78,8 +84,8 @@ module _ (names : Names) where
   statement_kept (Statement.ElseIf t) h = sym (tree_is t) ∙ h
   statement_kept (Statement.Loop label name a b c) h =
       sym (ap (λ z. is_kept names name && z)
-      (kept_append (tree_nodes a) (tree_nodes b ++ step_nodes c)
-      ∙ (λ i. tree_is a i && (kept_append (tree_nodes b) (step_nodes c) ∙ (λ j. tree_is b j && step_is c j)) i)))
+      (kept_append (tree_nodes a) (tree_nodes b ++ step_parts c)
+      ∙ (λ i. tree_is a i && (kept_append (tree_nodes b) (step_parts c) ∙ (λ j. tree_is b j && step_is c j)) i)))
       ∙ h
   statement_kept _ h = refl
 

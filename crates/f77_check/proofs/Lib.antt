@@ -1,5 +1,6 @@
 mod Arguments
 mod Readiness
+mod Jumps
 mod Sites
 mod CheckedParts
 mod SlotCounts

@@ -1,10 +1,10 @@
 -- Which statement is which with its names and labels looked up: by cases on both. Statements are numbered from 0 here.
-use Rattle.std.specs.Prelude.{◌≡◌, ⊤, ℕ, List, Option, Some, None, pos}
+use Rattle.std.specs.Prelude.{◌≡◌, ⊤, ℕ, List, [], ◌∷◌, Option, Some, None, pos}
 use Rattle.f77_tree.specs.Parsing.{LineFields}
 use Rattle.f77_tree.specs.Tree.{Tree, Trees, Statement}
 use Rattle.f77_tree.specs.declared.tree.Kind.{Kind}
 use Rattle.f77_tree.specs.declared.tree.Kind.TheVariants.{Integer, Logical}
-use Rattle.f77_check.specs.declared.action.Action.{Action, Declaration, AssignNumber, AssignTruth, Goto, ArithmeticIf, LogicalIf', Branch, Continue, Loop, Return, Stop, Trap}
+use Rattle.f77_check.specs.declared.action.Action.{Action, Declaration, AssignNumber, AssignTruth, Goto, ComputedGoto, ArithmeticIf, LogicalIf', Branch, Continue, Loop, Return, Stop, Trap}
 use Rattle.f77_check.specs.declared.action.Jump.{Jump}
 use Rattle.f77_check.specs.declared.expression.Number.{Number}
 use Rattle.f77_check.specs.declared.expression.Number as number
@@ -19,6 +19,12 @@ use Rattle.f77_check.specs.Slots.{first_slot}
 pub record IsJump (program : List LineFields) (i label : ℕ) (jump : Jump) : Type 0 where
   pub target : place_of program label ≡ Some jump.target
   pub leaves : jump.leaves.items ≡ left_by program i jump.target
+
+-- the jumps from i to the statements with these labels, in order
+abbrev pub AreJumps : List LineFields → ℕ → List ℕ → List Jump → Type 0
+AreJumps p i [] [] = ⊤
+AreJumps p i (label ∷ labels) (jump ∷ jumps) = IsJump p i label jump × AreJumps p i labels jumps
+AreJumps p i _ _ = ⊥
 
 -- the incrementation parameter of a DO, 1 where none is written
 abbrev pub IsStep : (Symbol → List ℕ) → List Symbol → Option Tree → Number → Type 0
@@ -39,6 +45,7 @@ IsAction kinds bounds names p i (Statement.Dimension ds) Declaration = ⊤
 IsAction kinds bounds names p i (Statement.Preset gs) Declaration = ⊤
 IsAction kinds bounds names p i (Statement.Assign name items t) action = IsAssignment kinds bounds names name items t action
 IsAction kinds bounds names p i (Statement.Goto label) (Goto jump) = IsJump p i label jump
+IsAction kinds bounds names p i (Statement.ComputedGoto labels t) (ComputedGoto x jumps) = IsNumber bounds names t x × AreJumps p i labels jumps.items
 IsAction kinds bounds names p i (Statement.ArithIf t l m n) (ArithmeticIf x negative middle positive) =
     IsNumber bounds names t x × IsJump p i l negative × IsJump p i m middle × IsJump p i n positive
 IsAction kinds bounds names p i (Statement.LogicalIf t s) (LogicalIf' x q action) = IsCondition bounds names t x × IsAction kinds bounds names p i s action

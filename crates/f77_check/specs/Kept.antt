@@ -39,6 +39,7 @@ names_kept names (Statement.Dimension ds) = true
 names_kept names (Statement.Preset gs) = true
 names_kept names (Statement.Assign name items t) = is_kept names name && (items_kept names items && tree_kept names t)
 names_kept names (Statement.Goto label) = true
+names_kept names (Statement.ComputedGoto labels t) = tree_kept names t
 names_kept names (Statement.ArithIf t l m n) = tree_kept names t
 names_kept names (Statement.LogicalIf t s) = tree_kept names t && names_kept names s
 names_kept names (Statement.BlockIf t) = tree_kept names t

@@ -22,6 +22,11 @@ pub enum Action {
     AssignTruth(Element, Condition),
     /// A GO TO (11.1).
     Goto(Jump),
+    /// A computed GO TO, with the jumps for the values 1, 2, .. in order (11.2).
+    ComputedGoto {
+        value: Number,
+        jumps: Vec<Jump>,
+    },
     /// An arithmetic IF, with the jumps for a negative, a zero and a positive value (11.4).
     ArithmeticIf {
         value: Number,

@@ -7,7 +7,7 @@ ghost use Rattle.f77_tree.specs.Parsing.{LineFields, line_of};
 ghost use Rattle.f77_tree.specs.StatementView.{statement_of};
 ghost use Rattle.f77_tree.specs.Tree.{Statement};
 ghost use Rattle.f77_tree.specs.View.{place_of, tree_of, trees};
-ghost use Rattle.f77_check.specs.Action.{IsJump};
+ghost use Rattle.f77_check.specs.Action.{IsJump, AreJumps};
 ghost use Rattle.f77_legal.specs.Labels as labels;
 ghost use Rattle.f77_legal.specs.Labels.{jumps_of, statement_at};
 ghost use Rattle.f77_legal.specs.Loops.{terminal};
@@ -48,6 +48,21 @@ impl Resolver {
         Ok(Jump { target, leaves })
     }
 
+    /// The jumps from the statement `i` to those with these labels, in order.
+    fn jumps(&self, alloc: Global, i: usize, labels: &[u32]) -> Result<Vec<Jump>, CheckFault>
+        ghost program: { List LineFields }
+        requires tables { AreTables self.now.tables program }
+        requires found { AreFound program labels.now }
+        ensures jumps { IfOk result (λ jumps. AreJumps program i labels.now jumps.items) }
+        ensures memory { IfErr result (λ fault. fault ≡ Memory) }
+    {
+        let mut jumps = Vec::new(alloc);
+        for label in labels {
+            jumps.push(self.jump(alloc, i, *label)?)?;
+        }
+        Ok(jumps)
+    }
+
     /// An assignment, by the kind of what is assigned to (10.1, 10.2).
     fn assignment(&self, alloc: Global, target: &Ref, value: &Expr) -> Result<Action, CheckFault>
         requires { IsReady self.now (Statement.Assign (place_of target.now).0 (trees (place_of target.now).1) (tree_of value.now)) }
@@ -65,6 +80,27 @@ impl Resolver {
                 Ok(Action::AssignTruth(place, condition(alloc, names, &self.slots, value)?))
             }
         }
+    }
+
+    /// A computed GO TO (11.2).
+    fn computed_goto(
+        &self,
+        alloc: Global,
+        i: usize,
+        labels: &[u32],
+        value: &Expr,
+    ) -> Result<Action, CheckFault>
+        ghost program: { List LineFields }
+        requires tables { AreTables self.now.tables program }
+        requires ready { IsReady self.now (Statement.ComputedGoto labels.now (tree_of value.now)) }
+        requires found { AreFound program labels.now }
+        ensures action { IfOk result (λ action. Does self.now program i (Statement.ComputedGoto labels.now (tree_of value.now)) action) }
+        ensures memory { IfErr result (λ fault. fault ≡ Memory) }
+    {
+        Ok(Action::ComputedGoto {
+            value: number(alloc, &self.tables.names, &self.slots, value)?,
+            jumps: self.jumps(alloc, i, labels)?,
+        })
     }
 
     /// An arithmetic IF (11.4).
@@ -105,6 +141,7 @@ impl Resolver {
         match stmt {
             Stmt::Assign { target, value } => { self.assignment(alloc, target, value) }
             Stmt::Goto { label } => Ok(Action::Goto(self.jump(alloc, i, *label)?)),
+            Stmt::ComputedGoto { labels, value } => self.computed_goto(alloc, i, labels, value),
             Stmt::ArithIf {
                 value,
                 negative,
@@ -236,6 +273,7 @@ impl Resolver {
             Stmt::End => Ok(Action::Return),
             Stmt::Assign { .. }
             | Stmt::Goto { .. }
+            | Stmt::ComputedGoto { .. }
             | Stmt::ArithIf { .. }
             | Stmt::Continue
             | Stmt::Return

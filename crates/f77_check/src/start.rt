@@ -47,6 +47,7 @@ fn is_executable(stmt: &Stmt) -> bool
         | Stmt::Preset { .. } => false,
         Stmt::Assign { .. }
         | Stmt::Goto { .. }
+        | Stmt::ComputedGoto { .. }
         | Stmt::ArithIf { .. }
         | Stmt::LogicalIf { .. }
         | Stmt::BlockIf { .. }
@@ -80,6 +81,7 @@ fn groups(stmt: &Stmt) -> &[DataGroup]
         | Stmt::Dimension { .. }
         | Stmt::Assign { .. }
         | Stmt::Goto { .. }
+        | Stmt::ComputedGoto { .. }
         | Stmt::ArithIf { .. }
         | Stmt::LogicalIf { .. }
         | Stmt::BlockIf { .. }

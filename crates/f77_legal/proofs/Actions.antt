@@ -11,6 +11,7 @@ use Rattle.f77_legal.specs.Labels.{statement_at}
 spelled_acts : {text : List ℕ} {s : Statement} → SpellsAction text s → is_action s ≡ true
 spelled_acts (SpellsAction.assign a b) = refl
 spelled_acts (SpellsAction.go_to row a) = refl
+spelled_acts (SpellsAction.computed_go_to comma a b) = refl
 spelled_acts (SpellsAction.arithmetic_if l m n a b c d) = refl
 spelled_acts SpellsAction.go_on = refl
 spelled_acts SpellsAction.return = refl
@@ -32,6 +33,7 @@ spelled_holds _ = refl
 text_acts : (s : Statement) → is_action (in_text s) ≡ true → is_action s ≡ true
 text_acts (Statement.Assign name items t) h = refl
 text_acts (Statement.Goto label) h = refl
+text_acts (Statement.ComputedGoto labels t) h = refl
 text_acts (Statement.ArithIf t l m n) h = refl
 text_acts Statement.Continue h = refl
 text_acts Statement.Return h = refl

@@ -1,7 +1,7 @@
 -- A table of labels, as one more statement goes in, and what is read from it.
-use Rattle.std.proofs.Common.{◌≡◌, ℕ, suc, List, [], ◌∷◌, ◌++◌, Bool, true, false, cond, refl, sym, ◌∙◌, ap, arith, length, get_or, filter, append-nil, ◌<◌}
+use Rattle.std.proofs.Common.{◌≡◌, ℕ, suc, List, [], ◌∷◌, ◌++◌, Bool, true, false, cond, refl, sym, ◌∙◌, ap, length, get_or, filter, append-nil, ◌<◌}
 use Rattle.std.specs.Prelude.{Option, Some, None, is_some, nat_eq, ◌==◌, ◌||◌, ◌&&◌, option_map, map, slice_get}
-use Rattle.std.specs.List.{list_any, filter_map, cons_option, find}
+use Rattle.std.specs.List.{list_any, cons_option, find}
 use Rattle.std.specs.Map.{keys_of}
 use Rattle.std.specs.Option.{option_and_then, option_map_or}
 use Rattle.std.proofs.lemmas.Bool.{eqb-true}
@@ -137,31 +137,6 @@ first_double table program unique is =
   where
     double : (i : ℕ) (e : ℕ × Place) → slice_get table.places.entries i ≡ Some e → e.1.again ≡ is_double program e.0
     double i e there = again_by (place_of program e.0) (is_double program e.0) e.1 (sym (is.places e.0) ∙ lookup_from_place nat_eq_equiv table.places.entries i e.0 e.1 unique there)
-
--- a test of the labels that there are among three
-pub any_of_three : (test : ℕ → Bool) (a b c : Option ℕ)
-    → list_any test (filter_map (λ label. label) (a ∷ (b ∷ (c ∷ [])))) ≡ (option_map_or test a false || (option_map_or test b false || option_map_or test c false))
-any_of_three test a b c = any_given a (b ∷ (c ∷ [])) ∙ ap (λ x. option_map_or test a false || x) (any_given b (c ∷ []) ∙ ap (λ x. option_map_or test b false || x) (any_given c [] ∙ or_false (option_map_or test c false)))
-  where
-    any_given : (o : Option ℕ) (rest : List (Option ℕ)) → list_any test (filter_map (λ label. label) (o ∷ rest)) ≡ (option_map_or test o false || list_any test (filter_map (λ label. label) rest))
-    any_given None rest = refl
-    any_given (Some x) rest = refl
-
-    or_false : (x : Bool) → (x || false) ≡ x
-    or_false true = refl
-    or_false false = refl
-
--- any of the three jumps that a list gives, where the first does not pass
-pub three_jumps : (test : ℕ → Bool) (given : List (Option ℕ)) (jumps : List ℕ) (answer : Bool) → length given ≡ 3 → filter_map (λ label. label) given ≡ jumps
-    → option_map_or test (get_or given 0 None) false ≡ false
-    → answer ≡ (option_map_or test (get_or given 1 None) false || option_map_or test (get_or given 2 None) false)
-    → answer ≡ list_any test jumps
-three_jumps test [] jumps answer long e first rest = absurd (omega (arith, long))
-three_jumps test (a ∷ []) jumps answer long e first rest = absurd (omega (arith, long))
-three_jumps test (a ∷ (b ∷ [])) jumps answer long e first rest = absurd (omega (arith, long))
-three_jumps test (a ∷ (b ∷ (c ∷ []))) jumps answer long e first rest =
-    rest ∙ sym (ap (list_any test) (sym e) ∙ any_of_three test a b c ∙ ap (λ x. x || (option_map_or test b false || option_map_or test c false)) first)
-three_jumps test (a ∷ (b ∷ (c ∷ (d ∷ more)))) jumps answer long e first rest = absurd (omega (arith, long))
 
 -- the statement that a place gives
 pub statement_found : (lines : List Line) (label : Option ℕ) (l p : ℕ) (line : Line) → label ≡ Some l → place_of (map line_of lines) l ≡ Some p

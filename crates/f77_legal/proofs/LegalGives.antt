@@ -10,7 +10,7 @@ use Rattle.f77_tree.specs.Tree.{Tree, Statement}
 use Rattle.f77_legal.specs.declared.clause.Clause.{Clause}
 use Rattle.f77_legal.specs.declared.clause.Clause.TheVariants.{Kinds, Bounds, NamedLabels, Targets, Terminals, Nests, Jumps, Variables}
 use Rattle.f77_legal.specs.Blocks.{is_block_if, is_alternative, numbers, has_at, block_end, is_in_block, ends_else, breaks_block}
-use Rattle.f77_legal.specs.Clause.{breaks, faults_of}
+use Rattle.f77_legal.specs.Clause.{breaks, fault_at, lines_where, faults_of}
 use Rattle.f77_legal.specs.Labels.{statement_at}
 use Rattle.f77_legal.specs.Legal.{IsLegal, name_faults, clause_faults, expression_clauses, control_clauses, label_faults, data_faults, size_faults}
 use Rattle.f77_legal.proofs.Branches.{branch_closes}
@@ -44,27 +44,36 @@ filtered q k (y ∷ ys) i x e at = by (q (k, y)) refl i at (filtered q (k + 1) y
         let n : k + suc m ≡ k + 1 + m = omega arith in
         ap (λ c. q (c, x)) n ∙ later m x (sym whole ∙ e) at
 
-pub clause_kept : (c : Clause) (p : List LineFields) → faults_of c p ≡ [] → (i : ℕ) (s : Statement) → statement_at p i ≡ Some s → breaks c p i s ≡ false
-clause_kept c p none i s at = by (slice_get p i) refl at
+-- where no line passes a test, no statement does
+pub test_kept : (test : ℕ → Statement → Bool) (p : List LineFields) → lines_where test p ≡ [] → (i : ℕ) (s : Statement) → statement_at p i ≡ Some s → test i s ≡ false
+test_kept test p none i s at = by (slice_get p i) refl at
   where
-    empty : filter (λ numbered. breaks c p numbered.0 numbered.1.stmt) (enumerate_from 0 p) ≡ []
-    empty = map_none _ _ (map_none _ _ none)
+    empty : filter (λ numbered. test numbered.0 numbered.1.stmt) (enumerate_from 0 p) ≡ []
+    empty = map_none _ _ none
 
-    by : (o : Option LineFields) → slice_get p i ≡ o → option_map (λ line. line.stmt) o ≡ Some s → breaks c p i s ≡ false
+    by : (o : Option LineFields) → slice_get p i ≡ o → option_map (λ line. line.stmt) o ≡ Some s → test i s ≡ false
     by None is at = absurd (cc (at))
     by (Some line) is at =
         let same : line.stmt ≡ s = cc (at) in
         let n : 0 + i ≡ i = omega arith in
-        sym (ap (breaks c p i) same) ∙ sym (ap (λ k. breaks c p k line.stmt) n) ∙ filtered (λ numbered. breaks c p numbered.0 numbered.1.stmt) 0 p i line empty is
+        sym (ap (test i) same) ∙ sym (ap (λ k. test k line.stmt) n) ∙ filtered (λ numbered. test numbered.0 numbered.1.stmt) 0 p i line empty is
+
+pub clause_kept : (c : Clause) (p : List LineFields) → faults_of c p ≡ [] → (i : ℕ) (s : Statement) → statement_at p i ≡ Some s → breaks c p i s ≡ false
+clause_kept c p none = test_kept (breaks c p) p (map_none (fault_at c) (lines_where (breaks c p) p) none)
 
 -- what a legal program keeps
 pub record Kept (p : List LineFields) : Type 0 where
+  pub names : name_faults p ≡ []
   pub kinds : faults_of Kinds p ≡ []
   pub bounds : faults_of Bounds p ≡ []
+  pub doubles : label_faults p ≡ []
   pub labels : faults_of NamedLabels p ≡ []
   pub targets : faults_of Targets p ≡ []
   pub terminals : faults_of Terminals p ≡ []
   pub nests : faults_of Nests p ≡ []
+  pub jumps : faults_of Jumps p ≡ []
+  pub variables : faults_of Variables p ≡ []
+  pub presets : data_faults p ≡ []
   pub sizes : size_faults p ≡ []
 
 pub kept_by : (p : List LineFields) → IsLegal p → Kept p
@@ -76,15 +85,23 @@ kept_by p legal =
     let first = none_behind (faults_of NamedLabels p) (clause_faults (Targets ∷ (Terminals ∷ (Nests ∷ (Jumps ∷ (Variables ∷ []))))) p) all in
     let second = none_behind (faults_of Targets p) (clause_faults (Terminals ∷ (Nests ∷ (Jumps ∷ (Variables ∷ [])))) p) first in
     let third = none_behind (faults_of Terminals p) (clause_faults (Nests ∷ (Jumps ∷ (Variables ∷ []))) p) second in
+    let fourth = none_behind (faults_of Nests p) (clause_faults (Jumps ∷ (Variables ∷ [])) p) third in
+    let fifth = none_behind (faults_of Jumps p) (clause_faults (Variables ∷ []) p) fourth in
+    let last = none_behind (clause_faults control_clauses p) (data_faults p ++ size_faults p) control in
     let own = none_before (clause_faults expression_clauses p) (label_faults p ++ (clause_faults control_clauses p ++ (data_faults p ++ size_faults p))) expressions in
     record {
+      names = none_before (name_faults p) (clause_faults expression_clauses p ++ (label_faults p ++ (clause_faults control_clauses p ++ (data_faults p ++ size_faults p)))) legal;
       kinds = none_before (faults_of Kinds p) (clause_faults (Bounds ∷ []) p) own;
       bounds = none_before (faults_of Bounds p) (clause_faults [] p) (none_behind (faults_of Kinds p) (clause_faults (Bounds ∷ []) p) own);
-      sizes = none_behind (data_faults p) (size_faults p) (none_behind (clause_faults control_clauses p) (data_faults p ++ size_faults p) control);
+      doubles = none_before (label_faults p) (clause_faults control_clauses p ++ (data_faults p ++ size_faults p)) labels;
       labels = none_before (faults_of NamedLabels p) (clause_faults (Targets ∷ (Terminals ∷ (Nests ∷ (Jumps ∷ (Variables ∷ []))))) p) all;
       targets = none_before (faults_of Targets p) (clause_faults (Terminals ∷ (Nests ∷ (Jumps ∷ (Variables ∷ [])))) p) first;
       terminals = none_before (faults_of Terminals p) (clause_faults (Nests ∷ (Jumps ∷ (Variables ∷ []))) p) second;
       nests = none_before (faults_of Nests p) (clause_faults (Jumps ∷ (Variables ∷ [])) p) third;
+      jumps = none_before (faults_of Jumps p) (clause_faults (Variables ∷ []) p) fourth;
+      variables = none_before (faults_of Variables p) (clause_faults [] p) fifth;
+      presets = none_before (data_faults p) (size_faults p) last;
+      sizes = none_behind (data_faults p) (size_faults p) last;
     }
 
 -- where no number of a list passes, none of its members does

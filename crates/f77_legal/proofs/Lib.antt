@@ -10,6 +10,7 @@ pub mod Sizes
 pub mod DistinctLabels
 pub mod Positions
 pub mod LabelTables
+pub mod Jumps
 pub mod BlockScan
 pub mod BlockTables
 pub mod LoopLists
@@ -27,3 +28,4 @@ pub mod NoFaults
 pub mod Branches
 pub mod LegalGives
 pub mod Flow
+pub mod Rules

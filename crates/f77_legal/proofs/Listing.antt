@@ -1,13 +1,13 @@
 -- The nodes of a list and of a statement put into the table in turn.
-use Rattle.std.proofs.Common.{◌≡◌, ℕ, ◌+◌, ◌<◌, length, List, [], ◌∷◌, ◌++◌, ap, sym, ◌∙◌, take, get_or}
-use Rattle.std.specs.Prelude.{map, flat_map, Box}
+use Rattle.std.proofs.Common.{◌≡◌, refl, ℕ, ◌+◌, ◌<◌, length, List, [], ◌∷◌, ◌++◌, ap, sym, ◌∙◌, take, get_or}
+use Rattle.std.specs.Prelude.{map, flat_map, Box, Vec}
 use Rattle.std.specs.declared.alloc.Global.{Global}
 use Rattle.std.proofs.lemmas.List.{append-nil, map-append, take_more}
 use Rattle.std.proofs.lemmas.List.Concat.{flat_map-append}
 use Rattle.f77_tree.specs.declared.data.DataGroup.{DataGroup}
 use Rattle.f77_tree.specs.declared.tree.Expr.{Expr}
 use Rattle.f77_tree.specs.declared.tree.Stmt.{Stmt}
-use Rattle.f77_tree.specs.declared.tree.Stmt.TheVariants.{rolls-ArithIf, rolls-LogicalIf}
+use Rattle.f77_tree.specs.declared.tree.Stmt.TheVariants.{rolls-ComputedGoto, rolls-ArithIf, rolls-LogicalIf}
 use Rattle.f77_tree.specs.declared.tree.Stmt.TheVariants as forms
 use Rattle.f77_tree.specs.declared.tree.Stmt.TheViews as boxed
 use Rattle.f77_tree.specs.declared.tree.Stmt.TheOpen.{Stmt-F}
@@ -50,6 +50,14 @@ groups_more es groups i group here is =
     ∙ nodes_append es (flat_map group_nodes (map data_group_of (take i groups))) (group_nodes (data_group_of group) ++ [])
     ∙ ap (with_nodes (with_groups es (take i groups))) (append-nil (group_nodes (data_group_of group)))
 
+computed_view : (labels : Vec ℕ Global) (value : Expr) → statement_of (forms.ComputedGoto labels value) ≡ Statement.ComputedGoto labels.items (tree_of value)
+computed_view labels value = ap statement_of (sym (rolls-ComputedGoto labels value)) ∙ fold-roll-Stmt Statement stmt_step (Stmt-F.ComputedGoto labels value)
+
+-- labels bear no name
+labels_unnamed : (es : Entries) (labels : List ℕ) (nodes : List NodeOf) → with_nodes es (map NodeOf.Labelled labels ++ nodes) ≡ with_nodes es nodes
+labels_unnamed es [] nodes = refl
+labels_unnamed es (label ∷ labels) nodes = labels_unnamed es labels nodes
+
 arithmetic_view : (value : Expr) (l m n : ℕ) → statement_of (forms.ArithIf value l m n) ≡ Statement.ArithIf (tree_of value) l m n
 arithmetic_view value l m n = ap statement_of (sym (rolls-ArithIf value l m n)) ∙ fold-roll-Stmt Statement stmt_step (Stmt-F.ArithIf value l m n)
 
@@ -57,6 +65,12 @@ logical_view : (condition : Expr) (a : Box Stmt Global) → statement_of (boxed.
 logical_view condition a = ap statement_of (sym (rolls-LogicalIf condition a)) ∙ fold-roll-Stmt Statement stmt_step (Stmt-F.LogicalIf condition a)
 
 module _ (es after : Entries) (s : Stmt) where
+  pub computed_noted : (labels : Vec ℕ Global) (value : Expr) → s ≡ forms.ComputedGoto labels value → after ≡ with_nodes es (tree_nodes (tree_of value)) → after ≡ with_nodes es (nodes_of (statement_of s))
+  computed_noted labels value is noted =
+      noted
+      ∙ sym (labels_unnamed es labels.items (tree_nodes (tree_of value)))
+      ∙ ap (λ z. with_nodes es (nodes_of z)) (sym (ap statement_of is ∙ computed_view labels value))
+
   pub arithmetic_noted : (value : Expr) (l m n : ℕ) → s ≡ forms.ArithIf value l m n → after ≡ with_nodes es (tree_nodes (tree_of value)) → after ≡ with_nodes es (nodes_of (statement_of s))
   arithmetic_noted value l m n is noted =
       noted

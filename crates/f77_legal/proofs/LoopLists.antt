@@ -2,7 +2,7 @@
 use Rattle.std.proofs.Common.{◌≡◌, ℕ, zero, suc, ◌<◌, length, slice_get, List, [], ◌∷◌, ◌++◌, Option, Some, None, Bool, true, false, cond, refl, sym, ◌∙◌, ap, subst, inl, inr, arith}
 use Rattle.std.specs.Prelude.{filter, ◌&&◌, ◌||◌, ◌==◌, not}
 use Rattle.std.specs.List.{All, list_any, list_all, find}
-use Rattle.std.specs.Option.{option_or, option_map_or}
+use Rattle.std.specs.Option.{option_or}
 use Rattle.std.proofs.lemmas.Bool.{or_from, or_parts, cases_lt}
 use Rattle.std.proofs.lemmas.Bool.Decides.{Decides-eqb}
 use Rattle.std.proofs.lemmas.List.{length-append}
@@ -64,10 +64,6 @@ same_filters p q xs =
 
 pub any_agree : (p q : ℕ → Bool) → ((x : ℕ) → p x ≡ q x) → (xs : List ℕ) → list_any p xs ≡ list_any q xs
 any_agree p q h xs = ap (λ (test : ℕ → Bool). list_any test xs) (λ i. λ x. h x i)
-
-pub map_agree : (f g : ℕ → Bool) → ((x : ℕ) → f x ≡ g x) → (o : Option ℕ) → option_map_or f o false ≡ option_map_or g o false
-map_agree f g h None = refl
-map_agree f g h (Some x) = h x
 
 pub filter_none : (p : ℕ → Bool) → ((x : ℕ) → p x ≡ false) → (xs : List ℕ) → filter p xs ≡ []
 filter_none p h [] = refl

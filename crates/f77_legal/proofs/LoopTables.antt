@@ -21,7 +21,7 @@ use Rattle.f77_legal.specs.LoopTable as table
 use Rattle.f77_legal.specs.LoopTable.{IsTerminals, IsBranches, HasRows, IsRangeTable, holds, end_of, in_range, in_branch, row_of, leaves_range, leaves_branch, left_in, ending_in, is_held_with}
 use Rattle.f77_legal.specs.Names.{Symbol}
 use Rattle.f77_legal.specs.declared.loops.Ranges.{Ranges}
-use Rattle.f77_legal.proofs.LoopLists.{left_out, all_kept, same_filters, any_agree, map_agree, filter_none, count_numbers, get_number, found_within}
+use Rattle.f77_legal.proofs.LoopLists.{left_out, all_kept, same_filters, any_agree, filter_none, count_numbers, get_number, found_within}
 
 -- nothing holds what stands behind the last statement
 placed_within : (program : List LineFields) (label : Option ℕ) (t : ℕ) → option_and_then (place_of program) label ≡ Some t → t < length program
@@ -124,17 +124,16 @@ outside_is ranges program is d t =
     ∙ ap (λ b. not (nat_lt d t && (not (leaves_branch ranges.branch_ends.items (row_of ranges d) d t || b) && not (leaves_range ranges.terminals.items (row_of ranges d) d t)))) back
     ∙ outside_step (nat_lt d t) (nat_le t d) (leaves_branch ranges.branch_ends.items (row_of ranges d) d t) (leaves_branch ranges.branch_ends.items (row_of ranges t) t d) (leaves_range ranges.terminals.items (row_of ranges d) d t) (le_is d t)
 
-breaks_is : (ranges : Ranges) (program : List LineFields) → IsRangeTable ranges program → (d : ℕ) → breaks_range program d ≡ option_map_or (table.ends_outside ranges d) (end_of ranges.terminals.items d) false
-breaks_is ranges program is d =
-    ap (λ end. option_map_or (ends_outside program d) end false) (sym (is.terminals d))
-    ∙ map_agree (ends_outside program d) (table.ends_outside ranges d) (outside_is ranges program is d) (end_of ranges.terminals.items d)
+pub terminal_is : (ranges : Ranges) (program : List LineFields) → IsRangeTable ranges program → (d : ℕ) → end_of ranges.terminals.items d ≡ terminal program d
+terminal_is ranges program is d = is.terminals d
 
-pub no_loop : (ranges : Ranges) (program : List LineFields) → IsRangeTable ranges program → (d : ℕ) → end_of ranges.terminals.items d ≡ None → false ≡ breaks_range program d
-no_loop ranges program is d e = sym (breaks_is ranges program is d ∙ ap (λ end. option_map_or (table.ends_outside ranges d) end false) e)
+pub no_loop : (program : List LineFields) (d : ℕ) → terminal program d ≡ None → false ≡ breaks_range program d
+no_loop program d e = ap (λ end. option_map_or (ends_outside program d) end false) (sym e)
 
-pub one_loop : (ranges : Ranges) (program : List LineFields) → IsRangeTable ranges program → (d t : ℕ) (r : Bool) → end_of ranges.terminals.items d ≡ Some t → r ≡ table.ends_outside ranges d t → r ≡ breaks_range program d
+pub one_loop : (ranges : Ranges) (program : List LineFields) → IsRangeTable ranges program → (d t : ℕ) (r : Bool) → terminal program d ≡ Some t
+    → r ≡ table.ends_outside ranges d t → r ≡ breaks_range program d
 one_loop ranges program is d t r e same =
-    same ∙ sym (breaks_is ranges program is d ∙ ap (λ end. option_map_or (table.ends_outside ranges d) end false) e)
+    same ∙ sym (outside_is ranges program is d t) ∙ ap (λ end. option_map_or (ends_outside program d) end false) (sym e)
 
 pub goes_is : (ranges : Ranges) (program : List LineFields) → IsRangeTable ranges program → (i j : ℕ) (r : Bool) → r ≡ starts_with (λ a b. a == b) (row_of ranges i) (row_of ranges j) → not r ≡ goes_in program i j
 goes_is ranges program is i j r same =

@@ -30,7 +30,7 @@ module _ (program : List LineFields) (legal : IsLegal program) where
       all_pass (λ line. dimensions_fit (bounds_of program) line.stmt) 0 program
       (map_none _ _ (map_none (fault_at Bounds) (lines_where (breaks Bounds program) program) (kept_by program legal).bounds))
 
-  not_large : is_too_large program ≡ false
+  pub not_large : is_too_large program ≡ false
   not_large = by (is_too_large program) refl (kept_by program legal).sizes
     where
       by : (b : Bool) → is_too_large program ≡ b → size_faults program ≡ [] → b ≡ false

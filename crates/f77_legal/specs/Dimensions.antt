@@ -49,6 +49,7 @@ dimensions_fit bounds (Statement.Dimension ds) = list_all is_shape ds
 dimensions_fit bounds (Statement.Preset gs) = true
 dimensions_fit bounds (Statement.Assign name items t) = (count items == length (bounds name)) && (all_fit bounds items && fits bounds t)
 dimensions_fit bounds (Statement.Goto label) = true
+dimensions_fit bounds (Statement.ComputedGoto labels t) = fits bounds t
 dimensions_fit bounds (Statement.ArithIf t l m n) = fits bounds t
 dimensions_fit bounds (Statement.LogicalIf t s) = fits bounds t && dimensions_fit bounds s
 dimensions_fit bounds (Statement.BlockIf t) = fits bounds t

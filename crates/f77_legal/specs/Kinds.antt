@@ -76,6 +76,7 @@ kinds_agree kinds (Statement.Dimension ds) = true
 kinds_agree kinds (Statement.Preset gs) = true
 kinds_agree kinds (Statement.Assign name items t) = are_integer kinds items && is_of kinds (kinds name) t
 kinds_agree kinds (Statement.Goto label) = true
+kinds_agree kinds (Statement.ComputedGoto labels t) = is_of kinds Integer t
 kinds_agree kinds (Statement.ArithIf t l m n) = is_of kinds Integer t
 kinds_agree kinds (Statement.LogicalIf t s) = is_of kinds Logical t && kinds_agree kinds s
 kinds_agree kinds (Statement.BlockIf t) = is_of kinds Logical t

@@ -29,6 +29,7 @@ statement_with program label = option_and_then (statement_at program) (place_of 
 -- the labels that control may go to from a statement
 abbrev pub jumps_of : Statement → List ℕ
 jumps_of (Statement.Goto label) = label ∷ []
+jumps_of (Statement.ComputedGoto labels t) = labels
 jumps_of (Statement.ArithIf t l m n) = l ∷ (m ∷ (n ∷ []))
 jumps_of (Statement.LogicalIf t s) = jumps_of s
 jumps_of _ = []
@@ -61,6 +62,7 @@ jumps_badly program s = list_any (λ label. option_map_or (λ target. not (is_ta
 -- it may be the terminal statement of a DO
 abbrev pub is_terminal : Statement → Bool
 is_terminal (Statement.Assign name items t) = true
+is_terminal (Statement.ComputedGoto labels t) = true
 is_terminal (Statement.LogicalIf t s) = true
 is_terminal Statement.Continue = true
 is_terminal Statement.Trap = true

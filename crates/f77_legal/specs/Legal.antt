@@ -44,6 +44,10 @@ expression_clauses = Kinds ∷ (Bounds ∷ [])
 abbrev pub control_clauses : List Clause
 control_clauses = NamedLabels ∷ (Targets ∷ (Terminals ∷ (Nests ∷ (Jumps ∷ (Variables ∷ [])))))
 
+-- the faults of statements and labels, in the order in which they are told: no memory is taken for them
+abbrev pub statement_faults : List LineFields → List CheckFault
+statement_faults program = clause_faults expression_clauses program ++ (label_faults program ++ clause_faults control_clauses program)
+
 -- all faults of a program, in the order in which they are told
 abbrev pub faults : List LineFields → List CheckFault
 faults program =
@@ -64,3 +68,8 @@ first_fault program = slice_get (faults program) 0
 abbrev pub Tells : Result (Unit {0}) CheckFault → List CheckFault → Type 0
 Tells (Ok u) faults = faults ≡ []
 Tells (Err fault) faults = (fault ≡ Memory) ⊎ (slice_get faults 0 ≡ Some fault)
+
+-- there are no faults; or the first of them is told, and never want of memory
+abbrev pub TellsFirst : Result (Unit {0}) CheckFault → List CheckFault → Type 0
+TellsFirst (Ok u) faults = faults ≡ []
+TellsFirst (Err fault) faults = slice_get faults 0 ≡ Some fault

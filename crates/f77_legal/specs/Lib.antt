@@ -14,3 +14,4 @@ pub mod Runs
 pub mod Clause
 pub mod Tables
 pub mod Legal
+pub mod Law

@@ -48,6 +48,7 @@ fn is_block_if(stmt: &Stmt) -> bool
         | Stmt::Preset { .. }
         | Stmt::Assign { .. }
         | Stmt::Goto { .. }
+        | Stmt::ComputedGoto { .. }
         | Stmt::ArithIf { .. }
         | Stmt::LogicalIf { .. }
         | Stmt::ElseIf { .. }
@@ -85,6 +86,7 @@ fn is_alternative(stmt: &Stmt) -> bool
         | Stmt::Preset { .. }
         | Stmt::Assign { .. }
         | Stmt::Goto { .. }
+        | Stmt::ComputedGoto { .. }
         | Stmt::ArithIf { .. }
         | Stmt::LogicalIf { .. }
         | Stmt::BlockIf { .. }

@@ -112,6 +112,7 @@ pub(crate) fn dimensions_fit(names: &Names, stmt: &Stmt) -> bool
                 && all_fit(names, &target.subscripts)
                 && fits(names, value)
         }
+        Stmt::ComputedGoto { value, .. } => fits(names, value),
         Stmt::ArithIf { value, .. } => fits(names, value),
         Stmt::LogicalIf {
             condition,

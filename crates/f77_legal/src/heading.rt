@@ -21,6 +21,7 @@ fn heading(stmt: &Stmt) -> Option<(&Name, &[Name])>
         | Stmt::Preset { .. }
         | Stmt::Assign { .. }
         | Stmt::Goto { .. }
+        | Stmt::ComputedGoto { .. }
         | Stmt::ArithIf { .. }
         | Stmt::LogicalIf { .. }
         | Stmt::BlockIf { .. }

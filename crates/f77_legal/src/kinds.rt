@@ -119,6 +119,7 @@ pub(crate) fn kinds_agree(names: &Names, stmt: &Stmt) -> bool
         Stmt::Assign { target, value } => {
             are_integer(names, &target.subscripts) && is_of(names, names.kind(&target.name), value)
         }
+        Stmt::ComputedGoto { value, .. } => is_of(names, Kind::Integer, value),
         Stmt::ArithIf { value, .. } => is_of(names, Kind::Integer, value),
         Stmt::LogicalIf {
             condition,

@@ -1,7 +1,7 @@
 //! The labels of a program: where they stand, and which statements name them.
 
 ghost use Rattle.std.specs.Prelude.{◌≡◌, ◌++◌, ℕ, List, [], ◌∷◌, Option, None, false, filter, length, map, not, nat_eq, is_some, option_map, slice_get, IfOk, IfErr, OnOk};
-ghost use Rattle.std.specs.List.{filter_map, find, list_any};
+ghost use Rattle.std.specs.List.{find, list_any};
 ghost use Rattle.std.specs.Option.{option_and_then, option_map_or};
 ghost use Rattle.indexmap.specs.IndexMap.{get, IsUnique};
 ghost use Rattle.f77_tree.specs.Parsing.{LineFields, line_of};
@@ -120,19 +120,15 @@ impl Labels {
     }
 }
 
-/// The labels that control may go to from a statement (11.1, 11.4, 11.5), three at most.
-pub(crate) fn jumps_of(stmt: &Stmt) -> [Option<u32>; 3]
-    ensures { filter_map (λ label. label) result ≡ clause.jumps_of (statement_of stmt.now) }
+/// How many labels a statement names that control may go to (11.1, 11.2, 11.4, 11.5).
+pub(crate) fn jump_count(stmt: &Stmt) -> usize
+    ensures { result ≡ length (clause.jumps_of (statement_of stmt.now)) }
 {
     match stmt {
-        Stmt::Goto { label } => [Some(*label), None, None],
-        Stmt::ArithIf {
-            negative,
-            zero,
-            positive,
-            ..
-        } => [Some(*negative), Some(*zero), Some(*positive)],
-        Stmt::LogicalIf { statement, .. } => jumps_of(statement),
+        Stmt::Goto { .. } => 1,
+        Stmt::ComputedGoto { labels, .. } => labels.len(),
+        Stmt::ArithIf { .. } => 3,
+        Stmt::LogicalIf { statement, .. } => jump_count(statement),
         Stmt::Subroutine { .. }
         | Stmt::Declare { .. }
         | Stmt::Dimension { .. }
@@ -147,7 +143,45 @@ pub(crate) fn jumps_of(stmt: &Stmt) -> [Option<u32>; 3]
         | Stmt::Return
         | Stmt::Stop
         | Stmt::Trap
-        | Stmt::End => [None, None, None],
+        | Stmt::End => 0,
+    }
+}
+
+fn label_at(labels: &[u32], k: usize) -> Option<u32>
+    ensures { result ≡ slice_get labels.now k }
+{
+    labels.get(k).copied()
+}
+
+/// The label `k` from 0 of those that control may go to from a statement, None past the last.
+pub(crate) fn jump_label(stmt: &Stmt, k: usize) -> Option<u32>
+    ensures { result ≡ slice_get (clause.jumps_of (statement_of stmt.now)) k }
+{
+    match stmt {
+        Stmt::Goto { label } => label_at(&[*label], k),
+        Stmt::ComputedGoto { labels, .. } => label_at(labels, k),
+        Stmt::ArithIf {
+            negative,
+            zero,
+            positive,
+            ..
+        } => label_at(&[*negative, *zero, *positive], k),
+        Stmt::LogicalIf { statement, .. } => jump_label(statement, k),
+        Stmt::Subroutine { .. }
+        | Stmt::Declare { .. }
+        | Stmt::Dimension { .. }
+        | Stmt::Preset { .. }
+        | Stmt::Assign { .. }
+        | Stmt::BlockIf { .. }
+        | Stmt::ElseIf { .. }
+        | Stmt::Else
+        | Stmt::EndIf
+        | Stmt::Loop { .. }
+        | Stmt::Continue
+        | Stmt::Return
+        | Stmt::Stop
+        | Stmt::Trap
+        | Stmt::End => None,
     }
 }
 
@@ -163,6 +197,7 @@ pub(crate) fn terminal_label(stmt: &Stmt) -> Option<u32>
         | Stmt::Preset { .. }
         | Stmt::Assign { .. }
         | Stmt::Goto { .. }
+        | Stmt::ComputedGoto { .. }
         | Stmt::ArithIf { .. }
         | Stmt::LogicalIf { .. }
         | Stmt::BlockIf { .. }
@@ -178,12 +213,15 @@ pub(crate) fn terminal_label(stmt: &Stmt) -> Option<u32>
 }
 
 /// Whether a jump of the statement names a label that stands on none.
-#[tactic(auto, using(crate::proofs::LabelTables::any_of_three))]
 fn jumps_nowhere(labels: &Labels, stmt: &Stmt) -> bool
     ensures { (program : List LineFields) → IsLabelTable labels.now program → result ≡ list_any (λ label. not (is_some (place_of program label))) (clause.jumps_of (statement_of stmt.now)) }
 {
-    let [first, second, third] = jumps_of(stmt);
-    labels.misses(first) || labels.misses(second) || labels.misses(third)
+    for k in 0..jump_count(stmt) {
+        if labels.misses(jump_label(stmt, k)) {
+            return true;
+        }
+    }
+    false
 }
 
 /// Whether the statement names a label that stands on none.
@@ -206,6 +244,7 @@ pub(crate) fn is_target(stmt: &Stmt) -> bool
         | Stmt::Else => false,
         Stmt::Assign { .. }
         | Stmt::Goto { .. }
+        | Stmt::ComputedGoto { .. }
         | Stmt::ArithIf { .. }
         | Stmt::LogicalIf { .. }
         | Stmt::BlockIf { .. }
@@ -230,14 +269,15 @@ fn leads_badly(labels: &Labels, lines: &[Line], label: Option<u32>) -> bool
 }
 
 /// Whether a jump of the statement leads to one where control may not go.
-#[tactic(auto, using(crate::proofs::LabelTables::any_of_three))]
 pub(crate) fn jumps_badly(labels: &Labels, lines: &[Line], stmt: &Stmt) -> bool
     ensures { IsLabelTable labels.now (map line_of lines.now) → result ≡ clause.jumps_badly (map line_of lines.now) (statement_of stmt.now) }
 {
-    let [first, second, third] = jumps_of(stmt);
-    leads_badly(labels, lines, first)
-        || leads_badly(labels, lines, second)
-        || leads_badly(labels, lines, third)
+    for k in 0..jump_count(stmt) {
+        if leads_badly(labels, lines, jump_label(stmt, k)) {
+            return true;
+        }
+    }
+    false
 }
 
 /// Whether the statement may be the terminal statement of a DO (11.10).
@@ -245,7 +285,11 @@ pub(crate) fn is_terminal(stmt: &Stmt) -> bool
     ensures { result ≡ clause.is_terminal (statement_of stmt.now) }
 {
     match stmt {
-        Stmt::Assign { .. } | Stmt::LogicalIf { .. } | Stmt::Continue | Stmt::Trap => true,
+        Stmt::Assign { .. }
+        | Stmt::ComputedGoto { .. }
+        | Stmt::LogicalIf { .. }
+        | Stmt::Continue
+        | Stmt::Trap => true,
         Stmt::Subroutine { .. }
         | Stmt::Declare { .. }
         | Stmt::Dimension { .. }

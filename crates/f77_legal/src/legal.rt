@@ -1,8 +1,8 @@
 //! The clauses of legality, in the order of test.
 
-ghost use Rattle.std.specs.Prelude.{◌≡◌, List, map};
+ghost use Rattle.std.specs.Prelude.{◌≡◌, [], List, map, slice_get, Some, Err, IsOk};
 ghost use Rattle.f77_tree.specs.Parsing.{LineFields, line_of};
-ghost use Rattle.f77_legal.specs.Legal.{Tells, name_faults, clause_faults, expression_clauses, control_clauses, label_faults, data_faults, size_faults, faults};
+ghost use Rattle.f77_legal.specs.Legal.{Tells, TellsFirst, name_faults, clause_faults, label_faults, data_faults, size_faults, statement_faults, faults};
 ghost use Rattle.f77_legal.specs.LabelTable.{IsLabelTable};
 ghost use Rattle.f77_legal.specs.NameTable.{IsNameTable};
 ghost use Rattle.f77_legal.specs.Tables.{AreTables};
@@ -24,7 +24,8 @@ const MOST_NAMES: usize = 100;
 const MOST_ELEMENTS: u32 = 10_000;
 
 fn check_names(names: &Names, lines: &[Line]) -> Result<(), CheckFault>
-    ensures { IsNameTable names.now (map line_of lines.now) → Tells result (name_faults (map line_of lines.now)) }
+    ensures tells { IsNameTable names.now (map line_of lines.now) → Tells result (name_faults (map line_of lines.now)) }
+    ensures ok { IsNameTable names.now (map line_of lines.now) → name_faults (map line_of lines.now) ≡ [] → IsOk result }
 {
     if let Some(name) = names.first_real() {
         return Err(CheckFault::RealName(name.clone()?));
@@ -36,7 +37,7 @@ fn check_names(names: &Names, lines: &[Line]) -> Result<(), CheckFault>
 }
 
 fn check_clauses(tables: &Tables, list: &[Clause], lines: &[Line]) -> Result<(), CheckFault>
-    ensures { AreTables tables.now (map line_of lines.now) → Tells result (clause_faults list.now (map line_of lines.now)) }
+    ensures { AreTables tables.now (map line_of lines.now) → TellsFirst result (clause_faults list.now (map line_of lines.now)) }
 {
     match tables.first_fault(list, lines) {
         Some(fault) => Err(fault),
@@ -45,7 +46,7 @@ fn check_clauses(tables: &Tables, list: &[Clause], lines: &[Line]) -> Result<(),
 }
 
 fn check_labels(labels: &Labels) -> Result<(), CheckFault>
-    ensures { (program : List LineFields) → IsLabelTable labels.now program → Tells result (label_faults program) }
+    ensures { (program : List LineFields) → IsLabelTable labels.now program → TellsFirst result (label_faults program) }
 {
     match labels.first_double() {
         Some(label) => Err(CheckFault::DoubleLabel(label)),
@@ -63,7 +64,7 @@ fn check_data(alloc: Global, names: &Names, lines: &[Line]) -> Result<(), CheckF
 }
 
 fn check_size(names: &Names, lines: &[Line]) -> Result<(), CheckFault>
-    ensures { IsNameTable names.now (map line_of lines.now) → Tells result (size_faults (map line_of lines.now)) }
+    ensures { IsNameTable names.now (map line_of lines.now) → TellsFirst result (size_faults (map line_of lines.now)) }
 {
     if lines.len() > MOST_STATEMENTS || names.len() > MOST_NAMES || names.has_over(MOST_ELEMENTS) {
         return Err(CheckFault::TooMany);
@@ -72,8 +73,12 @@ fn check_size(names: &Names, lines: &[Line]) -> Result<(), CheckFault>
 }
 
 /// The first fault of a program, given its tables, clause by clause, in the order of test; or want of memory.
+///
+/// Where no name has a fault, the first fault of a statement or a label is told whatever memory there is.
 pub fn judge(alloc: Global, tables: &Tables, lines: &[Line]) -> Result<(), CheckFault>
-    ensures { AreTables tables.now (map line_of lines.now) → Tells result (faults (map line_of lines.now)) }
+    ensures tells { AreTables tables.now (map line_of lines.now) → Tells result (faults (map line_of lines.now)) }
+    ensures told { let program = map line_of lines.now in (fault : CheckFault) → AreTables tables.now program → name_faults program ≡ []
+        → slice_get (statement_faults program) 0 ≡ Some fault → result ≡ Err fault }
 {
     check_names(&tables.names, lines)?;
     check_clauses(tables, &[Clause::Kinds, Clause::Bounds], lines)?;

@@ -8,6 +8,7 @@ mod fault;
 pub mod heading;
 mod kinds;
 mod labels;
+pub mod law;
 mod legal;
 mod loops;
 mod mentions;

@@ -157,8 +157,9 @@ impl Ranges {
     }
 
     /// The terminal statement of the DO of this number, None for another statement (11.10).
+    #[tactic(auto, using(crate::proofs::LoopTables::terminal_is))]
     pub fn terminal(&self, d: usize) -> Option<usize>
-        ensures { result ≡ table.end_of self.now.terminals.items d }
+        ensures { (program : List LineFields) → IsRangeTable self.now program → result ≡ loops.terminal program d }
     {
         self.terminals.get(d).copied().flatten()
     }
@@ -182,7 +183,6 @@ impl Ranges {
     }
 
     /// Whether a DO ends before it begins, in another branch, or outside of a range that holds it (11.10).
-    #[tactic(auto, using(crate::proofs::LoopTables::no_loop))]
     pub(crate) fn breaks_range(&self, d: usize) -> bool
         ensures { (program : List LineFields) → IsRangeTable self.now program → result ≡ loops.breaks_range program d }
     {
@@ -231,6 +231,7 @@ pub(crate) fn set_by(stmt: &Stmt) -> Option<&Name>
         | Stmt::Dimension { .. }
         | Stmt::Preset { .. }
         | Stmt::Goto { .. }
+        | Stmt::ComputedGoto { .. }
         | Stmt::ArithIf { .. }
         | Stmt::BlockIf { .. }
         | Stmt::ElseIf { .. }
@@ -256,6 +257,7 @@ pub(crate) fn variable_of(stmt: &Stmt) -> Option<&Name>
         | Stmt::Preset { .. }
         | Stmt::Assign { .. }
         | Stmt::Goto { .. }
+        | Stmt::ComputedGoto { .. }
         | Stmt::ArithIf { .. }
         | Stmt::LogicalIf { .. }
         | Stmt::BlockIf { .. }

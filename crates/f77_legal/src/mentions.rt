@@ -186,7 +186,7 @@ impl Names {
     }
 
     fn note_step(&mut self, alloc: Global, step: &Option<Expr>) -> Result<(), CheckFault>
-        ensures noted { OnOk result (entries_of self.new ≡ with_nodes (entries_of self.old) (nodes.step_nodes (option_map tree_of step.now))) }
+        ensures noted { OnOk result (entries_of self.new ≡ with_nodes (entries_of self.old) (nodes.step_parts (option_map tree_of step.now))) }
         ensures memory { IfErr result (λ f. f ≡ fault.Memory) }
     {
         match step {
@@ -203,7 +203,7 @@ impl Names {
         last: &Expr,
         step: &Option<Expr>,
     ) -> Result<(), CheckFault>
-        ensures noted { OnOk result (entries_of self.new ≡ with_nodes (entries_of self.old) (nodes.range_nodes (tree_of first.now) (tree_of last.now) (option_map tree_of step.now))) }
+        ensures noted { OnOk result (entries_of self.new ≡ with_nodes (entries_of self.old) (nodes.parameter_nodes (tree_of first.now) (tree_of last.now) (option_map tree_of step.now))) }
         ensures memory { IfErr result (λ f. f ≡ fault.Memory) }
     {
         self.note_tree(alloc, first)?;
@@ -220,7 +220,7 @@ impl Names {
         last: &Expr,
         step: &Option<Expr>,
     ) -> Result<(), CheckFault>
-        ensures noted { OnOk result (entries_of self.new ≡ with_nodes (entries_of self.old) (NodeOf.Named variable.now ∷ nodes.range_nodes (tree_of first.now) (tree_of last.now) (option_map tree_of step.now))) }
+        ensures noted { OnOk result (entries_of self.new ≡ with_nodes (entries_of self.old) (NodeOf.Named variable.now ∷ nodes.parameter_nodes (tree_of first.now) (tree_of last.now) (option_map tree_of step.now))) }
         ensures memory { IfErr result (λ f. f ≡ fault.Memory) }
     {
         self.note(alloc, variable, Said::Plain)?;
@@ -291,6 +291,7 @@ impl Names {
             Stmt::Dimension { items } => self.note_declared(alloc, items),
             Stmt::Preset { groups } => self.note_groups(alloc, groups),
             Stmt::Assign { target, value } => self.note_assignment(alloc, target, value),
+            Stmt::ComputedGoto { value, .. } => self.note_tree(alloc, value),
             Stmt::ArithIf { value, .. } => self.note_tree(alloc, value),
             Stmt::LogicalIf {
                 condition,
@@ -361,6 +362,7 @@ impl Names {
             Stmt::Preset { .. }
             | Stmt::Assign { .. }
             | Stmt::Goto { .. }
+            | Stmt::ComputedGoto { .. }
             | Stmt::ArithIf { .. }
             | Stmt::LogicalIf { .. }
             | Stmt::BlockIf { .. }

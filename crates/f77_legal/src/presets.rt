@@ -235,6 +235,7 @@ fn breaks_data<'a>(
         | Stmt::Dimension { .. }
         | Stmt::Assign { .. }
         | Stmt::Goto { .. }
+        | Stmt::ComputedGoto { .. }
         | Stmt::ArithIf { .. }
         | Stmt::LogicalIf { .. }
         | Stmt::BlockIf { .. }

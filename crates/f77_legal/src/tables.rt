@@ -20,7 +20,9 @@ use crate::clause::Clause;
 use crate::dimensions::dimensions_fit;
 use crate::fault::CheckFault;
 use crate::kinds::kinds_agree;
-use crate::labels::{Labels, ends_badly, jumps_badly, jumps_of, names_no_label, terminal_label};
+use crate::labels::{
+    Labels, ends_badly, jump_count, jump_label, jumps_badly, names_no_label, terminal_label,
+};
 use crate::loops::{Ranges, sets_variable};
 use crate::names::Names;
 use f77_tree::{Line, Stmt};
@@ -106,19 +108,16 @@ impl Tables {
         }
     }
 
-    fn either_leads_in(&self, i: usize, first: Option<u32>, second: Option<u32>) -> bool
-        ensures { (program : List LineFields) → AreTables self.now program → result ≡ (option_map_or (λ label. option_map_or (loops.goes_in program i) (place_of program label) false) first false || option_map_or (λ label. option_map_or (loops.goes_in program i) (place_of program label) false) second false) }
-    {
-        self.leads_in(i, first) || self.leads_in(i, second)
-    }
-
     /// Whether a jump of the statement `stmt`, of the number `i`, leads into a range or a branch.
-    #[tactic(auto, using(crate::proofs::LabelTables::any_of_three))]
     fn jumps_in(&self, i: usize, stmt: &Stmt) -> bool
         ensures { (program : List LineFields) → AreTables self.now program → result ≡ loops.jumps_in program i (statement_of stmt.now) }
     {
-        let [first, second, third] = jumps_of(stmt);
-        self.leads_in(i, first) || self.either_leads_in(i, second, third)
+        for k in 0..jump_count(stmt) {
+            if self.leads_in(i, jump_label(stmt, k)) {
+                return true;
+            }
+        }
+        false
     }
 
     /// Whether the statement, which has this number from 0, breaks the clause.

@@ -1,7 +1,7 @@
 -- A machine at the start of a run, and what its dummy arguments hold at an end.
 use Rattle.std.proofs.Common.{arith, ◌≡◌, ℕ, zero, suc, ◌+◌, ◌≤◌, Bool, true, false, List, [], ◌∷◌, ◌++◌, length, map, Option, Some, None, refl, ap, sym, subst, ◌∙◌}
 use Rattle.std.specs.Prelude.{option_map, nat_le, position, slice_get, replicate, Result, Ok, Err, IfOk}
-use Rattle.std.specs.List.{list_all, list_any, flat_map}
+use Rattle.std.specs.List.{list_all, list_any, flat_map, zip}
 use Rattle.std.specs.Option.{option_map_or}
 use Rattle.std.specs.Str.{bytes_eq}
 use Rattle.std.proofs.lemmas.Bool.{and_parts}
@@ -15,7 +15,7 @@ use Rattle.f77_legal.specs.Names.{Symbol, bounds_of, symbols}
 use Rattle.f77_legal.specs.Presets.{elements, product}
 use Rattle.f77_check.specs.Slots.{slot_count}
 use Rattle.f77_legal.specs.Heading.{dummies}
-use Rattle.f77_check.specs.Start.{pairs, preset_at}
+use Rattle.f77_check.specs.Start.{preset_at}
 use Rattle.f77_check.proofs.Unpreset.{unpreset}
 use Rattle.f77_run.specs.declared.argument.Arg.{Arg}
 use Rattle.f77_run.specs.declared.value.Value.{Value}
@@ -125,12 +125,12 @@ module _ (checked : CheckedFields) (is : IsChecked checked) where
     fitting = subst (λ list. AreFitting list arguments) is.arguments fits
 
     abbrev pub filled_cells : Cells
-    filled_cells = all_filled empty (pairs checked.start.dummies.items arguments)
+    filled_cells = all_filled empty (zip checked.start.dummies.items arguments)
 
     pub filled_size : length filled_cells ≡ slot_count bounds checked.names
-    filled_size = all_filled_length empty (pairs checked.start.dummies.items arguments) ∙ empty_size
+    filled_size = all_filled_length empty (zip checked.start.dummies.items arguments) ∙ empty_size
 
-    pub room : HaveRoom (length empty) (pairs checked.start.dummies.items arguments)
+    pub room : HaveRoom (length empty) (zip checked.start.dummies.items arguments)
     room = room_of _ _ (arguments_within program checked.names empty checked.start.dummies.items arguments empty_size is.start.dummies fitting)
 
     starts_each : (name : Symbol) → held checked filled_cells name ≡ start_values program (map values_in arguments) name
@@ -169,17 +169,17 @@ module _ (checked : CheckedFields) (is : IsChecked checked) where
 
   -- what the dummy arguments hold in these slots
   module _ (cells : Cells) (size : length cells ≡ slot_count bounds checked.names) (typed : IsTyped program (held checked cells)) where
-    same_pairs : pairs checked.arguments checked.start.dummies.items ≡ pairs (shapes program) checked.start.dummies.items
-    same_pairs = ap (λ list. pairs list checked.start.dummies.items) is.arguments
+    same_pairs : zip checked.arguments checked.start.dummies.items ≡ zip (shapes program) checked.start.dummies.items
+    same_pairs = ap (λ list. zip list checked.start.dummies.items) is.arguments
 
-    pub dummies_within : AreWithin (length cells) (pairs checked.arguments checked.start.dummies.items)
+    pub dummies_within : AreWithin (length cells) (zip checked.arguments checked.start.dummies.items)
     dummies_within = rw same_pairs (within_of _ _ (spans_within program checked.names cells checked.start.dummies.items is.start.dummies size))
 
-    pub dummies_hold : AllHold cells (pairs checked.arguments checked.start.dummies.items)
+    pub dummies_hold : AllHold cells (zip checked.arguments checked.start.dummies.items)
     dummies_hold = rw same_pairs (all_hold program checked.names cells checked.start.dummies.items is.start.dummies typed)
 
     pub dummies_read : (arguments : List Arg) → AreFitting checked.arguments arguments
-        → map (λ argument. map (λ v. Some v) (values_in argument)) arguments ≡ map (λ pair. span pair.1 (size_of pair.0) cells) (pairs checked.arguments checked.start.dummies.items)
+        → map (λ argument. map (λ v. Some v) (values_in argument)) arguments ≡ map (λ pair. span pair.1 (size_of pair.0) cells) (zip checked.arguments checked.start.dummies.items)
         → AreArguments program (held checked cells) arguments
     dummies_read arguments fits values = record {
       fitting = fitting arguments fits;

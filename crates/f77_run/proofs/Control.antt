@@ -16,8 +16,9 @@ use Rattle.f77_run.specs.declared.finish.Fault.{Fault}
 use Rattle.f77_run.specs.Control.{Stands, IsPlacedAt, AreLoops, IsPlaced, is_last, Leads, IsSound}
 use Rattle.f77_run.specs.Number.{in_range, trip_count}
 use Rattle.f77_run.specs.Value.{Store, put, number, truth, value, place}
-use Rattle.f77_run.specs.Step.{Place, Execute, Increment, Turn, Turns, Config, config, Next, Goes, Ends, Step, with_turn, left_behind, by_sign, step_number}
-use Rattle.f77_run.proofs.Stepping.{sound_step, innermost, Found, is_found, chosen, goes_on, jumps, last_pass, passes, begins, unless_fault, either, of_option, executes, increments, next_at}
+use Rattle.f77_run.specs.Step.{Place, Execute, Increment, Turn, Turns, Config, config, Next, Goes, Ends, Step, with_turn, left_behind, numbered, by_sign, step_number}
+use Rattle.f77_run.proofs.Stepping.{sound_step, innermost, Found, is_found, chosen, goes_on, jumps, last_pass, passes, begins, unless_fault, either, of_option, jumps_or_on, executes, increments, next_at}
+use Rattle.f77_run.proofs.Numbered.{numbered_among}
 use Rattle.f77_run.specs.declared.value.Value.TheVariants as held
 
 -- what comes next is there, and control may be where it goes
@@ -117,12 +118,20 @@ record Ready (p : List LineFields) (i : ℕ) (stmt : Statement) : Type 0 where
   next : is_last stmt ≡ false → Stands p (i + 1)
   jumps : (label : ℕ) → list_any (λ x. x == label) (jumps_of stmt) ≡ true → Leads p (place_of p label)
 
+moves_jump_or_on : (p : List LineFields) (i : ℕ) (labels : List ℕ) (t : Tree) (s : Store) (active : Turns) → IsSound p → Ready p i (Statement.ComputedGoto labels t)
+    → AreLoops p active → (z : ℤ) (o : Option ℕ) → numbered labels z ≡ o → Moves p (jumps_or_on p i s active o)
+moves_jump_or_on p i labels t s active sound ready loops z None is = moves_on p i s active sound (ready.next refl) loops
+moves_jump_or_on p i labels t s active sound ready loops z (Some label) is =
+    moves_jump p i label s active (ready.jumps label (numbered_among labels z label is)) loops
+
 moves_action : (p : List LineFields) (i : ℕ) (stmt : Statement) (s : Store) (active : Turns) → IsSound p → is_action stmt ≡ true → Ready p i stmt → AreLoops p active
     → Moves p (executes p i stmt s active)
 moves_action p i (Statement.Assign name items t) s active sound acts ready loops =
     moves_with p (place (bounds_of p) s name items) s _
     (λ k. moves_with p (value (kind_of p name) (bounds_of p) s t) s _ (λ v. moves_on p i (put s name k v) active sound (ready.next refl) loops))
 moves_action p i (Statement.Goto label) s active sound acts ready loops = moves_jump p i label s active (ready.jumps label (one_label label)) loops
+moves_action p i (Statement.ComputedGoto labels t) s active sound acts ready loops =
+    moves_with p (number (bounds_of p) s t) s _ (λ z. moves_jump_or_on p i labels t s active sound ready loops z (numbered labels z) refl)
 moves_action p i (Statement.ArithIf t l m r) s active sound acts ready loops =
     moves_with p (number (bounds_of p) s t) s _ (λ z. moves_jump p i (by_sign z l m r) s active (ready.jumps (by_sign z l m r) (chosen_label z l m r)) loops)
 moves_action p i Statement.Continue s active sound acts ready loops = moves_on p i s active sound (ready.next refl) loops
@@ -135,6 +144,8 @@ moves_executes : (p : List LineFields) (i : ℕ) (stmt : Statement) (s : Store) 
     → Ready p i stmt → AreLoops p active → Moves p (executes p i stmt s active)
 moves_executes p i (Statement.Assign name items t) s active sound at is ready loops = moves_action p i (Statement.Assign name items t) s active sound refl ready loops
 moves_executes p i (Statement.Goto label) s active sound at is ready loops = moves_action p i (Statement.Goto label) s active sound refl ready loops
+moves_executes p i (Statement.ComputedGoto labels t) s active sound at is ready loops =
+    moves_action p i (Statement.ComputedGoto labels t) s active sound refl ready loops
 moves_executes p i (Statement.ArithIf t l m r) s active sound at is ready loops = moves_action p i (Statement.ArithIf t l m r) s active sound refl ready loops
 moves_executes p i (Statement.LogicalIf t inner) s active sound at is ready loops =
     moves_with p (truth (bounds_of p) s t) s _

@@ -1,7 +1,7 @@
 -- Slots that are filled and read one after another.
 use Rattle.std.proofs.Common.{◌≡◌, ℕ, zero, suc, ◌+◌, ◌-◌, ◌<◌, ◌≤◌, ◌∙◌, List, [], ◌∷◌, ◌++◌, length, take, drop, get_or, Option, Some, None, refl, sym, ap, subst, arith, true}
 use Rattle.std.specs.Prelude.{slice_set}
-use Rattle.std.specs.List.{list_all}
+use Rattle.std.specs.List.{list_all, zip}
 use Rattle.std.specs.Option.{option_and_then}
 use Rattle.std.proofs.lemmas.Bool.{and_parts}
 use Rattle.std.proofs.lemmas.List.{get_or-drop, length-drop, take_more, map-append, length-set}
@@ -15,7 +15,6 @@ use Rattle.f77_run.specs.Evaluation.{held_in}
 use Rattle.f77_run.specs.Moves.{Cells}
 use Rattle.f77_run.specs.Interpreter.{values_in}
 use Rattle.f77_run.specs.Spans.{HaveRoom, all_filled, filled, size_of, span}
-use Rattle.f77_check.specs.Start.{pairs}
 use Rattle.f77_run.specs.Typed.{HasValues, has_kind}
 
 length-filled : (cells : Cells) (first : ℕ) (values : List Value) → length (filled cells first values) ≡ length cells
@@ -48,12 +47,12 @@ span_one cells first cell lt =
 
 -- one more argument is put into its slots
 pub argument_put : (cells new : Cells) (dummies : List ℕ) (arguments : List Arg) (i first : ℕ) (argument : Arg)
-    → pairs (drop i dummies) (drop i arguments) ≡ (first, argument) ∷ pairs (drop (i + 1) dummies) (drop (i + 1) arguments)
-    → new ≡ filled cells first (values_in argument) → HaveRoom (length cells) (pairs (drop i dummies) (drop i arguments))
-    → HaveRoom (length new) (pairs (drop (i + 1) dummies) (drop (i + 1) arguments))
-    × (all_filled cells (pairs (drop i dummies) (drop i arguments)) ≡ all_filled new (pairs (drop (i + 1) dummies) (drop (i + 1) arguments)))
+    → zip (drop i dummies) (drop i arguments) ≡ (first, argument) ∷ zip (drop (i + 1) dummies) (drop (i + 1) arguments)
+    → new ≡ filled cells first (values_in argument) → HaveRoom (length cells) (zip (drop i dummies) (drop i arguments))
+    → HaveRoom (length new) (zip (drop (i + 1) dummies) (drop (i + 1) arguments))
+    × (all_filled cells (zip (drop i dummies) (drop i arguments)) ≡ all_filled new (zip (drop (i + 1) dummies) (drop (i + 1) arguments)))
 argument_put cells new dummies arguments i first argument step put room =
-    let rest = pairs (drop (i + 1) dummies) (drop (i + 1) arguments) in
+    let rest = zip (drop (i + 1) dummies) (drop (i + 1) arguments) in
     let both : HaveRoom (length cells) ((first, argument) ∷ rest) = subst (HaveRoom (length cells)) step room in
     let long : length cells ≡ length new = sym (ap length put ∙ length-filled cells first (values_in argument)) in
     (subst (λ n. HaveRoom n rest) long both.1, ap (all_filled cells) step ∙ ap (λ now. all_filled now rest) (sym put))

@@ -1,7 +1,7 @@
 -- Values put into the slots of a name, and the arguments into those of the dummy arguments.
 use Rattle.std.proofs.Common.{arith, ◌≡◌, ◌⊎◌, inl, inr, ◌≢◌, ◌<◌, ◌≤◌, ℕ, zero, suc, ◌+◌, Bool, true, false, List, [], ◌∷◌, length, map, get_or, Option, Some, None, refl, sym, ap, ◌∙◌}
 use Rattle.std.specs.Prelude.{nat_le, position, slice_get, slice_set, if◌then◌else◌}
-use Rattle.std.specs.List.{list_all}
+use Rattle.std.specs.List.{list_all, zip}
 use Rattle.std.specs.Option.{option_map_or}
 use Rattle.std.specs.Str.{bytes_eq}
 use Rattle.std.proofs.lemmas.Bool.{le-leb}
@@ -19,15 +19,14 @@ use Rattle.f77_run.specs.declared.value.Value.{Value}
 use Rattle.f77_run.specs.Evaluation.{held_in}
 use Rattle.f77_run.specs.Machine.{values_of}
 use Rattle.f77_run.specs.Moves.{Cells}
-use Rattle.f77_run.specs.Interpreter.{values_in, has_shape, first_misfit, AreFitting}
+use Rattle.f77_run.specs.Interpreter.{values_in, has_shape, AreFitting}
 use Rattle.f77_run.specs.Spans.{filled, all_filled}
-use Rattle.f77_check.specs.Start.{pairs}
 use Rattle.f77_run.proofs.Cells.{length-table, get_or-table}
 use Rattle.f77_run.proofs.Dummies.{AreApart, same_symbol, either_way, dummies_apart}
 use Rattle.f77_run.proofs.Places.{place_here, place_behind, missed}
 use Rattle.f77_run.proofs.Spans.{span_within, spans_apart}
 use Rattle.f77_run.proofs.Stored.{held_here, held_there, held_from, same_table}
-use Rattle.f77_run.proofs.Typing.{shaped, all_fit, held_at, held_later}
+use Rattle.f77_run.proofs.Typing.{shaped, held_at, held_later}
 
 -- as many slots as before
 pub filled_length : (cells : Cells) (first : ℕ) (vs : List Value) → length (filled cells first vs) ≡ length cells
@@ -107,16 +106,16 @@ module _ (p : List LineFields) (names : List Symbol) where
   with_one cells slot argument = filled cells slot (values_in argument)
 
   put_in : (list : List Symbol) (slots : List ℕ) (arguments : List Arg) (cells : Cells) → AreApart list → length cells ≡ slot_count (bounds_of p) names
-      → map (first_slot (bounds_of p) names) list ≡ map (λ slot. Some slot) slots → length arguments ≡ length (map (shape_of p) list)
-      → first_misfit (map (shape_of p) list) arguments ≡ None → (name : Symbol)
-      → values_of (bounds_of p) names (all_filled cells (pairs slots arguments)) name
+      → map (first_slot (bounds_of p) names) list ≡ map (λ slot. Some slot) slots
+      → AreFitting (map (shape_of p) list) arguments → (name : Symbol)
+      → values_of (bounds_of p) names (all_filled cells (zip slots arguments)) name
       ≡ held_at (map values_in arguments) (values_of (bounds_of p) names cells name) (position (bytes_eq name) list)
-  put_in [] [] arguments cells apart size starts count each name = refl
-  put_in [] (slot ∷ slots) arguments cells apart size starts count each name = absurd (cc (starts))
-  put_in (x ∷ list) [] arguments cells apart size starts count each name = absurd (cc (starts))
-  put_in (x ∷ list) (slot ∷ slots) [] cells apart size starts count each name = absurd (cc (count))
-  put_in (x ∷ list) (slot ∷ slots) (argument ∷ arguments) cells apart size starts count each name =
-      by (bytes_eq x name) refl (put_in list slots arguments (with_one cells slot argument) apart.1 (filled_length cells slot (values_in argument) ∙ size) later_starts fewer fit.1 name)
+  put_in [] [] arguments cells apart size starts fits name = refl
+  put_in [] (slot ∷ slots) arguments cells apart size starts fits name = absurd (cc (starts))
+  put_in (x ∷ list) [] arguments cells apart size starts fits name = absurd (cc (starts))
+  put_in (x ∷ list) (slot ∷ slots) [] cells apart size starts fits name = absurd fits
+  put_in (x ∷ list) (slot ∷ slots) (argument ∷ arguments) cells apart size starts fits name =
+      by (bytes_eq x name) refl (put_in list slots arguments (with_one cells slot argument) apart.1 (filled_length cells slot (values_in argument) ∙ size) later_starts fits.1 name)
     where
       start : first_slot (bounds_of p) names x ≡ Some slot
       start = cc (starts)
@@ -124,19 +123,13 @@ module _ (p : List LineFields) (names : List Symbol) where
       later_starts : map (first_slot (bounds_of p) names) list ≡ map (λ slot. Some slot) slots
       later_starts = cc (starts)
 
-      fewer : length arguments ≡ length (map (shape_of p) list)
-      fewer = omega (arith, count)
-
-      fit : (has_shape (shape_of p x) argument ≡ true) × (first_misfit (map (shape_of p) list) arguments ≡ None)
-      fit = all_fit (shape_of p x) (map (shape_of p) list) argument arguments each
-
       first : values_of (bounds_of p) names (with_one cells slot argument) name ≡ (if bytes_eq x name then map (λ v. Some v) (values_in argument) else values_of (bounds_of p) names cells name)
-      first = filled_values (bounds_of p) names cells x slot (values_in argument) size start (long_enough p x argument fit.0) name
+      first = filled_values (bounds_of p) names cells x slot (values_in argument) size start (long_enough p x argument fits.0) name
 
       by : (b : Bool) → bytes_eq x name ≡ b
-          → values_of (bounds_of p) names (all_filled (with_one cells slot argument) (pairs slots arguments)) name
+          → values_of (bounds_of p) names (all_filled (with_one cells slot argument) (zip slots arguments)) name
           ≡ held_at (map values_in arguments) (values_of (bounds_of p) names (with_one cells slot argument) name) (position (bytes_eq name) list)
-          → values_of (bounds_of p) names (all_filled (with_one cells slot argument) (pairs slots arguments)) name
+          → values_of (bounds_of p) names (all_filled (with_one cells slot argument) (zip slots arguments)) name
           ≡ held_at (map values_in (argument ∷ arguments)) (values_of (bounds_of p) names cells name) (position (bytes_eq name) (x ∷ list))
       by true e later =
           let none : position (bytes_eq name) list ≡ None = ap (λ y. position (bytes_eq y) list) (sym (same_symbol x name e)) ∙ missed (bytes_eq x) list apart.0 in
@@ -155,33 +148,31 @@ module _ (p : List LineFields) (names : List Symbol) where
           ∙ sym (ap (held_at (map values_in (argument ∷ arguments)) (values_of (bounds_of p) names cells name)) at)
 
   within : (list : List Symbol) (slots : List ℕ) (arguments : List Arg) (cells : Cells) → length cells ≡ slot_count (bounds_of p) names
-      → map (first_slot (bounds_of p) names) list ≡ map (λ slot. Some slot) slots → length arguments ≡ length (map (shape_of p) list)
-      → first_misfit (map (shape_of p) list) arguments ≡ None
-      → list_all (λ x. nat_le (x.0 + length (values_in x.1)) (length cells)) (pairs slots arguments) ≡ true
-  within [] [] arguments cells size starts count each = refl
-  within [] (slot ∷ slots) arguments cells size starts count each = absurd (cc (starts))
-  within (x ∷ list) [] arguments cells size starts count each = absurd (cc (starts))
-  within (x ∷ list) (slot ∷ slots) [] cells size starts count each = absurd (cc (count))
-  within (x ∷ list) (slot ∷ slots) (argument ∷ arguments) cells size starts count each =
-      let fit = all_fit (shape_of p x) (map (shape_of p) list) argument arguments each in
-      let fewer : length arguments ≡ length (map (shape_of p) list) = omega (arith, count) in
-      let long = long_enough p x argument fit.0 in
+      → map (first_slot (bounds_of p) names) list ≡ map (λ slot. Some slot) slots
+      → AreFitting (map (shape_of p) list) arguments
+      → list_all (λ x. nat_le (x.0 + length (values_in x.1)) (length cells)) (zip slots arguments) ≡ true
+  within [] [] arguments cells size starts fits = refl
+  within [] (slot ∷ slots) arguments cells size starts fits = absurd (cc (starts))
+  within (x ∷ list) [] arguments cells size starts fits = absurd (cc (starts))
+  within (x ∷ list) (slot ∷ slots) [] cells size starts fits = absurd fits
+  within (x ∷ list) (slot ∷ slots) (argument ∷ arguments) cells size starts fits =
+      let long = long_enough p x argument fits.0 in
       let span = span_within (bounds_of p) names x slot (cc (starts)) in
       let le : slot + length (values_in argument) ≤ length cells = omega (arith, long, span, size) in
-      rw (le-leb (slot + length (values_in argument)) (length cells) le) (within list slots arguments cells size (cc (starts)) fewer fit.1)
+      rw (le-leb (slot + length (values_in argument)) (length cells) le) (within list slots arguments cells size (cc (starts)) fits.1)
 
 -- each argument stands in the slots of its dummy argument, and no other name holds another value
 pub arguments_filled : (p : List LineFields) (names : List Symbol) (cells : Cells) (slots : List ℕ) (arguments : List Arg) → IsLegal p
     → length cells ≡ slot_count (bounds_of p) names → map (first_slot (bounds_of p) names) (dummies p) ≡ map (λ slot. Some slot) slots → AreFitting (shapes p) arguments
     → (name : Symbol)
-    → values_of (bounds_of p) names (all_filled cells (pairs slots arguments)) name
+    → values_of (bounds_of p) names (all_filled cells (zip slots arguments)) name
     ≡ option_map_or (λ i. option_map_or (map (λ v. Some v)) (slice_get (map values_in arguments) i) []) (position (bytes_eq name) (dummies p))
     (values_of (bounds_of p) names cells name)
 arguments_filled p names cells slots arguments legal size starts fitting name =
-    put_in p names (dummies p) slots arguments cells (dummies_apart p legal) size starts fitting.count fitting.each name
+    put_in p names (dummies p) slots arguments cells (dummies_apart p legal) size starts fitting name
 
 -- and there is room for each
 pub arguments_within : (p : List LineFields) (names : List Symbol) (cells : Cells) (slots : List ℕ) (arguments : List Arg)
     → length cells ≡ slot_count (bounds_of p) names → map (first_slot (bounds_of p) names) (dummies p) ≡ map (λ slot. Some slot) slots → AreFitting (shapes p) arguments
-    → list_all (λ x. nat_le (x.0 + length (values_in x.1)) (length cells)) (pairs slots arguments) ≡ true
-arguments_within p names cells slots arguments size starts fitting = within p names (dummies p) slots arguments cells size starts fitting.count fitting.each
+    → list_all (λ x. nat_le (x.0 + length (values_in x.1)) (length cells)) (zip slots arguments) ≡ true
+arguments_within p names cells slots arguments size starts fitting = within p names (dummies p) slots arguments cells size starts fitting

@@ -1,6 +1,7 @@
 mod OneWay
 mod Stepping
 mod Rows
+mod Numbered
 mod Control
 mod Soundness
 mod NeverLost

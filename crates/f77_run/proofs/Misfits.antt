@@ -1,17 +1,64 @@
 -- Arguments beside the shapes of their dummy arguments.
-use Rattle.std.proofs.Common.{◌≡◌, ℕ, ◌<◌, not, List, [], ◌∷◌, length, Some, arith}
+use Rattle.std.proofs.Common.{◌≡◌, ℕ, suc, ◌<◌, ◌≤◌, ◌∙◌, Bool, true, false, not, cond, List, [], ◌∷◌, ◌++◌, length, drop, Option, Some, None, refl, sym, ap, subst, arith}
+use Rattle.std.specs.Prelude.{option_map}
+use Rattle.std.specs.List.{zip}
+use Rattle.std.proofs.lemmas.Bool.{eq-eqb}
+use Rattle.std.proofs.lemmas.List.{append-nil, drop_all}
 use Rattle.std.proofs.lemmas.List.Quantifiers.{position-Some}
+use Rattle.std.proofs.lemmas.Slice.Zip.{length-zip, AllZip-long}
 use Rattle.f77_check.specs.declared.checked.Shape.{Shape}
 use Rattle.f77_run.specs.declared.argument.Arg.{Arg}
-use Rattle.f77_run.specs.Interpreter.{first_misfit, has_shape}
-use Rattle.f77_check.specs.Start.{pairs}
-use Rattle.f77_run.proofs.Pairs.{length-pairs}
+use Rattle.f77_run.specs.Interpreter.{AreFitting, first_misfit, has_shape, refusal}
+use Rattle.f77_run.proofs.Typing.{first_place}
 
 -- the first misfit is one of the arguments
 pub misfit_within : (list : List Shape) (arguments : List Arg) (i : ℕ) → first_misfit list arguments ≡ Some i → i < length arguments
 misfit_within [] arguments i e = absurd (cc (e))
 misfit_within (x ∷ list) [] i e = absurd (cc (e))
 misfit_within (x ∷ list) (argument ∷ arguments) i e =
-    let within = (position-Some (λ pair. not (has_shape pair.0 pair.1)) (pairs (x ∷ list) (argument ∷ arguments)) i (x, argument) e).0 in
-    let long = length-pairs (x ∷ list) (argument ∷ arguments) in
+    let within = (position-Some (λ pair. not (has_shape pair.0 pair.1)) (zip (x ∷ list) (argument ∷ arguments)) i (x, argument) e).0 in
+    let long = length-zip (x ∷ list) (argument ∷ arguments) in
     omega (arith, within, long)
+
+-- the first misfit where there is one more argument
+abbrev misfit_from : Shape → Arg → Option ℕ → Option ℕ
+misfit_from shape argument later = cond (not (has_shape shape argument)) (Some 0) (option_map suc later)
+
+misfit_more : (shape : Shape) (list : List Shape) (argument : Arg) (arguments : List Arg)
+    → first_misfit (shape ∷ list) (argument ∷ arguments) ≡ misfit_from shape argument (first_misfit list arguments)
+misfit_more shape list argument arguments = first_place (λ pair. not (has_shape pair.0 pair.1)) (shape, argument) (zip list arguments)
+
+neither : (b : Bool) (o : Option ℕ) → cond (not b) (Some 0) (option_map suc o) ≡ None → (b ≡ true) × (o ≡ None)
+neither true None e = (refl, refl)
+neither true (Some i) e = absurd (cc (e))
+neither false o e = absurd (cc (e))
+
+-- as many arguments as shapes fit where there is no misfit, and only there
+pub all_fit : (list : List Shape) (arguments : List Arg) → length arguments ≡ length list → first_misfit list arguments ≡ None → AreFitting list arguments
+all_fit [] [] count none = tt
+all_fit [] (argument ∷ arguments) count none = absurd (omega (arith, count))
+all_fit (shape ∷ list) [] count none = absurd (omega (arith, count))
+all_fit (shape ∷ list) (argument ∷ arguments) count none =
+    let parts = neither (has_shape shape argument) (first_misfit list arguments) (sym (misfit_more shape list argument arguments) ∙ none) in
+    (parts.0, all_fit list arguments (omega (arith, count)) parts.1)
+
+no_misfit : (list : List Shape) (arguments : List Arg) → AreFitting list arguments → first_misfit list arguments ≡ None
+no_misfit [] [] fits = refl
+no_misfit [] (argument ∷ arguments) fits = absurd fits
+no_misfit (shape ∷ list) [] fits = absurd fits
+no_misfit (shape ∷ list) (argument ∷ arguments) fits =
+    misfit_more shape list argument arguments
+    ∙ ap (λ b. cond (not b) (Some 0) (option_map suc (first_misfit list arguments))) fits.0
+    ∙ ap (option_map suc) (no_misfit list arguments fits.1)
+
+-- where shapes are left out, and any arguments that fit those may be added, all fit once none is left out
+pub fit_whole : (list : List Shape) (n : ℕ) (arguments : List Arg) → length list ≤ n
+    → ((more : List Arg) → AreFitting (drop n list) more → AreFitting list (arguments ++ more)) → AreFitting list arguments
+fit_whole list n arguments end joined =
+    subst (AreFitting list) (append-nil arguments) (joined [] (subst (λ left. AreFitting left []) (sym (drop_all n list end)) tt))
+
+-- arguments that fit are not refused
+pub not_refused : (list : List Shape) (arguments : List Arg) → AreFitting list arguments → refusal list arguments ≡ None
+not_refused list arguments fits =
+    let count = eq-eqb (length arguments) (length list) (AllZip-long (λ shape argument. has_shape shape argument ≡ true) list arguments fits) in
+    rw (count, no_misfit list arguments fits) refl

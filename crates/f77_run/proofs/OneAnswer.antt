@@ -1,5 +1,5 @@
 -- A run with given arguments has one outcome at most.
-use Rattle.std.proofs.Common.{◌≡◌, ℕ, Bool, true, List, [], ◌∷◌, Option, Some, None, length, map, refl, sym, ◌∙◌, ap, subst, arith, ℤ}
+use Rattle.std.proofs.Common.{◌≡◌, ℕ, Bool, true, List, [], ◌∷◌, Option, Some, None, length, map, refl, sym, ◌∙◌, ap, subst, ℤ}
 use Rattle.std.proofs.lemmas.Bool.{and_parts}
 use Rattle.std.proofs.lemmas.Option.{same_Some}
 use Rattle.f77_tree.specs.Parsing.{LineFields}
@@ -15,13 +15,12 @@ use Rattle.f77_run.specs.declared.finish.Finish.TheVariants as finish
 use Rattle.f77_run.specs.declared.outcome.Outcome.{Outcome}
 use Rattle.f77_run.specs.declared.outcome.Outcome.TheVariants as outcome
 use Rattle.f77_run.specs.declared.value.Value.{Value}
-use Rattle.f77_run.specs.Interpreter.{values_in, is_count, is_single, has_shape, first_misfit, AreArguments, Tells, OneAnswer}
+use Rattle.f77_run.specs.Interpreter.{values_in, is_count, is_single, has_shape, AreFitting, AreArguments, Tells, OneAnswer}
 use Rattle.f77_run.specs.Outcome.{IsOutcome}
 use Rattle.f77_run.specs.Start.{IsStart, start_values}
 use Rattle.f77_run.specs.Step.{Config, config, Execute}
 use Rattle.f77_run.specs.Value.{Store}
 use Rattle.f77_run.proofs.OneWay.{one_outcome}
-use Rattle.f77_run.proofs.Typing.{all_fit}
 
 -- what a dummy argument holds that has this value
 abbrev held_by : Arg → List (Option Value)
@@ -64,23 +63,20 @@ one_argument shape (Truth x) b is also same = absurd (one_kind shape.kind (and_p
 one_argument shape (Truths xs) b is also same = absurd (one_kind shape.kind (and_parts _ _ also).0 (and_parts _ _ is).0)
 
 -- and so are arguments
-one_list : (list : List Shape) (xs ys : List Arg) → length xs ≡ length list → length ys ≡ length list
-    → first_misfit list xs ≡ None → first_misfit list ys ≡ None → map held_by xs ≡ map held_by ys → xs ≡ ys
-one_list [] [] [] count other is also same = refl
-one_list [] (x ∷ xs) ys count other is also same = absurd (omega (arith, count))
-one_list [] [] (y ∷ ys) count other is also same = absurd (omega (arith, other))
-one_list (shape ∷ list) [] ys count other is also same = absurd (omega (arith, count))
-one_list (shape ∷ list) (x ∷ xs) [] count other is also same = absurd (omega (arith, other))
-one_list (shape ∷ list) (x ∷ xs) (y ∷ ys) count other is also same =
-    let fit = all_fit shape list x xs is in
-    let fits = all_fit shape list y ys also in
-    let first = one_argument shape x y fit.0 fits.0 (cc (same)) in
-    let rest = one_list list xs ys (omega (arith, count)) (omega (arith, other)) fit.1 fits.1 (cc (same)) in
+one_list : (list : List Shape) (xs ys : List Arg) → AreFitting list xs → AreFitting list ys → map held_by xs ≡ map held_by ys → xs ≡ ys
+one_list [] [] [] fits also same = refl
+one_list [] (x ∷ xs) ys fits also same = absurd fits
+one_list [] [] (y ∷ ys) fits also same = absurd also
+one_list (shape ∷ list) [] ys fits also same = absurd fits
+one_list (shape ∷ list) (x ∷ xs) [] fits also same = absurd also
+one_list (shape ∷ list) (x ∷ xs) (y ∷ ys) fits also same =
+    let first = one_argument shape x y fits.0 also.0 (cc (same)) in
+    let rest = one_list list xs ys fits.1 also.1 (cc (same)) in
     cc (first, rest)
 
 one_end : (p : List LineFields) (s : Store) (xs ys : List Arg) → AreArguments p s xs → AreArguments p s ys → xs ≡ ys
 one_end p s xs ys f g =
-    one_list (shapes p) xs ys f.fitting.count g.fitting.count f.fitting.each g.fitting.each (sym f.values ∙ g.values)
+    one_list (shapes p) xs ys f.fitting g.fitting (sym f.values ∙ g.values)
 
 told_once : (p : List LineFields) (end : Finish) (s : Store) (answer other : Outcome) → Tells p end s answer → Tells p end s other → answer ≡ other
 told_once p finish.Returned s (outcome.Returned xs) (outcome.Returned ys) f g = ap outcome.Returned (one_end p s xs ys f g)

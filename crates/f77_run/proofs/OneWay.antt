@@ -8,7 +8,7 @@ use Rattle.f77_legal.specs.Names.{Symbol, kind_of, bounds_of}
 use Rattle.f77_run.specs.declared.finish.Fault.{Fault}
 use Rattle.f77_run.specs.Number.{in_range, trip_count}
 use Rattle.f77_run.specs.Value.{Store, put, number, truth, value, place}
-use Rattle.f77_run.specs.Step.{Place, Execute, Increment, Turn, Turns, config, Next, Goes, with_turn, left_behind, IsInnermost, GoesOn, Jumps, Passes, Begins, With, Either, Skips, by_sign, step_number, Executes, Increments, StepAt}
+use Rattle.f77_run.specs.Step.{Place, Execute, Increment, Turn, Turns, config, Next, Goes, with_turn, left_behind, IsInnermost, GoesOn, Jumps, Passes, Begins, With, Either, Skips, numbered, by_sign, step_number, Executes, Increments, StepAt}
 use Rattle.f77_run.specs.Outcome.{IsOutcome, OneSuccessor, OneOutcome}
 use Rattle.f77_run.specs.declared.value.Value.TheVariants as held
 
@@ -60,12 +60,20 @@ one_choice : (b : Bool) (m n : Next) (P P' Q Q' : Type 0) → (P → P' → m �
 one_choice true m n P P' Q Q' first second f g = first f g
 one_choice false m n P P' Q Q' first second f g = second f g
 
+one_jump_or_on : (p : List LineFields) (i : ℕ) (s : Store) (active : Turns) (m n : Next) (o : Option ℕ)
+    → MatchOption o (GoesOn p i s active m) (λ label. Jumps p i label s active m)
+    → MatchOption o (GoesOn p i s active n) (λ label. Jumps p i label s active n) → m ≡ n
+one_jump_or_on p i s active m n None f g = one_on p i s active m n f g
+one_jump_or_on p i s active m n (Some label) f g = one_jump p i label s active m n f g
+
 one_executes : (p : List LineFields) (i : ℕ) (stmt : Statement) (s : Store) (active : Turns) (m n : Next)
     → Executes p i stmt s active m → Executes p i stmt s active n → m ≡ n
 one_executes p i (Statement.Assign name items t) s active m n f g =
     one_with (place (bounds_of p) s name items) s m n _ _
     (λ k. one_with (value (kind_of p name) (bounds_of p) s t) s m n _ _ (λ v. one_on p i (put s name k v) active m n)) f g
 one_executes p i (Statement.Goto label) s active m n f g = one_jump p i label s active m n f g
+one_executes p i (Statement.ComputedGoto labels t) s active m n f g =
+    one_with (number (bounds_of p) s t) s m n _ _ (λ z. one_jump_or_on p i s active m n (numbered labels z)) f g
 one_executes p i (Statement.ArithIf t l e r) s active m n f g =
     one_with (number (bounds_of p) s t) s m n _ _ (λ z. one_jump p i (by_sign z l e r) s active m n) f g
 one_executes p i (Statement.LogicalIf t inner) s active m n f g =

@@ -8,12 +8,12 @@ use Rattle.std.proofs.lemmas.List.Elements.{filter-append}
 use Rattle.std.proofs.lemmas.List.Folds.{list_all-append}
 use Rattle.f77_tree.specs.Parsing.{LineFields}
 use Rattle.f77_tree.specs.Tree.{Tree, Trees, Statement}
-use Rattle.f77_check.specs.declared.action.Action.{Action, Declaration, AssignNumber, AssignTruth, Goto, ArithmeticIf, LogicalIf', Branch, Continue, Loop, Return, Stop, Trap}
+use Rattle.f77_check.specs.declared.action.Action.{Action, Declaration, AssignNumber, AssignTruth, Goto, ComputedGoto, ArithmeticIf, LogicalIf', Branch, Continue, Loop, Return, Stop, Trap}
 use Rattle.f77_check.specs.declared.action.Jump.{Jump}
 use Rattle.f77_check.specs.declared.expression.Element.{Variable}
 use Rattle.f77_check.specs.declared.expression.Number.{Number}
 use Rattle.f77_check.specs.declared.resolved.Resolved.{Resolved}
-use Rattle.f77_check.specs.Action.{IsJump, IsStep, IsAssignment, IsAction}
+use Rattle.f77_check.specs.Action.{IsJump, AreJumps, IsStep, IsAssignment, IsAction}
 use Rattle.f77_legal.specs.Blocks.{first_numbers}
 use Rattle.f77_legal.specs.Dimensions.{dimensions_fit}
 use Rattle.f77_legal.specs.Legal.{IsLegal}
@@ -65,10 +65,17 @@ module _ (p : List LineFields) (names : List Symbol) where
   assignment_reaches name items t (AssignTruth e x) h = and_from _ _ (element_fits (bounds_of p) names name items e h.1) (condition_fits (bounds_of p) names t x h.2)
   assignment_reaches name items t _ h = absurd h
 
+  jumps_reach : (i : ℕ) (labels : List ℕ) (jumps : List Jump) → AreJumps p i labels jumps → list_all (jump_within (length p)) jumps ≡ true
+  jumps_reach i [] [] h = refl
+  jumps_reach i (label ∷ labels) (jump ∷ jumps) h = and_from _ _ (jump_reaches i label jump h.0) (jumps_reach i labels jumps h.1)
+  jumps_reach i _ _ h = absurd h
+
   action_reaches : (i : ℕ) (stmt : Statement) (action : Action) → IsAction (kind_of p) (bounds_of p) names p i stmt action → dimensions_fit (bounds_of p) stmt ≡ true
       → action_within (slot_count (bounds_of p) names) (length p) action ≡ true
   action_reaches i (Statement.Assign name items t) action h fits = assignment_reaches name items t action h
   action_reaches i (Statement.Goto label) (Goto jump) h fits = jump_reaches i label jump h
+  action_reaches i (Statement.ComputedGoto labels t) (ComputedGoto x jumps) h fits =
+      and_from _ _ (number_fits (bounds_of p) names t x h.0) (jumps_reach i labels jumps.items h.1)
   action_reaches i (Statement.ArithIf t l m k) (ArithmeticIf x a b c) h fits =
       and_from _ _ (number_fits (bounds_of p) names t x h.0)
       (and_from _ _ (jump_reaches i l a h.1) (and_from _ _ (jump_reaches i m b h.2) (jump_reaches i k c h.3)))

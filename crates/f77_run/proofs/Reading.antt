@@ -1,7 +1,7 @@
 -- What the slots of the dummy arguments hold.
 use Rattle.std.proofs.Common.{arith, ◌≡◌, ◌≤◌, ℕ, ◌+◌, ◌||◌, true, List, [], ◌∷◌, length, map, Some, None, refl, sym, ap, subst, ◌∙◌}
 use Rattle.std.specs.Prelude.{is_some, nat_le, if◌then◌else◌}
-use Rattle.std.specs.List.{list_all, list_any}
+use Rattle.std.specs.List.{list_all, list_any, zip}
 use Rattle.std.specs.Str.{bytes_eq}
 use Rattle.std.proofs.lemmas.Bool.{le-leb}
 use Rattle.std.proofs.lemmas.Cmp.{nat_list_eq_equiv}
@@ -17,7 +17,6 @@ use Rattle.f77_check.specs.Slots.{slot_count, first_slot}
 use Rattle.f77_run.specs.Machine.{values_of}
 use Rattle.f77_run.specs.Moves.{Cells}
 use Rattle.f77_run.specs.Spans.{size_of, span, AllHold}
-use Rattle.f77_check.specs.Start.{pairs}
 use Rattle.f77_run.specs.Typed.{has_kind, HasValues, IsTyped}
 use Rattle.f77_run.proofs.Dummies.{or_later}
 use Rattle.f77_run.proofs.Spans.{span_within}
@@ -39,7 +38,7 @@ module _ (p : List LineFields) (names : List Symbol) (cells : Cells) where
 
   holding : (list : List Symbol) (slots : List ℕ) → map (first_slot (bounds_of p) names) list ≡ map (λ slot. Some slot) slots
       → ((name : Symbol) → list_any (bytes_eq name) list ≡ true → HasValues (kind_of p name) (elements p name) (values_of (bounds_of p) names cells name))
-      → AllHold cells (pairs (map (shape_of p) list) slots)
+      → AllHold cells (zip (map (shape_of p) list) slots)
   holding [] slots starts typed = tt
   holding (x ∷ list) [] starts typed = absurd (cc (starts))
   holding (x ∷ list) (slot ∷ slots) starts typed = (here, holding list slots (cc (starts)) (λ name among. typed name (or_later (bytes_eq name x) (list_any (bytes_eq name) list) among)))
@@ -53,7 +52,7 @@ module _ (p : List LineFields) (names : List Symbol) (cells : Cells) where
           record { count = ap length read ∙ own.count ∙ sym (size_is p x); each = subst (λ held. list_all (has_kind (kind_of p x)) held ≡ true) (sym read) own.each }
 
   reading : (list : List Symbol) (slots : List ℕ) → map (first_slot (bounds_of p) names) list ≡ map (λ slot. Some slot) slots
-      → map (λ pair. span pair.1 (size_of pair.0) cells) (pairs (map (shape_of p) list) slots) ≡ map (values_of (bounds_of p) names cells) list
+      → map (λ pair. span pair.1 (size_of pair.0) cells) (zip (map (shape_of p) list) slots) ≡ map (values_of (bounds_of p) names cells) list
   reading [] slots starts = refl
   reading (x ∷ list) [] starts = absurd (cc (starts))
   reading (x ∷ list) (slot ∷ slots) starts =
@@ -62,7 +61,7 @@ module _ (p : List LineFields) (names : List Symbol) (cells : Cells) where
       λ i. first i ∷ later i
 
   bounded : (list : List Symbol) (slots : List ℕ) → map (first_slot (bounds_of p) names) list ≡ map (λ slot. Some slot) slots → length cells ≡ slot_count (bounds_of p) names
-      → list_all (λ pair. nat_le (pair.1 + size_of pair.0) (length cells)) (pairs (map (shape_of p) list) slots) ≡ true
+      → list_all (λ pair. nat_le (pair.1 + size_of pair.0) (length cells)) (zip (map (shape_of p) list) slots) ≡ true
   bounded [] slots starts size = refl
   bounded (x ∷ list) [] starts size = absurd (cc (starts))
   bounded (x ∷ list) (slot ∷ slots) starts size =
@@ -71,10 +70,10 @@ module _ (p : List LineFields) (names : List Symbol) (cells : Cells) where
       rw (le-leb (slot + size_of (shape_of p x)) (length cells) le) (bounded list slots (cc (starts)) size)
 
   module _ (slots : List ℕ) (starts : map (first_slot (bounds_of p) names) (dummies p) ≡ map (λ slot. Some slot) slots) where
-    pub all_hold : IsTyped p (values_of (bounds_of p) names cells) → AllHold cells (pairs (shapes p) slots)
+    pub all_hold : IsTyped p (values_of (bounds_of p) names cells) → AllHold cells (zip (shapes p) slots)
     all_hold typed = holding (dummies p) slots starts typed
 
-    pub spans_read : map (λ pair. span pair.1 (size_of pair.0) cells) (pairs (shapes p) slots) ≡ map (values_of (bounds_of p) names cells) (dummies p)
+    pub spans_read : map (λ pair. span pair.1 (size_of pair.0) cells) (zip (shapes p) slots) ≡ map (values_of (bounds_of p) names cells) (dummies p)
     spans_read = reading (dummies p) slots starts
 
     pub as_many : length slots ≡ length (shapes p)
@@ -84,5 +83,5 @@ module _ (p : List LineFields) (names : List Symbol) (cells : Cells) where
         ∙ length-map (dummies p) (first_slot (bounds_of p) names)
         ∙ sym (length-map (dummies p) (shape_of p))
 
-    pub spans_within : length cells ≡ slot_count (bounds_of p) names → list_all (λ pair. nat_le (pair.1 + size_of pair.0) (length cells)) (pairs (shapes p) slots) ≡ true
+    pub spans_within : length cells ≡ slot_count (bounds_of p) names → list_all (λ pair. nat_le (pair.1 + size_of pair.0) (length cells)) (zip (shapes p) slots) ≡ true
     spans_within size = bounded (dummies p) slots starts size

@@ -13,7 +13,7 @@ use Rattle.f77_run.specs.declared.finish.Fault.{Fault}
 use Rattle.f77_run.specs.declared.machine.Control.{Control}
 use Rattle.f77_run.specs.declared.machine.Machine.{Machine}
 use Rattle.f77_run.specs.Control.{Comes}
-use Rattle.f77_run.specs.Machine.{next_of}
+use Rattle.f77_run.specs.Machine.{KeepsLengths, next_of}
 use Rattle.f77_run.specs.Moves.{Cells, Move, state_of, move_of, moved}
 use Rattle.f77_run.specs.Moves as moves
 use Rattle.f77_run.specs.Outcome.{IsOutcome}
@@ -52,16 +52,16 @@ module _ (at : Site) (statements : List Resolved) where
   }
 
   pub one_more : (start m n : Machine) (limit done : ℕ) → done < limit → IsLeft at statements start m limit done → moved statements (state_of m) ≡ Some (moves.Goes (state_of n))
-      → length n.cells.items ≡ length m.cells.items → length n.turns.items ≡ length m.turns.items → IsLeft at statements start n limit (done + 1)
-  one_more start m n limit done h left e cells turns =
+      → KeepsLengths m n → IsLeft at statements start n limit (done + 1)
+  one_more start m n limit done h left e kept =
       let step = is_step m (moves.Goes (state_of n)) left.running e in
       record {
         running = record {
           formed = left.running.formed;
           legal = left.running.legal;
           resolved = left.running.resolved;
-          cells = cells ∙ left.running.cells;
-          turns = turns ∙ left.running.turns;
+          cells = kept.cells ∙ left.running.cells;
+          turns = kept.turns ∙ left.running.turns;
           comes = Comes.by_step left.running.comes step;
         };
         rest = λ o s end. left.rest o s (subst (λ k. IsOutcome at.program k (config_at at m) o s) (sym (less limit done h)) (inr (config_at at n, step, end)));

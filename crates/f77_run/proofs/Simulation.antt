@@ -1,14 +1,14 @@
 -- A step of the machine is a step of the run that it stands for.
 use Rattle.std.proofs.Common.{◌≡◌, ℕ, zero, suc, ◌+◌, ◌*◌, ◌<◌, ◌≤◌, ◌==◌, ◌&&◌, inl, inr, Bool, true, false, List, [], ◌∷◌, Option, Some, None, refl, sym, ◌∙◌, ap, subst, arith, length, ℤ, pos, negsuc}
 use Rattle.std.specs.Prelude.{Result, Ok, Err, IsSome, MatchOption, nat_lt, if◌then◌else◌, option_map, slice_get, slice_set}
-use Rattle.std.specs.Option.{option_and_then}
+use Rattle.std.specs.Option.{option_and_then, option_map_or}
 use Rattle.std.proofs.Math.Nat.{mul-le-mul_left}
 use Rattle.std.proofs.lemmas.Bool.{and_parts, cases_lt, eqb-true, ltb-true}
 use Rattle.std.proofs.lemmas.Option.{slice_get_past, slice_get_within, same_Some}
 use Rattle.f77_tree.specs.Formed.{is_action}
 use Rattle.f77_tree.specs.Parsing.{LineFields, IsProgram}
 use Rattle.f77_tree.specs.Tree.{Tree, Trees, Statement}
-use Rattle.f77_check.specs.declared.action.Action.{Action, Declaration, AssignNumber, AssignTruth, Goto, ArithmeticIf, LogicalIf', Branch, Continue, Loop, Return, Stop, Trap}
+use Rattle.f77_check.specs.declared.action.Action.{Action, Declaration, AssignNumber, AssignTruth, Goto, ComputedGoto, ArithmeticIf, LogicalIf', Branch, Continue, Loop, Return, Stop, Trap}
 use Rattle.f77_check.specs.declared.action.Jump.{Jump}
 use Rattle.f77_legal.specs.declared.clause.Clause.TheVariants.{Bounds}
 use Rattle.f77_check.specs.declared.expression.Element.{Element, Variable, Vector', Matrix'}
@@ -41,6 +41,7 @@ use Rattle.f77_run.specs.Value.{Store, put, given, element, value, place}
 use Rattle.f77_run.proofs.SameValue.{same_number, same_slot, same_truth}
 use Rattle.f77_run.proofs.Stored.{stored}
 use Rattle.f77_run.proofs.Looping.{with_used, with_slot, row_at, begins, increments}
+use Rattle.f77_run.proofs.Numbered.{IsJumpOf, numbered_jump}
 use Rattle.f77_run.proofs.Soundness.{there}
 use Rattle.f77_run.proofs.Turning.{turns_left, goes_on}
 
@@ -161,6 +162,13 @@ module _ (p : List LineFields) (names : List Symbol) (cells : Cells) (turns : Tu
       jumps_by_sign l m k a b c f g h (pos zero) e = jumps m b g e
       jumps_by_sign l m k a b c f g h (pos (suc z)) e = jumps k c h e
 
+      jumps_or_continues : (label : Option ℕ) (jump : Option Jump) → IsJumpOf p i label jump
+          → n ≡ next (option_map_or (λ jump. jump_to jump cells turns) jump (go_on r cells turns))
+          → MatchOption label (GoesOn p i store (turns_of turns) n) (λ label. Jumps p i label store (turns_of turns) n)
+      jumps_or_continues None None h e = continues e
+      jumps_or_continues (Some label) (Some jump) h e = jumps label jump h e
+      jumps_or_continues _ _ h e = absurd h
+
       executes : (stmt : Statement) (action : Action) → IsAction (kind_of p) (bounds_of p) names p i stmt action → dimensions_fit (bounds_of p) stmt ≡ true
           → is_executed action ≡ true → n ≡ next (acted statements i r action cells turns) → Executes p i stmt store (turns_of turns) n
       executes (Statement.Subroutine name dummies) Declaration h fits may e = absurd (cc (may))
@@ -169,6 +177,9 @@ module _ (p : List LineFields) (names : List Symbol) (cells : Cells) (turns : Tu
       executes (Statement.Preset gs) Declaration h fits may e = absurd (cc (may))
       executes (Statement.Assign name items t) action h fits may e = assigns name items t action h e
       executes (Statement.Goto label) (Goto jump) h fits may e = jumps label jump h e
+      executes (Statement.ComputedGoto labels t) (ComputedGoto x js) h fits may e =
+          with_used (bounds_of p) names cells _ _ (same_number (bounds_of p) names cells t x h.0) _ n _
+          (λ z. jumps_or_continues (run.numbered labels z) (moves.numbered js.items z) (numbered_jump p i labels js.items h.1 z)) e
       executes (Statement.ArithIf t l m k) (ArithmeticIf x a b c) h fits may e =
           with_used (bounds_of p) names cells _ _ (same_number (bounds_of p) names cells t x h.0) _ n _ (jumps_by_sign l m k a b c h.1 h.2 h.3) e
       executes (Statement.LogicalIf t s) (LogicalIf' x q action) h fits may e =

@@ -94,6 +94,7 @@ program_next p program i s at is last = let n : suc i ≡ i + 1 = omega arith in
 
 terminal_stands : (s : Statement) → is_terminal s ≡ true → (is_executable s ≡ true) × (is_last s ≡ false)
 terminal_stands (Statement.Assign name items t) h = (refl, refl)
+terminal_stands (Statement.ComputedGoto labels t) h = (refl, refl)
 terminal_stands (Statement.LogicalIf t s) h = (refl, refl)
 terminal_stands Statement.Continue h = (refl, refl)
 terminal_stands Statement.Trap h = (refl, refl)

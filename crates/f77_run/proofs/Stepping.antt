@@ -17,7 +17,7 @@ use Rattle.f77_run.specs.declared.finish.Finish.{Finish}
 use Rattle.f77_run.specs.declared.finish.Finish.TheVariants.{Returned, Stopped, Failed, StepLimit}
 use Rattle.f77_run.specs.Number.{in_range, trip_count}
 use Rattle.f77_run.specs.Value.{Store, put, number, truth, value, place}
-use Rattle.f77_run.specs.Step.{Place, Execute, Increment, Turn, Turns, Config, config, Next, Goes, Ends, with_turn, left_behind, GoesOn, Jumps, Passes, Begins, With, Either, Skips, by_sign, step_number, Executes, Increments, StepAt, Step}
+use Rattle.f77_run.specs.Step.{Place, Execute, Increment, Turn, Turns, Config, config, Next, Goes, Ends, with_turn, left_behind, GoesOn, Jumps, Passes, Begins, With, Either, Skips, numbered, by_sign, step_number, Executes, Increments, StepAt, Step}
 use Rattle.f77_run.specs.Outcome.{IsOutcome}
 use Rattle.f77_run.specs.declared.value.Value.TheVariants as held
 
@@ -190,10 +190,21 @@ sound_either : (c : Bool) (n : Next) (a b : Option Next) (P Q : Type 0) → (a �
 sound_either true n a b P Q f g e = f e
 sound_either false n a b P Q f g e = g e
 
+-- control goes to the label, or on
+abbrev pub jumps_or_on : List LineFields → ℕ → Store → Turns → Option ℕ → Option Next
+jumps_or_on p i s active None = goes_on p i s active
+jumps_or_on p i s active (Some label) = jumps p i label s active
+
+sound_jump_or_on : (p : List LineFields) (i : ℕ) (s : Store) (active : Turns) (n : Next) (o : Option ℕ) → jumps_or_on p i s active o ≡ Some n
+    → MatchOption o (GoesOn p i s active n) (λ label. Jumps p i label s active n)
+sound_jump_or_on p i s active n None e = sound_on p i s active n e
+sound_jump_or_on p i s active n (Some label) e = sound_jump p i label s active n e
+
 abbrev pub executes : List LineFields → ℕ → Statement → Store → Turns → Option Next
 executes p i (Statement.Assign name items t) s active =
     unless_fault (place (bounds_of p) s name items) s (λ k. unless_fault (value (kind_of p name) (bounds_of p) s t) s (λ v. goes_on p i (put s name k v) active))
 executes p i (Statement.Goto label) s active = jumps p i label s active
+executes p i (Statement.ComputedGoto labels t) s active = unless_fault (number (bounds_of p) s t) s (λ z. jumps_or_on p i s active (numbered labels z))
 executes p i (Statement.ArithIf t l m r) s active = unless_fault (number (bounds_of p) s t) s (λ z. jumps p i (by_sign z l m r) s active)
 executes p i (Statement.LogicalIf t inner) s active = unless_fault (truth (bounds_of p) s t) s (λ b. either b (executes p i inner s active) (goes_on p i s active))
 executes p i (Statement.BlockIf t) s active = unless_fault (truth (bounds_of p) s t) s (λ b. either b (goes_on p i s active) (skips p i s active))
@@ -218,6 +229,8 @@ sound_executes p i (Statement.Assign name items t) s active n e =
     sound_with (place (bounds_of p) s name items) s n _ _
     (λ k. sound_with (value (kind_of p name) (bounds_of p) s t) s n _ _ (λ v. sound_on p i (put s name k v) active n)) e
 sound_executes p i (Statement.Goto label) s active n e = sound_jump p i label s active n e
+sound_executes p i (Statement.ComputedGoto labels t) s active n e =
+    sound_with (number (bounds_of p) s t) s n _ _ (λ z. sound_jump_or_on p i s active n (numbered labels z)) e
 sound_executes p i (Statement.ArithIf t l m r) s active n e =
     sound_with (number (bounds_of p) s t) s n _ _ (λ z. sound_jump p i (by_sign z l m r) s active n) e
 sound_executes p i (Statement.LogicalIf t inner) s active n e =

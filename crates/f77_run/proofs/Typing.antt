@@ -11,7 +11,6 @@ use Rattle.f77_tree.specs.Parsing.{LineFields}
 use Rattle.f77_tree.specs.Tree.{Tree, Trees, Statement}
 use Rattle.f77_tree.specs.declared.tree.Kind.{Kind}
 use Rattle.f77_tree.specs.declared.tree.Kind.TheVariants.{Integer, Logical}
-use Rattle.f77_check.specs.declared.checked.Shape.{Shape}
 use Rattle.f77_legal.specs.declared.clause.Clause.TheVariants.{Kinds}
 use Rattle.f77_check.specs.Checked.{shape_of, shapes}
 use Rattle.f77_legal.specs.Heading.{dummies}
@@ -29,10 +28,9 @@ use Rattle.f77_run.specs.declared.value.Value.{Value}
 use Rattle.f77_run.specs.declared.value.Value.TheVariants as held
 use Rattle.f77_run.specs.Number.{in_range, trip_count}
 use Rattle.f77_run.specs.Outcome.{IsOutcome}
-use Rattle.f77_run.specs.Interpreter.{values_in, has_shape, is_count, is_single, first_misfit, AreFitting}
-use Rattle.f77_check.specs.Start.{pairs}
+use Rattle.f77_run.specs.Interpreter.{values_in, has_shape, is_count, is_single, AreFitting}
 use Rattle.f77_run.specs.Start.{IsStart}
-use Rattle.f77_run.specs.Step.{Place, Execute, Increment, Turn, Turns, Config, Next, Goes, Ends, Step, with_turn, GoesOn, Jumps, Passes, Begins, With, Either, Skips, by_sign, step_number, Executes, Increments, StepAt}
+use Rattle.f77_run.specs.Step.{Place, Execute, Increment, Turn, Turns, Config, Next, Goes, Ends, Step, with_turn, GoesOn, Jumps, Passes, Begins, With, Either, Skips, numbered, by_sign, step_number, Executes, Increments, StepAt}
 use Rattle.f77_run.specs.Typed.{has_kind, HasValues, IsTyped}
 use Rattle.f77_run.specs.Value.{Store, put, given, number, truth, value, place}
 
@@ -119,6 +117,11 @@ module _ (p : List LineFields) (s : Store) (A : Type 0) where
   leaves_either true n P Q first second f = first f
   leaves_either false n P Q first second f = second f
 
+  leaves_jump_or_on : (i : ℕ) (active : Turns) (n : Next) (o : Option ℕ) → (A → IsTyped p s)
+      → MatchOption o (GoesOn p i s active n) (λ label. Jumps p i label s active n) → Leaves n
+  leaves_jump_or_on i active n None typed f = leaves_on i s active n typed f
+  leaves_jump_or_on i active n (Some label) typed f = leaves_jump i label s active n typed f
+
   leaves_executes : (i : ℕ) (stmt : Statement) (active : Turns) (n : Next) → (A → kinds_agree (kind_of p) stmt ≡ true) → (A → IsTyped p s)
       → Executes p i stmt s active n → Leaves n
   leaves_executes i (Statement.Assign name items t) active n agree typed f =
@@ -126,6 +129,8 @@ module _ (p : List LineFields) (s : Store) (A : Type 0) where
       (λ k at. leaves_with (value (kind_of p name) (bounds_of p) s t) n _
       (λ v is. leaves_on i (put s name k v) active n (λ a. put_typed p s name k v (value_kind (kind_of p name) (bounds_of p) s t v is) (typed a)))) f
   leaves_executes i (Statement.Goto label) active n agree typed f = leaves_jump i label s active n typed f
+  leaves_executes i (Statement.ComputedGoto labels t) active n agree typed f =
+      leaves_with (number (bounds_of p) s t) n _ (λ z is. leaves_jump_or_on i active n (numbered labels z) typed) f
   leaves_executes i (Statement.ArithIf t l m r) active n agree typed f =
       leaves_with (number (bounds_of p) s t) n _ (λ z is. leaves_jump i (by_sign z l m r) s active n typed) f
   leaves_executes i (Statement.LogicalIf t inner) active n agree typed f =
@@ -243,17 +248,6 @@ place_by false k n = place_later k n
 pub first_place : {X : Type 0} (q : X → Bool) (x : X) (xs : List X) → position q (x ∷ xs) ≡ cond (q x) (Some 0) (option_map suc (position q xs))
 first_place q x xs = place_by (q x) (position_or_len q xs) (length xs)
 
-no_place : (b : Bool) (o : Option ℕ) → cond (not b) (Some 0) (option_map suc o) ≡ None → (b ≡ true) × (o ≡ None)
-no_place true None e = (refl, refl)
-no_place true (Some i) e = absurd (cc (e))
-no_place false o e = absurd (cc (e))
-
-pub all_fit : (shape : Shape) (list : List Shape) (argument : Arg) (arguments : List Arg) → first_misfit (shape ∷ list) (argument ∷ arguments) ≡ None
-    → (has_shape shape argument ≡ true) × (first_misfit list arguments ≡ None)
-all_fit shape list argument arguments e =
-    no_place (has_shape shape argument) (first_misfit list arguments)
-    (sym (first_place (λ pair. not (has_shape pair.0 pair.1)) (shape, argument) (pairs list arguments)) ∙ e)
-
 -- what a name holds that stands at this place among the dummy arguments, which hold these, and what another one holds
 abbrev pub held_at : List (List Value) → List (Option Value) → Option ℕ → List (Option Value)
 held_at lists other at = option_map_or (λ i. option_map_or (map (λ v. Some v)) (slice_get lists i) []) at other
@@ -264,17 +258,14 @@ held_later values lists other None = refl
 held_later values lists other (Some i) = refl
 
 given_typed : (p : List LineFields) (name : Symbol) (other : List (Option Value)) (names : List Symbol) (arguments : List Arg) → list_any (bytes_eq name) names ≡ true
-    → length arguments ≡ length (map (shape_of p) names) → first_misfit (map (shape_of p) names) arguments ≡ None
+    → AreFitting (map (shape_of p) names) arguments
     → HasValues (kind_of p name) (elements p name) (held_at (map values_in arguments) other (position (bytes_eq name) names))
-given_typed p name other [] arguments among count each = absurd (cc (among))
-given_typed p name other (x ∷ names) [] among count each = absurd (cc (count))
-given_typed p name other (x ∷ names) (argument ∷ arguments) among count each = by (bytes_eq name x) refl (given_typed p name other names arguments)
+given_typed p name other [] arguments among fits = absurd (cc (among))
+given_typed p name other (x ∷ names) [] among fits = absurd fits
+given_typed p name other (x ∷ names) (argument ∷ arguments) among fits = by (bytes_eq name x) refl (given_typed p name other names arguments)
   where
-    fit : (has_shape (shape_of p x) argument ≡ true) × (first_misfit (map (shape_of p) names) arguments ≡ None)
-    fit = all_fit (shape_of p x) (map (shape_of p) names) argument arguments each
-
     by : (b : Bool) → bytes_eq name x ≡ b
-        → (list_any (bytes_eq name) names ≡ true → length arguments ≡ length (map (shape_of p) names) → first_misfit (map (shape_of p) names) arguments ≡ None
+        → (list_any (bytes_eq name) names ≡ true → AreFitting (map (shape_of p) names) arguments
         → HasValues (kind_of p name) (elements p name) (held_at (map values_in arguments) other (position (bytes_eq name) names)))
         → HasValues (kind_of p name) (elements p name) (held_at (map values_in (argument ∷ arguments)) other (position (bytes_eq name) (x ∷ names)))
     by true e later =
@@ -282,16 +273,15 @@ given_typed p name other (x ∷ names) (argument ∷ arguments) among count each
         let at : position (bytes_eq name) (x ∷ names) ≡ Some 0
         = first_place (bytes_eq name) x names ∙ ap (λ b. cond b (Some 0) (option_map suc (position (bytes_eq name) names))) e in
         let holds : HasValues (kind_of p name) (elements p name) (map (λ v. Some v) (values_in argument))
-        = shaped p name argument (subst (λ y. has_shape (shape_of p y) argument ≡ true) (sym same) fit.0) in
+        = shaped p name argument (subst (λ y. has_shape (shape_of p y) argument ≡ true) (sym same) fits.0) in
         subst (λ o. HasValues (kind_of p name) (elements p name) (held_at (map values_in (argument ∷ arguments)) other o)) (sym at) holds
     by false e later =
         let at : position (bytes_eq name) (x ∷ names) ≡ option_map suc (position (bytes_eq name) names)
         = first_place (bytes_eq name) x names ∙ ap (λ b. cond b (Some 0) (option_map suc (position (bytes_eq name) names))) e in
         let cells = ap (held_at (map values_in (argument ∷ arguments)) other) at ∙ held_later (values_in argument) (map values_in arguments) other (position (bytes_eq name) names) in
         let rest : list_any (bytes_eq name) names ≡ true = sym (ap (λ b. b || list_any (bytes_eq name) names) e) ∙ among in
-        let fewer : length arguments ≡ length (map (shape_of p) names) = omega (arith, count) in
-        subst (HasValues (kind_of p name) (elements p name)) (sym cells) (later rest fewer fit.1)
+        subst (HasValues (kind_of p name) (elements p name)) (sym cells) (later rest fits.1)
 
 pub start_typed : (p : List LineFields) (arguments : List Arg) (c : Config) → IsLegal p → AreFitting (shapes p) arguments → IsStart p (map values_in arguments) c → IsTyped p c.values
 start_typed p arguments c legal fitting start =
-    subst (λ b. IsTyped p b.values) (sym start.2) (λ name among. given_typed p name _ (dummies p) arguments among fitting.count fitting.each)
+    subst (λ b. IsTyped p b.values) (sym start.2) (λ name among. given_typed p name _ (dummies p) arguments among fitting)

@@ -1,5 +1,6 @@
 -- What is answered for a checked program, values of its dummy arguments and a limit on steps.
 use Rattle.std.specs.Prelude.{◌≡◌, ℕ, ◌+◌, ◌==◌, ◌&&◌, Bool, true, false, not, List, [], ◌∷◌, length, map, Option, Some, None, option_map, position, if◌then◌else◌}
+use Rattle.std.specs.List.{AllZip, zip}
 use Rattle.f77_tree.specs.Parsing.{LineFields}
 use Rattle.f77_tree.specs.declared.tree.Kind.TheVariants.{Integer, Logical}
 use Rattle.f77_check.specs.Checked.{shapes}
@@ -19,7 +20,6 @@ use Rattle.f77_run.specs.declared.value.Value.{Value}
 use Rattle.f77_run.specs.declared.value.Value.TheVariants as held
 use Rattle.f77_run.specs.Outcome.{IsOutcome}
 use Rattle.f77_run.specs.Start.{IsStart, argument_values}
-use Rattle.f77_check.specs.Start.{pairs}
 use Rattle.f77_run.specs.Step.{Config}
 use Rattle.f77_run.specs.Value.{Store}
 
@@ -45,19 +45,18 @@ has_shape shape (Truth b) = same_kind shape.kind Logical && is_single shape.elem
 has_shape shape (Ints zs) = same_kind shape.kind Integer && is_count shape.elements (length zs)
 has_shape shape (Truths bs) = same_kind shape.kind Logical && is_count shape.elements (length bs)
 
+-- as many arguments as shapes, each of its shape
+abbrev pub AreFitting : List Shape → List Arg → Type 0
+AreFitting list arguments = AllZip (λ shape argument. has_shape shape argument ≡ true) list arguments
+
 -- the first argument, from 0, that has not its shape
 abbrev pub first_misfit : List Shape → List Arg → Option ℕ
-first_misfit shapes arguments = position (λ pair. not (has_shape pair.0 pair.1)) (pairs shapes arguments)
+first_misfit shapes arguments = position (λ pair. not (has_shape pair.0 pair.1)) (zip shapes arguments)
 
 -- what is told of arguments that do not fit, their number before their shapes, which are numbered from 1
 abbrev pub refusal : List Shape → List Arg → Option RunFault
 refusal shapes arguments =
     if length arguments == length shapes then option_map (λ i. fault_of.ArgumentShape (i + 1)) (first_misfit shapes arguments) else Some fault_of.ArgumentCount
-
--- as many arguments as shapes, each of its shape
-pub record AreFitting (list : List Shape) (arguments : List Arg) : Type 0 where
-  pub count : length arguments ≡ length list
-  pub each : first_misfit list arguments ≡ None
 
 -- the arguments are what the dummy arguments hold, and have their shapes
 pub record AreArguments (program : List LineFields) (s : Store) (arguments : List Arg) : Type 0 where

@@ -1,10 +1,11 @@
 -- What a machine stands for: its slots are the values of names, its places and its active DOs those of a run.
-use Rattle.std.specs.Prelude.{ℕ, ◌+◌, List, map, option_map}
+use Rattle.std.specs.Prelude.{◌≡◌, ℕ, ◌+◌, List, length, map, option_map}
 use Rattle.std.specs.Option.{option_and_then}
 use Rattle.f77_legal.specs.Blocks.{first_numbers}
 use Rattle.f77_legal.specs.Names.{Symbol}
 use Rattle.f77_legal.specs.Presets.{product}
 use Rattle.f77_check.specs.Slots.{first_slot}
+use Rattle.f77_run.specs.declared.machine.Machine.{Machine}
 use Rattle.f77_run.specs.declared.machine.Place.{Place}
 use Rattle.f77_run.specs.declared.machine.Place.TheVariants.{Execute, Increment}
 use Rattle.f77_run.specs.declared.machine.Turn.{Turn}
@@ -35,3 +36,8 @@ config_of bounds names s = config (placed s.place) (values_of bounds names s.cel
 abbrev pub next_of : (Symbol → List ℕ) → List Symbol → Move → Next
 next_of bounds names (Goes s) = run.Goes (config_of bounds names s)
 next_of bounds names (Ends finish cells) = run.Ends finish (values_of bounds names cells)
+
+-- as many slots and DOs as before
+pub record KeepsLengths (before after : Machine) : Type 0 where
+  pub cells : length after.cells.items ≡ length before.cells.items
+  pub turns : length after.turns.items ≡ length before.turns.items

@@ -2,7 +2,7 @@
 use Rattle.std.specs.Prelude.{ℕ, zero, suc, ◌+◌, ◌-◌, List, [], ◌∷◌, Option, Some, None, is_some, slice_get, slice_set, ℤ, pos, negsuc, ◌+ℤ◌, Bool, true, false, if◌then◌else◌, option_map, Result, Ok, Err}
 use Rattle.std.specs.List.{find}
 use Rattle.std.specs.Option.{option_and_then, option_map_or}
-use Rattle.f77_check.specs.declared.action.Action.{Action, Declaration, AssignNumber, AssignTruth, Goto, ArithmeticIf, LogicalIf', Branch, Continue, Loop, Return, Stop, Trap}
+use Rattle.f77_check.specs.declared.action.Action.{Action, Declaration, AssignNumber, AssignTruth, Goto, ComputedGoto, ArithmeticIf, LogicalIf', Branch, Continue, Loop, Return, Stop, Trap}
 use Rattle.f77_check.specs.declared.action.Jump.{Jump}
 use Rattle.f77_check.specs.declared.resolved.Resolved.{Resolved}
 use Rattle.f77_run.specs.declared.finish.Fault.{Fault}
@@ -78,6 +78,12 @@ without turns (d ∷ ds) = without (slice_set turns d None) ds
 abbrev pub jump_to : Jump → Cells → Turns → Move
 jump_to jump cells turns = Goes (state (Execute jump.target) cells (without turns jump.leaves.items))
 
+-- the jump of this number, counted from 1
+abbrev pub numbered : List Jump → ℤ → Option Jump
+numbered jumps (pos zero) = None
+numbered jumps (pos (suc n)) = slice_get jumps n
+numbered jumps (negsuc n) = None
+
 abbrev pub by_sign : {A : Type 0} → ℤ → A → A → A → A
 by_sign (negsuc z) a b c = a
 by_sign (pos zero) a b c = b
@@ -113,6 +119,8 @@ acted statements i r (AssignNumber e x) cells turns =
 acted statements i r (AssignTruth e x) cells turns =
     used (slot_in cells e) cells (λ k. used (truth_in cells x) cells (λ b. go_on r (slice_set cells k (Some (held.Truth b))) turns))
 acted statements i r (Goto jump) cells turns = jump_to jump cells turns
+acted statements i r (ComputedGoto x jumps) cells turns =
+    used (number_in cells x) cells (λ z. option_map_or (λ jump. jump_to jump cells turns) (numbered jumps.items z) (go_on r cells turns))
 acted statements i r (ArithmeticIf x a b c) cells turns = used (number_in cells x) cells (λ z. jump_to (by_sign z a b c) cells turns)
 acted statements i r (LogicalIf' x p action) cells turns =
     used (truth_in cells x) cells (λ b. chosen b (acted statements i r action cells turns) (go_on r cells turns))

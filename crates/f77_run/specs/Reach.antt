@@ -1,7 +1,7 @@
 -- The slots and the statements that resolved statements name are among so many.
 use Rattle.std.specs.Prelude.{ℕ, ◌&&◌, Bool, true, nat_lt, List}
 use Rattle.std.specs.List.{list_all}
-use Rattle.f77_check.specs.declared.action.Action.{Action, Declaration, AssignNumber, AssignTruth, Goto, ArithmeticIf, LogicalIf', Branch, Continue, Loop, Return, Stop, Trap}
+use Rattle.f77_check.specs.declared.action.Action.{Action, Declaration, AssignNumber, AssignTruth, Goto, ComputedGoto, ArithmeticIf, LogicalIf', Branch, Continue, Loop, Return, Stop, Trap}
 use Rattle.f77_check.specs.declared.action.Jump.{Jump}
 use Rattle.f77_check.specs.declared.resolved.Resolved.{Resolved}
 use Rattle.f77_run.specs.Evaluation.{element_within, number_within, condition_within}
@@ -18,6 +18,7 @@ action_within slots n Declaration = true
 action_within slots n (AssignNumber e x) = element_within slots e && number_within slots x
 action_within slots n (AssignTruth e x) = element_within slots e && condition_within slots x
 action_within slots n (Goto jump) = jump_within n jump
+action_within slots n (ComputedGoto x jumps) = number_within slots x && list_all (jump_within n) jumps.items
 action_within slots n (ArithmeticIf x a b c) = number_within slots x && (jump_within n a && (jump_within n b && jump_within n c))
 action_within slots n (LogicalIf' x p action) = condition_within slots x && action_within slots n action
 action_within slots n (Branch x otherwise) = condition_within slots x

@@ -1,5 +1,5 @@
 -- One step of a run, by cases on the statement where control is (ANSI X3.9-1978, sections 10 and 11). Statements are numbered from 0 here.
-use Rattle.std.specs.Prelude.{◌≡◌, ℕ, zero, suc, ◌+◌, ◌-◌, ◌<◌, ◌==◌, ◌⊎◌, Bool, true, false, List, Option, Some, None, IsSome, if◌then◌else◌, ℤ, pos, negsuc, ◌+ℤ◌, Result, Ok, MatchResult, MatchOption}
+use Rattle.std.specs.Prelude.{◌≡◌, ℕ, zero, suc, ◌+◌, ◌-◌, ◌<◌, ◌==◌, ◌⊎◌, Bool, true, false, List, Option, Some, None, IsSome, slice_get, if◌then◌else◌, ℤ, pos, negsuc, ◌+ℤ◌, Result, Ok, MatchResult, MatchOption}
 use Rattle.f77_tree.specs.Parsing.{LineFields}
 use Rattle.f77_tree.specs.Tree.{Tree, Trees, Statement}
 use Rattle.f77_legal.specs.Blocks.{branch_end, behind}
@@ -96,6 +96,12 @@ by_sign (negsuc z) l m n = l
 by_sign (pos zero) l m n = m
 by_sign (pos (suc z)) l m n = n
 
+-- the label that a computed GO TO has for this value, counted from 1
+abbrev pub numbered : List ℕ → ℤ → Option ℕ
+numbered labels (pos zero) = None
+numbered labels (pos (suc n)) = slice_get labels n
+numbered labels (negsuc n) = None
+
 abbrev pub step_number : (Symbol → List ℕ) → Store → Option Tree → Result ℤ Fault
 step_number bounds s None = Ok (pos 1)
 step_number bounds s (Some t) = number bounds s t
@@ -105,6 +111,8 @@ abbrev pub Executes : List LineFields → ℕ → Statement → Store → Turns 
 Executes p i (Statement.Assign name items t) s active n =
     With (place (bounds_of p) s name items) s n (λ k. With (value (kind_of p name) (bounds_of p) s t) s n (λ v. GoesOn p i (put s name k v) active n))
 Executes p i (Statement.Goto label) s active n = Jumps p i label s active n
+Executes p i (Statement.ComputedGoto labels t) s active n =
+    With (number (bounds_of p) s t) s n (λ z. MatchOption (numbered labels z) (GoesOn p i s active n) (λ label. Jumps p i label s active n))
 Executes p i (Statement.ArithIf t l m r) s active n = With (number (bounds_of p) s t) s n (λ z. Jumps p i (by_sign z l m r) s active n)
 Executes p i (Statement.LogicalIf t inner) s active n =
     With (truth (bounds_of p) s t) s n (λ b. Either b (Executes p i inner s active n) (GoesOn p i s active n))

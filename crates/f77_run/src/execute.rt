@@ -1,9 +1,12 @@
 //! One step of a machine over slots.
 
-ghost use Rattle.std.specs.Prelude.{◌≡◌, ◌<◌, ◌+◌, ◌^◌, Ok, true, length, slice_set, Some, IsSome};
+ghost use Rattle.std.specs.Prelude.{◌≡◌, ◌<◌, ◌+◌, ◌^◌, Ok, true, length, slice_set, Some, IsSome, option_map};
+ghost use Rattle.std.specs.List.{list_all};
+ghost use Rattle.std.specs.Option.{option_map_or};
 ghost use Rattle.f77_check.specs.declared.action.Action.{Loop};
 ghost use Rattle.f77_check.specs.declared.expression.Number.{Number};
 ghost use Rattle.f77_run.specs.Evaluation.{element_within, number_within, condition_within, slot_in, number_in, truth_in};
+ghost use Rattle.f77_run.specs.Machine.{KeepsLengths};
 ghost use Rattle.f77_run.specs.Moves as moves;
 ghost use Rattle.f77_run.specs.Moves.{Goes, state, state_of, move_of, used, chosen, by_sign, jump_to, passing, passing_at, begun, acted, incremented, is_executed, moved};
 ghost use Rattle.f77_run.specs.Reach.{are_below, jump_within, action_within, all_within};
@@ -33,8 +36,7 @@ fn place_behind(resolved: &Resolved, turns: &[Option<Turn>]) -> Place
 fn go_on(resolved: &Resolved, machine: &mut Machine) -> Control
     requires { are_below (length machine.old.turns.items) resolved.now.ends.items ≡ true }
     ensures moved { move_of (Ok result) machine.new ≡ moves.go_on resolved.now machine.old.cells.items machine.old.turns.items }
-    ensures cells { length machine.new.cells.items ≡ length machine.old.cells.items }
-    ensures turns { length machine.new.turns.items ≡ length machine.old.turns.items }
+    ensures lengths { KeepsLengths machine.old machine.new }
 {
     machine.place = place_behind(resolved, &machine.turns);
     Control::Goes
@@ -43,8 +45,7 @@ fn go_on(resolved: &Resolved, machine: &mut Machine) -> Control
 fn jump(target: &Jump, machine: &mut Machine) -> Control
     requires { jump_within (length machine.old.turns.items) target.now ≡ true }
     ensures moved { move_of (Ok result) machine.new ≡ jump_to target.now machine.old.cells.items machine.old.turns.items }
-    ensures cells { length machine.new.cells.items ≡ length machine.old.cells.items }
-    ensures turns { length machine.new.turns.items ≡ length machine.old.turns.items }
+    ensures lengths { KeepsLengths machine.old machine.new }
 {
     leave(&mut machine.turns, &target.leaves);
     machine.place = Place::Execute(target.target);
@@ -61,8 +62,7 @@ fn assign_number(
     requires term { number_within (length machine.old.cells.items) term.now ≡ true }
     requires ends { are_below (length machine.old.turns.items) resolved.now.ends.items ≡ true }
     ensures moved { let cells = machine.old.cells.items in move_of result machine.new ≡ used (slot_in cells element.now) cells (λ k. used (number_in cells term.now) cells (λ z. moves.go_on resolved.now (slice_set cells k (Some (Value.Number z))) machine.old.turns.items)) }
-    ensures cells { length machine.new.cells.items ≡ length machine.old.cells.items }
-    ensures turns { length machine.new.turns.items ≡ length machine.old.turns.items }
+    ensures lengths { KeepsLengths machine.old machine.new }
 {
     let slot = slot(element, &machine.cells)?;
     let value = number(term, &machine.cells)?;
@@ -80,8 +80,7 @@ fn assign_truth(
     requires condition { condition_within (length machine.old.cells.items) condition.now ≡ true }
     requires ends { are_below (length machine.old.turns.items) resolved.now.ends.items ≡ true }
     ensures moved { let cells = machine.old.cells.items in move_of result machine.new ≡ used (slot_in cells element.now) cells (λ k. used (truth_in cells condition.now) cells (λ b. moves.go_on resolved.now (slice_set cells k (Some (Value.Truth b))) machine.old.turns.items)) }
-    ensures cells { length machine.new.cells.items ≡ length machine.old.cells.items }
-    ensures turns { length machine.new.turns.items ≡ length machine.old.turns.items }
+    ensures lengths { KeepsLengths machine.old machine.new }
 {
     let slot = slot(element, &machine.cells)?;
     let value = truth(condition, &machine.cells)?;
@@ -102,8 +101,7 @@ fn jump_by_sign(
     requires zero { jump_within (length machine.old.turns.items) zero.now ≡ true }
     requires positive { jump_within (length machine.old.turns.items) positive.now ≡ true }
     ensures moved { let cells = machine.old.cells.items in move_of result machine.new ≡ used (number_in cells value.now) cells (λ z. jump_to (by_sign z negative.now zero.now positive.now) cells machine.old.turns.items) }
-    ensures cells { length machine.new.cells.items ≡ length machine.old.cells.items }
-    ensures turns { length machine.new.turns.items ≡ length machine.old.turns.items }
+    ensures lengths { KeepsLengths machine.old machine.new }
 {
     let value = number(value, &machine.cells)?;
     if value < 0 {
@@ -113,6 +111,35 @@ fn jump_by_sign(
         return Ok(jump(zero, machine));
     }
     Ok(jump(positive, machine))
+}
+
+/// The jump of this number, counted from 1.
+fn numbered(jumps: &[Jump], number: i32) -> Option<&Jump>
+    ensures { option_map (λ jump. jump.now) result ≡ moves.numbered jumps.now number }
+{
+    let number = usize::try_from(number).ok()?;
+    jumps.get(number.checked_sub(1)?)
+}
+
+/// A computed GO TO.
+#[tactic(auto, using(crate::proofs::Numbered::numbered_within))]
+fn jump_by_number(
+    resolved: &Resolved,
+    value: &Number,
+    jumps: &[Jump],
+    machine: &mut Machine,
+) -> Result<Control, Fault>
+    requires value { number_within (length machine.old.cells.items) value.now ≡ true }
+    requires jumps { list_all (jump_within (length machine.old.turns.items)) jumps.now ≡ true }
+    requires ends { are_below (length machine.old.turns.items) resolved.now.ends.items ≡ true }
+    ensures moved { let cells = machine.old.cells.items in let turns = machine.old.turns.items in move_of result machine.new ≡ used (number_in cells value.now) cells (λ z. option_map_or (λ jump. jump_to jump cells turns) (moves.numbered jumps.now z) (moves.go_on resolved.now cells turns)) }
+    ensures lengths { KeepsLengths machine.old machine.new }
+{
+    let value = number(value, &machine.cells)?;
+    match numbered(jumps, value) {
+        Some(target) => Ok(jump(target, machine)),
+        None => Ok(go_on(resolved, machine)),
+    }
 }
 
 /// A block IF or an ELSE IF.
@@ -125,8 +152,7 @@ fn branch(
     requires condition { condition_within (length machine.old.cells.items) condition.now ≡ true }
     requires ends { are_below (length machine.old.turns.items) resolved.now.ends.items ≡ true }
     ensures moved { let cells = machine.old.cells.items in let turns = machine.old.turns.items in move_of result machine.new ≡ used (truth_in cells condition.now) cells (λ b. chosen b (moves.go_on resolved.now cells turns) (Goes (state (Place.Execute otherwise) cells turns))) }
-    ensures cells { length machine.new.cells.items ≡ length machine.old.cells.items }
-    ensures turns { length machine.new.turns.items ≡ length machine.old.turns.items }
+    ensures lengths { KeepsLengths machine.old machine.new }
 {
     if truth(condition, &machine.cells)? {
         return Ok(go_on(resolved, machine));
@@ -141,8 +167,7 @@ fn pass(end: &Resolved, d: usize, turn: Turn, machine: &mut Machine) -> Control
     requires within { d < length machine.old.turns.items }
     requires number { d + 1 < 2 ^ 64 }
     ensures moved { move_of (Ok result) machine.new ≡ passing end.now d turn.passes turn.step machine.old.cells.items machine.old.turns.items }
-    ensures cells { length machine.new.cells.items ≡ length machine.old.cells.items }
-    ensures turns { length machine.new.turns.items ≡ length machine.old.turns.items }
+    ensures lengths { KeepsLengths machine.old machine.new }
 {
     if turn.passes == 0 {
         set_turn(&mut machine.turns, d, None);
@@ -166,8 +191,7 @@ fn pass_at(
     requires within { d < length machine.old.turns.items }
     requires number { d + 1 < 2 ^ 64 }
     ensures moved { move_of (Ok result) machine.new ≡ passing_at statements.now terminal d turn.passes turn.step machine.old.cells.items machine.old.turns.items }
-    ensures cells { length machine.new.cells.items ≡ length machine.old.cells.items }
-    ensures turns { length machine.new.turns.items ≡ length machine.old.turns.items }
+    ensures lengths { KeepsLengths machine.old machine.new }
 {
     pass(&statements[terminal], d, turn, machine)
 }
@@ -214,8 +238,7 @@ fn begin(
     requires within { d < length machine.old.turns.items }
     requires number { d + 1 < 2 ^ 64 }
     ensures moved { move_of result machine.new ≡ begun statements.now d variable terminal parameters.first parameters.last parameters.step machine.old.cells.items machine.old.turns.items }
-    ensures cells { length machine.new.cells.items ≡ length machine.old.cells.items }
-    ensures turns { length machine.new.turns.items ≡ length machine.old.turns.items }
+    ensures lengths { KeepsLengths machine.old machine.new }
 {
     let Parameters { first, last, step } = parameters;
     if step == 0 {
@@ -241,8 +264,7 @@ fn increment(
     requires within { d < length machine.old.turns.items }
     requires number { d + 1 < 2 ^ 64 }
     ensures moved { (first last step : Number) → move_of result machine.new ≡ incremented statements.now d (Loop variable first last step terminal) turn machine.old.cells.items machine.old.turns.items }
-    ensures cells { length machine.new.cells.items ≡ length machine.old.cells.items }
-    ensures turns { length machine.new.turns.items ≡ length machine.old.turns.items }
+    ensures lengths { KeepsLengths machine.old machine.new }
 {
     let value = held_number(&machine.cells, variable)?;
     let next = sum(value, turn.step)?;
@@ -270,14 +292,14 @@ pub(crate) fn execute(
     requires long { length statements.now ≡ length machine.old.turns.items }
     requires within { i < length statements.now }
     ensures moved { move_of result machine.new ≡ acted statements.now i resolved.now action.now machine.old.cells.items machine.old.turns.items }
-    ensures cells { length machine.new.cells.items ≡ length machine.old.cells.items }
-    ensures turns { length machine.new.turns.items ≡ length machine.old.turns.items }
+    ensures lengths { KeepsLengths machine.old machine.new }
 {
     match action {
         Action::Declaration => unreachable!(),
         Action::AssignNumber(element, value) => assign_number(resolved, element, value, machine),
         Action::AssignTruth(element, value) => assign_truth(resolved, element, value, machine),
         Action::Goto(target) => Ok(jump(target, machine)),
+        Action::ComputedGoto { value, jumps } => jump_by_number(resolved, value, jumps, machine),
         Action::ArithmeticIf {
             value,
             negative,
@@ -319,8 +341,7 @@ pub(crate) fn step(statements: &[Resolved], machine: &mut Machine) -> Result<Con
     requires short { length statements.now < 2 ^ 32 }
     requires moves { IsSome (moved statements.now (state_of machine.old)) }
     ensures moved { moved statements.now (state_of machine.old) ≡ Some (move_of result machine.new) }
-    ensures cells { length machine.new.cells.items ≡ length machine.old.cells.items }
-    ensures turns { length machine.new.turns.items ≡ length machine.old.turns.items }
+    ensures lengths { KeepsLengths machine.old machine.new }
 {
     match machine.place {
         Place::Execute(i) => {

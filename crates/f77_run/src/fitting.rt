@@ -44,11 +44,12 @@ pub(crate) fn misfit(shapes: &[Shape], arguments: &[Arg]) -> Option<usize>
 }
 
 /// Tells arguments that do not fit: N2 before N3.
-#[tactic(auto, using(crate::proofs::Misfits::misfit_within))]
+#[tactic(auto, using(crate::proofs::Misfits::misfit_within, crate::proofs::Misfits::all_fit, crate::proofs::Misfits::not_refused))]
 pub(crate) fn fit(shapes: &[Shape], arguments: &[Arg]) -> Result<(), RunFault>
     ensures fitting { IfOk result (λ _. AreFitting shapes.now arguments.now) }
     ensures refused { IfSome (refusal shapes.now arguments.now) (λ e. result ≡ Err e) }
     ensures fault { IfErr result (λ e. refusal shapes.now arguments.now ≡ Some e) }
+    ensures misfits { IfErr result (λ _. AreFitting shapes.now arguments.now → ⊥) }
 {
     if arguments.len() != shapes.len() {
         return Err(RunFault::ArgumentCount);

@@ -7,6 +7,7 @@ ghost use Rattle.f77_run.specs.Interpreter.{AreFitting, AreArguments, IsOutcomeO
 ghost use Rattle.f77_run.specs.Running.{Site, IsRunning, config_at};
 ghost use Rattle.f77_run.specs.Site.{site_of, held, HoldsDummies};
 ghost use Rattle.f77_run.specs.Start.{IsStart, constant_value};
+ghost use Rattle.f77_run.specs.declared.outcome.Outcome.{Outcome};
 ghost use Rattle.f77_run.specs.declared.outcome.RunFault.TheVariants as fault;
 
 use crate::argument::Arg;
@@ -109,6 +110,7 @@ fn answer(
     requires { HoldsDummies checked.now machine.now }
     ensures tells { IfOk result (λ outcome. Tells (map line_of checked.now.program) finish (held checked.now machine.now.cells.items) outcome) }
     ensures memory { IfErr result (λ e. e ≡ fault.Memory) }
+    ensures told { IfErr result (λ _. (finish ≡ Finish.Returned) ⊎ (finish ≡ Finish.Stopped)) }
 {
     match finish {
         Finish::Returned => Ok(Outcome::Returned(dummies(alloc, checked, machine)?)),
@@ -146,6 +148,7 @@ pub fn run(
     steps: u32,
 ) -> Result<Outcome, RunFault>
     ensures outcome { IfOk result (λ outcome. IsOutcomeOf (map line_of checked.now.program) arguments.now steps outcome) }
+    ensures only { IfOk result (λ outcome. (other : Outcome) → IsOutcomeOf (map line_of checked.now.program) arguments.now steps other → other ≡ outcome) }
     ensures refused { IfSome (refusal checked.now.arguments arguments.now) (λ e. result ≡ Err e) }
     ensures fault { IfErr result (λ e. (e ≡ fault.Memory) ⊎ (refusal checked.now.arguments arguments.now ≡ Some e)) }
 {

@@ -1,11 +1,10 @@
 //! How arguments are put into the slots of dummy arguments, and taken from them.
 
 ghost use Rattle.std.specs.Prelude.{◌≡◌, ◌+◌, ◌≤◌, true, length, map, Some, IfOk, IfErr};
-ghost use Rattle.std.specs.List.{list_all};
+ghost use Rattle.std.specs.List.{list_all, zip};
 ghost use Rattle.f77_tree.specs.declared.tree.Kind.TheVariants as kind;
 ghost use Rattle.f77_run.specs.Interpreter.{AreFitting, has_shape, values_in};
 ghost use Rattle.f77_run.specs.Spans.{AllHold, AreWithin, HaveRoom, all_filled, filled, size_of, span};
-ghost use Rattle.f77_check.specs.Start.{pairs};
 ghost use Rattle.f77_run.specs.Typed.{HasValues, has_kind};
 ghost use Rattle.f77_run.specs.declared.outcome.RunFault.TheVariants as fault;
 ghost use Rattle.f77_run.specs.declared.value.Value.TheVariants as held;
@@ -51,8 +50,8 @@ pub(crate) fn fill(cells: &mut Vec<Option<Value>>, first: usize, argument: &Arg)
 
 /// Puts each argument into the slots of its dummy argument.
 pub(crate) fn fill_all(cells: &mut Vec<Option<Value>>, dummies: &[usize], arguments: &[Arg])
-    requires { HaveRoom (length cells.old.items) (pairs dummies.now arguments.now) }
-    ensures { cells.new.items ≡ all_filled cells.old.items (pairs dummies.now arguments.now) }
+    requires { HaveRoom (length cells.old.items) (zip dummies.now arguments.now) }
+    ensures { cells.new.items ≡ all_filled cells.old.items (zip dummies.now arguments.now) }
 {
     for (first, argument) in dummies.iter().zip(arguments) {
         fill(cells, *first, argument);
@@ -138,10 +137,10 @@ pub(crate) fn arguments(
     cells: &[Option<Value>],
 ) -> Result<Values<Arg>, RunFault>
     requires long { length dummies.now ≡ length shapes.now }
-    requires within { AreWithin (length cells.now) (pairs shapes.now dummies.now) }
-    requires hold { AllHold cells.now (pairs shapes.now dummies.now) }
+    requires within { AreWithin (length cells.now) (zip shapes.now dummies.now) }
+    requires hold { AllHold cells.now (zip shapes.now dummies.now) }
     ensures fitting { IfOk result (λ arguments. AreFitting shapes.now arguments) }
-    ensures values { IfOk result (λ arguments. map (λ argument. map (λ v. Some v) (values_in argument)) arguments ≡ map (λ pair. span pair.1 (size_of pair.0) cells.now) (pairs shapes.now dummies.now)) }
+    ensures values { IfOk result (λ arguments. map (λ argument. map (λ v. Some v) (values_in argument)) arguments ≡ map (λ pair. span pair.1 (size_of pair.0) cells.now) (zip shapes.now dummies.now)) }
     ensures memory { IfErr result (λ e. e ≡ fault.Memory) }
 {
     let mut arguments = Vec::new(alloc);

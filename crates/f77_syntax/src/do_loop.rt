@@ -1,9 +1,9 @@
 //! DO statements read from texts.
 
 ghost use Rattle.std.specs.Prelude.{◌≡◌};
-ghost use Rattle.f77_tree.specs.DoLoop.{range_at, step_at, parameters_at, loop_at};
+ghost use Rattle.f77_tree.specs.DoLoop.{control_at, step_at, parameters_at, loop_at};
 ghost use Rattle.f77_tree.specs.View.{Gives};
-ghost use Rattle.f77_tree.specs.StatementView.{IsStatement, IsRange, IsStep};
+ghost use Rattle.f77_tree.specs.StatementView.{IsStatement, IsControl, IsStep};
 
 use crate::expression::{after_byte, expression, past_comma};
 use crate::label::label;
@@ -13,8 +13,8 @@ use f77_tree::{Expr, Name, ReadError, Stmt};
 use std::alloc::Global;
 
 /// Reads the label and the DO variable, and what follows the equals sign.
-fn range(alloc: Global, text: &[u8]) -> Result<(u32, Name, &[u8]), ReadError>
-    ensures { Gives IsRange result (range_at text.now) }
+fn control(alloc: Global, text: &[u8]) -> Result<(u32, Name, &[u8]), ReadError>
+    ensures { Gives IsControl result (control_at text.now) }
 {
     let Some((label, behind)) = label(text) else {
         return Err(ReadError::Unknown);
@@ -72,6 +72,6 @@ pub(crate) fn loop_statement(alloc: Global, text: &[u8]) -> Result<Stmt, ReadErr
     let Some(rest) = text.strip_prefix(b"DO") else {
         return Err(ReadError::Unknown);
     };
-    let (label, variable, rest) = range(alloc, rest)?;
+    let (label, variable, rest) = control(alloc, rest)?;
     parameters(alloc, label, variable, rest)
 }

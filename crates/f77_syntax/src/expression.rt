@@ -1,7 +1,7 @@
 //! Expressions read from texts, by recursive descent.
 
 ghost use Rattle.std.specs.Prelude.{◌≡◌, ◌<◌, ◌≤◌, true, length, map, codes, IfOk, option_map};
-ghost use Rattle.f77_tree.specs.Reading.{reading, close_at, after, word, past_word, start_at, group_at, signed_at, negated_at, dotted_at, word_at, listed, past_comma};
+ghost use Rattle.f77_tree.specs.Reading.{reading, close_at, after, word, past_word, start_at, enclosed_at, signed_at, negated_at, dotted_at, word_at, listed, past_comma};
 ghost use Rattle.f77_tree.specs.Grammar.{is_name};
 ghost use Rattle.f77_tree.specs.View.{tree_of, trees, Gives, IsTree, IsStart, IsList};
 
@@ -21,7 +21,7 @@ pub(crate) fn expression(alloc: Global, wanted: u8, text: &[u8]) -> Result<(Expr
         let Some((op, behind)) = next_operator(rest) else {
             return Ok((left, rest));
         };
-        if !op.may_follow(own, wanted) {
+        if !op.goes_on(own, wanted) {
             return Ok((left, rest));
         }
         let (right, after) = expression(alloc, op.right_level(), behind)?;
@@ -51,7 +51,7 @@ fn start(alloc: Global, wanted: u8, text: &[u8]) -> Result<(Expr, u8, &[u8]), Re
 
 #[cycle(parser)]
 fn group(alloc: Global, text: &[u8]) -> Result<(Expr, u8, &[u8]), ReadError>
-    ensures { Gives IsStart result (group_at reading text.now) }
+    ensures { Gives IsStart result (enclosed_at reading text.now) }
 {
     let (inner, rest) = expression(alloc, 1, text)?;
     let rest = closed(rest)?;

@@ -1,11 +1,12 @@
 //! What holds of the grammar itself.
 
-ghost use Rattle.std.specs.Prelude.{◌≡◌, ℕ, List, length, None};
+ghost use Rattle.std.specs.Prelude.{◌≡◌, ℕ, List, length, map, None};
 ghost use Rattle.f77_source.specs.Card.{CardFields};
 ghost use Rattle.f77_tree.specs.Grammar.{Spells};
 ghost use Rattle.f77_tree.specs.StatementGrammar.{SpellsStatement};
 ghost use Rattle.f77_tree.specs.Classification.{class_of, statement_class};
-ghost use Rattle.f77_tree.specs.Parsing.{LineFields, AreLines, IsFirstFault};
+ghost use Rattle.f77_tree.specs.Parsing.{LineFields, AreLines, HasLinesOrFault, IsFirstFault, IsProgram};
+ghost use Rattle.f77_tree.specs.Group.{group_of, AreInOrder};
 ghost use Rattle.f77_tree.specs.Tree.{Tree, Statement};
 ghost use Rattle.f77_tree.specs.Node.{nodes_of};
 ghost use Rattle.f77_tree.specs.StatementLimits.{statement_nodes};
@@ -29,14 +30,21 @@ pub fn one_class()
     ensures { (text : List ℕ) (s : Statement) → SpellsStatement text s → class_of text ≡ statement_class s }
 {}
 
-/// Cards are one program at most, or have one first fault, and not both.
+/// Cards are one program, or have one first fault, and not both.
 pub fn one_program()
+    ensures some { (cards : List CardFields) → HasLinesOrFault None cards }
     ensures lines { (cards : List CardFields) (lines others : List LineFields) → AreLines None cards lines → AreLines None cards others
         → lines ≡ others }
     ensures fault { (cards : List CardFields) (fault other : SyntaxFault) → IsFirstFault None cards fault → IsFirstFault None cards other
         → fault ≡ other }
     ensures either { (cards : List CardFields) (lines : List LineFields) (fault : SyntaxFault) → AreLines None cards lines
         → ¬ (IsFirstFault None cards fault) }
+{}
+
+/// SUBROUTINE stands first, then declarations, then DATA, then what is executed, and END last (ANSI X3.9-1978, 3.5).
+#[tactic(auto, using(f77_tree::proofs::InOrder::are_in_order))]
+pub fn statements_are_in_order()
+    ensures { (program : List LineFields) → IsProgram None program → AreInOrder (map (λ line. group_of line.stmt) program) }
 {}
 
 /// The number of nodes that is limited is the number of those that an edit may name.

@@ -3,6 +3,7 @@
 
 mod assignment;
 mod classification;
+mod computed_goto;
 mod condition;
 mod constants;
 mod data;

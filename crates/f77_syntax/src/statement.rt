@@ -10,6 +10,7 @@ ghost use Rattle.f77_tree.specs.StatementView.{statement_of, IsStatement};
 
 use crate::assignment::assignment;
 use crate::classification::class_of;
+use crate::computed_goto::computed;
 use crate::condition::{arithmetic, condition};
 use crate::do_loop::loop_statement;
 use crate::label::last_label;
@@ -47,10 +48,10 @@ fn word_statement(text: &[u8]) -> Option<Stmt>
     None
 }
 
-/// A GO TO, or a statement of one keyword alone.
-#[tactic(auto, unfolding(f77_tree::specs::Statement::simple_at))]
-fn simple(text: &[u8]) -> Option<Stmt>
-    ensures { option_map statement_of result ≡ simple_at text.now }
+/// An unconditional GO TO, or a statement of one keyword alone.
+#[tactic(auto, unfolding(f77_tree::specs::Statement::without_expression))]
+fn without_expression(text: &[u8]) -> Option<Stmt>
+    ensures { option_map statement_of result ≡ reading.without_expression text.now }
 {
     let Some(rest) = text.strip_prefix(b"GOTO") else {
         return word_statement(text);
@@ -59,16 +60,27 @@ fn simple(text: &[u8]) -> Option<Stmt>
     Some(Stmt::Goto { label })
 }
 
-/// The same, where it may stand in a logical IF.
-#[tactic(auto, unfolding(f77_tree::specs::Statement::simple_action_at))]
-fn simple_action(text: &[u8]) -> Option<Stmt>
-    ensures { option_map statement_of result ≡ simple_action_at text.now }
+/// Reads a GO TO, or a statement of one keyword alone.
+#[tactic(auto, unfolding(f77_tree::specs::Statement::simple_at))]
+fn simple(alloc: Global, text: &[u8]) -> Result<Stmt, ReadError>
+    ensures { Gives IsStatement result (simple_at text.now) }
 {
-    let stmt = simple(text)?;
-    if !stmt.is_action() {
-        return None;
+    if let Some(rest) = text.strip_prefix(b"GOTO(") {
+        return computed(alloc, rest);
     }
-    Some(stmt)
+    without_expression(text).ok_or(ReadError::Unknown)
+}
+
+/// Reads the same, where it may stand in a logical IF.
+#[tactic(auto, unfolding(f77_tree::specs::Statement::simple_action_at))]
+fn simple_action(alloc: Global, text: &[u8]) -> Result<Stmt, ReadError>
+    ensures { Gives IsStatement result (simple_action_at text.now) }
+{
+    let stmt = simple(alloc, text)?;
+    if !stmt.is_action() {
+        return Err(ReadError::Unknown);
+    }
+    Ok(stmt)
 }
 
 /// Reads a statement that may stand in a logical IF.
@@ -83,7 +95,7 @@ fn action(alloc: Global, text: &[u8]) -> Result<Stmt, ReadError>
         }
         Class::Loop => Err(ReadError::Unknown),
         Class::Assignment => assignment(alloc, text),
-        Class::Keyword => simple_action(text).ok_or(ReadError::Unknown),
+        Class::Keyword => simple_action(alloc, text),
     }
 }
 
@@ -146,7 +158,7 @@ fn specification(alloc: Global, text: &[u8]) -> Result<Stmt, ReadError>
     if let Some(rest) = text.strip_prefix(b"DATA") {
         return preset(alloc, rest);
     }
-    simple(text).ok_or(ReadError::Unknown)
+    simple(alloc, text)
 }
 
 /// Reads a statement by its keyword.

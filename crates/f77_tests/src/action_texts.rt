@@ -17,6 +17,15 @@ fn show_goto(text: &mut String, jump: &Jump) -> Result<(), Fail> {
     show_jump(text, jump)
 }
 
+fn show_computed_goto(text: &mut String, value: &Number, jumps: &[Jump]) -> Result<(), Fail> {
+    text.push_str("Goto by ")?;
+    show_number(text, value)?;
+    for jump in jumps {
+        show_jump(text, jump)?;
+    }
+    Ok(())
+}
+
 fn show_number_assignment(text: &mut String, target: &Element, value: &Number) -> Result<(), Fail> {
     show_element(text, target)?;
     text.push('=')?;
@@ -64,6 +73,7 @@ fn show_action(text: &mut String, action: &Action) -> Result<(), Fail> {
         Action::AssignNumber(target, value) => show_number_assignment(text, target, value),
         Action::AssignTruth(target, value) => show_truth_assignment(text, target, value),
         Action::Goto(jump) => show_goto(text, jump),
+        Action::ComputedGoto { value, jumps } => show_computed_goto(text, value, jumps),
         Action::ArithmeticIf {
             value,
             negative,

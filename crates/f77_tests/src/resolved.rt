@@ -45,6 +45,22 @@ fn looks_up_names_labels_and_loops(rt: HostRuntime) -> Result<(), Fail> {
 }
 
 #[test]
+fn looks_up_the_labels_of_a_computed_go_to(rt: HostRuntime) -> Result<(), Fail> {
+    assert_resolved(
+        &rt,
+        "SUBROUTINE S(K); DO 10 J=1,3; 10 GO TO (10,20,10),-K; 20 K=J; END",
+        2,
+        &[
+            "Declaration next 1",
+            "Loop 2 @1=1 3 1 next 2",
+            "Goto by Negated(@0) 2 3 leaves 1 2 ends 1 next 3",
+            "@0=@1 next 4",
+            "Return next 5",
+        ],
+    )
+}
+
+#[test]
 fn looks_up_where_branches_lead(rt: HostRuntime) -> Result<(), Fail> {
     assert_resolved(
         &rt,

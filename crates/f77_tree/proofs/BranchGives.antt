@@ -23,15 +23,16 @@ use Rattle.f77_tree.specs.Grammar.{is_digit, is_number, is_name}
 use Rattle.f77_tree.specs.StatementGrammar.{label_number}
 use Rattle.f77_tree.specs.Reading.{◌>>=◌, strip, word, past_word, after, close_at, reading, past_comma}
 use Rattle.f77_tree.specs.Label.{label_at, last_label, labels_at}
+use Rattle.f77_tree.specs.ComputedGoto.{computed_at}
 use Rattle.f77_tree.specs.Condition.{arithmetic_at, condition_at}
-use Rattle.f77_tree.specs.DoLoop.{range_at, step_at, parameters_at, loop_at}
+use Rattle.f77_tree.specs.DoLoop.{control_at, step_at, parameters_at, loop_at}
 use Rattle.f77_tree.specs.Classification.{behind, class_of}
 use Rattle.f77_tree.specs.Formed.{is_action}
 use Rattle.f77_tree.specs.declared.classification.Class.TheVariants.{Keyword}
-use Rattle.f77_tree.specs.Statement.{word_statement, goto_by, simple_at, actions_only, simple_action_at, action_at, begins_digit, branch_at, else_at, declared_at, dimension_at, preset_at, specification_at}
+use Rattle.f77_tree.specs.Statement.{word_statement, goto_by, without_expression, simple_at, actions_only, simple_action_at, action_at, begins_digit, branch_at, else_at, declared_at, dimension_at, preset_at, specification_at}
 use Rattle.f77_tree.specs.View.{tree_of, clip, clipped, Fails, Gives}
 use Rattle.f77_tree.specs.StatementView.{statement_of, clip_statement, IsStatement}
-use Rattle.f77_tree.proofs.Steps.{and_true, along, bind_ok, guarded}
+use Rattle.f77_tree.proofs.Steps.{and_true, along, bind_ok}
 use Rattle.f77_tree.proofs.Views.{declare_view, dimension_view, preset_view, arithmetic_view, logical_view, block_view, else_if_view, loop_view}
 use Rattle.f77_tree.proofs.Gives.{fails_bind, after_is}
 use Rattle.f77_tree.specs.declared.tree.Kind.{Kind}
@@ -60,20 +61,59 @@ word_kept s u =
     (words_kept (bytes_eq s (codes "ENDIF")) Statement.EndIf _ u refl
     (words_kept (bytes_eq s (codes "END")) Statement.End None u refl (λ e. absurd (none-some u e))))))
 
-pub simple_kept : (s : List ℕ) (u : Statement) → simple_at s ≡ Some u → clip_statement u ≡ u
-unfolding simple_at
-simple_kept s u e = by_goto (strip (codes "GOTO") s) e
+pub without_kept : (s : List ℕ) (u : Statement) → without_expression s ≡ Some u → clip_statement u ≡ u
+unfolding without_expression
+without_kept s u e = by_goto (strip (codes "GOTO") s) e
   where
     by_goto : (o : Option (List ℕ)) → goto_by s o ≡ Some u → clip_statement u ≡ u
     by_goto None e = word_kept s u e
     by_goto (Some r) e = let (l, found, end) = bind_ok (last_label r) (λ l. Some (Statement.Goto l)) u e in along (λ z. clip_statement z ≡ z) (Statement.Goto l) u end refl
 
-pub simple_action_kept : (s : List ℕ) (u : Statement) → simple_action_at s ≡ Some u → clip_statement u ≡ u
+pub simple_computed : (s r : List ℕ) → strip (codes "GOTO(") s ≡ Some r → simple_at s ≡ computed_at r
+unfolding simple_at
+simple_computed s r e = rw e refl
+
+pub simple_without : (s : List ℕ) → strip (codes "GOTO(") s ≡ None → simple_at s ≡ without_expression s
+unfolding simple_at
+simple_without s e = rw e refl
+
+action_clip : (u : Statement) → is_action (clip_statement u) ≡ is_action u
+action_clip (Statement.Subroutine name names) = refl
+action_clip (Statement.Declare kind ds) = refl
+action_clip (Statement.Dimension ds) = refl
+action_clip (Statement.Preset gs) = refl
+action_clip (Statement.Assign name items t) = refl
+action_clip (Statement.Goto label) = refl
+action_clip (Statement.ComputedGoto labels t) = refl
+action_clip (Statement.ArithIf t l m n) = refl
+action_clip (Statement.LogicalIf t s) = refl
+action_clip (Statement.BlockIf t) = refl
+action_clip (Statement.ElseIf t) = refl
+action_clip Statement.Else = refl
+action_clip Statement.EndIf = refl
+action_clip (Statement.Loop label name a b c) = refl
+action_clip Statement.Continue = refl
+action_clip Statement.Return = refl
+action_clip Statement.Stop = refl
+action_clip Statement.Trap = refl
+action_clip Statement.End = refl
+
+same_action : (t : Stmt) (u : Statement) → statement_of t ≡ clip_statement u → is_action u ≡ is_action (statement_of t)
+same_action t u same = sym (action_clip u) ∙ ap is_action (sym same)
+
+pub action_fails : (s : List ℕ) (e : ReadError) → Fails e (simple_at s) → Fails e (simple_action_at s)
 unfolding simple_action_at
-simple_action_kept s u e =
-    let (v, found, rest) = bind_ok (simple_at s) actions_only u e in
-    let (is, same) = guarded (is_action v) (Some v) u rest in
-    along (λ z. clip_statement z ≡ z) v u same (simple_kept s v found)
+action_fails s e f = fails_bind e (simple_at s) actions_only f
+
+pub action_none : (s : List ℕ) (t : Stmt) (u : Statement) → simple_at s ≡ Some u → statement_of t ≡ clip_statement u → is_action (statement_of t) ≡ false
+    → simple_action_at s ≡ None
+unfolding simple_action_at
+action_none s t u e same other = rw (e, same_action t u same ∙ other) refl
+
+pub action_whole : (s : List ℕ) (t : Stmt) (u : Statement) → simple_at s ≡ Some u → statement_of t ≡ clip_statement u → is_action (statement_of t) ≡ true
+    → (v : Statement) × (simple_action_at s ≡ Some v) × (statement_of t ≡ clip_statement v)
+unfolding simple_action_at
+action_whole s t u e same is = (u, rw (e, same_action t u same ∙ is) refl, same)
 
 pub action_keyword : (s : List ℕ) → class_of s ≡ Keyword → action_at s ≡ simple_action_at s
 unfolding action_at
@@ -194,28 +234,28 @@ else_whole s rest x c some found same end is = (Statement.ElseIf x.0, rw (some, 
 
 -- the label and the DO variable
 module _ (s : List ℕ) where
-  pub range_none : label_at s ≡ None → range_at s ≡ None
-  unfolding range_at
-  range_none e = rw e refl
+  pub control_none : label_at s ≡ None → control_at s ≡ None
+  unfolding control_at
+  control_none e = rw e refl
 
-  pub range_unnamed : (x : ℕ × List ℕ) (r front : List ℕ) → label_at s ≡ Some x → r ≡ past_comma x.1 → front ≡ word r → is_name front ≡ false → range_at s ≡ None
-  unfolding range_at
-  range_unnamed x r front e at is h =
+  pub control_unnamed : (x : ℕ × List ℕ) (r front : List ℕ) → label_at s ≡ Some x → r ≡ past_comma x.1 → front ≡ word r → is_name front ≡ false → control_at s ≡ None
+  unfolding control_at
+  control_unnamed x r front e at is h =
       let n : is_name (word (past_comma x.1)) ≡ false = ap is_name (ap word (sym at) ∙ sym is) ∙ h in rw (e, n) refl
 
-  pub range_no_equals : (x : ℕ × List ℕ) (r front rest : List ℕ) → label_at s ≡ Some x → r ≡ past_comma x.1 → front ≡ word r → rest ≡ past_word r → is_name front ≡ true
-      → after 61 rest ≡ None → range_at s ≡ None
-  unfolding range_at
-  range_no_equals x r front rest e at is end h no_sign =
+  pub control_no_equals : (x : ℕ × List ℕ) (r front rest : List ℕ) → label_at s ≡ Some x → r ≡ past_comma x.1 → front ≡ word r → rest ≡ past_word r → is_name front ≡ true
+      → after 61 rest ≡ None → control_at s ≡ None
+  unfolding control_at
+  control_no_equals x r front rest e at is end h no_sign =
       let n : is_name (word (past_comma x.1)) ≡ true = ap is_name (ap word (sym at) ∙ sym is) ∙ h in
       let k : after 61 (past_word (past_comma x.1)) ≡ None = ap (after 61) (ap past_word (sym at) ∙ sym end) ∙ no_sign in
       rw (e, n, k) refl
 
-  pub range_whole : (x : ℕ × List ℕ) (r front rest got name : List ℕ) (label : ℕ) → label_at s ≡ Some x → label ≡ x.0 → r ≡ past_comma x.1 → front ≡ word r → rest ≡ past_word r
+  pub control_whole : (x : ℕ × List ℕ) (r front rest got name : List ℕ) (label : ℕ) → label_at s ≡ Some x → label ≡ x.0 → r ≡ past_comma x.1 → front ≡ word r → rest ≡ past_word r
       → is_name front ≡ true → after 61 rest ≡ Some got → name ≡ front
-      → (y : ℕ × List ℕ × List ℕ) × (range_at s ≡ Some y) × ((label ≡ y.0) × (name ≡ y.1) × (got ≡ y.2))
-  unfolding range_at
-  range_whole x r front rest got name label e same at is end h found called =
+      → (y : ℕ × List ℕ × List ℕ) × (control_at s ≡ Some y) × ((label ≡ y.0) × (name ≡ y.1) × (got ≡ y.2))
+  unfolding control_at
+  control_whole x r front rest got name label e same at is end h found called =
       let whole : word (past_comma x.1) ≡ front = ap word (sym at) ∙ sym is in
       let n : is_name (word (past_comma x.1)) ≡ true = ap is_name whole ∙ h in
       let k : after 61 (past_word (past_comma x.1)) ≡ Some got = ap (after 61) (ap past_word (sym at) ∙ sym end) ∙ found in
@@ -264,11 +304,11 @@ module _ (s : List ℕ) where
   unfolding loop_at
   loop_none e = rw e refl
 
-  pub loop_fails : (r : List ℕ) (e : ReadError) → strip (codes "DO") s ≡ Some r → Fails e (range_at r) → Fails e (loop_at s)
+  pub loop_fails : (r : List ℕ) (e : ReadError) → strip (codes "DO") s ≡ Some r → Fails e (control_at r) → Fails e (loop_at s)
   unfolding loop_at
-  loop_fails r e h f = rw h (fails_bind e (range_at r) (λ x. parameters_at x.0 x.1 x.2) f)
+  loop_fails r e h f = rw h (fails_bind e (control_at r) (λ x. parameters_at x.0 x.1 x.2) f)
 
-  pub loop_given : (r rest name : List ℕ) (label : ℕ) (x : ℕ × List ℕ × List ℕ) → strip (codes "DO") s ≡ Some r → range_at r ≡ Some x → label ≡ x.0 → name ≡ x.1 → rest ≡ x.2
+  pub loop_given : (r rest name : List ℕ) (label : ℕ) (x : ℕ × List ℕ × List ℕ) → strip (codes "DO") s ≡ Some r → control_at r ≡ Some x → label ≡ x.0 → name ≡ x.1 → rest ≡ x.2
       → loop_at s ≡ parameters_at label name rest
   unfolding loop_at
   loop_given r rest name label x h found one two three = rw (h, found, ← one, ← two, ← three) refl

@@ -5,16 +5,18 @@ use Rattle.std.specs.List.{AllZip}
 use Rattle.std.specs.declared.alloc.Global.{Global}
 use Rattle.f77_tree.specs.declared.tree.Stmt.{Stmt}
 use Rattle.f77_tree.specs.declared.tree.Stmt.TheVariants as forms
+use Rattle.f77_tree.specs.declared.tree.Expr.{Expr}
 use Rattle.f77_tree.specs.declared.tree.Kind.{Kind}
 use Rattle.f77_tree.specs.declared.declaration.Decl.{Decl}
 use Rattle.f77_tree.specs.declared.data.DataGroup.{DataGroup}
 use Rattle.f77_tree.specs.declared.program.Line.{Line}
 use Rattle.f77_tree.specs.Tree.{Statement}
+use Rattle.f77_tree.specs.View.{tree_of}
 use Rattle.f77_tree.specs.StatementView.{statement_of}
 use Rattle.f77_tree.specs.Declaration.{decl_of}
 use Rattle.f77_tree.specs.Data.{data_group_of}
 use Rattle.f77_tree.specs.Parsing.{line_of, IsProgram}
-use Rattle.f77_tree.proofs.Views.{subroutine_view, declare_view, dimension_view, preset_view}
+use Rattle.f77_tree.proofs.Views.{subroutine_view, declare_view, dimension_view, preset_view, computed_view}
 
 same_views : {X A : Type 0} (view : X → A) (xs ys : List X) → AllZip (λ x y. view y ≡ view x) xs ys → map view ys ≡ map view xs
 same_views view [] [] all = refl
@@ -41,6 +43,11 @@ pub same_preset : (stmt : Stmt) (groups copies : Vec DataGroup Global) → stmt 
     → AllZip (λ x y. data_group_of y ≡ data_group_of x) groups.items copies.items → statement_of (forms.Preset copies) ≡ statement_of stmt
 same_preset stmt groups copies is all =
     rw is (preset_view copies ∙ ap Statement.Preset (same_views data_group_of groups.items copies.items all) ∙ sym (preset_view groups))
+
+pub same_computed_goto : (stmt : Stmt) (labels copies : Vec ℕ Global) (value copy : Expr) → stmt ≡ forms.ComputedGoto labels value → copies.items ≡ labels.items
+    → tree_of copy ≡ tree_of value → statement_of (forms.ComputedGoto copies copy) ≡ statement_of stmt
+same_computed_goto stmt labels copies value copy is same kept =
+    rw is (computed_view copies copy ∙ rw (same, kept) refl ∙ sym (computed_view labels value))
 
 pub same_lines : (lines copies : List Line) → AllZip (λ x y. line_of y ≡ line_of x) lines copies → map line_of copies ≡ map line_of lines
 same_lines lines copies all = same_views line_of lines copies all

@@ -22,7 +22,7 @@ use Rattle.f77_tree.specs.Intrinsic.{function_named}
 use Rattle.f77_tree.specs.Grammar.{is_name, is_number}
 use Rattle.f77_tree.specs.Tree.{Tree, Trees}
 use Rattle.f77_tree.specs.View.{tree_of, trees, clip, clip_all, clipped, Fails, Gives, IsTree, IsStart}
-use Rattle.f77_tree.specs.Reading.{◌>>=◌, strip, word, past_word, operator_at, after, close_at, closed, group_at, signed_at, negated_at, dotted_at, listed_by, listed, named_at, word_at, start_at, expr_at, climb_on, climb_at, more_at, items_at, reading}
+use Rattle.f77_tree.specs.Reading.{◌>>=◌, strip, word, past_word, operator_at, after, close_at, closed, enclosed_at, signed_at, negated_at, dotted_at, listed_by, listed, named_at, word_at, start_at, expr_at, climb_on, climb_at, more_at, items_at, reading}
 use Rattle.f77_tree.proofs.Steps.{guarded}
 use Rattle.f77_tree.proofs.Sound.{Sound, sound_reading}
 use Rattle.f77_tree.proofs.Sound as sound
@@ -111,7 +111,7 @@ pub start_empty : (w : ℕ) → start_at reading w [] ≡ None
 unfolding start_at
 start_empty w = refl
 
-pub start_group : (w : ℕ) (s : List ℕ) → start_at reading w (40 ∷ s) ≡ group_at reading s
+pub start_group : (w : ℕ) (s : List ℕ) → start_at reading w (40 ∷ s) ≡ enclosed_at reading s
 unfolding start_at
 start_group w s = refl
 
@@ -137,10 +137,10 @@ start_along w s r o e g = rw e g
 
 -- a group, a sign and .NOT.
 pub group_whole : (s : List ℕ) (inner : Expr) (behind rest : List ℕ) (x : Tree × List ℕ) → reading.expr 1 s ≡ Some x → tree_of inner ≡ clip x.0 → behind ≡ x.1 → close_at behind ≡ Some rest
-    → (a : Tree × ℕ × List ℕ) × (group_at reading s ≡ Some a) × ((tree_of inner ≡ clip a.0) × (9 ≡ a.1) × (rest ≡ a.2))
+    → (a : Tree × ℕ × List ℕ) × (enclosed_at reading s ≡ Some a) × ((tree_of inner ≡ clip a.0) × (9 ≡ a.1) × (rest ≡ a.2))
 group_whole s inner behind rest x e same end close = ((x.0, 9, rest), rw (e, ← end, close) refl, (same, refl, refl))
 
-pub group_open : (s : List ℕ) (behind : List ℕ) (e : ReadError) (x : Tree × List ℕ) → reading.expr 1 s ≡ Some x → behind ≡ x.1 → Fails e (close_at behind) → Fails e (group_at reading s)
+pub group_open : (s : List ℕ) (behind : List ℕ) (e : ReadError) (x : Tree × List ℕ) → reading.expr 1 s ≡ Some x → behind ≡ x.1 → Fails e (close_at behind) → Fails e (enclosed_at reading s)
 group_open s behind e x found end h = rw (found, ← end) (fails_bind e (close_at behind) (λ r. Some (x.0, 9, r)) h)
 
 pub signed_whole : (w : ℕ) (sign : Sign) (s : List ℕ) (operand : Expr) (a : Box Expr Global) (rest : List ℕ) (x : Tree × List ℕ) → nat_le w 6 ≡ true → reading.expr 7 s ≡ Some x → tree_of operand ≡ clip x.0 → rest ≡ x.1 → a.value ≡ operand

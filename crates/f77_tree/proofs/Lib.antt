@@ -30,6 +30,9 @@ pub mod ReadAgain
 pub mod Texts
 pub mod Outside
 pub mod AssignmentSound
+pub mod LabelTexts
+pub mod ComputedGotoTexts
+pub mod ComputedGotoGives
 pub mod StatementSound
 pub mod StatementComplete
 pub mod StatementGives
@@ -40,6 +43,8 @@ pub mod StatementClip
 pub mod Admit
 pub mod Exact
 pub mod Cards
+pub mod Total
+pub mod InOrder
 pub mod NodeParts
 pub mod ItemTests
 pub mod NodeStatements

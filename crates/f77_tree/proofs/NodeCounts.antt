@@ -6,7 +6,7 @@ use Rattle.f77_tree.specs.Tree.{Tree, Trees, GroupFields, Statement}
 use Rattle.f77_tree.specs.Limits.{nodes, all_nodes}
 use Rattle.f77_tree.specs.Data as initial
 use Rattle.f77_tree.specs.StatementLimits as limits
-use Rattle.f77_tree.specs.Node.{NodeOf, parts, all_parts, tree_nodes, step_nodes, group_nodes, target_nodes, label_nodes, range_nodes, nodes_of}
+use Rattle.f77_tree.specs.Node.{NodeOf, parts, all_parts, tree_nodes, step_parts, group_nodes, target_nodes, label_nodes, parameter_nodes, nodes_of}
 
 mutual
   parts_counted : (t : Tree) → length (parts t) ≡ nodes t
@@ -26,7 +26,7 @@ mutual
 tree_counted : (t : Tree) → length (tree_nodes t) ≡ nodes t
 tree_counted t = length-map (parts t) NodeOf.Part ∙ parts_counted t
 
-step_counted : (c : Option Tree) → length (step_nodes c) ≡ limits.step_nodes c
+step_counted : (c : Option Tree) → length (step_parts c) ≡ limits.step_nodes c
 step_counted None = refl
 step_counted (Some t) = tree_counted t
 
@@ -41,9 +41,9 @@ groups_counted (g ∷ gs) = omega (arith, length-append (group_nodes g) (flat_ma
 target_counted : (name : List ℕ) (items : Trees) → length (target_nodes name items) ≡ 1 + all_nodes items
 target_counted name items = omega (arith, length-map (all_parts items) NodeOf.Part, all_counted items)
 
-range_counted : (a b : Tree) (c : Option Tree) → length (range_nodes a b c) ≡ nodes a + (nodes b + limits.step_nodes c)
-range_counted a b c =
-    omega (arith, length-append (tree_nodes a) (tree_nodes b ++ step_nodes c), length-append (tree_nodes b) (step_nodes c), tree_counted a, tree_counted b, step_counted c)
+control_counted : (a b : Tree) (c : Option Tree) → length (parameter_nodes a b c) ≡ nodes a + (nodes b + limits.step_nodes c)
+control_counted a b c =
+    omega (arith, length-append (tree_nodes a) (tree_nodes b ++ step_parts c), length-append (tree_nodes b) (step_parts c), tree_counted a, tree_counted b, step_counted c)
 
 pub nodes_counted : (s : Statement) → length (nodes_of s) ≡ limits.statement_nodes s
 nodes_counted (Statement.Subroutine name names) = omega (arith, length-map names NodeOf.Named)
@@ -53,6 +53,8 @@ nodes_counted (Statement.Preset gs) = omega (arith, groups_counted gs)
 nodes_counted (Statement.Assign name items t) =
     omega (arith, length-append (target_nodes name items) (tree_nodes t), target_counted name items, tree_counted t)
 nodes_counted (Statement.Goto label) = omega arith
+nodes_counted (Statement.ComputedGoto labels t) =
+    omega (arith, length-append (map NodeOf.Labelled labels) (tree_nodes t), length-map labels NodeOf.Labelled, tree_counted t)
 nodes_counted (Statement.ArithIf t l m n) =
     omega (arith, length-append (tree_nodes t) (label_nodes l m n), tree_counted t)
 nodes_counted (Statement.LogicalIf t s) = omega (arith, length-append (tree_nodes t) (nodes_of s), tree_counted t, nodes_counted s)
@@ -60,7 +62,7 @@ nodes_counted (Statement.BlockIf t) = omega (arith, tree_counted t)
 nodes_counted (Statement.ElseIf t) = omega (arith, tree_counted t)
 nodes_counted Statement.Else = omega arith
 nodes_counted Statement.EndIf = omega arith
-nodes_counted (Statement.Loop label name a b c) = omega (arith, range_counted a b c)
+nodes_counted (Statement.Loop label name a b c) = omega (arith, control_counted a b c)
 nodes_counted Statement.Continue = omega arith
 nodes_counted Statement.Return = omega arith
 nodes_counted Statement.Stop = omega arith

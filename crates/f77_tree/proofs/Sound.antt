@@ -13,7 +13,7 @@ use Rattle.f77_tree.specs.declared.intrinsic.Intrinsic.{Intrinsic}
 use Rattle.f77_tree.specs.Intrinsic.{function_named}
 use Rattle.f77_tree.specs.Grammar.{Spells, SpellsReference, SpellsAll, is_name, is_number, truth_text}
 use Rattle.f77_tree.proofs.Functions.{named_is, no_call}
-use Rattle.f77_tree.specs.Reading.{◌>>=◌, strip, word, past_word, or_operator, first_operator, operators, operator_at, Readers, close_at, closed, group_at, signed_at, negated_at, dotted_by, dotted_at, listed_by, listed, named_at, word_at, start_at, expr_at, climb_on, climb_at, more_at, items_at, within, reading}
+use Rattle.f77_tree.specs.Reading.{◌>>=◌, strip, word, past_word, or_operator, first_operator, operators, operator_at, Readers, close_at, closed, enclosed_at, signed_at, negated_at, dotted_by, dotted_at, listed_by, listed, named_at, word_at, start_at, expr_at, climb_on, climb_at, more_at, items_at, within, reading}
 use Rattle.f77_tree.proofs.Steps.{along, bind_ok, chosen, guarded, and_true, strip_is}
 use Rattle.f77_tree.proofs.Words.{word_whole}
 
@@ -76,7 +76,7 @@ closed_is t s x e =
     along (λ x. (s ≡ 41 ∷ x.2) × (t ≡ x.0) × (9 ≡ x.1)) (t, 9, r) x found (close_is s r close, refl, refl)
 
 module _ (R : Readers) (sound : Sound R) where
-  group_is : (w : ℕ) (s : List ℕ) (x : Tree × ℕ × List ℕ) → group_at R s ≡ Some x → Starts w (40 ∷ s) x
+  group_is : (w : ℕ) (s : List ℕ) (x : Tree × ℕ × List ℕ) → enclosed_at R s ≡ Some x → Starts w (40 ∷ s) x
   group_is w s x e =
       let (y, inner, end) = bind_ok (R.expr 1 s) (λ y. closed y.0 y.1) x e in
       let front = sound.expr 1 s y inner in

@@ -9,7 +9,8 @@ use Rattle.std.proofs.lemmas.Fmt.{length-decimal-le}
 use Rattle.f77_tree.proofs.Steps.{and_true}
 use Rattle.f77_tree.specs.Tree.{Tree, Statement}
 use Rattle.f77_tree.specs.Grammar.{Spells, is_name, is_number}
-use Rattle.f77_tree.specs.StatementGrammar.{SpellsAction, SpellsStatement, IsUnmutated, in_text, tree_in_text, trees_in_text, label_number}
+use Rattle.f77_tree.specs.Joined.{has_items, separated}
+use Rattle.f77_tree.specs.StatementGrammar.{SpellsLabel, SpellsAction, SpellsStatement, IsUnmutated, in_text, tree_in_text, trees_in_text, label_number}
 use Rattle.f77_tree.specs.Canonical.{text_of, list_text, names_text, step_text}
 use Rattle.f77_tree.specs.Formed.{formed, all_formed, step_formed, is_action, statement_formed}
 use Rattle.f77_tree.specs.StatementLimits.{is_label, of_step, statement_constants}
@@ -18,6 +19,7 @@ use Rattle.f77_tree.proofs.Back.{decimal_number, own_low, small, back, back_refe
 use Rattle.f77_tree.specs.StatementGrammar.{kind_keyword}
 use Rattle.f77_tree.specs.Declaration.{declarations_text, declaration_formed, all_bounded}
 use Rattle.f77_tree.specs.Data.{groups_text}
+use Rattle.f77_tree.proofs.JoinedTexts.{joined_back}
 use Rattle.f77_tree.proofs.DeclarationForms.{declaration_back}
 use Rattle.f77_tree.proofs.DataForms.{data_back}
 
@@ -41,6 +43,9 @@ module _ (n : ℕ) (h : is_label n ≡ true) where
       let short : nat_le (length (decimal n)) 5 ≡ true = le-leb (length (decimal n)) 5 (length-decimal-le 5 n (omega arith) (omega arith) (omega arith)) in
       rw short (decimal_number n (omega arith)).1
 
+spelled_back : (n : ℕ) → is_label n ≡ true → SpellsLabel (decimal n) n
+spelled_back n h = subst (SpellsLabel (decimal n)) (label_back n h) (SpellsLabel.digits (decimal n) (label_row n h))
+
 -- the canonical text of a statement without its blanks
 abbrev pub bare_text : Statement → List ℕ
 bare_text (Statement.Subroutine name []) = codes "SUBROUTINE" ++ name
@@ -50,6 +55,7 @@ bare_text (Statement.Dimension ds) = codes "DIMENSION" ++ declarations_text ds
 bare_text (Statement.Preset gs) = codes "DATA" ++ groups_text gs
 bare_text (Statement.Assign name items t) = (name ++ list_text items) ++ (61 ∷ text_of t)
 bare_text (Statement.Goto label) = codes "GOTO" ++ decimal label
+bare_text (Statement.ComputedGoto labels t) = codes "GOTO" ++ (separated decimal (codes "(") labels ++ (codes ")," ++ text_of t))
 bare_text (Statement.ArithIf t l m n) = codes "IF(" ++ (text_of t ++ (41 ∷ (decimal l ++ (44 ∷ (decimal m ++ (44 ∷ decimal n))))))
 bare_text (Statement.LogicalIf t s) = codes "IF(" ++ (text_of t ++ (41 ∷ bare_text s))
 bare_text (Statement.BlockIf t) = codes "IF(" ++ (text_of t ++ codes ")THEN")
@@ -66,6 +72,11 @@ bare_text Statement.End = codes "END"
 back_small : (t : Tree) → tree_in_text t ≡ t → formed t ≡ true → small_constants t ≡ true → Spells 1 (text_of t) t
 back_small t u f k = back t u f k 1 (own_low t)
 
+back_computed : (labels : List ℕ) (t : Tree) → has_items labels ≡ true → list_all is_label labels ≡ true → Spells 1 (text_of t) t
+    → SpellsAction (bare_text (Statement.ComputedGoto labels t)) (Statement.ComputedGoto labels t)
+back_computed [] t h k p = cc
+back_computed (n ∷ labels) t h k p = SpellsAction.computed_go_to true (joined_back is_label decimal spelled_back n labels k) p
+
 back_action : (s : Statement) → IsUnmutated s → is_action s ≡ true → statement_formed s ≡ true → statement_constants s ≡ true → SpellsAction (bare_text s) s
 back_action (Statement.Subroutine name names) u i f k = cc
 back_action (Statement.Declare kind ds) u i f k = cc
@@ -80,6 +91,11 @@ back_action (Statement.Assign name items t) u i f k =
     SpellsAction.assign (back_reference items name one is all small_all) (back_small t two value small_value)
 back_action (Statement.Goto label) u i f k =
     subst (λ n. SpellsAction (codes "GOTO" ++ decimal label) (Statement.Goto n)) (label_back label k) (SpellsAction.go_to (decimal label) (label_row label k))
+back_action (Statement.ComputedGoto labels t) u i f k =
+    let (some, value) = and_true (has_items labels) (formed t) f in
+    let (all, small_value) = and_true (list_all is_label labels) (small_constants t) k in
+    let same : tree_in_text t ≡ t = cc in
+    back_computed labels t some all (back_small t same value small_value)
 back_action (Statement.ArithIf t l m n) u i f k =
     let (value, labels) = and_true (small_constants t) (is_label l && (is_label m && is_label n)) k in
     let (first, others) = and_true (is_label l) (is_label m && is_label n) labels in
@@ -121,6 +137,7 @@ back_statement (Statement.Dimension ds) u f k =
 back_statement (Statement.Preset gs) u f k = SpellsStatement.preset (data_back gs f k)
 back_statement (Statement.Assign name items t) u f k = SpellsStatement.action (back_action (Statement.Assign name items t) u refl f k)
 back_statement (Statement.Goto label) u f k = SpellsStatement.action (back_action (Statement.Goto label) u refl f k)
+back_statement (Statement.ComputedGoto labels t) u f k = SpellsStatement.action (back_action (Statement.ComputedGoto labels t) u refl f k)
 back_statement (Statement.ArithIf t l m n) u f k = SpellsStatement.action (back_action (Statement.ArithIf t l m n) u refl f k)
 back_statement (Statement.LogicalIf t s) u f k =
     let (test, rest) = and_true (formed t) (is_action s && statement_formed s) f in

@@ -1,6 +1,7 @@
 -- Keeping a statement changes no limit, and within the limits it changes nothing.
 use Rattle.std.proofs.Common.{◌≡◌, ◌+◌, true, refl, ap}
 use Rattle.std.specs.Prelude.{◌&&◌, Option, Some, None, option_map}
+use Rattle.std.specs.List.{list_all}
 use Rattle.f77_tree.specs.Tree.{Tree, Statement}
 use Rattle.f77_tree.specs.View.{clip}
 use Rattle.f77_tree.specs.StatementView.{clip_statement}
@@ -34,6 +35,7 @@ statement_names_clip (Statement.Dimension ds) = declaration_names_clip ds
 statement_names_clip (Statement.Preset gs) = data_names_clip gs
 statement_names_clip (Statement.Assign name items t) = rw (all_names_clip items, names_clip t) refl
 statement_names_clip (Statement.Goto label) = refl
+statement_names_clip (Statement.ComputedGoto labels t) = names_clip t
 statement_names_clip (Statement.ArithIf t l m n) = names_clip t
 statement_names_clip (Statement.LogicalIf t s) = rw (names_clip t, statement_names_clip s) refl
 statement_names_clip (Statement.BlockIf t) = names_clip t
@@ -54,6 +56,7 @@ statement_constants_clip (Statement.Dimension ds) = declaration_constants_clip d
 statement_constants_clip (Statement.Preset gs) = data_constants_clip gs
 statement_constants_clip (Statement.Assign name items t) = rw (all_constants_clip items, constants_clip t) refl
 statement_constants_clip (Statement.Goto label) = refl
+statement_constants_clip (Statement.ComputedGoto labels t) = rw (constants_clip t) refl
 statement_constants_clip (Statement.ArithIf t l m n) = rw (constants_clip t) refl
 statement_constants_clip (Statement.LogicalIf t s) = rw (constants_clip t, statement_constants_clip s) refl
 statement_constants_clip (Statement.BlockIf t) = constants_clip t
@@ -74,6 +77,7 @@ statement_nodes_clip (Statement.Dimension ds) = ap (λ n. 1 + n) (declaration_no
 statement_nodes_clip (Statement.Preset gs) = ap (λ n. 1 + n) (data_nodes_clip gs)
 statement_nodes_clip (Statement.Assign name items t) = rw (all_nodes_clip items, nodes_clip t) refl
 statement_nodes_clip (Statement.Goto label) = refl
+statement_nodes_clip (Statement.ComputedGoto labels t) = rw (nodes_clip t) refl
 statement_nodes_clip (Statement.ArithIf t l m n) = rw (nodes_clip t) refl
 statement_nodes_clip (Statement.LogicalIf t s) = rw (nodes_clip t, statement_nodes_clip s) refl
 statement_nodes_clip (Statement.BlockIf t) = rw (nodes_clip t) refl
@@ -95,6 +99,8 @@ statement_kept (Statement.Preset gs) h = ap Statement.Preset (data_kept gs h)
 statement_kept (Statement.Assign name items t) h =
     let (l, r) = and_true (all_small_constants items) (small_constants t) h in rw (all_kept items l, kept t r) refl
 statement_kept (Statement.Goto label) h = refl
+statement_kept (Statement.ComputedGoto labels t) h =
+    let (all, value) = and_true (list_all is_label labels) (small_constants t) h in rw (kept t value) refl
 statement_kept (Statement.ArithIf t l m n) h =
     let (first, labels) = and_true (small_constants t) (is_label l && (is_label m && is_label n)) h in rw (kept t first) refl
 statement_kept (Statement.LogicalIf t s) h =

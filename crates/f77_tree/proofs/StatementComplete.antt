@@ -12,14 +12,14 @@ use Rattle.std.proofs.lemmas.List.Splits.{slice_split_at, slice_split_none}
 use Rattle.f77_tree.specs.Tree.{Tree, Trees, Statement}
 use Rattle.f77_tree.specs.Grammar.{Spells, SpellsReference, is_letter, is_digit, is_word, is_number, is_name}
 use Rattle.f77_tree.specs.StatementGrammar.{SpellsAction, SpellsStatement, optional_comma, label_number}
-use Rattle.f77_tree.specs.Reading.{word, past_word, digits, past_digits, reading, past_comma}
+use Rattle.f77_tree.specs.Reading.{strip, word, past_word, reading, past_comma}
 use Rattle.f77_tree.specs.Assignment.{reference_at, assign_at}
 use Rattle.f77_tree.specs.Subroutine.{is_comma, names_at, before_close, subroutine_at}
-use Rattle.f77_tree.specs.Label.{label_at, last_label, label_comma, labels_at}
+use Rattle.f77_tree.specs.Label.{labels_at}
 use Rattle.f77_tree.specs.Condition.{arithmetic_at, condition_at}
-use Rattle.f77_tree.specs.DoLoop.{range_at, parameters_at, loop_at}
+use Rattle.f77_tree.specs.DoLoop.{control_at, parameters_at, loop_at}
 use Rattle.f77_tree.specs.Classification.{behind, begins_with, begins_if, class_of, statement_class}
-use Rattle.f77_tree.specs.Statement.{word_statement, simple_at, simple_action_at, action_at, begins_digit, branch_at, else_at, specification_at, keyword_at, statement_at}
+use Rattle.f77_tree.specs.Statement.{word_statement, without_expression, simple_at, simple_action_at, action_at, begins_digit, branch_at, else_at, specification_at, keyword_at, statement_at}
 use Rattle.f77_tree.specs.declared.classification.Class.TheVariants.{Keyword}
 use Rattle.f77_tree.proofs.Steps.{and_true}
 use Rattle.f77_tree.proofs.Words.{word_front, past_word_front}
@@ -33,6 +33,8 @@ use Rattle.f77_tree.specs.Declaration.{SpellsDecls, all_bounded}
 use Rattle.f77_tree.specs.Data.{SpellsGroups}
 use Rattle.f77_tree.specs.declared.tree.Kind.{Kind}
 use Rattle.f77_tree.specs.declared.tree.Kind.TheVariants.{Integer, Logical}
+use Rattle.f77_tree.proofs.LabelTexts.{EndsDigits, label_read, last_label_read, label_comma_read}
+use Rattle.f77_tree.proofs.ComputedGotoTexts.{computed_read, computed_class}
 use Rattle.f77_tree.proofs.DeclarationTexts.{declarations_read}
 use Rattle.f77_tree.proofs.DataTexts.{groups_read}
 use Rattle.f77_tree.proofs.DeclarationForms.{declaration_no_equals}
@@ -99,34 +101,6 @@ unfolding assign_at
 assign_read r {y = y} p = rw (reference_read r y, whole p) refl
 
 -- labels
-abbrev EndsDigits : List ℕ → Type 0
-EndsDigits [] = Unit {0}
-EndsDigits (c ∷ s) = is_digit c ≡ false
-
-digits_front : (row rest : List ℕ) → list_all is_digit row ≡ true → EndsDigits rest → (digits (row ++ rest) ≡ row) × (past_digits (row ++ rest) ≡ rest)
-digits_front [] [] h e = (refl, refl)
-digits_front [] (c ∷ s) h e = (rw e refl, rw e refl)
-digits_front (d ∷ row) rest h e =
-    let (first, others) = and_true (is_digit d) (list_all is_digit row) h in
-    let (front, back) = digits_front row rest others e in
-    (rw first (ap (λ z. d ∷ z) front), rw first back)
-
-row_digits : (row : List ℕ) → is_number row ≡ true → list_all is_digit row ≡ true
-row_digits [] n = cc
-row_digits (c ∷ row) n = n
-
-label_read : (row rest : List ℕ) → is_number row ≡ true → EndsDigits rest → label_at (row ++ rest) ≡ Some (label_number row, rest)
-unfolding label_at
-label_read row rest n e = let (front, back) = digits_front row rest (row_digits row n) e in rw (front, back, n) refl
-
-last_label_read : (row : List ℕ) → is_number row ≡ true → last_label row ≡ Some (label_number row)
-unfolding last_label
-last_label_read row n = let e : label_at row ≡ Some (label_number row, []) = ap label_at (sym (append-nil row)) ∙ label_read row [] n tt in rw e refl
-
-label_comma_read : (row rest : List ℕ) → is_number row ≡ true → label_comma (row ++ (44 ∷ rest)) ≡ Some (label_number row, rest)
-unfolding label_comma
-label_comma_read row rest n = rw (label_read row (44 ∷ rest) n refl) refl
-
 arithmetic_read : (t : Tree) (l m n : List ℕ) → is_number l ≡ true → is_number m ≡ true → is_number n ≡ true
     → arithmetic_at t (l ++ (44 ∷ (m ++ (44 ∷ n)))) ≡ Some (Statement.ArithIf t (label_number l) (label_number m) (label_number n))
 unfolding arithmetic_at labels_at
@@ -164,6 +138,8 @@ reference_begins (SpellsReference.element {name = name} {text = text} n l) rest 
 action_begins : {s : List ℕ} {u : Statement} → SpellsAction s u → BeginsLetter s
 action_begins (SpellsAction.assign {y = y} r p) = reference_begins r (61 ∷ y)
 action_begins (SpellsAction.go_to row n) = record { first = 71; others = codes "OTO" ++ row; is = refl; letter = refl }
+action_begins (SpellsAction.computed_go_to {x = x} {y = y} comma l p) =
+    record { first = 71; others = codes "OTO(" ++ (x ++ (41 ∷ (optional_comma comma ++ y))); is = refl; letter = refl }
 action_begins (SpellsAction.arithmetic_if {x = x} l m n p h i j) =
     record { first = 73; others = codes "F(" ++ (x ++ (41 ∷ (l ++ (44 ∷ (m ++ (44 ∷ n)))))); is = refl; letter = refl }
 action_begins SpellsAction.go_on = record { first = 67; others = codes "ONTINUE"; is = refl; letter = refl }
@@ -177,18 +153,22 @@ letter_begins s b =
     rw b.is (other, digit)
 
 -- GO TO and the statements of one keyword alone
-goto_read : (row : List ℕ) → is_number row ≡ true → simple_at (codes "GOTO" ++ row) ≡ Some (Statement.Goto (label_number row))
-unfolding simple_at
-goto_read row n = rw (last_label_read row n) refl
+not_open : (row : List ℕ) → is_number row ≡ true → strip (codes "GOTO(") (codes "GOTO" ++ row) ≡ None
+not_open [] n = cc
+not_open (c ∷ row) n =
+    let digit = (and_true (is_digit c) (list_all is_digit row) n).0 in
+    let other : (c == 40) ≡ false = grind (arith, nat_tests) in
+    rw other refl
 
 goto_class : (row : List ℕ) → is_number row ≡ true → class_of (codes "GOTO" ++ row) ≡ Keyword
 goto_class row n =
     keyword_class (codes "GOTO" ++ row) refl (ap (behind 61 0) (sym (append-nil (codes "GOTO" ++ row))) ∙ pass_quiet 61 refl equals_other (codes "GOTO" ++ row) [] 0 (quiet_number row n))
 
 action_read : {s : List ℕ} {u : Statement} → SpellsAction s u → action_at s ≡ Some u
-unfolding action_at simple_action_at class_of begins_if simple_at word_statement
+unfolding action_at simple_action_at class_of begins_if simple_at without_expression word_statement
 action_read (SpellsAction.assign r p) = rw (assign_class r p) (assign_read r p)
-action_read (SpellsAction.go_to row n) = rw (goto_class row n, last_label_read row n) refl
+action_read (SpellsAction.go_to row n) = rw (goto_class row n, not_open row n, last_label_read row n) refl
+action_read (SpellsAction.computed_go_to comma l p) = rw (computed_class comma l p, computed_read comma l p) refl
 action_read (SpellsAction.arithmetic_if l m n p h i j) =
     rw (if_class p (l ++ (44 ∷ (m ++ (44 ∷ n)))) (row_begins l (44 ∷ (m ++ (44 ∷ n))) h).0, condition_read p (l ++ (44 ∷ (m ++ (44 ∷ n))))) (arithmetic_read _ l m n h i j)
 action_read SpellsAction.go_on = refl
@@ -197,7 +177,7 @@ action_read SpellsAction.stop = refl
 
 -- no such statement is the word THEN
 then_none : action_at (codes "THEN") ≡ None
-unfolding action_at simple_action_at class_of begins_if simple_at word_statement
+unfolding action_at simple_action_at class_of begins_if simple_at without_expression word_statement
 then_none = refl
 
 not_then : {s : List ℕ} {u : Statement} → SpellsAction s u → bytes_eq s (codes "THEN") ≡ false
@@ -250,10 +230,10 @@ ends_row true name rest n = refl
 ends_row false [] rest n = cc
 ends_row false (c ∷ name) rest n = let l = (and_true (is_letter c) (list_all is_word name) n).0 in grind (arith, nat_tests)
 
-range_read : (row name rest : List ℕ) (comma : Bool) → is_number row ≡ true → is_name name ≡ true
-    → range_at (row ++ (optional_comma comma ++ (name ++ (61 ∷ rest)))) ≡ Some (label_number row, name, rest)
-unfolding range_at
-range_read row name rest comma n m =
+control_read : (row name rest : List ℕ) (comma : Bool) → is_number row ≡ true → is_name name ≡ true
+    → control_at (row ++ (optional_comma comma ++ (name ++ (61 ∷ rest)))) ≡ Some (label_number row, name, rest)
+unfolding control_at
+control_read row name rest comma n m =
     rw (label_read row (optional_comma comma ++ (name ++ (61 ∷ rest))) n (ends_row comma name (61 ∷ rest) m), past_optional comma name (61 ∷ rest) m)
     (rw (word_front name (61 ∷ rest) (name_words name m) refl, past_word_front name (61 ∷ rest) (name_words name m) refl, m) refl)
 
@@ -273,13 +253,13 @@ loop_read : {x y : List ℕ} {a b : Tree} (row name : List ℕ) (comma : Bool) �
     → statement_at (codes "DO" ++ (row ++ (optional_comma comma ++ (name ++ (61 ∷ (x ++ (44 ∷ y))))))) ≡ Some (Statement.Loop (label_number row) name a b None)
 unfolding statement_at loop_at
 loop_read {x = x} {y = y} row name comma n m p q =
-    rw (loop_class row name y comma n m p, range_read row name (x ++ (44 ∷ y)) comma n m) (parameters_read (label_number row) name p q)
+    rw (loop_class row name y comma n m p, control_read row name (x ++ (44 ∷ y)) comma n m) (parameters_read (label_number row) name p q)
 
 loop_by_read : {x y z : List ℕ} {a b c : Tree} (row name : List ℕ) (comma : Bool) → is_number row ≡ true → is_name name ≡ true → Spells 1 x a → Spells 1 y b → Spells 1 z c
     → statement_at (codes "DO" ++ (row ++ (optional_comma comma ++ (name ++ (61 ∷ (x ++ (44 ∷ (y ++ (44 ∷ z))))))))) ≡ Some (Statement.Loop (label_number row) name a b (Some c))
 unfolding statement_at loop_at
 loop_by_read {x = x} {y = y} {z = z} row name comma n m p q r =
-    rw (loop_class row name (y ++ (44 ∷ z)) comma n m p, range_read row name (x ++ (44 ∷ (y ++ (44 ∷ z)))) comma n m) (parameters_by (label_number row) name p q r)
+    rw (loop_class row name (y ++ (44 ∷ z)) comma n m p, control_read row name (x ++ (44 ∷ (y ++ (44 ∷ z)))) comma n m) (parameters_by (label_number row) name p q r)
 
 -- SUBROUTINE
 subroutine_whole_read : (s : List ℕ) (u : Statement) → list_any is_equals s ≡ false → subroutine_at s ≡ Some u → statement_at (codes "SUBROUTINE" ++ s) ≡ Some u
@@ -320,9 +300,10 @@ preset_read p = rw (preset_class p, groups_read p) refl
 
 -- a statement that may stand in a logical IF, by itself
 alone_read : {s : List ℕ} {u : Statement} → SpellsAction s u → statement_at s ≡ Some u
-unfolding statement_at keyword_at specification_at class_of begins_if simple_at word_statement
+unfolding statement_at keyword_at specification_at class_of begins_if simple_at without_expression word_statement
 alone_read (SpellsAction.assign r p) = rw (assign_class r p) (assign_read r p)
-alone_read (SpellsAction.go_to row n) = rw (goto_class row n, last_label_read row n) refl
+alone_read (SpellsAction.go_to row n) = rw (goto_class row n, not_open row n, last_label_read row n) refl
+alone_read (SpellsAction.computed_go_to comma l p) = rw (computed_class comma l p, computed_read comma l p) refl
 alone_read (SpellsAction.arithmetic_if l m n p h i j) =
     rw (if_class p (l ++ (44 ∷ (m ++ (44 ∷ n)))) (row_begins l (44 ∷ (m ++ (44 ∷ n))) h).0, condition_read p (l ++ (44 ∷ (m ++ (44 ∷ n))))) (arithmetic_branch _ l m n h i j)
 alone_read SpellsAction.go_on = refl
@@ -331,7 +312,7 @@ alone_read SpellsAction.stop = refl
 
 -- what is spelled is read
 pub statement_read : {s : List ℕ} {u : Statement} → SpellsStatement s u → statement_at s ≡ Some u
-unfolding statement_at keyword_at specification_at else_at class_of begins_if simple_at word_statement branch_at
+unfolding statement_at keyword_at specification_at else_at class_of begins_if simple_at without_expression word_statement branch_at
 statement_read (SpellsStatement.action p) = alone_read p
 statement_read (SpellsStatement.subroutine {name = name} n) =
     subroutine_whole_read name (Statement.Subroutine name []) (words_no_equals name (name_words name n)) (subroutine_read name n)
@@ -358,6 +339,7 @@ action_class : {s : List ℕ} {u : Statement} → SpellsAction s u → class_of 
 unfolding class_of begins_if
 action_class (SpellsAction.assign r p) = assign_class r p
 action_class (SpellsAction.go_to row n) = goto_class row n
+action_class (SpellsAction.computed_go_to comma l p) = computed_class comma l p
 action_class (SpellsAction.arithmetic_if l m n p h i j) = if_class p (l ++ (44 ∷ (m ++ (44 ∷ n)))) (row_begins l (44 ∷ (m ++ (44 ∷ n))) h).0
 action_class SpellsAction.go_on = refl
 action_class SpellsAction.return = refl

@@ -1,13 +1,14 @@
 -- Some text spells a statement exactly where the statement is formed.
 use Rattle.std.proofs.Common.{arith, ◌≡◌, ◌≤◌, ℕ, length, List, [], ◌∷◌, ◌++◌, Bool, true, false, refl, sym, ◌∙◌, subst}
-use Rattle.std.specs.Prelude.{◌&&◌, nat_le, codes, Option, Some, None, option_map}
+use Rattle.std.specs.Prelude.{◌&&◌, nat_le, codes, Option, Some, None, option_map, map}
 use Rattle.std.specs.List.{list_all}
 use Rattle.std.specs.Fmt.{decimal}
 use Rattle.std.proofs.lemmas.Fmt.{length-decimal-le}
 use Rattle.std.proofs.lemmas.Bool.{le-leb, leb-true}
 use Rattle.f77_tree.specs.Tree.{Tree, Trees, Statement}
 use Rattle.f77_tree.specs.Grammar.{is_name, is_number}
-use Rattle.f77_tree.specs.StatementGrammar.{SpellsAction, SpellsStatement, IsFormed, in_text, tree_in_text, label_number, label_in_text}
+use Rattle.f77_tree.specs.Joined.{Joined, has_items}
+use Rattle.f77_tree.specs.StatementGrammar.{SpellsLabel, SpellsAction, SpellsStatement, IsFormed, in_text, tree_in_text, label_number, label_in_text}
 use Rattle.f77_tree.specs.Formed.{formed, all_formed, step_formed, is_action, statement_formed}
 use Rattle.f77_tree.proofs.Steps.{and_true}
 use Rattle.f77_tree.proofs.Back.{own_low, decimal_number}
@@ -17,9 +18,14 @@ use Rattle.f77_tree.specs.Declaration.{declaration_formed, all_bounded}
 use Rattle.f77_tree.proofs.DeclarationForms.{declaration_is_formed, declaration_spelled}
 use Rattle.f77_tree.proofs.DataForms.{data_is_formed, data_spelled}
 
+spelled_items : {A : Type 0} {SpellsItem : List ℕ → A → Type 0} {text : List ℕ} {xs : List A} → Joined SpellsItem text xs → has_items xs ≡ true
+spelled_items (Joined.last h) = refl
+spelled_items (Joined.more h k) = refl
+
 spelled_action : {text : List ℕ} {s : Statement} → SpellsAction text s → (is_action s ≡ true) × (statement_formed s ≡ true)
 spelled_action (SpellsAction.assign r p) = (refl, rw (reference_name r, reference_items r, tree_formed p) refl)
 spelled_action (SpellsAction.go_to row n) = (refl, refl)
+spelled_action (SpellsAction.computed_go_to comma p q) = (refl, rw (spelled_items p, tree_formed q) refl)
 spelled_action (SpellsAction.arithmetic_if l m n p h i j) = (refl, tree_formed p)
 spelled_action SpellsAction.go_on = (refl, refl)
 spelled_action SpellsAction.return = (refl, refl)
@@ -52,6 +58,7 @@ in_text_action (Statement.Dimension ds) = refl
 in_text_action (Statement.Preset gs) = refl
 in_text_action (Statement.Assign name items t) = refl
 in_text_action (Statement.Goto label) = refl
+in_text_action (Statement.ComputedGoto labels t) = refl
 in_text_action (Statement.ArithIf t l m n) = refl
 in_text_action (Statement.LogicalIf t s) = refl
 in_text_action (Statement.BlockIf t) = refl
@@ -65,6 +72,10 @@ in_text_action Statement.Stop = refl
 in_text_action Statement.Trap = refl
 in_text_action Statement.End = refl
 
+in_text_items : (labels : List ℕ) → has_items (map label_in_text labels) ≡ has_items labels
+in_text_items [] = refl
+in_text_items (label ∷ labels) = refl
+
 in_text_formed : (s : Statement) → statement_formed (in_text s) ≡ statement_formed s
 in_text_formed (Statement.Subroutine name names) = refl
 in_text_formed (Statement.Declare kind ds) = refl
@@ -72,6 +83,7 @@ in_text_formed (Statement.Dimension ds) = refl
 in_text_formed (Statement.Preset gs) = refl
 in_text_formed (Statement.Assign name items t) = rw (trees_in_text_formed items, tree_in_text_formed t) refl
 in_text_formed (Statement.Goto label) = refl
+in_text_formed (Statement.ComputedGoto labels t) = rw (in_text_items labels, tree_in_text_formed t) refl
 in_text_formed (Statement.ArithIf t l m n) = tree_in_text_formed t
 in_text_formed (Statement.LogicalIf t s) = rw (tree_in_text_formed t, in_text_action s, in_text_formed s) refl
 in_text_formed (Statement.BlockIf t) = tree_in_text_formed t
@@ -107,11 +119,28 @@ label_for n = step (nat_le n 99999) refl
     step true e = small_label n (leb-true n 99999 e)
     step false e = large_label n e
 
+spelled_label : (n : ℕ) (r : Row n) → SpellsLabel r.0 (label_in_text n)
+spelled_label n (row, is, e) = subst (SpellsLabel row) e (SpellsLabel.digits row is)
+
+-- digits for each of the labels
+labels_for : (labels : List ℕ) → has_items labels ≡ true → (text : List ℕ) × Joined SpellsLabel text (map label_in_text labels)
+labels_for [] h = cc
+labels_for (n ∷ []) h = let r = label_for n in (r.0, Joined.last (spelled_label n r))
+labels_for (n ∷ m ∷ labels) h =
+    let r = label_for n in let (rest, p) = labels_for (m ∷ labels) refl in (r.0 ++ (44 ∷ rest), Joined.more (spelled_label n r) p)
+
 abbrev pub IsAction : Statement → Type 0
 IsAction s = (text : List ℕ) × SpellsAction text s
 
 goto_for : (label : ℕ) → IsAction (Statement.Goto (label_in_text label))
 goto_for label = let (row, is, e) = label_for label in (codes "GOTO" ++ row, subst (λ z. SpellsAction (codes "GOTO" ++ row) (Statement.Goto z)) e (SpellsAction.go_to row is))
+
+computed_for : (labels : List ℕ) (t : Tree) → statement_formed (Statement.ComputedGoto labels t) ≡ true → IsAction (in_text (Statement.ComputedGoto labels t))
+computed_for labels t f =
+    let (some, value) = and_true (has_items labels) (formed t) f in
+    let (x, p) = labels_for labels some in
+    let (y, q) = text_for t value in
+    (codes "GOTO(" ++ (x ++ (41 ∷ (44 ∷ y))), SpellsAction.computed_go_to true p (q 1 (own_low (tree_in_text t))))
 
 assign_for : (name : List ℕ) (items : Trees) (t : Tree) → statement_formed (Statement.Assign name items t) ≡ true → IsAction (in_text (Statement.Assign name items t))
 assign_for name items t f =
@@ -137,6 +166,7 @@ action_for (Statement.Dimension ds) i f = cc
 action_for (Statement.Preset gs) i f = cc
 action_for (Statement.Assign name items t) i f = assign_for name items t f
 action_for (Statement.Goto label) i f = goto_for label
+action_for (Statement.ComputedGoto labels t) i f = computed_for labels t f
 action_for (Statement.ArithIf t l m n) i f = arithmetic_for t l m n f
 action_for (Statement.LogicalIf t s) i f = cc
 action_for (Statement.BlockIf t) i f = cc
@@ -181,6 +211,7 @@ formed_spelled (Statement.Dimension ds) f =
 formed_spelled (Statement.Preset gs) f = let (text, p) = data_spelled gs f in (codes "DATA" ++ text, SpellsStatement.preset p)
 formed_spelled (Statement.Assign name items t) f = as_statement (in_text (Statement.Assign name items t)) (assign_for name items t f)
 formed_spelled (Statement.Goto label) f = as_statement (Statement.Goto (label_in_text label)) (goto_for label)
+formed_spelled (Statement.ComputedGoto labels t) f = as_statement (in_text (Statement.ComputedGoto labels t)) (computed_for labels t f)
 formed_spelled (Statement.ArithIf t l m n) f = as_statement (in_text (Statement.ArithIf t l m n)) (arithmetic_for t l m n f)
 formed_spelled (Statement.LogicalIf t s) f =
     let (test, rest) = and_true (formed t) (is_action s && statement_formed s) f in

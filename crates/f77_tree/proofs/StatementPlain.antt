@@ -7,6 +7,7 @@ use Rattle.f77_source.specs.Line.{is_blank}
 use Rattle.f77_source.specs.Law.{squeezed}
 use Rattle.f77_source.specs.Write.{is_printable, piece}
 use Rattle.f77_tree.specs.Tree.{Tree, Trees, Statement}
+use Rattle.f77_tree.specs.Joined.{has_items, separated}
 use Rattle.f77_tree.specs.StatementGrammar.{SpellsStatement, IsFormed, IsUnmutated}
 use Rattle.f77_tree.specs.Grammar.{is_letter, is_word, is_name}
 use Rattle.f77_tree.specs.Canonical.{text_of, list_text, names_text, step_text, statement_text}
@@ -22,7 +23,8 @@ use Rattle.f77_tree.specs.Declaration.{declarations_text, declaration_formed, al
 use Rattle.f77_tree.specs.Data.{groups_text}
 use Rattle.f77_tree.specs.declared.tree.Kind.{Kind}
 use Rattle.f77_tree.specs.declared.tree.Kind.TheVariants.{Integer, Logical}
-use Rattle.f77_tree.proofs.DeclarationForms.{plain_declaration}
+use Rattle.f77_tree.proofs.JoinedTexts.{plain_separated}
+use Rattle.f77_tree.proofs.DeclarationForms.{any_size, any_sizes, plain_declaration}
 use Rattle.f77_tree.proofs.DataForms.{plain_data}
 
 plain_names : (c : ℕ) (names : List (List ℕ)) → is_plain c ≡ true → list_all is_name names ≡ true → IsPlain (names_text c names)
@@ -47,6 +49,16 @@ plain_assign name items t f =
     let (is, rest) = and_true (is_name name) (all_formed items && formed t) f in
     let (all, value) = and_true (all_formed items) (formed t) rest in
     both (name ++ list_text items) (61 ∷ text_of t) (both name (list_text items) (plain_name name is) (plain_list items all)) (plain_text t value)
+
+-- behind the keyword of a computed GO TO
+abbrev selection : List ℕ → Tree → List ℕ
+selection labels t = separated decimal (codes "(") labels ++ (codes ")," ++ text_of t)
+
+plain_selection : (labels : List ℕ) (t : Tree) → statement_formed (Statement.ComputedGoto labels t) ≡ true → IsPlain (selection labels t)
+plain_selection labels t f =
+    both (separated decimal (codes "(") labels) (codes ")," ++ text_of t)
+    (plain_separated any_size decimal (λ n h. plain_decimal n) (codes "(") refl labels (any_sizes labels))
+    (plain_text t (and_true (has_items labels) (formed t) f).1)
 
 plain_labels : (l m n : ℕ) → IsPlain (decimal l ++ (44 ∷ (decimal m ++ (44 ∷ decimal n))))
 plain_labels l m n =
@@ -92,6 +104,7 @@ squeezed_statement (Statement.Dimension ds) f =
 squeezed_statement (Statement.Preset gs) f = ap (λ z. codes "DATA" ++ z) (squeezed_plain (groups_text gs) (plain_data gs f))
 squeezed_statement (Statement.Assign name items t) f = squeezed_plain (statement_text (Statement.Assign name items t)) (plain_assign name items t f)
 squeezed_statement (Statement.Goto label) f = ap (λ z. codes "GOTO" ++ z) (squeezed_plain (decimal label) (plain_decimal label))
+squeezed_statement (Statement.ComputedGoto labels t) f = ap (λ z. codes "GOTO" ++ z) (squeezed_plain (selection labels t) (plain_selection labels t f))
 squeezed_statement (Statement.ArithIf t l m n) f =
     ap (λ z. codes "IF(" ++ z) (behind_plain (text_of t) (codes ") " ++ (decimal l ++ (44 ∷ (decimal m ++ (44 ∷ decimal n))))) _ (plain_text t f)
     (ap (λ z. 41 ∷ z) (squeezed_plain (decimal l ++ (44 ∷ (decimal m ++ (44 ∷ decimal n)))) (plain_labels l m n))))
@@ -122,6 +135,7 @@ printable_statement (Statement.Dimension ds) f = printable_plain (declarations_t
 printable_statement (Statement.Preset gs) f = printable_plain (groups_text gs) (plain_data gs f)
 printable_statement (Statement.Assign name items t) f = printable_plain (statement_text (Statement.Assign name items t)) (plain_assign name items t f)
 printable_statement (Statement.Goto label) f = printable_plain (decimal label) (plain_decimal label)
+printable_statement (Statement.ComputedGoto labels t) f = printable_plain (selection labels t) (plain_selection labels t f)
 printable_statement (Statement.ArithIf t l m n) f =
     printable_both (text_of t) (codes ") " ++ (decimal l ++ (44 ∷ (decimal m ++ (44 ∷ decimal n))))) (printable_plain (text_of t) (plain_text t f))
     (printable_plain (decimal l ++ (44 ∷ (decimal m ++ (44 ∷ decimal n)))) (plain_labels l m n))
@@ -160,6 +174,7 @@ statement_starts (Statement.Assign name items t) f =
     let (is, rest) = and_true (is_name name) (all_formed items && formed t) f in
     rw (append_assoc name (list_text items) (61 ∷ text_of t)) (starts_named name (list_text items ++ (61 ∷ text_of t)) is)
 statement_starts (Statement.Goto label) f = refl
+statement_starts (Statement.ComputedGoto labels t) f = refl
 statement_starts (Statement.ArithIf t l m n) f = refl
 statement_starts (Statement.LogicalIf t s) f = refl
 statement_starts (Statement.BlockIf t) f = refl

@@ -1,6 +1,6 @@
 -- A statement that is read is spelled so.
-use Rattle.std.proofs.Common.{arith, ◌≡◌, ◌⊎◌, inl, inr, Bool, false, ℕ, ◌+◌, ◌-◌, ◌<◌, length, List, [], ◌∷◌, ◌++◌, true, cond, subst, refl, Option, Some, None, ap, sym, ◌∙◌, append-nil, take, get_or}
-use Rattle.std.specs.Prelude.{◌==◌, codes, unwrap_or}
+use Rattle.std.proofs.Common.{arith, ◌≡◌, ◌⊎◌, inl, inr, Bool, ℕ, ◌+◌, ◌-◌, ◌<◌, length, List, [], ◌∷◌, ◌++◌, true, cond, subst, refl, Option, Some, None, ap, sym, ◌∙◌, append-nil, take, get_or}
+use Rattle.std.specs.Prelude.{◌==◌, codes}
 use Rattle.std.specs.Str.{bytes_eq}
 use Rattle.std.specs.List.{list_all, slice_split, join_with_byte}
 use Rattle.std.proofs.lemmas.Option.{same_Some, none-some}
@@ -9,17 +9,17 @@ use Rattle.std.proofs.lemmas.Slice.Eq.{bytes_eq-Decides}
 use Rattle.std.proofs.lemmas.List.{take-append-drop, drop_more, drop_all, nil_from_length}
 use Rattle.std.proofs.lemmas.List.Splits.{join_with_byte-slice_split}
 use Rattle.f77_tree.specs.Tree.{Tree, Statement}
-use Rattle.f77_tree.specs.Grammar.{Spells, is_digit, is_number, is_name}
+use Rattle.f77_tree.specs.Grammar.{Spells, is_number, is_name}
 use Rattle.f77_tree.specs.StatementGrammar.{SpellsAction, SpellsStatement, optional_comma, label_number}
-use Rattle.f77_tree.specs.Reading.{◌>>=◌, strip, word, past_word, digits, past_digits, after, close_at, reading, past_comma}
+use Rattle.f77_tree.specs.Reading.{◌>>=◌, strip, word, past_word, after, close_at, reading, past_comma}
 use Rattle.f77_tree.specs.Assignment.{ended}
 use Rattle.f77_tree.specs.Subroutine.{is_comma, names_at, before_close, arguments_at, subroutine_at}
 use Rattle.f77_tree.specs.Label.{label_at, last_label, label_comma, labels_at}
 use Rattle.f77_tree.specs.Condition.{arithmetic_at, condition_at}
-use Rattle.f77_tree.specs.DoLoop.{range_at, step_at, parameters_at, loop_at}
+use Rattle.f77_tree.specs.DoLoop.{control_at, step_at, parameters_at, loop_at}
 use Rattle.f77_tree.specs.Formed.{is_action}
 use Rattle.f77_tree.specs.Classification.{class_of}
-use Rattle.f77_tree.specs.Statement.{word_statement, goto_by, simple_at, actions_only, simple_action_at, action_by, action_at, begins_digit, branch_at, else_at, declared_at, dimension_at, preset_at, specification_by, specification_at, keyword_by, keyword_at, statement_by, statement_at}
+use Rattle.f77_tree.specs.Statement.{word_statement, goto_by, without_expression, computed_by, simple_at, actions_only, simple_action_at, action_by, action_at, begins_digit, branch_at, else_at, declared_at, dimension_at, preset_at, specification_by, specification_at, keyword_by, keyword_at, statement_by, statement_at}
 use Rattle.f77_tree.specs.declared.classification.Class.{Class}
 use Rattle.f77_tree.specs.declared.classification.Class.TheVariants.{If, Loop, Assignment, Keyword}
 use Rattle.f77_tree.proofs.Steps.{along, bind_ok, chosen, guarded, strip_is}
@@ -30,6 +30,8 @@ use Rattle.f77_tree.specs.Declaration.{declarations_at, all_bounded}
 use Rattle.f77_tree.specs.Data.{groups_at}
 use Rattle.f77_tree.specs.declared.tree.Kind.{Kind}
 use Rattle.f77_tree.specs.declared.tree.Kind.TheVariants.{Integer, Logical}
+use Rattle.f77_tree.proofs.LabelTexts.{label_is, last_label_is, label_comma_is, past_comma_is}
+use Rattle.f77_tree.proofs.ComputedGotoTexts.{computed_is}
 use Rattle.f77_tree.proofs.DeclarationTexts.{declarations_is}
 use Rattle.f77_tree.proofs.DataTexts.{groups_is}
 use Rattle.f77_tree.proofs.AssignmentSound.{after_is, assign_is, ended_is}
@@ -68,42 +70,6 @@ arguments_is name (c ∷ r) t n e =
     let (is, all) = names_is s names found in
     let whole : c ∷ r ≡ 40 ∷ (join_with_byte 44 names ++ 41 ∷ []) = ap (λ v. v ∷ r) open_is ∙ ap (λ v. 40 ∷ v) (before_close_is r s close ∙ ap (λ v. v ++ 41 ∷ []) is) in
     along (SpellsStatement (codes "SUBROUTINE" ++ (name ++ (c ∷ r)))) (Statement.Subroutine name names) t end (rw whole (SpellsStatement.subroutine_of names n all))
-
--- labels
-digits_whole : (s : List ℕ) → s ≡ digits s ++ past_digits s
-digits_whole [] = refl
-digits_whole (c ∷ s) = step (is_digit c) (digits_whole s)
-  where
-    step : (b : Bool) → s ≡ digits s ++ past_digits s → c ∷ s ≡ cond b (c ∷ digits s) [] ++ cond b (past_digits s) (c ∷ s)
-    step true e = ap (λ x. c ∷ x) e
-    step false e = refl
-
--- a row of digits at the front of s is the label, and rest follows it
-pub record FrontsLabel (s : List ℕ) (label : ℕ) (rest : List ℕ) : Type 0 where
-  pub row : List ℕ
-  pub is : s ≡ row ++ rest
-  pub number : is_number row ≡ true
-  pub value : label_number row ≡ label
-
-label_is : (s : List ℕ) (x : ℕ × List ℕ) → label_at s ≡ Some x → FrontsLabel s x.0 x.1
-unfolding label_at
-label_is s x e =
-    let (n, found) = guarded (is_number (digits s)) (Some (label_number (digits s), past_digits s)) x e in
-    along (λ y. FrontsLabel s y.0 y.1) (label_number (digits s), past_digits s) x found (record { row = digits s; is = digits_whole s; number = n; value = refl })
-
-last_label_is : (s : List ℕ) (l : ℕ) → last_label s ≡ Some l → FrontsLabel s l []
-unfolding last_label
-last_label_is s l e =
-    let (x, found, end) = bind_ok (label_at s) (λ x. ended x.0 x.1) l e in
-    let (same, none) = ended_is x.0 x.1 l end in
-    subst (λ z. FrontsLabel s l z) none (subst (λ z. FrontsLabel s z x.1) same (label_is s x found))
-
-label_comma_is : (s : List ℕ) (x : ℕ × List ℕ) → label_comma s ≡ Some x → FrontsLabel s x.0 (44 ∷ x.1)
-unfolding label_comma
-label_comma_is s x e =
-    let (y, found, more) = bind_ok (label_at s) (λ y. after 44 y.1 >>= λ r. Some (y.0, r)) x e in
-    let (r, comma, end) = bind_ok (after 44 y.1) (λ r. Some (y.0, r)) x more in
-    along (λ z. FrontsLabel s z.0 (44 ∷ z.1)) (y.0, r) x end (subst (λ z. FrontsLabel s y.0 z) (after_is 44 y.1 r comma) (label_is s y found))
 
 -- what an arithmetic IF has behind its parentheses
 arithmetic_is : (x s : List ℕ) (t : Tree) (u : Statement) → Spells 1 x t → arithmetic_at t s ≡ Some u → SpellsAction (codes "IF(" ++ (x ++ (41 ∷ s))) u
@@ -159,9 +125,9 @@ word_statement_is s u =
     (words_are s (codes "ENDIF") Statement.EndIf _ u SpellsStatement.end_if
     (words_are s (codes "END") Statement.End None u SpellsStatement.end (λ e. absurd (none-some u e))))))
 
-simple_is : (s : List ℕ) (u : Statement) → simple_at s ≡ Some u → SpellsStatement s u
-unfolding simple_at
-simple_is s u e = by_goto (strip (codes "GOTO") s) refl e
+without_is : (s : List ℕ) (u : Statement) → without_expression s ≡ Some u → SpellsStatement s u
+unfolding without_expression
+without_is s u e = by_goto (strip (codes "GOTO") s) refl e
   where
     by_goto : (o : Option (List ℕ)) → strip (codes "GOTO") s ≡ o → goto_by s o ≡ Some u → SpellsStatement s u
     by_goto None is e = word_statement_is s u e
@@ -171,6 +137,14 @@ simple_is s u e = by_goto (strip (codes "GOTO") s) refl e
         let whole : s ≡ codes "GOTO" ++ f.row = strip_is (codes "GOTO") s r is ∙ ap (λ z. codes "GOTO" ++ z) (f.is ∙ append-nil f.row) in
         along (SpellsStatement s) (Statement.Goto l) u end (subst (λ z. SpellsStatement z (Statement.Goto l)) (sym whole)
         (SpellsStatement.action (subst (λ z. SpellsAction (codes "GOTO" ++ f.row) (Statement.Goto z)) f.value (SpellsAction.go_to f.row f.number))))
+
+simple_is : (s : List ℕ) (u : Statement) → simple_at s ≡ Some u → SpellsStatement s u
+unfolding simple_at
+simple_is s u e = by_open (strip (codes "GOTO(") s) refl e
+  where
+    by_open : (o : Option (List ℕ)) → strip (codes "GOTO(") s ≡ o → computed_by s o ≡ Some u → SpellsStatement s u
+    by_open None is e = without_is s u e
+    by_open (Some r) is e = subst (λ z. SpellsStatement z u) (sym (strip_is (codes "GOTO(") s r is)) (SpellsStatement.action (computed_is r u e))
 
 -- a statement that may stand in a logical IF
 action_from : {s : List ℕ} {u : Statement} → SpellsStatement s u → is_action u ≡ true → SpellsAction s u
@@ -275,15 +249,7 @@ keyword_is s u e = by_keyword (strip (codes "SUBROUTINE") s) (strip (codes "ELSE
     by_keyword None None is other e = specification_is s u e
 
 -- the label and the DO variable of a DO
-past_comma_is : (s : List ℕ) → (comma : Bool) × (s ≡ optional_comma comma ++ past_comma s)
-past_comma_is [] = (false, refl)
-past_comma_is (c ∷ s) = step (c == 44) refl
-  where
-    step : (b : Bool) → (c == 44) ≡ b → (comma : Bool) × (c ∷ s ≡ optional_comma comma ++ unwrap_or (cond b (Some s) None) (c ∷ s))
-    step true e = (true, ap (λ z. z ∷ s) (eqb-true c 44 e))
-    step false e = (false, refl)
-
-pub record FrontsRange (s : List ℕ) (label : ℕ) (name rest : List ℕ) : Type 0 where
+pub record FrontsControl (s : List ℕ) (label : ℕ) (name rest : List ℕ) : Type 0 where
   pub row : List ℕ
   pub comma : Bool
   pub is : s ≡ row ++ (optional_comma comma ++ (name ++ (61 ∷ rest)))
@@ -291,15 +257,15 @@ pub record FrontsRange (s : List ℕ) (label : ℕ) (name rest : List ℕ) : Typ
   pub value : label_number row ≡ label
   pub named : is_name name ≡ true
 
-range_is : (s : List ℕ) (x : ℕ × List ℕ × List ℕ) → range_at s ≡ Some x → FrontsRange s x.0 x.1 x.2
-unfolding range_at
-range_is s x e =
+control_is : (s : List ℕ) (x : ℕ × List ℕ × List ℕ) → control_at s ≡ Some x → FrontsControl s x.0 x.1 x.2
+unfolding control_at
+control_is s x e =
     let (y, found, more) = bind_ok (label_at s) (λ y. cond (is_name (word (past_comma y.1))) (after 61 (past_word (past_comma y.1)) >>= λ r. Some (y.0, word (past_comma y.1), r)) None) x e in
     let (n, rest) = guarded (is_name (word (past_comma y.1))) (after 61 (past_word (past_comma y.1)) >>= λ r. Some (y.0, word (past_comma y.1), r)) x more in
     let (r, equals, end) = bind_ok (after 61 (past_word (past_comma y.1))) (λ r. Some (y.0, word (past_comma y.1), r)) x rest in
     let f = label_is s y found in
     let (comma, behind) = past_comma_is y.1 in
-    along (λ w. FrontsRange s w.0 w.1 w.2) (y.0, word (past_comma y.1), r) x end (record {
+    along (λ w. FrontsControl s w.0 w.1 w.2) (y.0, word (past_comma y.1), r) x end (record {
       row = f.row;
       comma = comma;
       is = f.is ∙ ap (λ z. f.row ++ z) (behind ∙ ap (λ z. optional_comma comma ++ z) (word_whole (past_comma y.1) ∙ ap (λ z. word (past_comma y.1) ++ z) (after_is 61 (past_word (past_comma y.1)) r equals)));
@@ -319,7 +285,7 @@ step_is (d ∷ s) c e =
     let whole : s ≡ f.text = f.is ∙ ap (λ z. f.text ++ z) none ∙ append-nil f.text in
     inr (s, x.0, ap (λ z. z ∷ s) (eqb-true d 44 comma), sym same, subst (λ z. Spells 1 z x.0) (sym whole) f.spells)
 
-loop_whole : (s name rest : List ℕ) (label : ℕ) (u : Statement) → FrontsRange s label name rest → parameters_at label name rest ≡ Some u → SpellsStatement (codes "DO" ++ s) u
+loop_whole : (s name rest : List ℕ) (label : ℕ) (u : Statement) → FrontsControl s label name rest → parameters_at label name rest ≡ Some u → SpellsStatement (codes "DO" ++ s) u
 unfolding parameters_at
 loop_whole s name rest label u f e =
     let (a, first, more) = bind_ok (reading.expr 1 rest) (λ a. after 44 a.1 >>= λ r. reading.expr 1 r >>= λ b. step_at b.1 >>= λ c. Some (Statement.Loop label name a.0 b.0 c)) u e in
@@ -349,9 +315,9 @@ loop_whole s name rest label u f e =
 loop_is : (s : List ℕ) (u : Statement) → loop_at s ≡ Some u → SpellsStatement s u
 unfolding loop_at
 loop_is s u e =
-    let (r, front, more) = bind_ok (strip (codes "DO") s) (λ r. range_at r >>= λ x. parameters_at x.0 x.1 x.2) u e in
-    let (x, found, rest) = bind_ok (range_at r) (λ x. parameters_at x.0 x.1 x.2) u more in
-    subst (λ z. SpellsStatement z u) (sym (strip_is (codes "DO") s r front)) (loop_whole r x.1 x.2 x.0 u (range_is r x found) rest)
+    let (r, front, more) = bind_ok (strip (codes "DO") s) (λ r. control_at r >>= λ x. parameters_at x.0 x.1 x.2) u e in
+    let (x, found, rest) = bind_ok (control_at r) (λ x. parameters_at x.0 x.1 x.2) u more in
+    subst (λ z. SpellsStatement z u) (sym (strip_is (codes "DO") s r front)) (loop_whole r x.1 x.2 x.0 u (control_is r x found) rest)
 
 pub statement_is : (s : List ℕ) (u : Statement) → statement_at s ≡ Some u → SpellsStatement s u
 unfolding statement_at

@@ -12,7 +12,7 @@ use Rattle.f77_tree.specs.declared.tree.Expr.TheViews as views
 use Rattle.f77_tree.specs.declared.tree.Expr.TheOpen.{Expr-F}
 use Rattle.f77_tree.specs.declared.tree.Expr.TheFolds.{fold-roll-Expr, fold_out-Ref}
 use Rattle.f77_tree.specs.declared.tree.Stmt.{Stmt}
-use Rattle.f77_tree.specs.declared.tree.Stmt.TheVariants.{rolls-Subroutine, rolls-Declare, rolls-Dimension, rolls-Preset, rolls-Assign, rolls-ArithIf, rolls-LogicalIf, rolls-BlockIf, rolls-ElseIf, rolls-Else, rolls-Loop}
+use Rattle.f77_tree.specs.declared.tree.Stmt.TheVariants.{rolls-Subroutine, rolls-Declare, rolls-Dimension, rolls-Preset, rolls-Assign, rolls-ComputedGoto, rolls-ArithIf, rolls-LogicalIf, rolls-BlockIf, rolls-ElseIf, rolls-Else, rolls-Loop}
 use Rattle.f77_tree.specs.declared.tree.Stmt.TheVariants as forms
 use Rattle.f77_tree.specs.declared.tree.Stmt.TheViews as boxed
 use Rattle.f77_tree.specs.declared.tree.Stmt.TheOpen.{Stmt-F}
@@ -67,6 +67,9 @@ preset_view groups = ap statement_of (sym (rolls-Preset groups)) ∙ fold-roll-S
 
 pub assign_view : (target : Ref) (value : Expr) → statement_of (forms.Assign target value) ≡ Statement.Assign (place_of target).0 (trees (place_of target).1) (tree_of value)
 assign_view target value = ap statement_of (sym (rolls-Assign target value)) ∙ fold-roll-Stmt Statement stmt_step (Stmt-F.Assign target value)
+
+pub computed_view : (labels : Vec ℕ Global) (value : Expr) → statement_of (forms.ComputedGoto labels value) ≡ Statement.ComputedGoto labels.items (tree_of value)
+computed_view labels value = ap statement_of (sym (rolls-ComputedGoto labels value)) ∙ fold-roll-Stmt Statement stmt_step (Stmt-F.ComputedGoto labels value)
 
 pub arithmetic_view : (value : Expr) (l m n : ℕ) → statement_of (forms.ArithIf value l m n) ≡ Statement.ArithIf (tree_of value) l m n
 arithmetic_view value l m n = ap statement_of (sym (rolls-ArithIf value l m n)) ∙ fold-roll-Stmt Statement stmt_step (Stmt-F.ArithIf value l m n)

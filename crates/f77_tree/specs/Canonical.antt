@@ -4,6 +4,7 @@ use Rattle.std.specs.Fmt.{decimal}
 use Rattle.f77_tree.specs.Operator.{symbol, sign_symbol, level, left_level, right_level}
 use Rattle.f77_tree.specs.Intrinsic.{function_name}
 use Rattle.f77_tree.specs.Grammar.{truth_text}
+use Rattle.f77_tree.specs.Joined.{separated}
 use Rattle.f77_tree.specs.Declaration.{declarations_text}
 use Rattle.f77_tree.specs.Data.{groups_text}
 use Rattle.f77_tree.specs.declared.tree.Kind.{Kind}
@@ -71,6 +72,7 @@ statement_text (Statement.Dimension ds) = codes "DIMENSION " ++ declarations_tex
 statement_text (Statement.Preset gs) = codes "DATA " ++ groups_text gs
 statement_text (Statement.Assign name items t) = (name ++ list_text items) ++ (61 ∷ text_of t)
 statement_text (Statement.Goto label) = codes "GO TO " ++ decimal label
+statement_text (Statement.ComputedGoto labels t) = codes "GO TO " ++ (separated decimal (codes "(") labels ++ (codes ")," ++ text_of t))
 statement_text (Statement.ArithIf t l m n) = codes "IF (" ++ (text_of t ++ (codes ") " ++ (decimal l ++ (44 ∷ (decimal m ++ (44 ∷ decimal n))))))
 statement_text (Statement.LogicalIf t s) = codes "IF (" ++ (text_of t ++ (codes ") " ++ statement_text s))
 statement_text (Statement.BlockIf t) = codes "IF (" ++ (text_of t ++ codes ") THEN")

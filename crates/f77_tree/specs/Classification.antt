@@ -43,6 +43,7 @@ statement_class (Statement.Dimension ds) = Keyword
 statement_class (Statement.Preset gs) = Keyword
 statement_class (Statement.Assign name items t) = Assignment
 statement_class (Statement.Goto label) = Keyword
+statement_class (Statement.ComputedGoto labels t) = Keyword
 statement_class (Statement.ArithIf t l m n) = If
 statement_class (Statement.LogicalIf t s) = If
 statement_class (Statement.BlockIf t) = If

@@ -7,8 +7,8 @@ use Rattle.f77_tree.specs.Assignment.{ended}
 use Rattle.f77_tree.specs.Label.{label_at}
 
 -- the label and the DO variable of a DO, and what follows the equals sign
-unfoldable pub range_at : List ℕ → Option (ℕ × List ℕ × List ℕ)
-range_at s =
+unfoldable pub control_at : List ℕ → Option (ℕ × List ℕ × List ℕ)
+control_at s =
     label_at s >>= λ x. if is_name (word (past_comma x.1))
     then (after 61 (past_word (past_comma x.1)) >>= λ r. Some (x.0, word (past_comma x.1), r))
     else None
@@ -23,4 +23,4 @@ parameters_at label name s =
     reading.expr 1 s >>= λ a. after 44 a.1 >>= λ r. reading.expr 1 r >>= λ b. step_at b.1 >>= λ c. Some (Statement.Loop label name a.0 b.0 c)
 
 unfoldable pub loop_at : List ℕ → Option Statement
-loop_at s = strip (codes "DO") s >>= λ r. range_at r >>= λ x. parameters_at x.0 x.1 x.2
+loop_at s = strip (codes "DO") s >>= λ r. control_at r >>= λ x. parameters_at x.0 x.1 x.2

@@ -3,6 +3,7 @@ use Rattle.std.specs.Prelude.{ℕ, List, Bool, true, false, ◌&&◌, not, Optio
 use Rattle.std.specs.List.{list_all}
 use Rattle.f77_tree.specs.Tree.{Tree, Trees, Statement}
 use Rattle.f77_tree.specs.Grammar.{is_name, is_call}
+use Rattle.f77_tree.specs.Joined.{has_items}
 use Rattle.f77_tree.specs.Declaration.{declaration_formed, all_bounded}
 use Rattle.f77_tree.specs.Data.{data_formed}
 
@@ -42,6 +43,7 @@ is_action (Statement.Dimension ds) = false
 is_action (Statement.Preset gs) = false
 is_action (Statement.Assign name items t) = true
 is_action (Statement.Goto label) = true
+is_action (Statement.ComputedGoto labels t) = true
 is_action (Statement.ArithIf t l m n) = true
 is_action (Statement.LogicalIf t s) = false
 is_action (Statement.BlockIf t) = false
@@ -62,6 +64,7 @@ statement_formed (Statement.Dimension ds) = declaration_formed ds && all_bounded
 statement_formed (Statement.Preset gs) = data_formed gs
 statement_formed (Statement.Assign name items t) = is_name name && (all_formed items && formed t)
 statement_formed (Statement.Goto label) = true
+statement_formed (Statement.ComputedGoto labels t) = has_items labels && formed t
 statement_formed (Statement.ArithIf t l m n) = formed t
 statement_formed (Statement.LogicalIf t s) = formed t && (is_action s && statement_formed s)
 statement_formed (Statement.BlockIf t) = formed t

@@ -1,5 +1,5 @@
 -- The order of statements (ANSI X3.9-1978, 3.5).
-use Rattle.std.specs.Prelude.{ℕ, ◌==◌, ◌&&◌, nat_lt, nat_le, Bool, Option, Some, None}
+use Rattle.std.specs.Prelude.{◌≡◌, ℕ, ◌==◌, ◌&&◌, nat_lt, nat_le, Bool, List, [], ◌∷◌, ◌++◌, replicate, Option, Some, None}
 use Rattle.f77_tree.specs.declared.group.Group.{Group}
 use Rattle.f77_tree.specs.declared.group.Group.TheVariants.{Subroutine, Declaration, Data, Executable, End}
 use Rattle.f77_tree.specs.Tree.{Statement}
@@ -11,6 +11,7 @@ group_of (Statement.Dimension ds) = Declaration
 group_of (Statement.Preset gs) = Data
 group_of (Statement.Assign name items t) = Executable
 group_of (Statement.Goto label) = Executable
+group_of (Statement.ComputedGoto labels t) = Executable
 group_of (Statement.ArithIf t l m n) = Executable
 group_of (Statement.LogicalIf t s) = Executable
 group_of (Statement.BlockIf t) = Executable
@@ -24,20 +25,28 @@ group_of Statement.Stop = Executable
 group_of Statement.Trap = Executable
 group_of Statement.End = End
 
--- the place of a group in a subroutine
-abbrev pub place : Group → ℕ
-place Subroutine = 0
-place Declaration = 1
-place Data = 2
-place Executable = 3
-place End = 4
+-- the rank of a group in a subroutine
+abbrev pub rank : Group → ℕ
+rank Subroutine = 0
+rank Declaration = 1
+rank Data = 2
+rank Executable = 3
+rank End = 4
 
--- behind the place of a group, which is not the last
-abbrev pub may_follow : ℕ → ℕ → Bool
-may_follow before n = nat_lt 0 n && (nat_le before n && nat_lt before 4)
+-- the rank of what comes behind a group of this rank, which is not the last
+abbrev pub comes_later : ℕ → ℕ → Bool
+comes_later before n = nat_lt 0 n && (nat_le before n && nat_lt before 4)
 
 -- A statement of the second group may stand behind one of the first, and behind none where it is the first: SUBROUTINE
 -- first and only there, then declarations, then DATA, then what is executed, END last and only there.
 abbrev pub may_stand : Option Group → Group → Bool
-may_stand None group = place group == 0
-may_stand (Some before) group = may_follow (place before) (place group)
+may_stand None group = rank group == 0
+may_stand (Some before) group = comes_later (rank before) (rank group)
+
+-- declarations, DATA and executable statements, so many of each, and END
+abbrev pub behind_heading : ℕ → ℕ → ℕ → List Group
+behind_heading d m e = replicate d Declaration ++ (replicate m Data ++ (replicate e Executable ++ (End ∷ [])))
+
+-- SUBROUTINE, then declarations, then DATA, then executable statements, any number of each, and END
+abbrev pub AreInOrder : List Group → Type 0
+AreInOrder groups = (d : ℕ) × (m : ℕ) × (e : ℕ) × (groups ≡ Subroutine ∷ behind_heading d m e)

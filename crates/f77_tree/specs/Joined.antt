@@ -1,5 +1,5 @@
 -- Items joined by commas: which texts spell them, how they are read, and how they are written.
-use Rattle.std.specs.Prelude.{ℕ, zero, suc, List, [], ◌∷◌, ◌++◌, length, Option, Some, None, Bool, false, codes}
+use Rattle.std.specs.Prelude.{ℕ, zero, suc, List, [], ◌∷◌, ◌++◌, length, Option, Some, None, Bool, true, false, codes}
 use Rattle.std.specs.List.{list_all}
 use Rattle.f77_tree.specs.Reading.{◌>>=◌, after}
 
@@ -22,6 +22,11 @@ items_within item (suc n) s = item s >>= λ x. with_others (items_within item n)
 -- the items at the front, and what follows them
 unfoldable pub items_at : {A : Type 0} → (List ℕ → Option (A × List ℕ)) → List ℕ → Option (List A × List ℕ)
 items_at item s = items_within item (suc (length s)) s
+
+-- one item or more
+abbrev pub has_items : {A : Type 0} → List A → Bool
+has_items [] = false
+has_items (x ∷ xs) = true
 
 -- one item or more, and each of them so
 abbrev pub some_all : {A : Type 0} → (A → Bool) → List A → Bool

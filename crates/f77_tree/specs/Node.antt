@@ -42,9 +42,9 @@ abbrev mutual
 abbrev pub tree_nodes : Tree → List NodeOf
 tree_nodes t = map NodeOf.Part (parts t)
 
-abbrev pub step_nodes : Option Tree → List NodeOf
-step_nodes None = []
-step_nodes (Some t) = tree_nodes t
+abbrev pub step_parts : Option Tree → List NodeOf
+step_parts None = []
+step_parts (Some t) = tree_nodes t
 
 -- the names of a group of DATA, and its values
 abbrev pub group_nodes : GroupFields → List NodeOf
@@ -61,8 +61,8 @@ label_nodes l m n = NodeOf.Labelled l ∷ (NodeOf.Labelled m ∷ (NodeOf.Labelle
 abbrev pub control_nodes : ℕ → List ℕ → List NodeOf
 control_nodes label name = NodeOf.Labelled label ∷ (NodeOf.Named name ∷ [])
 
-abbrev pub range_nodes : Tree → Tree → Option Tree → List NodeOf
-range_nodes a b c = tree_nodes a ++ (tree_nodes b ++ step_nodes c)
+abbrev pub parameter_nodes : Tree → Tree → Option Tree → List NodeOf
+parameter_nodes a b c = tree_nodes a ++ (tree_nodes b ++ step_parts c)
 
 -- The nodes behind a statement's own. The statement inside a logical IF has one too; the unit's name, bounds and repeats have none.
 abbrev pub nodes_behind : Statement → List NodeOf
@@ -72,13 +72,14 @@ nodes_behind (Statement.Dimension ds) = map NodeOf.Declared ds
 nodes_behind (Statement.Preset gs) = flat_map group_nodes gs
 nodes_behind (Statement.Assign name items t) = target_nodes name items ++ tree_nodes t
 nodes_behind (Statement.Goto label) = NodeOf.Labelled label ∷ []
+nodes_behind (Statement.ComputedGoto labels t) = map NodeOf.Labelled labels ++ tree_nodes t
 nodes_behind (Statement.ArithIf t l m n) = tree_nodes t ++ label_nodes l m n
 nodes_behind (Statement.LogicalIf t s) = tree_nodes t ++ (NodeOf.Itself s ∷ nodes_behind s)
 nodes_behind (Statement.BlockIf t) = tree_nodes t
 nodes_behind (Statement.ElseIf t) = tree_nodes t
 nodes_behind Statement.Else = []
 nodes_behind Statement.EndIf = []
-nodes_behind (Statement.Loop label name a b c) = control_nodes label name ++ range_nodes a b c
+nodes_behind (Statement.Loop label name a b c) = control_nodes label name ++ parameter_nodes a b c
 nodes_behind Statement.Continue = []
 nodes_behind Statement.Return = []
 nodes_behind Statement.Stop = []

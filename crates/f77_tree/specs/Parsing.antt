@@ -1,5 +1,5 @@
 -- Which cards are which program, and why cards are none.
-use Rattle.std.specs.Prelude.{◌≡◌, ◌≢◌, ℕ, zero, suc, ◌≤◌, ◌<◌, true, false, List, [], ◌∷◌, length, Option, Some, None}
+use Rattle.std.specs.Prelude.{◌≡◌, ◌≢◌, ℕ, zero, suc, ◌≤◌, ◌<◌, ◌⊎◌, true, false, List, [], ◌∷◌, length, Option, Some, None}
 use Rattle.std.specs.List.{slice_get}
 use Rattle.f77_source.specs.Card.{CardFields}
 use Rattle.f77_tree.specs.Tree.{Statement}
@@ -81,6 +81,11 @@ pub data IsFirstFault : Option Group → List CardFields → SyntaxFault → Typ
   later : {before : Option Group} {card : CardFields} {cards : List CardFields} {s : Statement} {fault : SyntaxFault}
       → IsAdmitted card.text s → may_stand before (group_of s) ≡ true → IsFirstFault (Some (group_of s)) cards fault
       → IsFirstFault before (card ∷ cards) fault
+
+-- the cards are the lines to the end of a program, or have a first fault
+abbrev pub HasLinesOrFault : Option Group → List CardFields → Type 0
+HasLinesOrFault before cards =
+    ((lines : List LineFields) × AreLines before cards lines) ⊎ ((fault : SyntaxFault) × IsFirstFault before cards fault)
 
 -- the line may stand behind a statement of this group, or first, and some text spells its statement
 abbrev pub MayFollow : Option Group → LineFields → Type 0

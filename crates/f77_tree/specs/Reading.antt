@@ -78,8 +78,8 @@ close_at s = after 41 s
 abbrev pub closed : Tree → List ℕ → Option (Tree × ℕ × List ℕ)
 closed t s = close_at s >>= λ r. Some (t, 9, r)
 
-abbrev pub group_at : Readers → List ℕ → Option (Tree × ℕ × List ℕ)
-group_at R s = R.expr 1 s >>= λ x. closed x.0 x.1
+abbrev pub enclosed_at : Readers → List ℕ → Option (Tree × ℕ × List ℕ)
+enclosed_at R s = R.expr 1 s >>= λ x. closed x.0 x.1
 
 abbrev pub signed_at : Readers → ℕ → Sign → List ℕ → Option (Tree × ℕ × List ℕ)
 signed_at R w sign s = if nat_le w 6 then (R.expr 7 s >>= λ x. Some (Tree.Signed sign x.0, 6, x.1)) else None
@@ -121,7 +121,7 @@ word_at R name r =
 unfoldable pub start_at : Readers → ℕ → List ℕ → Option (Tree × ℕ × List ℕ)
 start_at R w [] = None
 start_at R w (c ∷ s) =
-    if c == 40 then group_at R s
+    if c == 40 then enclosed_at R s
     else if c == 43 then signed_at R w Plus s
     else if c == 45 then signed_at R w Minus s
     else if c == 46 then dotted_at R w (c ∷ s)

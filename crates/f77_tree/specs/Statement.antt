@@ -7,6 +7,7 @@ use Rattle.f77_tree.specs.Formed.{is_action}
 use Rattle.f77_tree.specs.Reading.{◌>>=◌, strip}
 use Rattle.f77_tree.specs.Assignment.{assign_at}
 use Rattle.f77_tree.specs.Label.{last_label}
+use Rattle.f77_tree.specs.ComputedGoto.{computed_at}
 use Rattle.f77_tree.specs.Condition.{arithmetic_at, condition_at}
 use Rattle.f77_tree.specs.Subroutine.{subroutine_at}
 use Rattle.f77_tree.specs.Declaration.{declarations_at, all_bounded}
@@ -18,7 +19,7 @@ use Rattle.f77_tree.specs.Classification.{class_of}
 use Rattle.f77_tree.specs.declared.classification.Class.{Class}
 use Rattle.f77_tree.specs.declared.classification.Class.TheVariants.{If, Loop, Assignment, Keyword}
 
--- GO TO, and the statements of one keyword alone
+-- the statements of one keyword alone
 unfoldable pub word_statement : List ℕ → Option Statement
 word_statement s =
     if bytes_eq s (codes "CONTINUE") then Some Statement.Continue
@@ -32,8 +33,16 @@ abbrev pub goto_by : List ℕ → Option (List ℕ) → Option Statement
 goto_by s (Some r) = last_label r >>= λ l. Some (Statement.Goto l)
 goto_by s None = word_statement s
 
+-- an unconditional GO TO, or a statement of one keyword alone
+unfoldable pub without_expression : List ℕ → Option Statement
+without_expression s = goto_by s (strip (codes "GOTO") s)
+
+abbrev pub computed_by : List ℕ → Option (List ℕ) → Option Statement
+computed_by s (Some r) = computed_at r
+computed_by s None = without_expression s
+
 unfoldable pub simple_at : List ℕ → Option Statement
-simple_at s = goto_by s (strip (codes "GOTO") s)
+simple_at s = computed_by s (strip (codes "GOTO(") s)
 
 abbrev pub actions_only : Statement → Option Statement
 actions_only s = if is_action s then Some s else None

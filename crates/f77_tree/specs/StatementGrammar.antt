@@ -1,10 +1,11 @@
 -- Which blank-free texts spell which statements (ANSI X3.9-1978, sections 7 to 11). Labels are of any length here.
-use Rattle.std.specs.Prelude.{◌≡◌, ℕ, List, [], ◌∷◌, ◌++◌, length, Bool, true, false, nat_le, if◌then◌else◌, Some, None, option_map, codes}
+use Rattle.std.specs.Prelude.{◌≡◌, ℕ, List, [], ◌∷◌, ◌++◌, length, Bool, true, false, nat_le, if◌then◌else◌, Some, None, option_map, map, codes}
 use Rattle.std.specs.List.{list_all, join_with_byte}
 use Rattle.std.specs.Str.Parse.{digits_value}
 use Rattle.f77_tree.specs.declared.intrinsic.Intrinsic.TheVariants.{Iabs}
 use Rattle.f77_tree.specs.Tree.{Tree, Trees, DeclFields, GroupFields, Statement}
 use Rattle.f77_tree.specs.Grammar.{is_number, is_name, Spells, SpellsReference}
+use Rattle.f77_tree.specs.Joined.{Joined}
 use Rattle.f77_tree.specs.Declaration.{SpellsDecls, all_bounded}
 use Rattle.f77_tree.specs.Data.{SpellsGroups}
 use Rattle.f77_tree.specs.declared.tree.Kind.{Kind}
@@ -14,22 +15,28 @@ use Rattle.f77_tree.specs.declared.tree.Kind.TheVariants.{Integer, Logical}
 unfoldable pub label_number : List ℕ → ℕ
 label_number row = if nat_le (length row) 5 then digits_value 10 row else 100000
 
+-- the row of digits spells the label
+pub data SpellsLabel : List ℕ → ℕ → Type 0 where
+  digits : (row : List ℕ) → is_number row ≡ true → SpellsLabel row (label_number row)
+
+-- a comma that may be left out
+abbrev pub optional_comma : Bool → List ℕ
+optional_comma true = 44 ∷ []
+optional_comma false = []
+
 -- the text spells a statement that may stand in a logical IF
 pub data SpellsAction : List ℕ → Statement → Type 0 where
   assign : {x y name : List ℕ} {items : Trees} {t : Tree} → SpellsReference x name items → Spells 1 y t
       → SpellsAction (x ++ (61 ∷ y)) (Statement.Assign name items t)
   go_to : (row : List ℕ) → is_number row ≡ true → SpellsAction (codes "GOTO" ++ row) (Statement.Goto (label_number row))
+  computed_go_to : {x y : List ℕ} {labels : List ℕ} {t : Tree} (comma : Bool) → Joined SpellsLabel x labels → Spells 1 y t
+      → SpellsAction (codes "GOTO(" ++ (x ++ (41 ∷ (optional_comma comma ++ y)))) (Statement.ComputedGoto labels t)
   arithmetic_if : {x : List ℕ} {t : Tree} (l m n : List ℕ) → Spells 1 x t → is_number l ≡ true → is_number m ≡ true → is_number n ≡ true
       → SpellsAction (codes "IF(" ++ (x ++ (41 ∷ (l ++ (44 ∷ (m ++ (44 ∷ n)))))))
       (Statement.ArithIf t (label_number l) (label_number m) (label_number n))
   go_on : SpellsAction (codes "CONTINUE") Statement.Continue
   return : SpellsAction (codes "RETURN") Statement.Return
   stop : SpellsAction (codes "STOP") Statement.Stop
-
--- a comma that may be left out
-abbrev pub optional_comma : Bool → List ℕ
-optional_comma true = 44 ∷ []
-optional_comma false = []
 
 -- the keyword of a type statement
 abbrev pub kind_keyword : Kind → List ℕ
@@ -90,6 +97,7 @@ in_text (Statement.Dimension ds) = Statement.Dimension ds
 in_text (Statement.Preset gs) = Statement.Preset gs
 in_text (Statement.Assign name items t) = Statement.Assign name (trees_in_text items) (tree_in_text t)
 in_text (Statement.Goto label) = Statement.Goto (label_in_text label)
+in_text (Statement.ComputedGoto labels t) = Statement.ComputedGoto (map label_in_text labels) (tree_in_text t)
 in_text (Statement.ArithIf t l m n) = Statement.ArithIf (tree_in_text t) (label_in_text l) (label_in_text m) (label_in_text n)
 in_text (Statement.LogicalIf t s) = Statement.LogicalIf (tree_in_text t) (in_text s)
 in_text (Statement.BlockIf t) = Statement.BlockIf (tree_in_text t)

@@ -20,6 +20,7 @@ stmt_step (Stmt-F.Dimension items) = Statement.Dimension (map decl_of items.item
 stmt_step (Stmt-F.Preset groups) = Statement.Preset (map data_group_of groups.items)
 stmt_step (Stmt-F.Assign target value) = Statement.Assign (place_of target).0 (trees (place_of target).1) (tree_of value)
 stmt_step (Stmt-F.Goto label) = Statement.Goto label
+stmt_step (Stmt-F.ComputedGoto labels value) = Statement.ComputedGoto labels.items (tree_of value)
 stmt_step (Stmt-F.ArithIf value negative zero positive) = Statement.ArithIf (tree_of value) negative zero positive
 stmt_step (Stmt-F.LogicalIf condition statement) = Statement.LogicalIf (tree_of condition) statement.value
 stmt_step (Stmt-F.BlockIf condition) = Statement.BlockIf (tree_of condition)
@@ -45,6 +46,7 @@ clip_statement (Statement.Dimension ds) = Statement.Dimension (map clip_decl ds)
 clip_statement (Statement.Preset gs) = Statement.Preset (map clip_group gs)
 clip_statement (Statement.Assign name items t) = Statement.Assign name (clip_all items) (clip t)
 clip_statement (Statement.Goto label) = Statement.Goto label
+clip_statement (Statement.ComputedGoto labels t) = Statement.ComputedGoto labels (clip t)
 clip_statement (Statement.ArithIf t l m n) = Statement.ArithIf (clip t) l m n
 clip_statement (Statement.LogicalIf t s) = Statement.LogicalIf (clip t) (clip_statement s)
 clip_statement (Statement.BlockIf t) = Statement.BlockIf (clip t)
@@ -68,9 +70,13 @@ IsReference x a = ((place_of x.0).0 ≡ a.0) × (trees (place_of x.0).1 ≡ clip
 abbrev pub AreNames : Vec Name Global → List (List ℕ) → Type 0
 AreNames x a = x.items ≡ a
 
+-- labels and the text behind
+abbrev pub AreLabels : Vec ℕ Global × Bor (List ℕ) → List ℕ × List ℕ → Type 0
+AreLabels x a = (x.0.items ≡ a.0) × (x.1.now ≡ a.1)
+
 -- the label and the DO variable of a DO, and the text behind
-abbrev pub IsRange : ℕ × List ℕ × Bor (List ℕ) → ℕ × List ℕ × List ℕ → Type 0
-IsRange x a = (x.0 ≡ a.0) × (x.1 ≡ a.1) × (x.2.now ≡ a.2)
+abbrev pub IsControl : ℕ × List ℕ × Bor (List ℕ) → ℕ × List ℕ × List ℕ → Type 0
+IsControl x a = (x.0 ≡ a.0) × (x.1 ≡ a.1) × (x.2.now ≡ a.2)
 
 abbrev pub IsStep : Option Expr → Option Tree → Type 0
 IsStep x a = option_map tree_of x ≡ option_map clip a

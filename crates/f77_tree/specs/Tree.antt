@@ -40,6 +40,7 @@ pub data Statement : Type 0 where
   Preset : List GroupFields → Statement
   Assign : List ℕ → Trees → Tree → Statement
   Goto : ℕ → Statement
+  ComputedGoto : List ℕ → Tree → Statement
   ArithIf : Tree → ℕ → ℕ → ℕ → Statement
   LogicalIf : Tree → Statement → Statement
   BlockIf : Tree → Statement

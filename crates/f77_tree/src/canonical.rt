@@ -1,7 +1,9 @@
 //! Canonical texts of statements.
 
-ghost use Rattle.std.specs.Prelude.{◌≡◌, ◌<◌, ◌++◌, true, OnOk, IfOk, IfErr, map, option_map, string_bytes};
+ghost use Rattle.std.specs.Prelude.{◌≡◌, ◌<◌, ◌++◌, true, OnOk, IfOk, IfErr, map, option_map, string_bytes, codes};
 ghost use Rattle.f77_source.specs.Law.{squeezed};
+ghost use Rattle.std.specs.Fmt.{decimal};
+ghost use Rattle.f77_tree.specs.Joined.{separated};
 ghost use Rattle.f77_tree.specs.Tree.{Statement};
 ghost use Rattle.f77_tree.specs.StatementGrammar.{SpellsStatement, IsFormed, IsUnmutated};
 ghost use Rattle.f77_tree.specs.StatementLimits.{statement_constants};
@@ -162,8 +164,31 @@ fn third(out: &mut String, step: &Option<Expr>) -> Result<(), AllocError>
     }
 }
 
+/// Writes labels, this text before the first and a comma before each other.
+fn print_labels(out: &mut String, labels: &[u32]) -> Result<(), AllocError>
+    ensures { OnOk result (string_bytes out.new ≡ string_bytes out.old ++ separated decimal (codes "(") labels.now) }
+{
+    let mut before = b'(';
+    for label in labels {
+        out.push(char::from(before))?;
+        write!(out, "{label}")?;
+        before = b',';
+    }
+    Ok(())
+}
+
+/// Writes a computed GO TO.
+fn computed(out: &mut String, labels: &[u32], value: &Expr) -> Result<(), AllocError>
+    ensures { OnOk result (string_bytes out.new ≡ string_bytes out.old ++ canonical.statement_text (Statement.ComputedGoto labels.now (tree_of value.now))) }
+{
+    out.push_str("GO TO ")?;
+    print_labels(out, labels)?;
+    out.push_str("),")?;
+    form(out, value)
+}
+
 /// Writes the label, the DO variable and the parameters of a DO.
-fn range(
+fn do_statement(
     out: &mut String,
     label: u32,
     variable: &Name,
@@ -222,6 +247,7 @@ fn statement(out: &mut String, stmt: &Stmt) -> Result<(), AllocError>
             form(out, value)
         }
         Stmt::Goto { label } => write!(out, "GO TO {label}"),
+        Stmt::ComputedGoto { labels, value } => computed(out, labels, value),
         Stmt::ArithIf {
             value,
             negative,
@@ -248,7 +274,7 @@ fn statement(out: &mut String, stmt: &Stmt) -> Result<(), AllocError>
             first,
             last,
             step,
-        } => range(out, *label, variable, first, last, step),
+        } => do_statement(out, *label, variable, first, last, step),
         Stmt::Continue => out.push_str("CONTINUE"),
         Stmt::Return => out.push_str("RETURN"),
         Stmt::Stop => out.push_str("STOP"),

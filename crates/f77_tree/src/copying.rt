@@ -116,6 +116,10 @@ impl Clone for Stmt {
                 value: value.clone()?,
             }),
             Stmt::Goto { label } => Ok(Stmt::Goto { label: *label }),
+            Stmt::ComputedGoto { labels, value } => Ok(Stmt::ComputedGoto {
+                labels: labels.clone()?,
+                value: value.clone()?,
+            }),
             Stmt::ArithIf {
                 value,
                 negative,

@@ -44,13 +44,14 @@ pub enum SyntaxFault {
     /// S3: a name of more than six characters.
     #[error("line {0} holds a name of more than six characters")]
     BadName(u32),
-    /// S4: a constant above 2147483647.
+    /// S4: a constant, a bound or a repeat above 2147483647, a repeat of 0, or a label that is not 1 to 99999 or has more
+    /// than five digits.
     #[error("line {0} holds a constant or a label out of range")]
     BadConstant(u32),
     /// S5: parentheses more than 40 deep.
     #[error("line {0} opens parentheses more than 40 deep")]
     TooDeep(u32),
-    /// S6: more than 1,320 characters, or more than 200 nodes.
+    /// S6: more than 1,320 characters, or more than 200 nodes; where a program is printed, more than 20 lines.
     #[error("line {0} holds a statement that is too long")]
     TooLong(u32),
     /// S7: the first card is no SUBROUTINE statement, or there is none.

@@ -82,6 +82,7 @@ fn statement_formed(stmt: &Stmt) -> bool
         Stmt::Assign { target, value } => {
             is_named(&target.name) && all_formed(&target.subscripts) && formed(value)
         }
+        Stmt::ComputedGoto { labels, value } => !labels.is_empty() && formed(value),
         Stmt::ArithIf { value, .. } => formed(value),
         Stmt::LogicalIf {
             condition,
@@ -114,6 +115,7 @@ impl Stmt {
         match self {
             Stmt::Assign { .. }
             | Stmt::Goto { .. }
+            | Stmt::ComputedGoto { .. }
             | Stmt::ArithIf { .. }
             | Stmt::Continue
             | Stmt::Return

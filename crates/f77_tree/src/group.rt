@@ -34,6 +34,7 @@ impl Stmt {
             Stmt::Preset { .. } => Group::Data,
             Stmt::Assign { .. }
             | Stmt::Goto { .. }
+            | Stmt::ComputedGoto { .. }
             | Stmt::ArithIf { .. }
             | Stmt::LogicalIf { .. }
             | Stmt::BlockIf { .. }
@@ -51,9 +52,9 @@ impl Stmt {
 }
 
 impl Group {
-    /// Its place in a subroutine.
-    fn place(self) -> u8
-        ensures { result ≡ groups.place self }
+    /// Its rank in a subroutine, from 0.
+    fn rank(self) -> u8
+        ensures { result ≡ groups.rank self }
     {
         match self {
             Group::Subroutine => 0,
@@ -68,10 +69,10 @@ impl Group {
     pub fn may_stand(self, before: Option<Group>) -> bool
         ensures { result ≡ may_stand before self }
     {
-        let place = self.place();
+        let rank = self.rank();
         match before {
-            None => place == 0,
-            Some(before) => 0 < place && before.place() <= place && before.place() < 4,
+            None => rank == 0,
+            Some(before) => 0 < rank && before.rank() <= rank && before.rank() < 4,
         }
     }
 }

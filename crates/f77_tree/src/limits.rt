@@ -141,7 +141,7 @@ pub fn statement_names(stmt: &Stmt) -> bool
         Stmt::Assign { target, value } => {
             is_short(&target.name) && all_short_names(&target.subscripts) && short_names(value)
         }
-        Stmt::ArithIf { value, .. } => short_names(value),
+        Stmt::ComputedGoto { value, .. } | Stmt::ArithIf { value, .. } => short_names(value),
         Stmt::LogicalIf {
             condition,
             statement,
@@ -162,6 +162,12 @@ fn is_label(label: u32) -> bool
     ensures { result ≡ statements.is_label label }
 {
     (1..=99999).contains(&label)
+}
+
+fn are_labels(labels: &[u32]) -> bool
+    ensures { result ≡ list_all statements.is_label labels.now }
+{
+    labels.iter().all(|label| is_label(*label))
 }
 
 fn step_constants(step: &Option<Expr>) -> bool
@@ -185,6 +191,7 @@ pub fn statement_constants(stmt: &Stmt) -> bool
             all_small_constants(&target.subscripts) && small_constants(value)
         }
         Stmt::Goto { label } => is_label(*label),
+        Stmt::ComputedGoto { labels, value } => are_labels(labels) && small_constants(value),
         Stmt::ArithIf {
             value,
             negative,
@@ -242,6 +249,12 @@ pub fn statement_nodes(stmt: &Stmt) -> u32
                 .saturating_add(1)
         }
         Stmt::Goto { .. } => 2,
+        Stmt::ComputedGoto { labels, value } => {
+            u32::try_from(labels.len())
+                .unwrap_or(u32::MAX)
+                .saturating_add(nodes(value))
+                .saturating_add(1)
+        }
         Stmt::ArithIf { value, .. } => nodes(value).saturating_add(4),
         Stmt::LogicalIf {
             condition,

@@ -87,7 +87,7 @@ fn subscript_node(items: &[Expr], position: usize) -> Result<Node<'_>, usize>
 }
 
 fn step_node(step: &Option<Expr>, position: usize) -> Result<Node<'_>, usize>
-    ensures { IsNode result (nodes.step_nodes (option_map tree_of step.now)) position }
+    ensures { IsNode result (nodes.step_parts (option_map tree_of step.now)) position }
 {
     match step {
         None => Err(position),
@@ -198,7 +198,7 @@ fn control_node<'a>(label: u32, variable: &'a Name, position: usize) -> Result<N
 }
 
 fn last_node<'a>(last: &'a Expr, step: &'a Option<Expr>, position: usize) -> Result<Node<'a>, usize>
-    ensures { IsNode result (tree_nodes (tree_of last.now) ++ nodes.step_nodes (option_map tree_of step.now)) position }
+    ensures { IsNode result (tree_nodes (tree_of last.now) ++ nodes.step_parts (option_map tree_of step.now)) position }
 {
     match expression_node(last, position) {
         Ok(found) => Ok(found),
@@ -212,7 +212,7 @@ fn range_node<'a>(
     step: &'a Option<Expr>,
     position: usize,
 ) -> Result<Node<'a>, usize>
-    ensures { IsNode result (nodes.range_nodes (tree_of first.now) (tree_of last.now) (option_map tree_of step.now)) position }
+    ensures { IsNode result (nodes.parameter_nodes (tree_of first.now) (tree_of last.now) (option_map tree_of step.now)) position }
 {
     match expression_node(first, position) {
         Ok(found) => Ok(found),
@@ -243,11 +243,21 @@ fn loop_node<'a>(
     step: &'a Option<Expr>,
     position: usize,
 ) -> Result<Node<'a>, usize>
-    ensures { IsNode result (nodes.control_nodes label variable.now ++ nodes.range_nodes (tree_of first.now) (tree_of last.now) (option_map tree_of step.now)) position }
+    ensures { IsNode result (nodes.control_nodes label variable.now ++ nodes.parameter_nodes (tree_of first.now) (tree_of last.now) (option_map tree_of step.now)) position }
 {
     match control_node(label, variable, position) {
         Ok(found) => Ok(found),
         Err(rest) => range_node(first, last, step, rest),
+    }
+}
+
+/// The node of a computed GO TO behind its own: its labels, then the parts of its expression.
+fn computed_node<'a>(labels: &'a [u32], value: &'a Expr, position: usize) -> Result<Node<'a>, usize>
+    ensures { IsNode result (map NodeOf.Labelled labels.now ++ tree_nodes (tree_of value.now)) position }
+{
+    match labels.get(position) {
+        Some(label) => Ok(Node::Label(*label)),
+        None => expression_node(value, position - labels.len()),
     }
 }
 
@@ -261,6 +271,7 @@ fn node_behind(stmt: &Stmt, position: usize) -> Result<Node<'_>, usize>
         Stmt::Preset { groups } => data_node(groups, position),
         Stmt::Assign { target, value } => assignment_node(target, value, position),
         Stmt::Goto { label } => goto_node(*label, position),
+        Stmt::ComputedGoto { labels, value } => computed_node(labels, value, position),
         Stmt::ArithIf {
             value,
             negative,

@@ -101,7 +101,7 @@ impl Operator {
     }
 
     /// Whether it goes on with an operand of level `own`, where an expression of level `wanted` is wanted.
-    pub fn may_follow(self, own: u8, wanted: u8) -> bool
+    pub fn goes_on(self, own: u8, wanted: u8) -> bool
         ensures { result ≡ (nat_le wanted (levels.level self) && nat_le (levels.left_level self) own) }
     {
         wanted <= self.level() && self.left_level() <= own

@@ -21,7 +21,8 @@ pub struct Line {
     pub line: u32,
 }
 
-/// A subroutine: SUBROUTINE first, then executable statements, END last and only there, each one that some text spells.
+/// A subroutine: SUBROUTINE first, then declarations, then DATA, then what is executed, END last and only there (ANSI
+/// X3.9-1978, 3.5), each a statement that some text spells.
 #[derive(Drop)]
 pub struct Program {
     lines: Vec<Line>,
@@ -49,7 +50,7 @@ impl Clone for Program {
 }
 
 /// Whether the line may follow a statement of this group, or be the first, and some text spells its statement.
-fn may_follow(before: Option<Group>, line: &Line) -> bool
+fn follows(before: Option<Group>, line: &Line) -> bool
     ensures yes { result ≡ true → MayFollow before (line_of line.now) }
     ensures no { result ≡ false → ¬ (MayFollow before (line_of line.now)) }
 {
@@ -62,7 +63,7 @@ fn are_program(lines: &[Line]) -> bool
 {
     let mut last = None;
     for line in lines {
-        if !may_follow(last, line) {
+        if !follows(last, line) {
             return false;
         }
         last = Some(line.stmt.group());

@@ -1,4 +1,4 @@
-//! Trees of expressions, without parentheses.
+//! Expressions and statements as trees: parentheses leave no trace.
 
 use crate::data::DataGroup;
 use crate::declaration::Decl;
@@ -75,6 +75,11 @@ pub enum Stmt {
     /// An unconditional GO TO (11.1).
     Goto {
         label: u32,
+    },
+    /// A computed GO TO, with its labels in order, one at least (11.2).
+    ComputedGoto {
+        labels: Vec<u32>,
+        value: Expr,
     },
     /// An arithmetic IF, with the labels for a negative, a zero and a positive value (11.4).
     ArithIf {

@@ -21,6 +21,40 @@ const TRIPS: &str = "
 [[2147483647,2147483647,1,9]] => OVERFLOW
 ";
 
+const SEL: &str = "      SUBROUTINE SEL(I,K)
+      GOTO(10,20)I
+      K=0
+      RETURN
+   10 K=1
+      RETURN
+   20 K=2
+      END";
+
+const TER: &str = "      SUBROUTINE TER(I,K)
+      DO 10 J=1,3
+      K=K+1
+   10 GO TO (20),K
+   20 CONTINUE
+      END";
+
+#[test]
+fn computed_go_to_chooses_by_number(rt: HostRuntime) -> Result<(), Fail> {
+    assert_suites(&rt, SEL, SELECTIONS)?;
+    assert_suites(&rt, TER, TERMINALS)
+}
+
+const SELECTIONS: &str = "
+[[1,9]] => RETURNED 1 1
+[[2,9]] => RETURNED 2 2
+[[3,9]] => RETURNED 3 0
+[[0,9]] => RETURNED 0 0
+";
+
+const TERMINALS: &str = "
+[[0,0]] => RETURNED 0 1
+[[0,1]] => RETURNED 0 4
+";
+
 #[test]
 fn statements_end_in_their_outcomes(rt: HostRuntime) -> Result<(), Fail> {
     assert_statements(&rt, "mothra exec --test 1", STATEMENTS)

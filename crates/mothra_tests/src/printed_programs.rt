@@ -92,6 +92,30 @@ C
       K=I+J
       END
 
+      SUBROUTINE SEL(I,K)
+      GOTO(10,20)I
+      IF(I.EQ.K)GOTO(10),I
+   10 K=1
+   20 K=2
+      END
+=>
+      SUBROUTINE SEL(I,K)
+      GO TO (10,20),I
+      IF (I.EQ.K) GO TO (10),I
+   10 K=1
+   20 K=2
+      END
+
+      SUBROUTINE ARRAY(I)
+      INTEGER GOTO(10,20)
+      GOTO(10,20)=3
+      END
+=>
+      SUBROUTINE ARRAY(I)
+      INTEGER GOTO(10,20)
+      GOTO(10,20)=3
+      END
+
       SUBROUTINE ODD(I)
       INTEGER IF(5),DO10I
       DO10I=1

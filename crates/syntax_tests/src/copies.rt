@@ -28,7 +28,7 @@ fn copy_statement(stmt: &Stmt) -> Result<Stmt, SyntaxFault>
 
 const STATEMENTS: &str = "SUBROUTINE ALL(I,J,P); INTEGER I,M(2,3); LOGICAL P,Q; DIMENSION K(4); \
     DATA L,K/1,4*-3/,Q/.TRUE./; M(I,J+1)=MOD(I,3)-(-J)**2; P=.NOT.P.AND..FALSE..OR.I.LT.J; \
-    GO TO 10; IF (I-J) 10,20,30; IF (P) K(3)=IABS(L); IF (P) THEN; ELSE IF (I.GT.J) THEN; ELSE; \
+    GO TO 10; GO TO (10,20,10),I-J; IF (I-J) 10,20,30; IF (P) K(3)=IABS(L); IF (P) THEN; ELSE IF (I.GT.J) THEN; ELSE; \
     END IF; DO 20 I=1,9; DO 10 J=9,1,-2; 10 CONTINUE; 20 RETURN; 99999 STOP; END";
 
 /// The copy of a program in fixed form, printed when that is gone.

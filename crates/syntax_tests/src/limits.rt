@@ -29,6 +29,16 @@ fn limits_the_nodes(rt: HostRuntime) -> Result<(), Fail> {
 }
 
 #[test]
+fn limits_the_labels_of_a_computed_go_to(rt: HostRuntime) -> Result<(), Fail> {
+    let most = repeated(&rt, "GOTO(1", 197, ",1", ")I")?;
+    let want = repeated(&rt, "GO TO (1", 197, ",1", "),I")?;
+    assert_eq!(rt; shown(&rt, most.as_str())?.as_str(), want.as_str());
+    let more = repeated(&rt, "GOTO(1", 198, ",1", ")I")?;
+    assert_eq!(rt; shown(&rt, more.as_str())?.as_str(), "TooLong(2)");
+    Ok(())
+}
+
+#[test]
 fn limits_the_length(rt: HostRuntime) -> Result<(), Fail> {
     let long = repeated(&rt, "K=", 1317, "0", "1")?;
     assert_eq!(rt; shown(&rt, long.as_str())?.as_str(), "K=1");

@@ -133,6 +133,7 @@ fn numbers_the_nodes(rt: HostRuntime) -> Result<(), Fail> {
             "DATAI/3*0/,P/.TRUE./ => DATA I/3*0/,P/.TRUE./;I;3*0;P;1*true;",
             "INTEGERM(2,3),N => INTEGER M(2,3),N;M;N;",
             "GOTO30 => GO TO 30;label 30;",
+            "GOTO(10,20,10)M(I) => GO TO (10,20,10),M(I);label 10;label 20;label 10;M(1);I(0);",
             "IF(-I)10,20,30 => IF (-I) 10,20,30;-;I(0);label 10;label 20;label 30;",
             "M(I,J+1)=IABS(K) => M(I,J+1)=IABS(K);target M;I(0);+;J(0);1;IABS;K(0);",
             "DO10I=1,N,-K => DO 10 I=1,N,-K;label 10;I;1;N(0);-;K(0);",
@@ -159,6 +160,7 @@ fn tells_names_and_labels_of_nodes(rt: HostRuntime) -> Result<(), Fail> {
             "DATAI,J/1,2/ => ;I;J;;;",
             "LOGICALP(3),Q => ;P;Q;",
             "IF(I)10,20,30 => ;I;10;20;30;",
+            "GOTO(10,20)M(I) => ;10;20;M;I;",
         ],
     )
 }

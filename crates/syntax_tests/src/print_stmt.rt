@@ -27,6 +27,13 @@ const EXPRESSIONS: &[&str] = &[
 const STATEMENTS: &[&str] = &[
     "GOTO10 => GO TO 10",
     "GOTO00010 => GO TO 10",
+    "GOTO(10,20)I => GO TO (10,20),I",
+    "GOTO(10,20),I => GO TO (10,20),I",
+    "GOTO(00010)(I+J)*K => GO TO (10),(I+J)*K",
+    "GOTO(10)-I => GO TO (10),-I",
+    "GOTO(10,20)=3 => GOTO(10,20)=3",
+    "GOTO=3 => GOTO=3",
+    "IF(P)GOTO(5,5,6)M(I,J) => IF (P) GO TO (5,5,6),M(I,J)",
     "IF(I-J)10,20,30 => IF (I-J) 10,20,30",
     "IF(I.GT.0)K=1 => IF (I.GT.0) K=1",
     "IF(P)GOTO5 => IF (P) GO TO 5",

@@ -106,6 +106,26 @@ fn assert_conditional(
     Ok(())
 }
 
+/// A computed GO TO with these labels.
+fn computed(rt: &impl AllocGlobal, numbers: &[u32]) -> Result<Stmt, Fail> {
+    let mut labels = Vec::new(rt.alloc());
+    for label in numbers {
+        labels.push(*label)?;
+    }
+    let value = Expr::Number(1);
+    Ok(Stmt::ComputedGoto { labels, value })
+}
+
+#[test]
+fn asks_for_a_label_of_a_computed_go_to(rt: HostRuntime) -> Result<(), Fail> {
+    assert_conditional(
+        &rt,
+        computed(&rt, &[100000, 5])?,
+        "      SUBROUTINE A\n      IF (.TRUE.) GO TO (100000,5),1\n      END\n",
+    )?;
+    assert_conditional(&rt, computed(&rt, &[])?, "None")
+}
+
 #[test]
 fn makes_programs_of_mutants(rt: HostRuntime) -> Result<(), Fail> {
     assert_conditional(

@@ -9,7 +9,7 @@ use Rattle.f77_check.proofs.checking.check.Goals as goal
 
 pub from_parts-requires : goal.from_parts-requires
 from_parts-requires c =
-    let legal : IsLegal (map line_of c.lines-lines.result.now) = c.in_ok-judge.ensures c.in_ok-tables.ensures.tables in
+    let legal : IsLegal (map line_of c.lines-lines.result.now) = c.in_ok-judge.ensures.tells c.in_ok-tables.ensures.tables in
     let arguments : c.in_ok-arguments.arguments.items ≡ shapes (map line_of c.lines-lines.result.now) =
     c.in_ok-arguments.ensures.shapes ∙ (ap (map (shape_at c.in_ok-tables.tables.names)) c.arguments.ensures ∙ shapes_are c.in_ok-tables.tables.names (map line_of c.lines-lines.result.now) c.in_ok-tables.ensures.tables.names legal) in
     checked_of _ c.lines-lines.result.now _ (record { tables = c.in_ok-tables.tables; slots = c.in_ok-slots.slots }) _ _

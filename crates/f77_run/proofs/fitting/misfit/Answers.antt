@@ -1,13 +1,10 @@
-use Rattle.std.proofs.Common.{rules, tests, ◌∙◌, sym, ap, not}
-use Rattle.std.specs.Prelude.{position}
+use Rattle.std.proofs.Common.{rules, tests, not}
 use Rattle.std.proofs.lemmas.Iterator.{YieldsList-from_slice, YieldsList-from_zip}
 use Rattle.std.proofs.lemmas.Iterator.Search.{position_from_yields_List}
 use Rattle.f77_run.specs.Interpreter.{has_shape}
-use Rattle.f77_run.proofs.Pairs.{pairs_zip}
 use Rattle.f77_run.proofs.fitting.misfit.Goals as goal
 
 pub returns : goal.returns
 returns c =
     position_from_yields_List (λ pair. not (has_shape pair.0 pair.1)) c.position.new.self _ _ c.position.ensures.ran
     (YieldsList-from_zip (YieldsList-from_slice c.args.shapes.now cc) (YieldsList-from_slice c.args.arguments.now cc)) (λ x b q k. search (rules, tests))
-    ∙ ap (position (λ pair. not (has_shape pair.0 pair.1))) (sym (pairs_zip c.args.shapes.now c.args.arguments.now))

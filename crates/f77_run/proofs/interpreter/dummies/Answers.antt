@@ -1,5 +1,5 @@
 use Rattle.std.proofs.Common.{◌≡◌, Some, map, ap, subst, ◌∙◌}
-use Rattle.f77_check.specs.Start.{pairs}
+use Rattle.std.specs.List.{zip}
 use Rattle.f77_run.specs.Interpreter.{AreFitting, values_in}
 use Rattle.f77_run.specs.Spans.{size_of, span}
 use Rattle.f77_run.proofs.Beginning.{dummies_within, dummies_hold, dummies_read, both_ok}
@@ -23,10 +23,10 @@ returns-clause-arguments c =
     let slots : c.deref.result.now ≡ checked.start.dummies.items = c.deref.ensures.value ∙ ap (λ s. s.dummies.items) c.start.ensures.start in
     both_ok
     (λ arguments. AreFitting c.arguments.result.now arguments)
-    (λ arguments. map (λ argument. map (λ v. Some v) (values_in argument)) arguments ≡ map (λ pair. span pair.1 (size_of pair.0) c.deref-2.result.now) (pairs c.arguments.result.now c.deref.result.now))
+    (λ arguments. map (λ argument. map (λ v. Some v) (values_in argument)) arguments ≡ map (λ pair. span pair.1 (size_of pair.0) c.deref-2.result.now) (zip c.arguments.result.now c.deref.result.now))
     _
     c.arguments-2.result c.arguments-2.ensures.fitting c.arguments-2.ensures.values
     (λ arguments fits values.
     dummies_read checked c.start.ensures.checked c.args.machine.now.cells.items c.requires.cells c.requires.typed arguments
     (subst (λ list. AreFitting list arguments) c.arguments.ensures fits)
-    (values ∙ (λ i. map (λ pair. span pair.1 (size_of pair.0) (c.deref-2.ensures.value i)) (pairs (c.arguments.ensures i) (slots i)))))
+    (values ∙ (λ i. map (λ pair. span pair.1 (size_of pair.0) (c.deref-2.ensures.value i)) (zip (c.arguments.ensures i) (slots i)))))

@@ -31,4 +31,4 @@ returns-in-Err-clause-outcome g c =
 pub loop-step-preserved : goal.loop-step-preserved
 loop-step-preserved g c =
     one_more g.at c.args.statements.now c.args.machine.now c.loop-step.machine c.step.new.machine c.args.steps c.loop-step._step c.loop-step-test.true c.loop-step.invariant
-    (c.step.ensures.moved ∙ ap (λ r. Some (move_of r c.step.new.machine)) (c.in-Ok-Goes.is ∙ ap Ok c.in-Ok-Goes.field-0-is)) c.step.ensures.cells c.step.ensures.turns
+    (c.step.ensures.moved ∙ ap (λ r. Some (move_of r c.step.new.machine)) (c.in-Ok-Goes.is ∙ ap Ok c.in-Ok-Goes.field-0-is)) c.step.ensures.lengths

@@ -3,7 +3,6 @@ use Rattle.std.specs.Prelude.{◌==◌}
 use Rattle.std.proofs.lemmas.Result.{err_from_is_err_and}
 use Rattle.f77_tree.proofs.DataGives.{grouping_starts, grouping_fails, grouping_goes_on, grouping_ends}
 use Rattle.f77_syntax.proofs.data.groups.Goals as goal
-use Rattle.f77_tree.specs.Reading.{past_comma}
 
 pub loop-groups-init : goal.loop-groups-init
 loop-groups-init c = rw c.new-groups.ensures.items (grouping_starts c.args.text.now)

@@ -22,8 +22,8 @@ expression-loop-op-init t c =
 pub expression-returns-in_default-clause-found : goal.expression-returns-in_default-clause-found
 expression-returns-in_default-clause-found t c = ends_alone c.args.wanted c.loop-op.own c.loop-op.left c.loop-op.rest.now c.args.text.now c.loop-op.invariant (sym c.in_default.ensures.found)
 
-pub expression-returns-then-not-may_follow-clause-found : goal.expression-returns-then-not-may_follow-clause-found
-expression-returns-then-not-may_follow-clause-found t c =
+pub expression-returns-then-not-goes_on-clause-found : goal.expression-returns-then-not-goes_on-clause-found
+expression-returns-then-not-goes_on-clause-found t c =
     let no : (nat_le c.args.wanted (level c.in-Some.op) && nat_le (left_level c.in-Some.op) c.loop-op.own) ≡ false = cc in
     ends_before c.args.wanted c.loop-op.own c.loop-op.left c.in-Some.op c.loop-op.rest.now c.in-Some.behind.now c.args.text.now c.loop-op.invariant (sym c.in-Some.ensures.found) no
 

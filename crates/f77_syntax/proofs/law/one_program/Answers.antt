@@ -1,5 +1,10 @@
+use Rattle.std.proofs.Common.{None}
+use Rattle.f77_tree.proofs.Total.{lines_or_fault}
 use Rattle.f77_tree.proofs.Exact.{one_program, one_fault, either_lines_or_fault}
 use Rattle.f77_syntax.proofs.law.one_program.Goals as goal
+
+pub returns-clause-some : goal.returns-clause-some
+returns-clause-some c = λ cards. lines_or_fault cards None
 
 pub returns-clause-lines : goal.returns-clause-lines
 returns-clause-lines c = λ cards lines others are also. one_program are also

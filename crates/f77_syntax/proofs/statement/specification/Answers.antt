@@ -3,7 +3,7 @@ use Rattle.std.specs.Prelude.{codes, Some}
 use Rattle.f77_tree.specs.StatementView.{IsStatement}
 use Rattle.f77_tree.proofs.Steps.{strip_same, strip_other}
 use Rattle.f77_tree.proofs.Gives.{gives_along}
-use Rattle.f77_tree.proofs.BranchGives.{given, simple_kept, specification_dimension, specification_preset, specification_simple}
+use Rattle.f77_tree.proofs.BranchGives.{specification_dimension, specification_preset, specification_simple}
 use Rattle.f77_syntax.proofs.statement.specification.Goals as goal
 
 pub returns-in-Some-strip_prefix-2 : goal.returns-in-Some-strip_prefix-2
@@ -22,6 +22,6 @@ returns-in-Some-strip_prefix-3 c =
 
 pub returns : goal.returns
 returns c =
-    rw c.ok_or.ensures.value (gives_along IsStatement _ _ _ (specification_simple c.args.text.now (strip_other (codes "INTEGER") c.args.text.now c.in_default.ensures.cases)
+    gives_along IsStatement c.simple.result _ _ (specification_simple c.args.text.now (strip_other (codes "INTEGER") c.args.text.now c.in_default.ensures.cases)
     (strip_other (codes "LOGICAL") c.args.text.now c.in_default-strip_prefix.ensures.cases) (strip_other (codes "DIMENSION") c.args.text.now c.in_default-strip_prefix-2.ensures.cases)
-    (strip_other (codes "DATA") c.args.text.now c.in_default-strip_prefix-3.ensures.cases)) (given c.simple.result _ c.simple.ensures (simple_kept c.args.text.now)))
+    (strip_other (codes "DATA") c.args.text.now c.in_default-strip_prefix-3.ensures.cases)) c.simple.ensures

@@ -2,13 +2,13 @@ use Rattle.std.proofs.Math.ListN.{drop_of_length-le}
 use Rattle.f77_tree.proofs.Order.{rests_on, rests_no_more, ends_well, ends_badly}
 use Rattle.f77_tree.proofs.program.are_program.Goals as goal
 
-pub returns-then-not-may_follow-clause-no : goal.returns-then-not-may_follow-clause-no
-returns-then-not-may_follow-clause-no c e =
-    rests_no_more c.args.lines.now c.loop-line.line-index c.loop-line.last c.line-item.result c.loop-line-test.true c.line-item.is (c.may_follow.ensures.no c.if-not-may_follow.true) c.loop-line.invariant
+pub returns-then-not-follows-clause-no : goal.returns-then-not-follows-clause-no
+returns-then-not-follows-clause-no c e =
+    rests_no_more c.args.lines.now c.loop-line.line-index c.loop-line.last c.line-item.result c.loop-line-test.true c.line-item.is (c.follows.ensures.no c.if-not-follows.true) c.loop-line.invariant
 
 pub loop-line-preserved : goal.loop-line-preserved
 loop-line-preserved c =
-    rests_on c.args.lines.now c.loop-line.line-index c.loop-line.last c.line-item.result c.loop-line-test.true c.line-item.is c.group.result c.group.ensures (c.may_follow.ensures.yes c.if-not-may_follow.false) c.loop-line.invariant
+    rests_on c.args.lines.now c.loop-line.line-index c.loop-line.last c.line-item.result c.loop-line-test.true c.line-item.is c.group.result c.group.ensures (c.follows.ensures.yes c.if-not-follows.false) c.loop-line.invariant
 
 pub returns-clause-yes : goal.returns-clause-yes
 returns-clause-yes c e =

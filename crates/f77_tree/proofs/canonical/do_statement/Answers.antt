@@ -2,7 +2,7 @@ use Rattle.std.proofs.Common.{◌++◌, ◌∙◌, ap, append_assoc, string_byte
 use Rattle.std.specs.Prelude.{codes}
 use Rattle.std.specs.Fmt.{decimal}
 use Rattle.f77_tree.proofs.Texts.{before_rest}
-use Rattle.f77_tree.proofs.canonical.range.Goals as goal
+use Rattle.f77_tree.proofs.canonical.do_statement.Goals as goal
 
 pub returns : goal.returns
 unfolding lib.Utf8.encode

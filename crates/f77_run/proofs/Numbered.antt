@@ -1,0 +1,60 @@
+-- The label that a computed GO TO has for a value, and the jump that it has for it.
+use Rattle.std.proofs.Common.{◌≡◌, ℕ, zero, suc, ◌==◌, true, List, [], ◌∷◌, Option, Some, None, subst, ℤ, pos, negsuc}
+use Rattle.std.specs.Prelude.{slice_get}
+use Rattle.std.specs.List.{list_all, list_any}
+use Rattle.std.proofs.lemmas.Bool.{and_parts, eq-eqb, or_left, or_right}
+use Rattle.f77_tree.specs.Parsing.{LineFields}
+use Rattle.f77_check.specs.declared.action.Jump.{Jump}
+use Rattle.f77_check.specs.Action.{IsJump, AreJumps}
+use Rattle.f77_run.specs.Moves as moves
+use Rattle.f77_run.specs.Reach.{jump_within}
+use Rattle.f77_run.specs.Step.{numbered}
+
+label_among : (labels : List ℕ) (k label : ℕ) → slice_get labels k ≡ Some label → list_any (λ x. x == label) labels ≡ true
+label_among [] k label e = absurd (cc (e))
+label_among (x ∷ labels) zero label e =
+    let same : x ≡ label = cc (e) in
+    or_left (x == label) (list_any (λ x. x == label) labels) (eq-eqb x label same)
+label_among (x ∷ labels) (suc k) label e = or_right (x == label) (list_any (λ x. x == label) labels) (label_among labels k label e)
+
+-- the label is one of the statement's
+pub numbered_among : (labels : List ℕ) (z : ℤ) (label : ℕ) → numbered labels z ≡ Some label → list_any (λ x. x == label) labels ≡ true
+numbered_among labels (pos zero) label e = absurd (cc (e))
+numbered_among labels (pos (suc k)) label e = label_among labels k label e
+numbered_among labels (negsuc k) label e = absurd (cc (e))
+
+-- a jump to the statement with a label, where there is a label, and none where there is none
+abbrev pub IsJumpOf : List LineFields → ℕ → Option ℕ → Option Jump → Type 0
+IsJumpOf p i None None = Unit {0}
+IsJumpOf p i (Some label) (Some jump) = IsJump p i label jump
+IsJumpOf p i _ _ = ⊥
+
+jump_there : (p : List LineFields) (i : ℕ) (labels : List ℕ) (jumps : List Jump) → AreJumps p i labels jumps → (k : ℕ)
+    → IsJumpOf p i (slice_get labels k) (slice_get jumps k)
+jump_there p i [] [] h k = tt
+jump_there p i (label ∷ labels) (jump ∷ jumps) h zero = h.0
+jump_there p i (label ∷ labels) (jump ∷ jumps) h (suc k) = jump_there p i labels jumps h.1 k
+jump_there p i _ _ h k = absurd h
+
+-- the jump for a value is one to the label for it
+pub numbered_jump : (p : List LineFields) (i : ℕ) (labels : List ℕ) (jumps : List Jump) → AreJumps p i labels jumps → (z : ℤ)
+    → IsJumpOf p i (numbered labels z) (moves.numbered jumps z)
+numbered_jump p i labels jumps h (pos zero) = tt
+numbered_jump p i labels jumps h (pos (suc k)) = jump_there p i labels jumps h k
+numbered_jump p i labels jumps h (negsuc k) = tt
+
+place_within : (n : ℕ) (jumps : List Jump) (k : ℕ) (jump : Jump) → list_all (jump_within n) jumps ≡ true → slice_get jumps k ≡ Some jump
+    → jump_within n jump ≡ true
+place_within n [] k jump within e = absurd (cc (e))
+place_within n (x ∷ jumps) zero jump within e =
+    let same : x ≡ jump = cc (e) in
+    subst (λ j. jump_within n j ≡ true) same (and_parts (jump_within n x) (list_all (jump_within n) jumps) within).0
+place_within n (x ∷ jumps) (suc k) jump within e =
+    place_within n jumps k jump (and_parts (jump_within n x) (list_all (jump_within n) jumps) within).1 e
+
+-- the jump for a value is one of the jumps
+pub numbered_within : (n : ℕ) (jumps : List Jump) (z : ℤ) (jump : Jump) → list_all (jump_within n) jumps ≡ true
+    → moves.numbered jumps z ≡ Some jump → jump_within n jump ≡ true
+numbered_within n jumps (pos zero) jump within e = absurd (cc (e))
+numbered_within n jumps (pos (suc k)) jump within e = place_within n jumps k jump within e
+numbered_within n jumps (negsuc k) jump within e = absurd (cc (e))

@@ -1,0 +1,17 @@
+use Rattle.std.proofs.Common.{sym, ◌∙◌, ap}
+use Rattle.std.specs.Prelude.{codes, Some}
+use Rattle.f77_tree.specs.StatementView.{IsStatement}
+use Rattle.f77_tree.proofs.Steps.{strip_same, strip_other}
+use Rattle.f77_tree.proofs.Gives.{gives_along}
+use Rattle.f77_tree.proofs.BranchGives.{given, without_kept, simple_computed, simple_without}
+use Rattle.f77_syntax.proofs.statement.simple.Goals as goal
+
+pub returns-in-Some : goal.returns-in-Some
+returns-in-Some c =
+    let p = c.in-Some.ensures.cases in
+    gives_along IsStatement c.computed.result _ _ (simple_computed c.args.text.now c.in-Some.rest.now (strip_same (codes "GOTO(") c.args.text.now p.0 ∙ ap Some (sym p.1))) c.computed.ensures
+
+pub returns : goal.returns
+returns c =
+    rw c.ok_or.ensures.value (gives_along IsStatement _ _ _ (simple_without c.args.text.now (strip_other (codes "GOTO(") c.args.text.now c.in_default.ensures.cases))
+    (given c.without_expression.result _ c.without_expression.ensures (without_kept c.args.text.now)))

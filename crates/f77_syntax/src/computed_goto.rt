@@ -1,0 +1,50 @@
+//! Computed GO TO statements read from texts.
+
+ghost use Rattle.std.specs.Prelude.{◌≡◌, List, ℕ};
+ghost use Rattle.f77_tree.specs.ComputedGoto.{selector_at, computed_at};
+ghost use Rattle.f77_tree.specs.Joined.{items_at};
+ghost use Rattle.f77_tree.specs.Label.{label_at};
+ghost use Rattle.f77_tree.specs.View.{Gives};
+ghost use Rattle.f77_tree.specs.StatementView.{IsStatement, AreLabels};
+
+use crate::expression::{after_byte, closed, expression, past_comma};
+use crate::label::label;
+use f77_tree::{ReadError, Stmt};
+use std::alloc::Global;
+
+/// Reads labels joined by commas, and what follows.
+fn labels(alloc: Global, text: &[u8]) -> Result<(Vec<u32>, &[u8]), ReadError>
+    ensures { Gives AreLabels result (items_at label_at text.now) }
+{
+    let mut labels = Vec::new(alloc);
+    let mut rest = text;
+    loop {
+        let Some((number, behind)) = label(rest) else {
+            return Err(ReadError::Unknown);
+        };
+        labels.push(number)?;
+        let Some(next) = after_byte(behind, b',') else {
+            return Ok((labels, behind));
+        };
+        rest = next;
+    }
+}
+
+/// Reads the expression behind the labels.
+fn selector(alloc: Global, labels: Vec<u32>, text: &[u8]) -> Result<Stmt, ReadError>
+    ensures { Gives IsStatement result (selector_at labels.items text.now) }
+{
+    let (value, end) = expression(alloc, 1, past_comma(text))?;
+    if !end.is_empty() {
+        return Err(ReadError::Unknown);
+    }
+    Ok(Stmt::ComputedGoto { labels, value })
+}
+
+/// Reads what stands behind `GOTO(`.
+pub(crate) fn computed(alloc: Global, text: &[u8]) -> Result<Stmt, ReadError>
+    ensures { Gives IsStatement result (computed_at text.now) }
+{
+    let (labels, behind) = labels(alloc, text)?;
+    selector(alloc, labels, closed(behind)?)
+}
