@@ -231,7 +231,7 @@ pub(crate) fn names_no_label(labels: &Labels, stmt: &Stmt) -> bool
     jumps_nowhere(labels, stmt) || labels.misses(terminal_label(stmt))
 }
 
-/// Whether control may go to the statement (11.1, 11.4): it is executable, and no ELSE IF or ELSE (11.7, 11.8).
+/// Whether control may go to the statement (11.1, 11.2, 11.4): it is executable, and no ELSE IF or ELSE (11.7, 11.8).
 pub(crate) fn is_target(stmt: &Stmt) -> bool
     ensures { result ≡ clause.is_target (statement_of stmt.now) }
 {

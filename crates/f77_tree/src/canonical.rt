@@ -164,7 +164,7 @@ fn third(out: &mut String, step: &Option<Expr>) -> Result<(), AllocError>
     }
 }
 
-/// Writes labels, this text before the first and a comma before each other.
+/// Writes labels, a parenthesis before the first and a comma before each other.
 fn print_labels(out: &mut String, labels: &[u32]) -> Result<(), AllocError>
     ensures { OnOk result (string_bytes out.new ≡ string_bytes out.old ++ separated decimal (codes "(") labels.now) }
 {
