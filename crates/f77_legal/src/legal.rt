@@ -24,14 +24,14 @@ const MOST_NAMES: usize = 100;
 const MOST_ELEMENTS: u32 = 10_000;
 
 fn check_names(names: &Names, lines: &[Line]) -> Result<(), CheckFault>
-    ensures tells { IsNameTable names.now (map line_of lines.now) → Tells result (name_faults (map line_of lines.now)) }
+    ensures tells { IsNameTable names.now (map line_of lines.now) → TellsFirst result (name_faults (map line_of lines.now)) }
     ensures ok { IsNameTable names.now (map line_of lines.now) → name_faults (map line_of lines.now) ≡ [] → IsOk result }
 {
     if let Some(name) = names.first_real() {
-        return Err(CheckFault::RealName(name.clone()?));
+        return Err(CheckFault::RealName(*name));
     }
     if let Some(name) = names.first_twice(unit(lines)) {
-        return Err(CheckFault::Twice(name.clone()?));
+        return Err(CheckFault::Twice(*name));
     }
     Ok(())
 }

@@ -129,8 +129,7 @@ impl Names {
     {
         let mut facts = Facts::none(alloc);
         facts.note(alloc, said)?;
-        let key = name.clone()?;
-        self.facts.insert(key, facts)?;
+        self.facts.insert(*name, facts)?;
         Ok(())
     }
 

@@ -5,8 +5,7 @@ ghost use Rattle.f77_tree.specs.View.{Gives};
 ghost use Rattle.f77_tree.specs.StatementView.{IsStatement, IsReference};
 
 use crate::expression::{after_byte, closed, expression, list};
-use crate::scan::split_word;
-use f77_tree::characters::is_name;
+use f77_tree::characters::{is_name, split_word};
 use f77_tree::{Name, ReadError, Ref, Stmt};
 use std::alloc::Global;
 
@@ -18,7 +17,7 @@ fn reference(alloc: Global, text: &[u8]) -> Result<(Ref, &[u8]), ReadError>
     if !is_name(front) {
         return Err(ReadError::Unknown);
     }
-    let name = Name::copy_of(alloc, front)?;
+    let name = Name::beginning(front);
     let Some(inner) = after_byte(rest, b'(') else {
         let subscripts = Vec::new(alloc);
         return Ok((Ref { name, subscripts }, rest));

@@ -6,9 +6,9 @@ ghost use Rattle.f77_tree.specs.Data as initial;
 ghost use Rattle.f77_tree.specs.Data.{signed_at, truth_at, constant_at, clip_constant, kept, Finds};
 ghost use Rattle.f77_tree.specs.View.{clipped};
 
-use crate::scan::{number, split_word};
+use crate::scan::number;
 use f77_tree::Constant;
-use f77_tree::characters::is_number;
+use f77_tree::characters::{is_number, split_word};
 
 /// The number of this size, or -2147483648 where it is too large.
 fn above_zero(size: u32) -> i32

@@ -37,7 +37,7 @@ fn names(alloc: Global, text: &[u8]) -> Result<(Vec<Name>, &[u8]), ReadError>
     let mut names = Vec::new(alloc);
     let mut rest = text;
     loop {
-        let behind = add_name(alloc, &mut names, rest)?;
+        let behind = add_name(&mut names, rest)?;
         let Some(next) = after_byte(behind, b',') else {
             return Ok((names, behind));
         };

@@ -5,8 +5,8 @@ ghost use Rattle.f77_tree.specs.Declaration.{bounds_at, decl_at, declarations_at
 ghost use Rattle.f77_tree.specs.View.{Gives};
 
 use crate::expression::{after_byte, closed};
-use crate::scan::{number, split_word};
-use f77_tree::characters::{is_name, is_number};
+use crate::scan::number;
+use f77_tree::characters::{is_name, is_number, split_word};
 use f77_tree::{Decl, Name, ReadError};
 use std::alloc::Global;
 
@@ -38,7 +38,7 @@ fn declaration(alloc: Global, text: &[u8]) -> Result<(Decl, &[u8]), ReadError>
     if !is_name(front) {
         return Err(ReadError::Unknown);
     }
-    let name = Name::copy_of(alloc, front)?;
+    let name = Name::beginning(front);
     let Some(inner) = after_byte(rest, b'(') else {
         let bounds = Vec::new(alloc);
         return Ok((Decl { name, bounds }, rest));

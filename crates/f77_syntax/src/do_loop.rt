@@ -1,20 +1,21 @@
 //! DO statements read from texts.
 
-ghost use Rattle.std.specs.Prelude.{◌≡◌};
+ghost use Rattle.std.specs.Prelude.{◌≡◌, true, IfOk};
 ghost use Rattle.f77_tree.specs.DoLoop.{control_at, step_at, parameters_at, loop_at};
+ghost use Rattle.f77_tree.specs.Grammar.{is_name};
 ghost use Rattle.f77_tree.specs.View.{Gives};
 ghost use Rattle.f77_tree.specs.StatementView.{IsStatement, IsControl, IsStep};
 
 use crate::expression::{after_byte, expression, past_comma};
 use crate::label::label;
-use crate::scan::split_word;
-use f77_tree::characters::is_name;
+use f77_tree::characters::{is_name, split_word};
 use f77_tree::{Expr, Name, ReadError, Stmt};
 use std::alloc::Global;
 
-/// Reads the label and the DO variable, and what follows the equals sign.
-fn control(alloc: Global, text: &[u8]) -> Result<(u32, Name, &[u8]), ReadError>
-    ensures { Gives IsControl result (control_at text.now) }
+/// Reads the label and the name of the DO variable, and what follows the equals sign.
+fn control(text: &[u8]) -> Result<(u32, &[u8], &[u8]), ReadError>
+    ensures read { Gives IsControl result (control_at text.now) }
+    ensures named { IfOk result (λ x. is_name x.1.now ≡ true) }
 {
     let Some((label, behind)) = label(text) else {
         return Err(ReadError::Unknown);
@@ -26,7 +27,7 @@ fn control(alloc: Global, text: &[u8]) -> Result<(u32, Name, &[u8]), ReadError>
     let Some(parameters) = after_byte(rest, b'=') else {
         return Err(ReadError::Unknown);
     };
-    Ok((label, Name::copy_of(alloc, front)?, parameters))
+    Ok((label, front, parameters))
 }
 
 /// Reads the third parameter, where there is one.
@@ -47,8 +48,14 @@ fn step(alloc: Global, text: &[u8]) -> Result<Option<Expr>, ReadError>
 }
 
 /// Reads the parameters of a DO with this label and DO variable.
-fn parameters(alloc: Global, label: u32, variable: Name, text: &[u8]) -> Result<Stmt, ReadError>
-    ensures { Gives IsStatement result (parameters_at label variable text.now) }
+fn parameters(
+    alloc: Global,
+    label: u32,
+    variable: &[u8],
+    text: &[u8],
+) -> Result<Stmt, ReadError>
+    requires { is_name variable.now ≡ true }
+    ensures { Gives IsStatement result (parameters_at label variable.now text.now) }
 {
     let (first, behind) = expression(alloc, 1, text)?;
     let Some(rest) = after_byte(behind, b',') else {
@@ -58,7 +65,7 @@ fn parameters(alloc: Global, label: u32, variable: Name, text: &[u8]) -> Result<
     let step = step(alloc, rest)?;
     Ok(Stmt::Loop {
         label,
-        variable,
+        variable: Name::beginning(variable),
         first,
         last,
         step,
@@ -72,6 +79,6 @@ pub(crate) fn loop_statement(alloc: Global, text: &[u8]) -> Result<Stmt, ReadErr
     let Some(rest) = text.strip_prefix(b"DO") else {
         return Err(ReadError::Unknown);
     };
-    let (label, variable, rest) = control(alloc, rest)?;
+    let (label, variable, rest) = control(rest)?;
     parameters(alloc, label, variable, rest)
 }

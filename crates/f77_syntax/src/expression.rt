@@ -1,14 +1,16 @@
 //! Expressions read from texts, by recursive descent.
 
 ghost use Rattle.std.specs.Prelude.{◌≡◌, ◌<◌, ◌≤◌, true, length, map, codes, IfOk, option_map};
-ghost use Rattle.f77_tree.specs.Reading.{reading, close_at, after, word, past_word, start_at, enclosed_at, signed_at, negated_at, dotted_at, word_at, listed, past_comma};
+ghost use Rattle.f77_tree.specs.Reading.{reading, close_at, after, word, past_word, start_at, enclosed_at, signed_at, negated_at, dotted_at, word_at, listed_by, past_comma};
 ghost use Rattle.f77_tree.specs.Grammar.{is_name};
+ghost use Rattle.f77_tree.specs.Intrinsic.{function_named};
+ghost use Rattle.f77_tree.specs.Limits.{cut};
 ghost use Rattle.f77_tree.specs.View.{tree_of, trees, Gives, IsTree, IsStart, IsList};
 
-use crate::scan::{next_operator, number, split_word};
-use f77_tree::characters::{is_name, is_number};
+use crate::scan::{next_operator, number};
+use f77_tree::characters::{is_name, is_number, split_word};
 use f77_tree::{Expr, Intrinsic, Name, ReadError, Ref, Sign};
-use std::alloc::{AllocError, Global};
+use std::alloc::Global;
 
 /// Reads an expression of the wanted level or a tighter one, and what follows it.
 #[cycle(parser)]
@@ -115,28 +117,27 @@ fn operand(alloc: Global, text: &[u8]) -> Result<(Expr, u8, &[u8]), ReadError>
         return Err(ReadError::Unknown);
     }
     let Some(inner) = after_byte(rest, b'(') else {
-        let name = Name::copy_of(alloc, front)?;
+        let name = Name::beginning(front);
         let subscripts = Vec::new(alloc);
         return Ok((Expr::Reference(Ref { name, subscripts }), 9, rest));
     };
     let (items, after) = list(alloc, inner)?;
     let rest = closed(after)?;
-    Ok((with_list(alloc, front, items)?, 9, rest))
+    Ok((with_list(front, items), 9, rest))
 }
 
 /// A call of the function of this name, or else a reference.
-fn with_list(alloc: Global, name: &[u8], items: Vec<Expr>) -> Result<Expr, AllocError>
+fn with_list(name: &[u8], items: Vec<Expr>) -> Expr
     requires { is_name name.now ≡ true }
-    ensures { IfOk result (λ e. tree_of e ≡ listed name.now (trees (map tree_of items.items))) }
+    ensures { tree_of result ≡ listed_by (function_named name.now) (cut name.now) (trees (map tree_of items.items)) }
 {
-    if let Some(function) = Intrinsic::named(name) {
-        return Ok(Expr::Call(function, items));
+    match Intrinsic::named(name) {
+        Some(function) => Expr::Call(function, items),
+        None => Expr::Reference(Ref {
+            name: Name::beginning(name),
+            subscripts: items,
+        }),
     }
-    let name = Name::copy_of(alloc, name)?;
-    Ok(Expr::Reference(Ref {
-        name,
-        subscripts: items,
-    }))
 }
 
 /// Reads expressions joined by commas, and what follows them.

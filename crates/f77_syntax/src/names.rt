@@ -2,26 +2,24 @@
 
 ghost use Rattle.std.specs.Prelude.{◌≡◌, ◌≤◌, ◌++◌, [], ◌∷◌, length, IfOk};
 ghost use Rattle.f77_tree.specs.Declaration.{name_at};
+ghost use Rattle.f77_tree.specs.Limits.{cut};
 ghost use Rattle.f77_tree.specs.View.{Gives};
 
-use crate::scan::split_word;
-use f77_tree::characters::is_name;
+use f77_tree::characters::{is_name, split_word};
 use f77_tree::{Name, ReadError};
-use std::alloc::Global;
 
 /// Reads a name, puts it behind the others, and gives what follows it.
 pub(crate) fn add_name<'a>(
-    alloc: Global,
     names: &mut Vec<Name>,
     text: &'a [u8],
 ) -> Result<&'a [u8], ReadError>
-    ensures read { Gives (λ behind x. (names.new.items ≡ names.old.items ++ x.0 ∷ []) × (behind.now ≡ x.1)) result (name_at text.now) }
+    ensures read { Gives (λ behind x. (names.new.items ≡ names.old.items ++ cut x.0 ∷ []) × (behind.now ≡ x.1)) result (name_at text.now) }
     ensures short { IfOk result (λ behind. length behind.now ≤ length text.now) }
 {
     let (front, behind) = split_word(text);
     if !is_name(front) {
         return Err(ReadError::Unknown);
     }
-    names.push(Name::copy_of(alloc, front)?)?;
+    names.push(Name::beginning(front))?;
     Ok(behind)
 }

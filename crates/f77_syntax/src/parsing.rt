@@ -9,9 +9,10 @@ ghost use Rattle.f77_tree.specs.Tree.{Statement};
 ghost use Rattle.f77_tree.specs.StatementView.{statement_of, clip_statement};
 ghost use Rattle.f77_tree.specs.declared.group.Group.TheVariants.{End};
 
+use crate::name_lengths::has_short_names;
 use crate::statement::statement;
 use f77_source::Card;
-use f77_tree::limits::{is_too_deep, statement_constants, statement_names, statement_nodes};
+use f77_tree::limits::{is_too_deep, statement_constants, statement_nodes};
 use f77_tree::{Group, Line, Program, ReadError, Stmt, SyntaxFault, is_end};
 use std::alloc::Global;
 
@@ -45,7 +46,7 @@ pub(crate) fn admitted(alloc: Global, line: u32, text: &[u8]) -> Result<Stmt, Sy
         return Err(SyntaxFault::TooDeep(line));
     }
     let stmt = spelled(alloc, line, text)?;
-    if !statement_names(&stmt) {
+    if !has_short_names(&stmt, text) {
         return Err(SyntaxFault::BadName(line));
     }
     if !statement_constants(&stmt) {

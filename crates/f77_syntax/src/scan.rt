@@ -5,11 +5,11 @@ ghost use Rattle.std.specs.Str.Parse.{digits_value};
 ghost use Rattle.f77_tree.specs.Grammar as grammar;
 ghost use Rattle.f77_tree.specs.Reading as reading;
 ghost use Rattle.std.specs.List.{list_all};
-ghost use Rattle.f77_tree.specs.Reading.{word, past_word, digits, past_digits, operator_at};
+ghost use Rattle.f77_tree.specs.Reading.{digits, past_digits, operator_at};
 ghost use Rattle.f77_tree.specs.View.{clipped};
 
 use f77_tree::Operator;
-use f77_tree::characters::{is_digit, is_word};
+use f77_tree::characters::is_digit;
 
 const OPERATORS: [Operator; 15] = [
     Operator::Power,
@@ -28,20 +28,6 @@ const OPERATORS: [Operator; 15] = [
     Operator::Equivalent,
     Operator::NotEquivalent,
 ];
-
-/// The letters and digits at the front, and what follows them.
-pub(crate) fn split_word(text: &[u8]) -> (&[u8], &[u8])
-    ensures front { result.0.now ≡ word text.now }
-    ensures back { result.1.now ≡ past_word text.now }
-    ensures short { length result.1.now ≤ length text.now }
-{
-    for (i, c) in text.iter().enumerate() {
-        if !is_word(*c) {
-            return text.split_at(i);
-        }
-    }
-    text.split_at(text.len())
-}
 
 /// The digits at the front, and what follows them.
 pub(crate) fn split_digits(text: &[u8]) -> (&[u8], &[u8])

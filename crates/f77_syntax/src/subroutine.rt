@@ -7,8 +7,7 @@ ghost use Rattle.f77_tree.specs.StatementView.{IsStatement, AreNames};
 
 use crate::expression::after_byte;
 use crate::names::add_name;
-use crate::scan::split_word;
-use f77_tree::characters::is_name;
+use f77_tree::characters::{is_name, split_word};
 use f77_tree::{Name, ReadError, Stmt};
 use std::alloc::Global;
 
@@ -22,7 +21,7 @@ fn names(alloc: Global, text: &[u8]) -> Result<Vec<Name>, ReadError>
     }
     let mut rest = text;
     loop {
-        let behind = add_name(alloc, &mut names, rest)?;
+        let behind = add_name(&mut names, rest)?;
         if behind.is_empty() {
             return Ok(names);
         }
@@ -51,7 +50,7 @@ pub(crate) fn subroutine(alloc: Global, text: &[u8]) -> Result<Stmt, ReadError>
     if !is_name(front) {
         return Err(ReadError::Unknown);
     }
-    let name = Name::copy_of(alloc, front)?;
+    let name = Name::beginning(front);
     if rest.is_empty() {
         let arguments = Vec::new(alloc);
         return Ok(Stmt::Subroutine { name, arguments });

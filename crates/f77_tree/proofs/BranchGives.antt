@@ -30,6 +30,7 @@ use Rattle.f77_tree.specs.Classification.{behind, class_of}
 use Rattle.f77_tree.specs.Formed.{is_action}
 use Rattle.f77_tree.specs.declared.classification.Class.TheVariants.{Keyword}
 use Rattle.f77_tree.specs.Statement.{word_statement, goto_by, without_expression, simple_at, actions_only, simple_action_at, action_at, begins_digit, branch_at, else_at, declared_at, dimension_at, preset_at, specification_at}
+use Rattle.f77_tree.specs.Limits.{cut}
 use Rattle.f77_tree.specs.View.{tree_of, clip, clipped, Fails, Gives}
 use Rattle.f77_tree.specs.StatementView.{statement_of, clip_statement, IsStatement}
 use Rattle.f77_tree.proofs.Steps.{and_true, along, bind_ok}
@@ -292,12 +293,12 @@ module _ (label : ℕ) (name s : List ℕ) where
   parameters_fail_step a b rest r end e read at comma last behind f =
       rw (read, ← at, comma, last, ← behind) (fails_bind e (step_at end) (λ c. Some (Statement.Loop label name a.0 b.0 c)) f)
 
-  pub parameters_whole : (a b : Tree × List ℕ) (rest r end : List ℕ) (c : Option Tree) (first last : Expr) (third : Option Expr) → reading.expr 1 s ≡ Some a → tree_of first ≡ clip a.0
+  pub parameters_whole : (a b : Tree × List ℕ) (rest r end : List ℕ) (c : Option Tree) (got : List ℕ) (first last : Expr) (third : Option Expr) → got ≡ cut name → reading.expr 1 s ≡ Some a → tree_of first ≡ clip a.0
       → rest ≡ a.1 → after 44 rest ≡ Some r → reading.expr 1 r ≡ Some b → tree_of last ≡ clip b.0 → end ≡ b.1 → step_at end ≡ Some c → option_map tree_of third ≡ option_map clip c
-      → (u : Statement) × (parameters_at label name s ≡ Some u) × (statement_of (forms.Loop label name first last third) ≡ clip_statement u)
+      → (u : Statement) × (parameters_at label name s ≡ Some u) × (statement_of (forms.Loop label got first last third) ≡ clip_statement u)
   unfolding parameters_at
-  parameters_whole a b rest r end c first last third read one at comma more two behind stepped three =
-      (Statement.Loop label name a.0 b.0 c, rw (read, ← at, comma, more, ← behind, stepped) refl, loop_view label name first last third ∙ rw (one, two, three) refl)
+  parameters_whole a b rest r end c got first last third named read one at comma more two behind stepped three =
+      (Statement.Loop label name a.0 b.0 c, rw (read, ← at, comma, more, ← behind, stepped) refl, loop_view label got first last third ∙ rw (named, one, two, three) refl)
 
 module _ (s : List ℕ) where
   pub loop_none : strip (codes "DO") s ≡ None → loop_at s ≡ None

@@ -1,26 +1,13 @@
--- Keeping a tree changes no limit, and within the limits it changes nothing.
-use Rattle.std.proofs.Common.{arith, ◌≡◌, ℕ, Bool, true, false, refl, ap}
-use Rattle.std.specs.Prelude.{nat_le}
+-- Keeping a tree changes no constant's limit and no node, and within the limits it changes nothing.
+use Rattle.std.proofs.Common.{arith, ◌≡◌, ◌≤◌, ℕ, List, [], ◌∷◌, length, Bool, true, false, refl, ap}
+use Rattle.std.specs.Prelude.{nat_le, map}
+use Rattle.std.specs.List.{list_all}
 use Rattle.std.proofs.lemmas.Bool.Decides.{nat_tests}
+use Rattle.std.proofs.lemmas.List.{take_all}
 use Rattle.f77_tree.specs.Tree.{Tree, Trees}
 use Rattle.f77_tree.specs.View.{clipped, clip, clip_all}
-use Rattle.f77_tree.specs.Limits.{short_names, all_short_names, small_constants, all_small_constants, nodes, all_nodes}
+use Rattle.f77_tree.specs.Limits.{is_short, cut, short_names, all_short_names, small_constants, all_small_constants, nodes, all_nodes}
 use Rattle.f77_tree.proofs.Steps.{and_true}
-
-mutual
-  pub names_clip : (t : Tree) → short_names (clip t) ≡ short_names t
-  names_clip (Tree.Number n) = refl
-  names_clip (Tree.Truth b) = refl
-  names_clip (Tree.Reference name items) = rw (all_names_clip items) refl
-  names_clip (Tree.Call f items) = all_names_clip items
-  names_clip (Tree.Signed sign t) = names_clip t
-  names_clip (Tree.Not t) = names_clip t
-  names_clip (Tree.Binary op a b) = rw (names_clip a) (rw (names_clip b) refl)
-  names_clip (Tree.ZeroPush t) = names_clip t
-
-  pub all_names_clip : (ts : Trees) → all_short_names (clip_all ts) ≡ all_short_names ts
-  all_names_clip Trees.None = refl
-  all_names_clip (Trees.Then t ts) = rw (names_clip t) (rw (all_names_clip ts) refl)
 
 pub constant_clip : (n : ℕ) → nat_le (clipped n) 2147483647 ≡ nat_le n 2147483647
 constant_clip n = either (nat_le n 2147483647) refl
@@ -62,17 +49,29 @@ mutual
 pub small_clipped : (n : ℕ) → nat_le n 2147483647 ≡ true → clipped n ≡ n
 small_clipped n e = grind (arith, nat_tests)
 
-mutual
-  pub kept : (t : Tree) → small_constants t ≡ true → clip t ≡ t
-  kept (Tree.Number n) h = ap Tree.Number (small_clipped n h)
-  kept (Tree.Truth b) h = refl
-  kept (Tree.Reference name items) h = rw (all_kept items h) refl
-  kept (Tree.Call f items) h = rw (all_kept items h) refl
-  kept (Tree.Signed sign t) h = rw (kept t h) refl
-  kept (Tree.Not t) h = rw (kept t h) refl
-  kept (Tree.Binary op a b) h = let (l, r) = and_true (small_constants a) (small_constants b) h in rw (kept a l) (rw (kept b r) refl)
-  kept (Tree.ZeroPush t) h = rw (kept t h) refl
+pub short_cut : (name : List ℕ) → is_short name ≡ true → cut name ≡ name
+short_cut name e = let few : length name ≤ 6 = grind (arith, nat_tests) in take_all 6 name few
 
-  pub all_kept : (ts : Trees) → all_small_constants ts ≡ true → clip_all ts ≡ ts
-  all_kept Trees.None h = refl
-  all_kept (Trees.Then t ts) h = let (l, r) = and_true (small_constants t) (all_small_constants ts) h in rw (kept t l) (rw (all_kept ts r) refl)
+pub short_cuts : (names : List (List ℕ)) → list_all is_short names ≡ true → map cut names ≡ names
+short_cuts [] h = refl
+short_cuts (name ∷ names) h = let (first, others) = and_true (is_short name) (list_all is_short names) h in rw (short_cut name first, short_cuts names others) refl
+
+mutual
+  pub kept : (t : Tree) → short_names t ≡ true → small_constants t ≡ true → clip t ≡ t
+  kept (Tree.Number n) s h = ap Tree.Number (small_clipped n h)
+  kept (Tree.Truth b) s h = refl
+  kept (Tree.Reference name items) s h =
+      let (first, others) = and_true (is_short name) (all_short_names items) s in rw (short_cut name first, all_kept items others h) refl
+  kept (Tree.Call f items) s h = rw (all_kept items s h) refl
+  kept (Tree.Signed sign t) s h = rw (kept t s h) refl
+  kept (Tree.Not t) s h = rw (kept t s h) refl
+  kept (Tree.Binary op a b) s h =
+      let (left, right) = and_true (short_names a) (short_names b) s in
+      let (l, r) = and_true (small_constants a) (small_constants b) h in rw (kept a left l) (rw (kept b right r) refl)
+  kept (Tree.ZeroPush t) s h = rw (kept t s h) refl
+
+  pub all_kept : (ts : Trees) → all_short_names ts ≡ true → all_small_constants ts ≡ true → clip_all ts ≡ ts
+  all_kept Trees.None s h = refl
+  all_kept (Trees.Then t ts) s h =
+      let (first, others) = and_true (short_names t) (all_short_names ts) s in
+      let (l, r) = and_true (small_constants t) (all_small_constants ts) h in rw (kept t first l) (rw (all_kept ts others r) refl)

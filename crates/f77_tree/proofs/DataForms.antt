@@ -13,13 +13,13 @@ use Rattle.f77_tree.specs.declared.data.Value.{Value}
 use Rattle.f77_tree.specs.Grammar.{is_name, truth_text}
 use Rattle.f77_tree.proofs.WordTexts.{is_equals}
 use Rattle.f77_tree.specs.View.{clipped}
-use Rattle.f77_tree.specs.Limits.{largest}
+use Rattle.f77_tree.specs.Limits.{cut, largest}
 use Rattle.f77_tree.specs.Joined.{Joined, some_all, separated}
 use Rattle.f77_tree.specs.Declaration.{SpellsName}
 use Rattle.f77_tree.specs.Tree.{GroupFields}
 use Rattle.f77_tree.specs.Data.{size, SpellsConstant, SpellsValue, SpellsGroup, SpellsGroups, kept, clip_constant, clip_value, clip_group, any_value, is_group, data_formed, group_names, small_constant, small_value, group_constants, data_names, data_constants, data_nodes, constant_text, repeat_text, value_text, name_text, group_text, groups_text}
 use Rattle.f77_tree.proofs.Steps.{and_true}
-use Rattle.f77_tree.proofs.Clip.{constant_clip, small_clipped}
+use Rattle.f77_tree.proofs.Clip.{constant_clip, small_clipped, short_cuts}
 use Rattle.f77_tree.proofs.Complete.{name_words}
 use Rattle.f77_tree.proofs.WordTexts.{words_no_equals}
 use Rattle.f77_tree.proofs.Plain.{IsPlain, both, plain_name, plain_decimal}
@@ -215,33 +215,20 @@ values_same : (vs : List Value) → list_all small_value vs ≡ true → map cli
 values_same [] h = refl
 values_same (v ∷ vs) h = let (first, others) = and_true (small_value v) (list_all small_value vs) h in rw (value_same v first, values_same vs others) refl
 
-values_some : (vs : List Value) → some_all any_value (map clip_value vs) ≡ some_all any_value vs
-values_some [] = refl
-values_some (v ∷ vs) = list_all-map any_value clip_value (v ∷ vs)
-
-groups_some : (gs : List GroupFields) → list_all is_group (map clip_group gs) ≡ list_all is_group gs
-groups_some [] = refl
-groups_some (g ∷ gs) = rw (values_some g.values, groups_some gs) refl
-
-pub data_formed_clip : (gs : List GroupFields) → data_formed (map clip_group gs) ≡ data_formed gs
-data_formed_clip [] = refl
-data_formed_clip (g ∷ gs) = groups_some (g ∷ gs)
-
-pub data_names_clip : (gs : List GroupFields) → data_names (map clip_group gs) ≡ data_names gs
-data_names_clip gs = list_all-map group_names clip_group gs
-
 pub data_constants_clip : (gs : List GroupFields) → data_constants (map clip_group gs) ≡ data_constants gs
 data_constants_clip [] = refl
 data_constants_clip (g ∷ gs) = rw (values_limit g.values, data_constants_clip gs) refl
 
 pub data_nodes_clip : (gs : List GroupFields) → data_nodes (map clip_group gs) ≡ data_nodes gs
 data_nodes_clip [] = refl
-data_nodes_clip (g ∷ gs) = rw (length-map g.values clip_value, data_nodes_clip gs) refl
+data_nodes_clip (g ∷ gs) = rw (length-map g.names cut, length-map g.values clip_value, data_nodes_clip gs) refl
 
-pub data_kept : (gs : List GroupFields) → data_constants gs ≡ true → map clip_group gs ≡ gs
-data_kept [] h = refl
-data_kept (g ∷ gs) h =
-    let (first, others) = and_true (group_constants g) (data_constants gs) h in rw (values_same g.values first, data_kept gs others) refl
+pub data_kept : (gs : List GroupFields) → data_names gs ≡ true → data_constants gs ≡ true → map clip_group gs ≡ gs
+data_kept [] n h = refl
+data_kept (g ∷ gs) n h =
+    let (named, others_named) = and_true (group_names g) (data_names gs) n in
+    let (first, others) = and_true (group_constants g) (data_constants gs) h in
+    rw (short_cuts g.names named, values_same g.values first, data_kept gs others_named others) refl
 
 -- what the code finds of values
 pub some_values : (values : List Value) (b : Bool) → b ≡ (length values == 0) → not b ≡ some_all any_value values

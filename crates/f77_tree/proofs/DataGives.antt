@@ -9,6 +9,7 @@ use Rattle.f77_tree.specs.declared.data.Value.{Value}
 use Rattle.f77_tree.specs.declared.data.DataGroup.{DataGroup}
 use Rattle.f77_tree.specs.Grammar.{is_name}
 use Rattle.f77_tree.specs.Reading.{◌>>=◌, word, past_word, after, past_comma}
+use Rattle.f77_tree.specs.Limits.{cut}
 use Rattle.f77_tree.specs.View.{clipped, Fails}
 use Rattle.f77_tree.specs.Declaration.{name_at, number_at}
 use Rattle.f77_tree.specs.Tree.{GroupFields}
@@ -145,7 +146,7 @@ group_fails_close s behind inner end x v e found is slash valued at f =
 
 pub group_whole : (s behind inner end rest z : List ℕ) (names : List (List ℕ)) (values : List Value) (x : List (List ℕ) × List ℕ) (v : List Value × List ℕ)
     → data_names_at s ≡ Some x → behind ≡ x.1 → after 47 behind ≡ Some inner → data_values_at inner ≡ Some v → end ≡ v.1 → after 47 end ≡ Some z
-    → names ≡ x.0 → values ≡ map clip_value v.0 → rest ≡ z
+    → names ≡ map cut x.0 → values ≡ map clip_value v.0 → rest ≡ z
     → (y : GroupFields × List ℕ) × (group_at s ≡ Some y) × ((group_fields names values ≡ clip_group y.0) × (rest ≡ y.1))
 group_whole s behind inner end rest z names values x v found is slash valued at close named same last =
     ((group_fields x.0 v.0, z), group_opened s behind inner x found is slash ∙ ap (λ o. o >>= closing x.0) valued ∙ closes v.1 (sym at) close, (rw (named, same) refl, last))

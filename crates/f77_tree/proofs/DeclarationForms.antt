@@ -14,7 +14,7 @@ use Rattle.f77_tree.specs.Declaration.{SpellsNumber, SpellsDecl, SpellsDecls, cl
 use Rattle.f77_tree.proofs.Steps.{and_true}
 use Rattle.f77_tree.proofs.Back.{decimal_number, small}
 use Rattle.f77_tree.proofs.Forming.{numeral}
-use Rattle.f77_tree.proofs.Clip.{constant_clip, small_clipped}
+use Rattle.f77_tree.proofs.Clip.{constant_clip, small_clipped, short_cut}
 use Rattle.f77_tree.proofs.Complete.{name_words}
 use Rattle.f77_tree.proofs.WordTexts.{words_no_equals}
 use Rattle.f77_tree.proofs.Plain.{IsPlain, both, plain_name, plain_decimal}
@@ -102,7 +102,7 @@ decl_no_equals text d (SpellsDecl.array {name = name} {text = inner} n p) =
 pub declaration_no_equals : {text : List ℕ} {ds : List DeclFields} → SpellsDecls text ds → list_any is_equals text ≡ false
 declaration_no_equals p = joined_no_equals decl_no_equals p
 
--- Keeping them changes no limit, and within the limits it changes nothing.
+-- Keeping them changes no bound's limit and no node, and within the limits it changes nothing.
 bounds_clip : (bounds : List ℕ) → list_all small_bound (map clipped bounds) ≡ list_all small_bound bounds
 bounds_clip [] = refl
 bounds_clip (b ∷ bs) = rw (constant_clip b, bounds_clip bs) refl
@@ -112,16 +112,9 @@ bounds_kept [] h = refl
 bounds_kept (b ∷ bs) h =
     let (first, others) = and_true (small_bound b) (list_all small_bound bs) h in rw (small_clipped b first, bounds_kept bs others) refl
 
-pub declaration_formed_clip : (ds : List DeclFields) → declaration_formed (map clip_decl ds) ≡ declaration_formed ds
-declaration_formed_clip [] = refl
-declaration_formed_clip (d ∷ ds) = list_all-map is_decl clip_decl (d ∷ ds)
-
 pub all_bounded_clip : (ds : List DeclFields) → all_bounded (map clip_decl ds) ≡ all_bounded ds
 all_bounded_clip [] = refl
 all_bounded_clip (d ∷ ds) = rw (length-map d.bounds clipped, all_bounded_clip ds) refl
-
-pub declaration_names_clip : (ds : List DeclFields) → declaration_names (map clip_decl ds) ≡ declaration_names ds
-declaration_names_clip ds = list_all-map decl_name clip_decl ds
 
 pub declaration_constants_clip : (ds : List DeclFields) → declaration_constants (map clip_decl ds) ≡ declaration_constants ds
 declaration_constants_clip [] = refl
@@ -130,7 +123,9 @@ declaration_constants_clip (d ∷ ds) = rw (bounds_clip d.bounds, declaration_co
 pub declaration_nodes_clip : (ds : List DeclFields) → declaration_nodes (map clip_decl ds) ≡ declaration_nodes ds
 declaration_nodes_clip ds = length-map ds clip_decl
 
-pub declaration_kept : (ds : List DeclFields) → declaration_constants ds ≡ true → map clip_decl ds ≡ ds
-declaration_kept [] h = refl
-declaration_kept (d ∷ ds) h =
-    let (first, others) = and_true (decl_constants d) (declaration_constants ds) h in rw (bounds_kept d.bounds first, declaration_kept ds others) refl
+pub declaration_kept : (ds : List DeclFields) → declaration_names ds ≡ true → declaration_constants ds ≡ true → map clip_decl ds ≡ ds
+declaration_kept [] n h = refl
+declaration_kept (d ∷ ds) n h =
+    let (named, others_named) = and_true (decl_name d) (declaration_names ds) n in
+    let (first, others) = and_true (decl_constants d) (declaration_constants ds) h in
+    rw (short_cut d.name named, bounds_kept d.bounds first, declaration_kept ds others_named others) refl

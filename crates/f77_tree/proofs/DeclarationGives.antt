@@ -9,6 +9,7 @@ use Rattle.f77_tree.specs.declared.declaration.Decl.{Decl}
 use Rattle.f77_tree.specs.Grammar.{is_name, is_number}
 use Rattle.f77_tree.specs.Reading.{◌>>=◌, word, past_word, after, close_at}
 use Rattle.f77_tree.specs.Assignment.{ended}
+use Rattle.f77_tree.specs.Limits.{cut}
 use Rattle.f77_tree.specs.View.{clipped, Fails}
 use Rattle.f77_tree.specs.Joined.{items_at}
 use Rattle.f77_tree.specs.Tree.{DeclFields}
@@ -39,10 +40,10 @@ fields name bounds = record { name = name; bounds = bounds }
 same_fields : (name other bounds others : List ℕ) → name ≡ other → bounds ≡ others → fields name bounds ≡ fields other others
 same_fields name other bounds others e f = rw (e, f) refl
 
-pub decl_scalar : (s rest name bounds : List ℕ) → is_name (word s) ≡ true → after 40 (past_word s) ≡ None → name ≡ word s → bounds ≡ [] → rest ≡ past_word s
+pub decl_scalar : (s rest name bounds : List ℕ) → is_name (word s) ≡ true → after 40 (past_word s) ≡ None → name ≡ cut (word s) → bounds ≡ [] → rest ≡ past_word s
     → (x : DeclFields × List ℕ) × (decl_at s ≡ Some x) × ((fields name bounds ≡ clip_decl x.0) × (rest ≡ x.1))
 decl_scalar s rest name bounds n h named none end =
-    ((record { name = word s; bounds = [] }, past_word s), decl_behind s None n h, (same_fields name (word s) bounds [] named none, end))
+    ((record { name = word s; bounds = [] }, past_word s), decl_behind s None n h, (same_fields name (cut (word s)) bounds [] named none, end))
 
 pub decl_fails_bounds : (s inner : List ℕ) (e : ReadError) → is_name (word s) ≡ true → after 40 (past_word s) ≡ Some inner → Fails e (bounds_at inner) → Fails e (decl_at s)
 decl_fails_bounds s inner e n h f =
@@ -54,10 +55,10 @@ decl_fails_close s inner behind x e n h found end f =
     subst (Fails e) (sym (decl_behind s (Some inner) n h ∙ rw found refl)) (fails_bind e (close_at x.1) (λ z. Some (record { name = word s; bounds = x.0 }, z)) (rw end at f))
 
 pub decl_array : (s inner behind rest name bounds z : List ℕ) (x : List ℕ × List ℕ) → is_name (word s) ≡ true → after 40 (past_word s) ≡ Some inner
-    → bounds_at inner ≡ Some x → behind ≡ x.1 → close_at behind ≡ Some z → name ≡ word s → bounds ≡ map clipped x.0 → rest ≡ z
+    → bounds_at inner ≡ Some x → behind ≡ x.1 → close_at behind ≡ Some z → name ≡ cut (word s) → bounds ≡ map clipped x.0 → rest ≡ z
     → (y : DeclFields × List ℕ) × (decl_at s ≡ Some y) × ((fields name bounds ≡ clip_decl y.0) × (rest ≡ y.1))
 decl_array s inner behind rest name bounds z x n h found end close named same at =
-    ((record { name = word s; bounds = x.0 }, z), decl_behind s (Some inner) n h ∙ rw (found, ← end, close) refl, (same_fields name (word s) bounds (map clipped x.0) named same, at))
+    ((record { name = word s; bounds = x.0 }, z), decl_behind s (Some inner) n h ∙ rw (found, ← end, close) refl, (same_fields name (cut (word s)) bounds (map clipped x.0) named same, at))
 
 pub decl_shorter : (s rest : List ℕ) (x : DeclFields × List ℕ) → decl_at s ≡ Some x → rest ≡ x.1 → length rest ≤ length s
 decl_shorter s rest x e end = rw end (fronts_short (decl_is s x e))

@@ -20,6 +20,7 @@ use Rattle.f77_tree.specs.declared.tree.Expr.TheVariants.{Number, Truth}
 use Rattle.f77_tree.specs.declared.intrinsic.Intrinsic.{Intrinsic}
 use Rattle.f77_tree.specs.Intrinsic.{function_named}
 use Rattle.f77_tree.specs.Grammar.{is_name, is_number}
+use Rattle.f77_tree.specs.Limits.{cut}
 use Rattle.f77_tree.specs.Tree.{Tree, Trees}
 use Rattle.f77_tree.specs.View.{tree_of, trees, clip, clip_all, clipped, Fails, Gives, IsTree, IsStart}
 use Rattle.f77_tree.specs.Reading.{◌>>=◌, strip, word, past_word, operator_at, after, close_at, closed, enclosed_at, signed_at, negated_at, dotted_at, listed_by, listed, named_at, word_at, start_at, expr_at, climb_on, climb_at, more_at, items_at, reading}
@@ -178,9 +179,9 @@ pub number_whole : (name rest : List ℕ) (n : ℕ) → is_number name ≡ true 
     → (y : Tree × ℕ × List ℕ) × (word_at reading name rest ≡ Some y) × ((tree_of (Number n) ≡ clip y.0) × (9 ≡ y.1) × (rest ≡ y.2))
 number_whole name rest n e same = ((Tree.Number (digits_value 10 name), 9, rest), rw e refl, (number_view n ∙ ap Tree.Number same, refl, refl))
 
-pub scalar_whole : (name rest : List ℕ) (r : Ref) → is_number name ≡ false → is_name name ≡ true → named_at reading name rest ≡ Some (Tree.Reference name Trees.None, 9, rest) → r.name ≡ name → r.subscripts.items ≡ []
+pub scalar_whole : (name rest : List ℕ) (r : Ref) → is_number name ≡ false → is_name name ≡ true → named_at reading name rest ≡ Some (Tree.Reference name Trees.None, 9, rest) → r.name ≡ cut name → r.subscripts.items ≡ []
     → (y : Tree × ℕ × List ℕ) × (word_at reading name rest ≡ Some y) × ((tree_of (views.Reference r) ≡ clip y.0) × (9 ≡ y.1) × (rest ≡ y.2))
-scalar_whole name rest r e n h a b = ((Tree.Reference name Trees.None, 9, rest), rw (e, n) h, (reference_view r ∙ ap (λ z. Tree.Reference z (trees (map tree_of r.subscripts.items))) a ∙ ap (λ z. Tree.Reference name (trees (map tree_of z))) b, refl, refl))
+scalar_whole name rest r e n h a b = ((Tree.Reference name Trees.None, 9, rest), rw (e, n) h, (reference_view r ∙ ap (λ z. Tree.Reference z (trees (map tree_of r.subscripts.items))) a ∙ ap (λ z. Tree.Reference (cut name) (trees (map tree_of z))) b, refl, refl))
 
 -- no list follows a name
 pub alone_at : (name rest : List ℕ) → after 40 rest ≡ None → named_at reading name rest ≡ Some (Tree.Reference name Trees.None, 9, rest)
@@ -217,19 +218,19 @@ scalar_end name = refl
 pub scalar_before : (name : List ℕ) (c : ℕ) (s : List ℕ) → (c == 40) ≡ false → named_at reading name (c ∷ s) ≡ Some (Tree.Reference name Trees.None, 9, c ∷ s)
 scalar_before name c s h = rw h refl
 
-clip_listed : (name : List ℕ) (items : Trees) → clip (listed name items) ≡ listed name (clip_all items)
+clip_listed : (name : List ℕ) (items : Trees) → clip (listed name items) ≡ listed_by (function_named name) (cut name) (clip_all items)
 clip_listed name items = by_name (function_named name)
   where
-    by_name : (o : Option Intrinsic) → clip (listed_by o name items) ≡ listed_by o name (clip_all items)
+    by_name : (o : Option Intrinsic) → clip (listed_by o name items) ≡ listed_by o (cut name) (clip_all items)
     by_name None = refl
     by_name (Some f) = refl
 
 pub listed_whole : (name inner behind rest : List ℕ) (got : Tree) (items : List Expr) (x : Trees × List ℕ) → is_number name ≡ false → is_name name ≡ true
     → reading.items inner ≡ Some x → trees (map tree_of items) ≡ clip_all x.0 → behind ≡ x.1 → close_at behind ≡ Some rest
-    → got ≡ listed name (trees (map tree_of items))
+    → got ≡ listed_by (function_named name) (cut name) (trees (map tree_of items))
     → (y : Tree × ℕ × List ℕ) × (word_at reading name (40 ∷ inner) ≡ Some y) × ((got ≡ clip y.0) × (9 ≡ y.1) × (rest ≡ y.2))
 listed_whole name inner behind rest got items x e n found same end close is =
-    ((listed name x.0, 9, rest), rw (e, n, found, ← end, close) refl, (is ∙ ap (listed name) same ∙ sym (clip_listed name x.0), refl, refl))
+    ((listed name x.0, 9, rest), rw (e, n, found, ← end, close) refl, (is ∙ ap (listed_by (function_named name) (cut name)) same ∙ sym (clip_listed name x.0), refl, refl))
 
 -- lists
 item_equation : (s : List ℕ) → reading.items s ≡ (reading.expr 1 s >>= λ x. more_at reading x.0 x.1)

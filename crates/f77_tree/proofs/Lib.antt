@@ -50,3 +50,4 @@ pub mod ItemTests
 pub mod NodeStatements
 pub mod NodeCounts
 pub mod Copies
+pub mod Names

@@ -15,6 +15,7 @@ use Rattle.f77_tree.specs.declared.group.Group.{Group}
 use Rattle.f77_tree.specs.StatementGrammar.{IsFormed}
 use Rattle.f77_tree.specs.Canonical.{statement_text}
 use Rattle.f77_tree.specs.Formed.{statement_formed}
+use Rattle.f77_tree.specs.StatementLimits.{statement_names}
 use Rattle.f77_tree.specs.Parsing.{IsAdmitted, LineFields, AreLines, IsProgram, line_with}
 use Rattle.f77_tree.specs.Printing.{card_of, printed, print_fault, print_faults, told, KeepsLimits, AreAlike, unnumbered, ReadsBack}
 use Rattle.f77_tree.proofs.StatementForming.{is_formed}
@@ -28,7 +29,7 @@ AreFormed (line ∷ lines) = (statement_formed line.stmt ≡ true) × AreFormed 
 
 pub program_formed : {before : Option Group} {lines : List LineFields} → IsProgram before lines → AreFormed lines
 program_formed IsProgram.finished = tt
-program_formed (IsProgram.next {line = line} may rest) = (is_formed line.stmt may.1, program_formed rest)
+program_formed (IsProgram.next {line = line} may rest) = (is_formed line.stmt may.1.0, program_formed rest)
 
 -- a line's fault is that of its card
 line_told : (line : LineFields) → statement_formed line.stmt ≡ true → option_map told (card_fault (card_of line)) ≡ print_fault line
@@ -92,12 +93,12 @@ few_lines card p e = step (is_bad_label card.label) (nat_lt 19 (continuation_cou
     step false true is f = cc
     step false false is f = let few = ltb-false 19 (continuation_count card.text) is in omega arith
 
-admitted : (line : LineFields) → IsFormed line.stmt → KeepsLimits line.stmt → card_fault (card_of line) ≡ None → IsAdmitted (squeezed (statement_text line.stmt)) line.stmt
-admitted line f k e = record {
+admitted : (line : LineFields) → IsFormed line.stmt → statement_names line.stmt ≡ true → KeepsLimits line.stmt → card_fault (card_of line) ≡ None → IsAdmitted (squeezed (statement_text line.stmt)) line.stmt
+admitted line f n k e = record {
   characters = let few = few_lines (card_of line) (printable_statement line.stmt (is_formed line.stmt f)) e in omega (arith, squeezed_short (statement_text line.stmt));
   flat = k.flat;
   spells = reads_back line.stmt f k.unmutated k.constants;
-  names = k.names;
+  names = n;
   constants = k.constants;
   nodes = k.nodes;
 }
@@ -120,7 +121,7 @@ read_again (IsProgram.next {line = line} {lines = lines} may rest) keeps none (c
     let more_texts : map (λ card. card.text) read ≡ map (λ card. squeezed card.text) (map card_of lines) = cc in
     let (found, are, alike) = read_again rest (All-tail (λ line. KeepsLimits line.stmt) line lines keeps) others read more_labels more_texts in
     let is : IsAdmitted card.text line.stmt =
-    subst (λ z. IsAdmitted z line.stmt) (sym text) (admitted line may.1 (All-head (λ line. KeepsLimits line.stmt) line lines keeps) first) in
+    subst (λ z. IsAdmitted z line.stmt) (sym text) (admitted line may.1.0 may.1.1 (All-head (λ line. KeepsLimits line.stmt) line lines keeps) first) in
     (line_with card line.stmt ∷ found, AreLines.next line.stmt is may.0 are, ap (λ z. (z, line.stmt) ∷ map unnumbered found) label ∙ ap (λ z. (line.label, line.stmt) ∷ z) alike)
 
 pub prints_back : (source : List ℕ) (lines : List LineFields) → IsProgram None lines → card_faults (map card_of lines) ≡ [] → source ≡ printed lines

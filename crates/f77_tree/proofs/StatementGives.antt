@@ -5,6 +5,7 @@ use Rattle.std.specs.List.{list_all, slice_split, onto_first}
 use Rattle.std.proofs.lemmas.Option.{none-some}
 use Rattle.std.proofs.lemmas.Bool.Decides.{nat_tests}
 use Rattle.std.proofs.lemmas.Bool.{eqb-true}
+use Rattle.std.proofs.lemmas.List.{map-append}
 use Rattle.std.proofs.lemmas.List.Folds.{list_all-append}
 use Rattle.std.proofs.lemmas.List.Splits.{slice_split-cons_yes, slice_split-cons_no, slice_split_at, slice_split_none}
 use Rattle.f77_tree.specs.declared.fault.ReadError.{ReadError}
@@ -12,6 +13,7 @@ use Rattle.f77_tree.specs.declared.tree.Expr.{Expr}
 use Rattle.f77_tree.specs.declared.tree.Ref.{Ref}
 use Rattle.f77_tree.specs.Tree.{Tree, Trees, Statement}
 use Rattle.f77_tree.specs.Grammar.{is_word, is_name}
+use Rattle.f77_tree.specs.Limits.{cut}
 use Rattle.f77_tree.specs.Reading.{◌>>=◌, word, past_word, after, close_at, reading}
 use Rattle.f77_tree.specs.Assignment.{ended, reference_behind, reference_at, value_at, assign_at}
 use Rattle.f77_tree.specs.Subroutine.{is_comma, names_at, before_close, arguments_at, subroutine_at}
@@ -69,8 +71,8 @@ reference_element s inner after_it z x n h found end close = reference_list s in
 
 -- the reference that is made
 pub reference_whole : (s rest : List ℕ) (r : Ref) (x : List ℕ × Trees × List ℕ) → reference_at s ≡ Some x
-    → r.name ≡ x.0 → trees (map tree_of r.subscripts.items) ≡ clip_all x.1 → rest ≡ x.2
-    → (y : List ℕ × Trees × List ℕ) × (reference_at s ≡ Some y) × (((place_of r).0 ≡ y.0) × (trees (place_of r).1 ≡ clip_all y.1) × (rest ≡ y.2))
+    → r.name ≡ cut x.0 → trees (map tree_of r.subscripts.items) ≡ clip_all x.1 → rest ≡ x.2
+    → (y : List ℕ × Trees × List ℕ) × (reference_at s ≡ Some y) × (((place_of r).0 ≡ cut y.0) × (trees (place_of r).1 ≡ clip_all y.1) × (rest ≡ y.2))
 reference_whole s rest r x e named same end =
     (x, e, (ap (λ p. p.0) (ref_view r) ∙ named, ap (λ p. trees p.1) (ref_view r) ∙ same, end))
 
@@ -96,7 +98,7 @@ unfolding assign_at
 assign_more s behind y end x v found is h read at some = rw (found, ← is, h, read, ← at, some) refl
 
 pub assign_whole : (s behind y end : List ℕ) (x : List ℕ × Trees × List ℕ) (v : Tree × List ℕ) (target : Ref) (value : Expr)
-    → reference_at s ≡ Some x → (place_of target).0 ≡ x.0 → trees (place_of target).1 ≡ clip_all x.1 → behind ≡ x.2 → after 61 behind ≡ Some y
+    → reference_at s ≡ Some x → (place_of target).0 ≡ cut x.0 → trees (place_of target).1 ≡ clip_all x.1 → behind ≡ x.2 → after 61 behind ≡ Some y
     → reading.expr 1 y ≡ Some v → tree_of value ≡ clip v.0 → end ≡ v.1 → (length end == 0) ≡ true
     → (t : Statement) × (assign_at s ≡ Some t) × (Statement.Assign (place_of target).0 (trees (place_of target).1) (tree_of value) ≡ clip_statement t)
 unfolding assign_at
@@ -132,9 +134,12 @@ first_piece (c ∷ s) = by_comma (is_comma c) refl (first_piece s)
           words = λ h. let t = and_true (is_word c) (list_all is_word ih.piece) h in let w = ih.words t.1 in (rw t.0 (ap (λ z. c ∷ z) w.0), rw t.0 w.1);
         }
 
+-- The names so far, of those in front, and then those that stand behind them.
 pub record Naming (names : List (List ℕ)) (rest text : List ℕ) : Type 0 where
-  pub split : slice_split is_comma text ≡ names ++ slice_split is_comma rest
-  pub named : list_all is_name names ≡ true
+  pub front : List (List ℕ)
+  pub same : names ≡ map cut front
+  pub split : slice_split is_comma text ≡ front ++ slice_split is_comma rest
+  pub named : list_all is_name front ≡ true
 
 no_names : (text : List ℕ) → (length text == 0) ≡ false → list_all is_name (slice_split is_comma text) ≡ false → names_at text ≡ None
 unfolding names_at
@@ -143,7 +148,7 @@ no_names text some none = rw (some, none) refl
 not_all : (names : List (List ℕ)) (rest text : List ℕ) → Naming names rest text → is_name (first_piece rest).piece ≡ false → list_all is_name (slice_split is_comma text) ≡ false
 not_all names rest text n h =
     let f = first_piece rest in
-    rw (n.split, f.is) (list_all-append is_name names (f.piece ∷ f.others) ∙ rw (n.named, h) refl)
+    rw (n.split, f.is) (list_all-append is_name n.front (f.piece ∷ f.others) ∙ rw (n.named, h) refl)
 
 pub names_other : (names : List (List ℕ)) (rest text : List ℕ) → Naming names rest text → (length text == 0) ≡ false → is_name (word rest) ≡ false → names_at text ≡ None
 names_other names rest text n some h = no_names text some (not_all names rest text n (by_test (is_name (first_piece rest).piece) refl))
@@ -167,30 +172,36 @@ names_no_comma names rest text n some more h = no_names text some (not_all names
     by_test true is = absurd (by_rest ((first_piece rest).words (name_words (first_piece rest).piece is)).1)
 
 pub naming_starts : (text : List ℕ) → Naming [] text text
-naming_starts text = record { split = refl; named = refl }
+naming_starts text = record { front = []; same = refl; split = refl; named = refl }
+
+-- one more name
+one_more : (names new front : List (List ℕ)) (name other : List ℕ) → names ≡ map cut front → name ≡ other → new ≡ names ++ cut name ∷ [] → new ≡ map cut (front ++ other ∷ [])
+one_more names new front name other same is added =
+    added ∙ ap (λ z. names ++ cut z ∷ []) is ∙ ap (λ z. z ++ cut other ∷ []) same ∙ sym (map-append cut front (other ∷ []))
 
 pub naming_goes_on : (names new : List (List ℕ)) (rest next text name : List ℕ) → Naming names rest text → is_name (word rest) ≡ true
-    → after 44 (past_word rest) ≡ Some next → name ≡ word rest → new ≡ names ++ name ∷ [] → Naming new next text
+    → after 44 (past_word rest) ≡ Some next → name ≡ word rest → new ≡ names ++ cut name ∷ [] → Naming new next text
 naming_goes_on names new rest next text name n h comma is added =
     let whole : rest ≡ word rest ++ 44 ∷ next = word_whole rest ∙ ap (λ z. word rest ++ z) (after_is 44 (past_word rest) next comma) in
-    let cut : slice_split is_comma rest ≡ word rest ∷ slice_split is_comma next =
+    let parts : slice_split is_comma rest ≡ word rest ∷ slice_split is_comma next =
     ap (slice_split is_comma) whole ∙ slice_split_at is_comma (word rest) 44 next (words_no_comma (word rest) (name_words (word rest) h)) refl in
     record {
-      split = n.split ∙ ap (λ z. names ++ z) cut ∙ sym (append_assoc names (word rest ∷ []) (slice_split is_comma next)) ∙ ap (λ z. z ++ slice_split is_comma next) (sym (added ∙ ap (λ z. names ++ z ∷ []) is));
-      named = ap (list_all is_name) (added ∙ ap (λ z. names ++ z ∷ []) is) ∙ list_all-append is_name names (word rest ∷ []) ∙ rw (n.named, h) refl;
+      front = n.front ++ word rest ∷ [];
+      same = one_more names new n.front name (word rest) n.same is added;
+      split = n.split ∙ ap (λ z. n.front ++ z) parts ∙ sym (append_assoc n.front (word rest ∷ []) (slice_split is_comma next));
+      named = list_all-append is_name n.front (word rest ∷ []) ∙ rw (n.named, h) refl;
     }
 
 pub naming_ends : (names new : List (List ℕ)) (rest text name : List ℕ) → Naming names rest text → (length text == 0) ≡ false → is_name (word rest) ≡ true
-    → past_word rest ≡ [] → name ≡ word rest → new ≡ names ++ name ∷ [] → names_at text ≡ Some new
+    → past_word rest ≡ [] → name ≡ word rest → new ≡ names ++ cut name ∷ [] → (found : List (List ℕ)) × (names_at text ≡ Some found) × (new ≡ map cut found)
 unfolding names_at
 naming_ends names new rest text name n some h none is added =
     let whole : rest ≡ word rest = word_whole rest ∙ ap (λ z. word rest ++ z) none ∙ append-nil (word rest) in
-    let cut : slice_split is_comma rest ≡ word rest ∷ [] =
+    let parts : slice_split is_comma rest ≡ word rest ∷ [] =
     ap (slice_split is_comma) whole ∙ slice_split_none is_comma (word rest) (words_no_comma (word rest) (name_words (word rest) h)) in
-    let all : slice_split is_comma text ≡ new = n.split ∙ ap (λ z. names ++ z) cut ∙ sym (added ∙ ap (λ z. names ++ z ∷ []) is) in
-    let named : list_all is_name new ≡ true =
-    ap (list_all is_name) (added ∙ ap (λ z. names ++ z ∷ []) is) ∙ list_all-append is_name names (word rest ∷ []) ∙ rw (n.named, h) refl in
-    rw (some, all, named) refl
+    let all : slice_split is_comma text ≡ n.front ++ word rest ∷ [] = n.split ∙ ap (λ z. n.front ++ z) parts in
+    let named : list_all is_name (n.front ++ word rest ∷ []) ≡ true = list_all-append is_name n.front (word rest ∷ []) ∙ rw (n.named, h) refl in
+    (n.front ++ word rest ∷ [], rw (some, all, named) refl, one_more names new n.front name (word rest) n.same is added)
 
 pub names_fails : (names : List (List ℕ)) (rest text : List ℕ) (e : ReadError) → Naming names rest text → (length text == 0) ≡ false → Fails e (name_at rest) → Fails e (names_at text)
 names_fails names rest text Memory n some f = tt
@@ -205,7 +216,7 @@ pub subroutine_none : (s : List ℕ) → is_name (word s) ≡ false → subrouti
 unfolding subroutine_at
 subroutine_none s n = rw n refl
 
-pub subroutine_bare : (s name : List ℕ) → is_name (word s) ≡ true → past_word s ≡ [] → name ≡ word s → (arguments : List (List ℕ)) → arguments ≡ []
+pub subroutine_bare : (s name : List ℕ) → is_name (word s) ≡ true → past_word s ≡ [] → name ≡ cut (word s) → (arguments : List (List ℕ)) → arguments ≡ []
     → (t : Statement) × (subroutine_at s ≡ Some t) × (Statement.Subroutine name arguments ≡ clip_statement t)
 unfolding subroutine_at
 subroutine_bare s name n none is arguments empty = (Statement.Subroutine (word s) [], rw (n, none) refl, rw (is, empty) refl)
@@ -236,7 +247,7 @@ subroutine_fails s rest behind inner e n is h c f =
     subst (Fails e) (sym (subroutine_list s rest behind n is h ∙ rw c refl)) (fails_bind e (names_at inner) (λ names. Some (Statement.Subroutine (word s) names)) f)
 
 pub subroutine_whole : (s rest behind inner name : List ℕ) (x arguments : List (List ℕ)) → is_name (word s) ≡ true → rest ≡ past_word s → after 40 rest ≡ Some behind → before_close behind ≡ Some inner
-    → names_at inner ≡ Some x → arguments ≡ x → name ≡ word s
+    → names_at inner ≡ Some x → arguments ≡ map cut x → name ≡ cut (word s)
     → (t : Statement) × (subroutine_at s ≡ Some t) × (Statement.Subroutine name arguments ≡ clip_statement t)
 subroutine_whole s rest behind inner name x arguments n is h c found same named =
     (Statement.Subroutine (word s) x, subroutine_list s rest behind n is h ∙ rw (c, found) refl, rw (same, named) refl)

@@ -12,7 +12,7 @@ use Rattle.f77_tree.specs.declared.data.DataGroup.{DataGroup}
 use Rattle.f77_tree.specs.Grammar.{is_name, is_number, truth_text}
 use Rattle.f77_tree.specs.Declaration.{SpellsName, name_at, number_at}
 use Rattle.f77_tree.specs.Joined.{Joined, items_at, some_all, separated}
-use Rattle.f77_tree.specs.Limits.{is_short, largest}
+use Rattle.f77_tree.specs.Limits.{is_short, cut, largest}
 use Rattle.f77_tree.specs.Reading.{◌>>=◌, strip, after, past_comma}
 use Rattle.f77_tree.specs.Tree.{GroupFields}
 use Rattle.f77_tree.specs.View.{clipped}
@@ -114,7 +114,7 @@ groups_within (suc n) s = group_at s >>= λ x. with_groups (groups_within n) x.0
 unfoldable pub groups_at : List ℕ → Option (List GroupFields)
 groups_at s = groups_within (suc (length s)) s
 
--- What the code keeps of them: a repeat that is too large as the least one that is, a number that is too large as -2147483648.
+-- What the code keeps of them: the first six characters of a name, a repeat that is too large as the least one that is, a number that is too large as -2147483648.
 abbrev pub kept : ℤ → ℤ
 kept z = if nat_le (size z) largest then z else negsuc largest
 
@@ -126,14 +126,14 @@ abbrev pub clip_value : Value → Value
 clip_value v = record { times = clipped v.times; constant = clip_constant v.constant }
 
 abbrev pub clip_group : GroupFields → GroupFields
-clip_group g = record { names = g.names; values = map clip_value g.values }
+clip_group g = record { names = map cut g.names; values = map clip_value g.values }
 
 -- what the code finds is what is read, as it is kept
 abbrev pub Finds : {A B : Type 0} → (A → B) → Option (B × Bor (List ℕ)) → Option (A × List ℕ) → Type 0
 Finds {A = A} {B = B} keep found read = option_map {U = B × List ℕ} (λ x. (x.0, x.1.now)) found ≡ option_map {U = B × List ℕ} (λ x. (keep x.0, x.1)) read
 
 abbrev pub AreDataNames : Vec (List ℕ) Global × Bor (List ℕ) → List (List ℕ) × List ℕ → Type 0
-AreDataNames x a = (x.0.items ≡ a.0) × (x.1.now ≡ a.1)
+AreDataNames x a = (x.0.items ≡ map cut a.0) × (x.1.now ≡ a.1)
 
 abbrev pub AreDataValues : Vec Value Global × Bor (List ℕ) → List Value × List ℕ → Type 0
 AreDataValues x a = (x.0.items ≡ map clip_value a.0) × (x.1.now ≡ a.1)

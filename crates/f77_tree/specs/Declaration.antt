@@ -8,7 +8,7 @@ use Rattle.std.specs.Str.Parse.{digits_value}
 use Rattle.f77_tree.specs.declared.declaration.Decl.{Decl}
 use Rattle.f77_tree.specs.Grammar.{is_name, is_number}
 use Rattle.f77_tree.specs.Joined.{Joined, items_at, some_all, separated}
-use Rattle.f77_tree.specs.Limits.{is_short, largest}
+use Rattle.f77_tree.specs.Limits.{is_short, cut, largest}
 use Rattle.f77_tree.specs.Reading.{◌>>=◌, word, past_word, after, close_at}
 use Rattle.f77_tree.specs.Assignment.{ended}
 use Rattle.f77_tree.specs.Tree.{DeclFields}
@@ -53,9 +53,9 @@ decl_at s = name_at s >>= λ x. with_bounds x.0 x.1 (after 40 x.1)
 unfoldable pub declarations_at : List ℕ → Option (List DeclFields)
 declarations_at s = items_at decl_at s >>= λ x. ended x.0 x.1
 
--- What the code keeps of them: a bound that is too large as the least one that is.
+-- What the code keeps of them: the first six characters of a name, a bound that is too large as the least one that is.
 abbrev pub clip_decl : DeclFields → DeclFields
-clip_decl d = record { name = d.name; bounds = map clipped d.bounds }
+clip_decl d = record { name = cut d.name; bounds = map clipped d.bounds }
 
 abbrev pub AreBounds : Vec ℕ Global × Bor (List ℕ) → List ℕ × List ℕ → Type 0
 AreBounds x a = (x.0.items ≡ map clipped a.0) × (x.1.now ≡ a.1)

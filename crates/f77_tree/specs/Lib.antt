@@ -25,3 +25,4 @@ pub mod Group
 pub mod Node
 pub mod Parsing
 pub mod Printing
+pub mod Name

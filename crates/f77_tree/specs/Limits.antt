@@ -28,6 +28,10 @@ IsTooDeep text = (n : ℕ) × (count 41 (take n text) + most_open < count 40 (ta
 abbrev pub is_short : List ℕ → Bool
 is_short name = nat_le (length name) 6
 
+-- a name as it is kept: its first six characters
+abbrev pub cut : List ℕ → List ℕ
+cut name = take 6 name
+
 abbrev mutual
   pub short_names : Tree → Bool
   short_names (Tree.Number n) = true

@@ -87,9 +87,9 @@ abbrev pub HasLinesOrFault : Option Group → List CardFields → Type 0
 HasLinesOrFault before cards =
     ((lines : List LineFields) × AreLines before cards lines) ⊎ ((fault : SyntaxFault) × IsFirstFault before cards fault)
 
--- the line may stand behind a statement of this group, or first, and some text spells its statement
+-- The line may stand behind a statement of this group, or first; some text spells its statement, with names of six characters at most.
 abbrev pub MayFollow : Option Group → LineFields → Type 0
-MayFollow before line = (may_stand before (group_of line.stmt) ≡ true) × IsFormed line.stmt
+MayFollow before line = (may_stand before (group_of line.stmt) ≡ true) × IsFormed line.stmt × (statement_names line.stmt ≡ true)
 
 -- Formed statements in order, behind a statement of this group or from the start on, to the end.
 pub data IsProgram : Option Group → List LineFields → Type 0 where

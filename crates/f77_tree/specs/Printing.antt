@@ -9,7 +9,7 @@ use Rattle.f77_tree.specs.Tree.{Statement}
 use Rattle.f77_tree.specs.StatementGrammar.{IsUnmutated}
 use Rattle.f77_tree.specs.Canonical.{statement_text}
 use Rattle.f77_tree.specs.Limits.{most_nodes, IsTooDeep}
-use Rattle.f77_tree.specs.StatementLimits.{statement_names, statement_constants, statement_nodes}
+use Rattle.f77_tree.specs.StatementLimits.{statement_constants, statement_nodes}
 use Rattle.f77_tree.specs.Parsing.{LineFields, AreLines}
 use Rattle.f77_tree.specs.declared.fault.SyntaxFault.{SyntaxFault}
 use Rattle.f77_tree.specs.declared.fault.SyntaxFault.TheVariants.{Memory, BadConstant, TooLong}
@@ -45,11 +45,10 @@ told (NotAscii line) = Memory
 told (Tab line) = Memory
 told (LooseContinuation line) = Memory
 
--- a statement of an unmutated program, and its limits, that on the length of its text aside
+-- a statement of an unmutated program, and its limits, those on names and on the length of its text aside
 pub record KeepsLimits (s : Statement) : Type 0 where
   pub unmutated : IsUnmutated s
   pub flat : ¬ (IsTooDeep (squeezed (statement_text s)))
-  pub names : statement_names s ≡ true
   pub constants : statement_constants s ≡ true
   pub nodes : statement_nodes s ≤ most_nodes
 

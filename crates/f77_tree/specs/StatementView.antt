@@ -8,6 +8,7 @@ use Rattle.f77_tree.specs.declared.name.Name.{Name}
 use Rattle.f77_tree.specs.declared.tree.Stmt.{Stmt}
 use Rattle.f77_tree.specs.declared.tree.Stmt.TheOpen.{Stmt-F}
 use Rattle.f77_tree.specs.declared.tree.Stmt.TheFolds.{fold-Stmt}
+use Rattle.f77_tree.specs.Limits.{cut}
 use Rattle.f77_tree.specs.Tree.{Tree, Trees, Statement}
 use Rattle.f77_tree.specs.View.{trees, tree_of, place_of, clip, clip_all}
 use Rattle.f77_tree.specs.Declaration.{decl_of, clip_decl}
@@ -40,11 +41,11 @@ statement_of = fold-Stmt Statement stmt_step
 
 -- a statement as it is kept
 abbrev pub clip_statement : Statement → Statement
-clip_statement (Statement.Subroutine name names) = Statement.Subroutine name names
+clip_statement (Statement.Subroutine name names) = Statement.Subroutine (cut name) (map cut names)
 clip_statement (Statement.Declare kind ds) = Statement.Declare kind (map clip_decl ds)
 clip_statement (Statement.Dimension ds) = Statement.Dimension (map clip_decl ds)
 clip_statement (Statement.Preset gs) = Statement.Preset (map clip_group gs)
-clip_statement (Statement.Assign name items t) = Statement.Assign name (clip_all items) (clip t)
+clip_statement (Statement.Assign name items t) = Statement.Assign (cut name) (clip_all items) (clip t)
 clip_statement (Statement.Goto label) = Statement.Goto label
 clip_statement (Statement.ComputedGoto labels t) = Statement.ComputedGoto labels (clip t)
 clip_statement (Statement.ArithIf t l m n) = Statement.ArithIf (clip t) l m n
@@ -53,7 +54,7 @@ clip_statement (Statement.BlockIf t) = Statement.BlockIf (clip t)
 clip_statement (Statement.ElseIf t) = Statement.ElseIf (clip t)
 clip_statement Statement.Else = Statement.Else
 clip_statement Statement.EndIf = Statement.EndIf
-clip_statement (Statement.Loop label name a b c) = Statement.Loop label name (clip a) (clip b) (option_map clip c)
+clip_statement (Statement.Loop label name a b c) = Statement.Loop label (cut name) (clip a) (clip b) (option_map clip c)
 clip_statement Statement.Continue = Statement.Continue
 clip_statement Statement.Return = Statement.Return
 clip_statement Statement.Stop = Statement.Stop
@@ -65,18 +66,18 @@ IsStatement x a = statement_of x ≡ clip_statement a
 
 -- a reference and the text behind it
 abbrev pub IsReference : Ref × Bor (List ℕ) → List ℕ × Trees × List ℕ → Type 0
-IsReference x a = ((place_of x.0).0 ≡ a.0) × (trees (place_of x.0).1 ≡ clip_all a.1) × (x.1.now ≡ a.2)
+IsReference x a = ((place_of x.0).0 ≡ cut a.0) × (trees (place_of x.0).1 ≡ clip_all a.1) × (x.1.now ≡ a.2)
 
 abbrev pub AreNames : Vec Name Global → List (List ℕ) → Type 0
-AreNames x a = x.items ≡ a
+AreNames x a = x.items ≡ map cut a
 
 -- labels and the text behind
 abbrev pub AreLabels : Vec ℕ Global × Bor (List ℕ) → List ℕ × List ℕ → Type 0
 AreLabels x a = (x.0.items ≡ a.0) × (x.1.now ≡ a.1)
 
--- the label and the DO variable of a DO, and the text behind
-abbrev pub IsControl : ℕ × List ℕ × Bor (List ℕ) → ℕ × List ℕ × List ℕ → Type 0
-IsControl x a = (x.0 ≡ a.0) × (x.1 ≡ a.1) × (x.2.now ≡ a.2)
+-- the label and the name of the DO variable of a DO, and the text behind
+abbrev pub IsControl : ℕ × Bor (List ℕ) × Bor (List ℕ) → ℕ × List ℕ × List ℕ → Type 0
+IsControl x a = (x.0 ≡ a.0) × (x.1.now ≡ a.1) × (x.2.now ≡ a.2)
 
 abbrev pub IsStep : Option Expr → Option Tree → Type 0
 IsStep x a = option_map tree_of x ≡ option_map clip a

@@ -8,6 +8,7 @@ use Rattle.f77_tree.specs.declared.tree.Expr.{Expr}
 use Rattle.f77_tree.specs.declared.tree.Ref.{Ref}
 use Rattle.f77_tree.specs.declared.tree.Expr.TheOpen.{Expr-F, Ref-F}
 use Rattle.f77_tree.specs.declared.tree.Expr.TheFolds.{fold-Expr, fold-Ref}
+use Rattle.f77_tree.specs.Limits.{cut}
 use Rattle.f77_tree.specs.Tree.{Tree, Trees}
 
 abbrev pub trees : List Tree → Trees
@@ -37,11 +38,12 @@ place_of = fold-Ref Tree (List ℕ × List Tree) expr_step ref_step
 abbrev pub clipped : ℕ → ℕ
 clipped n = min n 2147483648
 
+-- an expression as it is kept
 abbrev mutual
   pub clip : Tree → Tree
   clip (Tree.Number n) = Tree.Number (clipped n)
   clip (Tree.Truth b) = Tree.Truth b
-  clip (Tree.Reference name items) = Tree.Reference name (clip_all items)
+  clip (Tree.Reference name items) = Tree.Reference (cut name) (clip_all items)
   clip (Tree.Call f items) = Tree.Call f (clip_all items)
   clip (Tree.Signed sign t) = Tree.Signed sign (clip t)
   clip (Tree.Not t) = Tree.Not (clip t)

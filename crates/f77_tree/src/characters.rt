@@ -1,8 +1,9 @@
 //! The characters of names and of numbers.
 
-ghost use Rattle.std.specs.Prelude.{◌≡◌};
+ghost use Rattle.std.specs.Prelude.{◌≡◌, ◌≤◌, length};
 ghost use Rattle.std.specs.List.{list_all};
 ghost use Rattle.f77_tree.specs.Grammar as grammar;
+ghost use Rattle.f77_tree.specs.Reading.{word, past_word};
 
 /// An upper-case letter (3.1.1).
 pub fn is_letter(c: u8) -> bool
@@ -57,4 +58,18 @@ pub fn are_digits(text: &[u8]) -> bool
     ensures { result ≡ list_all grammar.is_digit text.now }
 {
     text.iter().all(|c| is_digit(*c))
+}
+
+/// The letters and digits at the front, and what follows them.
+pub fn split_word(text: &[u8]) -> (&[u8], &[u8])
+    ensures front { result.0.now ≡ word text.now }
+    ensures back { result.1.now ≡ past_word text.now }
+    ensures short { length result.1.now ≤ length text.now }
+{
+    for (i, c) in text.iter().enumerate() {
+        if !is_word(*c) {
+            return text.split_at(i);
+        }
+    }
+    text.split_at(text.len())
 }

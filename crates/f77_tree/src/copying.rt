@@ -43,7 +43,7 @@ impl Clone for Ref {
     #[cycle(copying)]
     fn clone(&self) -> Result<Ref, AllocError> {
         Ok(Ref {
-            name: self.name.clone()?,
+            name: self.name,
             subscripts: copy_all(&self.subscripts)?,
         })
     }
@@ -74,7 +74,7 @@ impl Clone for Decl {
 
     fn clone(&self) -> Result<Decl, AllocError> {
         Ok(Decl {
-            name: self.name.clone()?,
+            name: self.name,
             bounds: self.bounds.clone()?,
         })
     }
@@ -98,7 +98,7 @@ impl Clone for Stmt {
     fn clone(&self) -> Result<Stmt, AllocError> {
         match self {
             Stmt::Subroutine { name, arguments } => Ok(Stmt::Subroutine {
-                name: name.clone()?,
+                name: *name,
                 arguments: arguments.clone()?,
             }),
             Stmt::Declare { kind, items } => Ok(Stmt::Declare {
@@ -154,7 +154,7 @@ impl Clone for Stmt {
                 step,
             } => Ok(Stmt::Loop {
                 label: *label,
-                variable: variable.clone()?,
+                variable: *variable,
                 first: first.clone()?,
                 last: last.clone()?,
                 step: step.clone()?,

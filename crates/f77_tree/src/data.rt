@@ -1,14 +1,15 @@
 //! Names with their initial values, as they stand behind DATA.
 
-ghost use Rattle.std.specs.Prelude.{◌≡◌, ◌++◌, [], map, min, codes, OnOk, string_bytes};
+ghost use Rattle.std.specs.Prelude.{◌≡◌, ◌++◌, [], true, map, min, codes, OnOk, string_bytes};
 ghost use Rattle.std.specs.List.{list_all};
 ghost use Rattle.f77_tree.specs.Data as initial;
 ghost use Rattle.f77_tree.specs.Data.{data_group_of, name_text};
 ghost use Rattle.f77_tree.specs.Grammar as grammar;
 ghost use Rattle.f77_tree.specs.Joined.{separated, some_all};
+ghost use Rattle.f77_tree.specs.Limits.{is_short};
 
 use crate::limits::LARGEST;
-use crate::name::{Name, are_named, are_short};
+use crate::name::{Name, known};
 use std::alloc::AllocError;
 
 /// A constant of a DATA statement, its sign part of it (ANSI X3.9-1978, section 9).
@@ -40,9 +41,11 @@ pub struct DataGroup {
 
 #[tactic(auto, using(crate::proofs::JoinedTexts::some_here, crate::proofs::JoinedTexts::none_here))]
 fn are_names(names: &[Name]) -> bool
-    ensures { result ≡ some_all grammar.is_name names.now }
+    ensures formed { result ≡ some_all grammar.is_name names.now }
+    ensures short { list_all is_short names.now ≡ true }
 {
-    !names.is_empty() && are_named(names)
+    known(names);
+    !names.is_empty()
 }
 
 #[tactic(auto, using(crate::proofs::DataForms::some_values))]
@@ -53,13 +56,15 @@ fn are_values(values: &[Value]) -> bool
 }
 
 fn is_group(group: &DataGroup) -> bool
-    ensures { result ≡ initial.is_group (data_group_of group.now) }
+    ensures formed { result ≡ initial.is_group (data_group_of group.now) }
+    ensures short { initial.group_names (data_group_of group.now) ≡ true }
 {
     are_names(&group.names) && are_values(&group.values)
 }
 
 fn are_groups(groups: &[DataGroup]) -> bool
-    ensures { result ≡ list_all initial.is_group (map data_group_of groups.now) }
+    ensures formed { result ≡ list_all initial.is_group (map data_group_of groups.now) }
+    ensures short { result ≡ true → initial.data_names (map data_group_of groups.now) ≡ true }
 {
     for group in groups {
         if !is_group(group) {
@@ -72,27 +77,10 @@ fn are_groups(groups: &[DataGroup]) -> bool
 /// Whether some text spells the groups, names, repeats and constants of any length and size allowed.
 #[tactic(auto, using(crate::proofs::JoinedTexts::some_seen, crate::proofs::JoinedTexts::none_seen))]
 pub(crate) fn data_formed(groups: &[DataGroup]) -> bool
-    ensures { result ≡ initial.data_formed (map data_group_of groups.now) }
+    ensures formed { result ≡ initial.data_formed (map data_group_of groups.now) }
+    ensures short { result ≡ true → initial.data_names (map data_group_of groups.now) ≡ true }
 {
     !groups.is_empty() && are_groups(groups)
-}
-
-fn has_short_names(group: &DataGroup) -> bool
-    ensures { result ≡ initial.group_names (data_group_of group.now) }
-{
-    are_short(&group.names)
-}
-
-/// Whether each name has six characters at most.
-pub(crate) fn data_names(groups: &[DataGroup]) -> bool
-    ensures { result ≡ initial.data_names (map data_group_of groups.now) }
-{
-    for group in groups {
-        if !has_short_names(group) {
-            return false;
-        }
-    }
-    true
 }
 
 fn is_small_constant(constant: Constant) -> bool

@@ -1,6 +1,6 @@
 //! Declared names, as they stand behind INTEGER, LOGICAL and DIMENSION.
 
-ghost use Rattle.std.specs.Prelude.{◌≡◌, ◌++◌, map, min, codes, OnOk, string_bytes};
+ghost use Rattle.std.specs.Prelude.{◌≡◌, ◌++◌, true, map, min, codes, OnOk, string_bytes};
 ghost use Rattle.std.specs.List.{list_all};
 ghost use Rattle.std.specs.Fmt.{decimal};
 ghost use Rattle.f77_tree.specs.Declaration as declared;
@@ -8,7 +8,7 @@ ghost use Rattle.f77_tree.specs.Declaration.{decl_of};
 ghost use Rattle.f77_tree.specs.Joined.{separated};
 
 use crate::limits::LARGEST;
-use crate::name::{Name, is_named, is_short};
+use crate::name::Name;
 use std::alloc::AllocError;
 
 /// A declared name, with its bounds where it is an array (ANSI X3.9-1978, 8.1 and 8.4).
@@ -38,47 +38,24 @@ pub fn all_bounded(items: &[Decl]) -> bool
     true
 }
 
-fn is_decl(item: &Decl) -> bool
-    ensures { result ≡ declared.is_decl (decl_of item.now) }
-{
-    is_named(&item.name)
-}
-
-fn are_decls(items: &[Decl]) -> bool
-    ensures { result ≡ list_all declared.is_decl (map decl_of items.now) }
+/// What the type says of the name of each item, told of all of them.
+fn known(items: &[Decl])
+    ensures named { list_all declared.is_decl (map decl_of items.now) ≡ true }
+    ensures short { declared.declaration_names (map decl_of items.now) ≡ true }
 {
     for item in items {
-        if !is_decl(item) {
-            return false;
-        }
+        let _ = item.name.as_str();
     }
-    true
 }
 
 /// Whether some text spells the declared names, names and bounds of any length and size allowed.
 #[tactic(auto, using(crate::proofs::JoinedTexts::some_seen, crate::proofs::JoinedTexts::none_seen))]
 pub(crate) fn declaration_formed(items: &[Decl]) -> bool
-    ensures { result ≡ declared.declaration_formed (map decl_of items.now) }
+    ensures formed { result ≡ declared.declaration_formed (map decl_of items.now) }
+    ensures short { declared.declaration_names (map decl_of items.now) ≡ true }
 {
-    !items.is_empty() && are_decls(items)
-}
-
-fn has_short_name(item: &Decl) -> bool
-    ensures { result ≡ declared.decl_name (decl_of item.now) }
-{
-    is_short(&item.name)
-}
-
-/// Whether each declared name has six characters at most.
-pub(crate) fn declaration_names(items: &[Decl]) -> bool
-    ensures { result ≡ declared.declaration_names (map decl_of items.now) }
-{
-    for item in items {
-        if !has_short_name(item) {
-            return false;
-        }
-    }
-    true
+    known(items);
+    !items.is_empty()
 }
 
 fn has_small_bounds(item: &Decl) -> bool

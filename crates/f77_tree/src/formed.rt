@@ -5,13 +5,15 @@ ghost use Rattle.std.specs.List.{list_all};
 ghost use Rattle.f77_tree.specs.Grammar as grammar;
 ghost use Rattle.f77_tree.specs.StatementGrammar.{IsFormed};
 ghost use Rattle.f77_tree.specs.Formed as forms;
+ghost use Rattle.f77_tree.specs.Limits.{is_short, short_names, all_short_names};
+ghost use Rattle.f77_tree.specs.StatementLimits.{of_step, statement_names};
 ghost use Rattle.f77_tree.specs.View.{tree_of, trees};
 ghost use Rattle.f77_tree.specs.StatementView.{statement_of};
 
 use crate::data::data_formed;
 use crate::declaration::{all_bounded, declaration_formed};
 use crate::intrinsic::Intrinsic;
-use crate::name::{Name, are_named, is_named};
+use crate::name::{Name, known};
 use crate::tree::{Expr, Stmt};
 
 #[tactic(auto, using(crate::proofs::Forming::some_items))]
@@ -23,22 +25,24 @@ fn is_some_list(items: &[Expr]) -> bool
 
 /// Whether a name with this list behind it is a call in an expression.
 #[tactic(auto, using(crate::proofs::Forming::called, crate::proofs::Forming::not_called))]
-fn is_call(name: &Name, items: &[Expr]) -> bool
+fn is_call(name: &[u8], items: &[Expr]) -> bool
     ensures { result ≡ grammar.is_call name.now (trees (map tree_of items.now)) }
 {
-    is_some_list(items) && Intrinsic::named(name.as_str().as_bytes()).is_some()
+    is_some_list(items) && Intrinsic::named(name).is_some()
 }
 
 #[tactic(auto, unfolding(crate::specs::Formed::is_reference))]
 fn is_reference(name: &Name, items: &[Expr]) -> bool
-    ensures { result ≡ forms.is_reference name.now (trees (map tree_of items.now)) }
+    ensures reference { result ≡ forms.is_reference name.now (trees (map tree_of items.now)) }
+    ensures short { is_short name.now ≡ true }
 {
-    is_named(name) && !is_call(name, items)
+    !is_call(name.as_str().as_bytes(), items)
 }
 
 #[cycle(formed)]
 fn formed(expr: &Expr) -> bool
-    ensures { result ≡ forms.formed (tree_of expr.now) }
+    ensures formed { result ≡ forms.formed (tree_of expr.now) }
+    ensures short { result ≡ true → short_names (tree_of expr.now) ≡ true }
 {
     match expr {
         Expr::Number(_) | Expr::Truth(_) => true,
@@ -52,7 +56,8 @@ fn formed(expr: &Expr) -> bool
 
 #[cycle(formed)]
 fn all_formed(items: &[Expr]) -> bool
-    ensures { result ≡ forms.all_formed (trees (map tree_of items.now)) }
+    ensures formed { result ≡ forms.all_formed (trees (map tree_of items.now)) }
+    ensures short { result ≡ true → all_short_names (trees (map tree_of items.now)) ≡ true }
 {
     for item in items {
         if !formed(item) {
@@ -63,7 +68,8 @@ fn all_formed(items: &[Expr]) -> bool
 }
 
 fn step_formed(step: &Option<Expr>) -> bool
-    ensures { result ≡ forms.step_formed (option_map tree_of step.now) }
+    ensures formed { result ≡ forms.step_formed (option_map tree_of step.now) }
+    ensures short { result ≡ true → of_step short_names (option_map tree_of step.now) ≡ true }
 {
     match step {
         None => true,
@@ -72,15 +78,21 @@ fn step_formed(step: &Option<Expr>) -> bool
 }
 
 fn statement_formed(stmt: &Stmt) -> bool
-    ensures { result ≡ forms.statement_formed (statement_of stmt.now) }
+    ensures formed { result ≡ forms.statement_formed (statement_of stmt.now) }
+    ensures short { result ≡ true → statement_names (statement_of stmt.now) ≡ true }
 {
     match stmt {
-        Stmt::Subroutine { name, arguments } => is_named(name) && are_named(arguments),
+        Stmt::Subroutine { name, arguments } => {
+            let _ = name.as_str();
+            known(arguments);
+            true
+        }
         Stmt::Declare { items, .. } => declaration_formed(items),
         Stmt::Dimension { items } => declaration_formed(items) && all_bounded(items),
         Stmt::Preset { groups } => data_formed(groups),
         Stmt::Assign { target, value } => {
-            is_named(&target.name) && all_formed(&target.subscripts) && formed(value)
+            let _ = target.name.as_str();
+            all_formed(&target.subscripts) && formed(value)
         }
         Stmt::ComputedGoto { labels, value } => !labels.is_empty() && formed(value),
         Stmt::ArithIf { value, .. } => formed(value),
@@ -95,7 +107,10 @@ fn statement_formed(stmt: &Stmt) -> bool
             last,
             step,
             ..
-        } => is_named(variable) && formed(first) && formed(last) && step_formed(step),
+        } => {
+            let _ = variable.as_str();
+            formed(first) && formed(last) && step_formed(step)
+        }
         Stmt::Goto { .. }
         | Stmt::Else
         | Stmt::EndIf
@@ -139,6 +154,7 @@ impl Stmt {
     #[tactic(auto, using(crate::proofs::StatementForming::formed_spelled, crate::proofs::StatementForming::not_formed))]
     pub fn is_formed(&self) -> bool
         ensures formed { result ≡ true → IsFormed (statement_of self.now) }
+        ensures short { result ≡ true → statement_names (statement_of self.now) ≡ true }
         ensures unformed { result ≡ false → ¬ (IsFormed (statement_of self.now)) }
     {
         statement_formed(self)

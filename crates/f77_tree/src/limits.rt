@@ -1,16 +1,15 @@
-//! The limits of a statement.
+//! The limits of a statement, that on names aside: a `Name` keeps it.
 
 ghost use Rattle.std.specs.Prelude.{◌≡◌, ◌≤◌, ◌+◌, length, true, false, map, min, if◌then◌else◌, option_map};
 ghost use Rattle.std.specs.List.{list_all};
 ghost use Rattle.f77_tree.specs.Limits as limits;
 ghost use Rattle.f77_tree.specs.StatementLimits as statements;
-ghost use Rattle.f77_tree.specs.Limits.{IsTooDeep, is_short, all_short_names, all_small_constants, all_nodes};
+ghost use Rattle.f77_tree.specs.Limits.{IsTooDeep, all_small_constants, all_nodes};
 ghost use Rattle.f77_tree.specs.View.{tree_of, trees};
 ghost use Rattle.f77_tree.specs.StatementView.{statement_of};
 
-use crate::data::{data_constants, data_names, data_nodes};
-use crate::declaration::{declaration_constants, declaration_names, declaration_nodes};
-use crate::name::{are_short, is_short};
+use crate::data::{data_constants, data_nodes};
+use crate::declaration::{declaration_constants, declaration_nodes};
 use crate::tree::{Expr, Stmt};
 
 const MOST_OPEN: usize = 40;
@@ -39,32 +38,6 @@ pub fn is_too_deep(text: &[u8]) -> bool
         }
     }
     false
-}
-
-/// Whether each name in it has six characters at most.
-#[cycle(names)]
-fn short_names(expr: &Expr) -> bool
-    ensures { result ≡ limits.short_names (tree_of expr.now) }
-{
-    match expr {
-        Expr::Number(_) | Expr::Truth(_) => true,
-        Expr::Reference(place) => is_short(&place.name) && all_short_names(&place.subscripts),
-        Expr::Call(_, arguments) => all_short_names(arguments),
-        Expr::Signed(_, inner) | Expr::Not(inner) | Expr::ZeroPush(inner) => short_names(inner),
-        Expr::Binary(_, left, right) => short_names(left) && short_names(right),
-    }
-}
-
-#[cycle(names)]
-fn all_short_names(items: &[Expr]) -> bool
-    ensures { result ≡ all_short_names (trees (map tree_of items.now)) }
-{
-    for item in items {
-        if !short_names(item) {
-            return false;
-        }
-    }
-    true
 }
 
 /// Whether each constant in it is one that INTEGER has.
@@ -119,43 +92,6 @@ fn all_nodes(items: &[Expr]) -> u32
         sum = sum.saturating_add(nodes(item));
     }
     sum
-}
-
-fn step_names(step: &Option<Expr>) -> bool
-    ensures { result ≡ statements.of_step limits.short_names (option_map tree_of step.now) }
-{
-    match step {
-        None => true,
-        Some(step) => short_names(step),
-    }
-}
-
-/// Whether each name of the statement has six characters at most.
-pub fn statement_names(stmt: &Stmt) -> bool
-    ensures { result ≡ statements.statement_names (statement_of stmt.now) }
-{
-    match stmt {
-        Stmt::Subroutine { name, arguments } => is_short(name) && are_short(arguments),
-        Stmt::Declare { items, .. } | Stmt::Dimension { items } => declaration_names(items),
-        Stmt::Preset { groups } => data_names(groups),
-        Stmt::Assign { target, value } => {
-            is_short(&target.name) && all_short_names(&target.subscripts) && short_names(value)
-        }
-        Stmt::ComputedGoto { value, .. } | Stmt::ArithIf { value, .. } => short_names(value),
-        Stmt::LogicalIf {
-            condition,
-            statement,
-        } => short_names(condition) && statement_names(statement),
-        Stmt::BlockIf { condition } | Stmt::ElseIf { condition } => short_names(condition),
-        Stmt::Loop {
-            variable,
-            first,
-            last,
-            step,
-            ..
-        } => is_short(variable) && short_names(first) && short_names(last) && step_names(step),
-        _ => true,
-    }
 }
 
 fn is_label(label: u32) -> bool

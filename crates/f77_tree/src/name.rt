@@ -1,6 +1,6 @@
 //! Names.
 
-ghost use Rattle.std.specs.Prelude.{◌≡◌, ◌&&◌, List, ℕ, Some, None, if◌then◌else◌, true, IfOk, string_bytes};
+ghost use Rattle.std.specs.Prelude.{◌≡◌, ◌&&◌, List, ℕ, Some, None, if◌then◌else◌, true};
 ghost use Rattle.std.specs.List.{list_all};
 ghost use Rattle.std.specs.Str.{bytes_eq};
 ghost use Rattle.std.specs.Cmp.Lexicographic.{nat_list_eq_equiv};
@@ -10,29 +10,40 @@ ghost use Rattle.std.specs.Hash as fed;
 ghost use Rattle.std.proofs.Common.{rules};
 ghost use Rattle.f77_tree.specs.Grammar as grammar;
 ghost use Rattle.f77_tree.specs.Limits as limits;
+ghost use Rattle.f77_tree.specs.Limits.{cut};
 
-use crate::characters::is_name;
-use std::alloc::{AllocError, Global};
+use crate::characters::{is_name, split_word};
 use std::fmt::{self, Display, Formatter};
 use std::hash::{Hash, Hasher};
 use std::marker::Model;
+use std::str;
 
 const LONGEST_NAME: usize = 6;
 
-/// A symbolic name (ANSI X3.9-1978, 2.2): letters and digits, the first of them a letter.
+/// A symbolic name (ANSI X3.9-1978, 2.2): 1 to 6 letters and digits, the first of them a letter.
 ///
-/// It has 1 to 6 characters, but for one that a reader holds before its length is tested.
-#[derive(Clone, Debug, Drop)]
+/// They lie in the value itself, so a copy takes no memory.
+#[derive(Clone, Copy, Debug, Drop)]
 pub struct Name {
-    letters: String,
+    /// With blanks behind them.
+    letters: [u8; LONGEST_NAME],
 }
 
 impl Model for Name {
+    ghost use Rattle.std.specs.Prelude.{List, ℕ};
+    ghost use Rattle.std.proofs.Common.{ap, sym};
+    ghost use Rattle.f77_tree.specs.Reading.{word};
+    ghost use Rattle.f77_tree.specs.Name.{padded, IsPadded};
+
     ghost Value = { List ℕ };
 
-    ghost view = { λ n. string_bytes n.letters };
+    ghost view = { λ n. word n.letters };
 
-    ghost invariant = { λ n. grammar.is_name (string_bytes n.letters) ≡ true };
+    ghost invariant = { λ n. IsPadded n.letters };
+
+    ghost inverse = { λ name. record { letters = padded name } };
+
+    ghost inverse_ok = { λ n h. ap (λ z. record { letters = z }) (sym h.padding) };
 }
 
 impl PartialEq for Name {
@@ -68,57 +79,47 @@ impl Display for Name {
 }
 
 impl Name {
-    /// The name that is written so.
-    pub fn copy_of(alloc: Global, letters: &[u8]) -> Result<Name, AllocError>
+    /// The name of the first six of these letters and digits. It takes no memory.
+    pub fn beginning(letters: &[u8]) -> Name
         requires { grammar.is_name letters.now ≡ true }
-        ensures { IfOk result (λ name. name ≡ letters.now) }
+        ensures { result ≡ cut letters.now }
     {
-        let mut text = String::new(alloc);
-        for c in letters {
-            text.push(char::from(*c))?;
-        }
-        Ok(Name { letters: text })
+        let front = &letters[..letters.len().min(LONGEST_NAME)];
+        let mut field = [b' '; LONGEST_NAME];
+        field[..front.len()].copy_from_slice(front);
+        Name { letters: field }
     }
 
-    /// The name that is written so, where it is 1 to 6 letters and digits and the first is a letter.
-    pub fn new(alloc: Global, letters: &str) -> Result<Option<Name>, AllocError>
-        ensures { IfOk result (λ name. name ≡ (if grammar.is_name letters.now && limits.is_short letters.now then Some letters.now else None)) }
+    /// The name that is written so, where it is 1 to 6 letters and digits and the first is a letter. It takes no memory.
+    pub fn new(letters: &str) -> Option<Name>
+        ensures { result ≡ (if grammar.is_name letters.now && limits.is_short letters.now then Some letters.now else None) }
     {
         if !is_name(letters.as_bytes()) || letters.len() > LONGEST_NAME {
-            return Ok(None);
+            return None;
         }
-        Ok(Some(Name::copy_of(alloc, letters.as_bytes())?))
+        Some(Name::beginning(letters.as_bytes()))
     }
 
     /// Its letters and digits.
     pub fn as_str(&self) -> &str
         ensures letters { result.now ≡ self.now }
         ensures name { grammar.is_name self.now ≡ true }
+        ensures short { limits.is_short self.now ≡ true }
     {
-        self.letters.as_str()
+        let (letters, _) = split_word(&self.letters);
+        match str::from_utf8(letters) {
+            Ok(text) => text,
+            Err(_) => unreachable!(),
+        }
     }
 }
 
-pub(crate) fn is_named(name: &Name) -> bool
-    ensures { result ≡ grammar.is_name name.now }
+/// What the type says of each of the names, told of all of them.
+pub(crate) fn known(names: &[Name])
+    ensures named { list_all grammar.is_name names.now ≡ true }
+    ensures short { list_all limits.is_short names.now ≡ true }
 {
-    is_name(name.as_str().as_bytes())
-}
-
-pub(crate) fn are_named(names: &[Name]) -> bool
-    ensures { result ≡ list_all grammar.is_name names.now }
-{
-    names.iter().all(|name| is_named(name))
-}
-
-pub(crate) fn is_short(name: &Name) -> bool
-    ensures { result ≡ limits.is_short name.now }
-{
-    name.as_str().len() <= LONGEST_NAME
-}
-
-pub(crate) fn are_short(names: &[Name]) -> bool
-    ensures { result ≡ list_all limits.is_short names.now }
-{
-    names.iter().all(|name| is_short(name))
+    for name in names {
+        let _ = name.as_str();
+    }
 }

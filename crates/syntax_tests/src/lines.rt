@@ -5,17 +5,14 @@ use f77_syntax::{Expr, Line, Name, Program, Ref, Stmt, print};
 use std::test::Fail;
 
 /// The name that is written so.
-pub(crate) fn name(rt: &impl AllocGlobal, letters: &str) -> Result<Name, Fail> {
-    match Name::new(rt.alloc(), letters)? {
-        Some(name) => Ok(name),
-        None => Err(Fail::new("no name")),
-    }
+pub(crate) fn name(letters: &str) -> Result<Name, Fail> {
+    Name::new(letters).ok_or(Fail::new("no name"))
 }
 
 /// K = the value.
 pub(crate) fn assign(rt: &impl AllocGlobal, value: Expr) -> Result<Stmt, Fail> {
     let target = Ref {
-        name: name(rt, "K")?,
+        name: name("K")?,
         subscripts: Vec::new(rt.alloc()),
     };
     Ok(Stmt::Assign { target, value })
@@ -25,10 +22,10 @@ pub(crate) fn assign(rt: &impl AllocGlobal, value: Expr) -> Result<Stmt, Fail> {
 fn subroutine(rt: &impl AllocGlobal, count: usize) -> Result<Stmt, Fail> {
     let mut arguments = Vec::new(rt.alloc());
     for _ in 0..count {
-        arguments.push(name(rt, "I")?)?;
+        arguments.push(name("I")?)?;
     }
     Ok(Stmt::Subroutine {
-        name: name(rt, "A")?,
+        name: name("A")?,
         arguments,
     })
 }

@@ -7,7 +7,7 @@ use std::test::Fail;
 
 fn assert_names(rt: &(impl AllocGlobal + Abort), texts: &[&str], want: bool) -> Result<(), Fail> {
     for letters in texts {
-        let made = Name::new(rt.alloc(), letters)?;
+        let made = Name::new(letters);
         assert_eq!(rt; made.is_some(), want, "{letters:?}");
     }
     Ok(())
@@ -21,7 +21,7 @@ fn makes_names(rt: HostRuntime) -> Result<(), Fail> {
 
 #[test]
 fn keeps_the_letters(rt: HostRuntime) -> Result<(), Fail> {
-    let function = name(&rt, "IABS")?;
+    let function = name("IABS")?;
     assert_eq!(rt; function.as_str(), "IABS");
     Ok(())
 }

@@ -69,7 +69,7 @@ fn assert_assigned(rt: &(impl AllocGlobal + Abort), value: Expr, want: &str) -> 
 fn reference(rt: &impl AllocGlobal) -> Result<Expr, Fail> {
     let subscripts = vec![in rt.alloc(); Expr::Number(1)]?;
     Ok(Expr::Reference(Ref {
-        name: name(rt, "MOD")?,
+        name: name("MOD")?,
         subscripts,
     }))
 }

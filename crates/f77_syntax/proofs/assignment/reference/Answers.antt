@@ -4,6 +4,7 @@ use Rattle.f77_tree.specs.declared.tree.Expr.{Expr}
 use Rattle.f77_tree.specs.View.{tree_of, trees}
 use Rattle.std.proofs.lemmas.Result.{err_from_is_err_and}
 use Rattle.f77_tree.specs.Grammar.{is_name}
+use Rattle.f77_tree.specs.Limits.{cut}
 use Rattle.f77_tree.specs.Reading.{after}
 use Rattle.f77_tree.proofs.StatementGives.{reference_none, reference_scalar, reference_fails_items, reference_fails_close, reference_element, reference_whole}
 use Rattle.f77_syntax.proofs.assignment.reference.Goals as goal
@@ -18,7 +19,7 @@ returns-in_default c =
     let n : is_name c.split_word.result.0.now ≡ true = cc in
     let alone = ap (after 40) (sym c.split_word.ensures.back) ∙ sym c.in_default.ensures in
     reference_whole c.args.text.now _ _ _ (reference_scalar c.args.text.now (ap is_name (sym c.split_word.ensures.front) ∙ n) alone)
-    (c.in_ok-name.ensures ∙ c.split_word.ensures.front) (ap (λ (items : List Expr). trees (map tree_of items)) c.new-subscripts.ensures.items) c.split_word.ensures.back
+    (c.beginning-name.ensures ∙ ap cut c.split_word.ensures.front) (ap (λ (items : List Expr). trees (map tree_of items)) c.new-subscripts.ensures.items) c.split_word.ensures.back
 
 pub returns-in_err-subscripts : goal.returns-in_err-subscripts
 returns-in_err-subscripts c =
@@ -42,4 +43,4 @@ returns c =
     let h = c.in_ok-rest.ensures in
     reference_whole c.args.text.now _ _ _ (reference_element c.args.text.now c.in-Some.inner.now c.in_ok-subscripts.after.now c.in_ok-rest.rest.now g.0 (ap is_name (sym c.split_word.ensures.front) ∙ n)
     (ap (after 40) (sym c.split_word.ensures.back) ∙ sym c.in-Some.ensures) g.1 g.2.1 (h.1 ∙ ap Some (sym h.2)))
-    (c.in_ok-name.ensures ∙ c.split_word.ensures.front) g.2.0 refl
+    (c.beginning-name.ensures ∙ ap cut c.split_word.ensures.front) g.2.0 refl

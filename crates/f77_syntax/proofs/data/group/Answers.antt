@@ -44,5 +44,5 @@ returns-clause-shorter c =
     let i = c.in_ok-inner.ensures in
     let v = c.in_ok-values.ensures in
     let r = c.in_ok-rest.ensures in
-    let x = group_whole c.args.text.now c.in_ok-names.behind.now c.in_ok-inner.inner.now c.in_ok-values.end.now c.in_ok-rest.rest.now r.0 n.0.0 _ n.0 v.0 n.1 n.2.1 (i.1 ∙ ap Some (sym i.2)) v.1 v.2.1 r.1 refl refl r.2 in
+    let x = group_whole c.args.text.now c.in_ok-names.behind.now c.in_ok-inner.inner.now c.in_ok-values.end.now c.in_ok-rest.rest.now r.0 _ _ n.0 v.0 n.1 n.2.1 (i.1 ∙ ap Some (sym i.2)) v.1 v.2.1 r.1 refl refl r.2 in
     group_shorter c.args.text.now c.in_ok-rest.rest.now x.0 x.1 x.2.1

@@ -1,6 +1,7 @@
 use Rattle.std.proofs.Common.{◌≡◌, true, false, refl, sym, ◌∙◌, ap}
 use Rattle.std.proofs.lemmas.Result.{err_from_is_err_and}
 use Rattle.f77_tree.specs.Grammar.{is_name}
+use Rattle.f77_tree.specs.Limits.{cut}
 use Rattle.f77_tree.specs.Reading.{after}
 use Rattle.f77_tree.proofs.DeclarationGives.{decl_none, decl_scalar, decl_fails_bounds, decl_fails_close, decl_array, decl_shorter}
 use Rattle.f77_syntax.proofs.declaration.declaration.Goals as goal
@@ -14,7 +15,7 @@ pub returns-in_default-clause-found : goal.returns-in_default-clause-found
 returns-in_default-clause-found c =
     let n : is_name c.split_word.result.0.now ≡ true = cc in
     decl_scalar c.args.text.now _ _ _ (ap is_name (sym c.split_word.ensures.front) ∙ n) (ap (after 40) (sym c.split_word.ensures.back) ∙ sym c.in_default.ensures)
-    (c.in_ok-name.ensures ∙ c.split_word.ensures.front) c.new-bounds.ensures.items c.split_word.ensures.back
+    (c.beginning-name.ensures ∙ ap cut c.split_word.ensures.front) c.new-bounds.ensures.items c.split_word.ensures.back
 
 pub returns-in_err-bounds-clause-found : goal.returns-in_err-bounds-clause-found
 returns-in_err-bounds-clause-found c =
@@ -37,7 +38,7 @@ returns-clause-found c =
     let g = c.in_ok-bounds.ensures in
     let h = c.in_ok-rest.ensures in
     decl_array c.args.text.now c.in-Some.inner.now c.in_ok-bounds.behind.now _ _ _ h.0 g.0 (ap is_name (sym c.split_word.ensures.front) ∙ n)
-    (ap (after 40) (sym c.split_word.ensures.back) ∙ sym c.in-Some.ensures) g.1 g.2.1 h.1 (c.in_ok-name.ensures ∙ c.split_word.ensures.front) g.2.0 h.2
+    (ap (after 40) (sym c.split_word.ensures.back) ∙ sym c.in-Some.ensures) g.1 g.2.1 h.1 (c.beginning-name.ensures ∙ ap cut c.split_word.ensures.front) g.2.0 h.2
 
 pub returns-clause-short : goal.returns-clause-short
 returns-clause-short c =

@@ -14,11 +14,11 @@ pub returns-in_err-label : goal.returns-in_err-label
 returns-in_err-label c =
     let p = err_from_is_err_and c.from_residual.result c.from_residual.ensures.1 in
     let q = c.in-Some.ensures.cases in
-    rw (p.1, p.2) (loop_fails c.args.text.now c.in-Some.rest.now _ (strip_same (codes "DO") c.args.text.now q.0 ∙ ap Some (sym q.1)) c.in_err-label.ensures)
+    rw (p.1, p.2) (loop_fails c.args.text.now c.in-Some.rest.now _ (strip_same (codes "DO") c.args.text.now q.0 ∙ ap Some (sym q.1)) c.in_err-label.ensures.read)
 
 pub returns : goal.returns
 returns c =
     let q = c.in-Some.ensures.cases in
-    let g = c.in_ok-label.ensures in
-    gives_along IsStatement c.parameters.result _ _ (loop_given c.args.text.now c.in-Some.rest.now c.in_ok-label.rest.now c.in_ok-label.variable c.in_ok-label.label g.0
+    let g = c.in_ok-label.ensures.read in
+    gives_along IsStatement c.parameters.result _ _ (loop_given c.args.text.now c.in-Some.rest.now c.in_ok-label.rest.now c.in_ok-label.variable.now c.in_ok-label.label g.0
     (strip_same (codes "DO") c.args.text.now q.0 ∙ ap Some (sym q.1)) g.1 g.2.0 g.2.1 g.2.2) c.parameters.ensures

@@ -125,7 +125,7 @@ start-returns-in_default-first-clause-shorter t c = start_shorter c.args.wanted 
 pub operand-returns-in_default : goal.operand-returns-in_default
 operand-returns-in_default t c =
     rw (← c.split_word.ensures.front, ← c.split_word.ensures.back)
-    (scalar_whole c.split_word.result.0.now c.split_word.result.1.now _ (cc) (cc) (alone_at c.split_word.result.0.now c.split_word.result.1.now (sym c.in_default.ensures)) c.in_ok-name.ensures c.new-subscripts.ensures.items)
+    (scalar_whole c.split_word.result.0.now c.split_word.result.1.now _ (cc) (cc) (alone_at c.split_word.result.0.now c.split_word.result.1.now (sym c.in_default.ensures)) c.beginning-name.ensures c.new-subscripts.ensures.items)
 
 pub operand-returns : goal.operand-returns
 operand-returns t c =
@@ -133,7 +133,7 @@ operand-returns t c =
     let h = c.in_ok-rest.ensures in
     let e : c.split_word.result.1.now ≡ 40 ∷ c.in-Some.inner.now = after_is 40 c.split_word.result.1.now c.in-Some.inner.now (sym c.in-Some.ensures) in
     rw (← c.split_word.ensures.front, ← c.split_word.ensures.back, e)
-    (listed_whole c.split_word.result.0.now c.in-Some.inner.now c.in_ok-items.after.now c.in_ok-rest.rest.now _ _ g.0 (cc) (cc) g.1 g.2.0 g.2.1 (h.1 ∙ ap Some (sym h.2)) c.in_ok-with_list.ensures)
+    (listed_whole c.split_word.result.0.now c.in-Some.inner.now c.in_ok-items.after.now c.in_ok-rest.rest.now _ _ g.0 (cc) (cc) g.1 g.2.0 g.2.1 (h.1 ∙ ap Some (sym h.2)) c.with_list.ensures)
 
 pub list-returns-in_default : goal.list-returns-in_default
 list-returns-in_default t c =

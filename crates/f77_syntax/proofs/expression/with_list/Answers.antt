@@ -1,5 +1,6 @@
 use Rattle.std.proofs.Common.{ap, ◌∙◌, sym, ℕ, List}
 use Rattle.std.specs.Prelude.{map}
+use Rattle.f77_tree.specs.Limits.{cut}
 use Rattle.f77_tree.specs.Tree.{Tree}
 use Rattle.f77_tree.specs.Reading.{listed_by}
 use Rattle.f77_tree.specs.View.{tree_of, trees}
@@ -8,6 +9,6 @@ use Rattle.f77_syntax.proofs.expression.with_list.Goals as goal
 
 pub returns : goal.returns
 returns c =
-    let none = sym c.named.ensures ∙ c.in_default.is in
-    reference_view _ ∙ ap (λ (z : List ℕ). Tree.Reference z (trees (map tree_of c.args.items.items))) c.in_ok-name.ensures
-    ∙ ap (λ o. listed_by o c.args.name.now (trees (map tree_of c.args.items.items))) (sym none)
+    let none = sym c.named.ensures ∙ c.in-None.is in
+    reference_view _ ∙ ap (λ (z : List ℕ). Tree.Reference z (trees (map tree_of c.args.items.items))) c.beginning.ensures
+    ∙ ap (λ o. listed_by o (cut c.args.name.now) (trees (map tree_of c.args.items.items))) (sym none)

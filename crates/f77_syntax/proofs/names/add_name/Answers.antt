@@ -1,5 +1,6 @@
 use Rattle.std.proofs.Common.{◌≡◌, ◌++◌, ◌∷◌, [], true, false, sym, ap, ◌∙◌}
 use Rattle.f77_tree.specs.Grammar.{is_name}
+use Rattle.f77_tree.specs.Limits.{cut}
 use Rattle.f77_tree.specs.Reading.{word, past_word}
 use Rattle.f77_tree.proofs.DataGives.{no_name, a_name}
 use Rattle.f77_syntax.proofs.names.add_name.Goals as goal
@@ -15,5 +16,5 @@ returns-clause-read c =
     let n : is_name c.split_word.result.0.now ≡ true = cc in (
       (word s, past_word s),
       a_name s (ap is_name (sym c.split_word.ensures.front) ∙ n),
-      (c.in_ok-push.ensures.items ∙ ap (λ name. c.args.names.now.items ++ name ∷ []) (c.in_ok-copy_of.ensures ∙ c.split_word.ensures.front), c.split_word.ensures.back),
+      (c.in_ok-push.ensures.items ∙ ap (λ name. c.args.names.now.items ++ name ∷ []) (c.beginning.ensures ∙ ap cut c.split_word.ensures.front), c.split_word.ensures.back),
     )

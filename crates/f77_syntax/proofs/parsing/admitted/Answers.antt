@@ -16,14 +16,14 @@ returns-in_err-stmt c =
     let p = err_from_is_err_and c.from_residual.result c.from_residual.ensures.1 in
     rw (p.1, p.2) (not_spelled c.args.line c.args.text.now c.in_err-stmt.field-0.0 c.if-text-gt-MOST_CHARACTERS.false (c.is_too_deep.ensures.flat c.if-is_too_deep.false) c.in_err-stmt.ensures)
 
-pub returns-then-not-statement_names : goal.returns-then-not-statement_names
-returns-then-not-statement_names c =
+pub returns-then-not-has_short_names : goal.returns-then-not-has_short_names
+returns-then-not-has_short_names c =
     let k : Kept c.args.text.now (statement_of c.in_ok-stmt.stmt) = record {
       characters = c.if-text-gt-MOST_CHARACTERS.false;
       flat = c.is_too_deep.ensures.flat c.if-is_too_deep.false;
       spells = c.in_ok-stmt.ensures;
     } in
-    inr (bad_name c.args.line c.args.text.now _ c.statement_names.result k c.statement_names.ensures c.if-not-statement_names.true)
+    inr (bad_name c.args.line c.args.text.now _ c.has_short_names.result k c.has_short_names.ensures c.if-not-has_short_names.true)
 
 pub returns-then-not-statement_constants : goal.returns-then-not-statement_constants
 returns-then-not-statement_constants c =
@@ -32,7 +32,7 @@ returns-then-not-statement_constants c =
       flat = c.is_too_deep.ensures.flat c.if-is_too_deep.false;
       spells = c.in_ok-stmt.ensures;
     } in
-    inr (bad_constant c.args.line c.args.text.now _ c.statement_names.result c.statement_constants.result k c.statement_names.ensures c.if-not-statement_names.false c.statement_constants.ensures c.if-not-statement_constants.true)
+    inr (bad_constant c.args.line c.args.text.now _ c.has_short_names.result c.statement_constants.result k c.has_short_names.ensures c.if-not-has_short_names.false c.statement_constants.ensures c.if-not-statement_constants.true)
 
 pub returns-then-statement_nodes-gt-MOST_NODES : goal.returns-then-statement_nodes-gt-MOST_NODES
 returns-then-statement_nodes-gt-MOST_NODES c =
@@ -41,7 +41,7 @@ returns-then-statement_nodes-gt-MOST_NODES c =
       flat = c.is_too_deep.ensures.flat c.if-is_too_deep.false;
       spells = c.in_ok-stmt.ensures;
     } in
-    inr (many_nodes c.args.line c.args.text.now _ c.statement_names.result c.statement_constants.result c.statement_nodes.result k c.statement_names.ensures c.if-not-statement_names.false c.statement_constants.ensures c.if-not-statement_constants.false c.statement_nodes.ensures c.if-statement_nodes-gt-MOST_NODES.true)
+    inr (many_nodes c.args.line c.args.text.now _ c.has_short_names.result c.statement_constants.result c.statement_nodes.result k c.has_short_names.ensures c.if-not-has_short_names.false c.statement_constants.ensures c.if-not-statement_constants.false c.statement_nodes.ensures c.if-statement_nodes-gt-MOST_NODES.true)
 
 pub returns : goal.returns
 returns c =
@@ -50,4 +50,4 @@ returns c =
       flat = c.is_too_deep.ensures.flat c.if-is_too_deep.false;
       spells = c.in_ok-stmt.ensures;
     } in
-    all_well c.args.text.now _ c.statement_names.result c.statement_constants.result c.statement_nodes.result k c.statement_names.ensures c.if-not-statement_names.false c.statement_constants.ensures c.if-not-statement_constants.false c.statement_nodes.ensures c.if-statement_nodes-gt-MOST_NODES.false
+    all_well c.args.text.now _ c.has_short_names.result c.statement_constants.result c.statement_nodes.result k c.has_short_names.ensures c.if-not-has_short_names.false c.statement_constants.ensures c.if-not-statement_constants.false c.statement_nodes.ensures c.if-statement_nodes-gt-MOST_NODES.false

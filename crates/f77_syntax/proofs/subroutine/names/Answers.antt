@@ -21,12 +21,9 @@ returns-then-is_empty-2 c =
     let (x, read, (added, behind)) = c.in_ok-behind.ensures.read in
     let n = name_read c.loop-names.rest.now x read in
     let none : (length c.in_ok-behind.behind.now == 0) ≡ true = sym c.is_empty-in-loop-names.ensures ∙ c.if-is_empty-2.true in
-    let empty = nil_from_length c.in_ok-behind.behind.now (eqb-true (length c.in_ok-behind.behind.now) 0 none) in (
-      c.add_name.new.names.items,
-      naming_ends c.loop-names.names.items c.add_name.new.names.items c.loop-names.rest.now c.args.text.now x.0 c.loop-names.invariant
-          (sym c.is_empty.ensures ∙ c.if-is_empty.false) n.named (sym (behind ∙ n.behind) ∙ empty) n.name added,
-      refl,
-    )
+    let empty = nil_from_length c.in_ok-behind.behind.now (eqb-true (length c.in_ok-behind.behind.now) 0 none) in
+    naming_ends c.loop-names.names.items c.add_name.new.names.items c.loop-names.rest.now c.args.text.now x.0 c.loop-names.invariant
+    (sym c.is_empty.ensures ∙ c.if-is_empty.false) n.named (sym (behind ∙ n.behind) ∙ empty) n.name added
 
 pub returns-in_default : goal.returns-in_default
 returns-in_default c =

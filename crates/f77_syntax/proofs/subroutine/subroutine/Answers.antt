@@ -4,6 +4,7 @@ use Rattle.std.proofs.lemmas.Result.{err_from_is_err_and}
 use Rattle.std.proofs.lemmas.List.{nil_from_length}
 use Rattle.std.proofs.lemmas.Bool.{eqb-true}
 use Rattle.f77_tree.specs.Grammar.{is_name}
+use Rattle.f77_tree.specs.Limits.{cut}
 use Rattle.f77_tree.proofs.Views.{subroutine_view}
 use Rattle.f77_tree.proofs.StatementGives.{subroutine_none, subroutine_bare, subroutine_other, subroutine_open, subroutine_fails, subroutine_whole}
 use Rattle.f77_syntax.proofs.subroutine.subroutine.Goals as goal
@@ -19,8 +20,8 @@ returns-then-is_empty c =
     let none : (length c.split_word.result.1.now == 0) ≡ true = cc in
     let empty = nil_from_length c.split_word.result.1.now (eqb-true (length c.split_word.result.1.now) 0 none) in
     let w = subroutine_bare c.args.text.now _ (ap is_name (sym c.split_word.ensures.front) ∙ n) (sym c.split_word.ensures.back ∙ empty)
-    (c.in_ok-name.ensures ∙ c.split_word.ensures.front) _ c.new-arguments.ensures.items in
-    (w.0, w.1, subroutine_view c.in_ok-name.name c.new-arguments.result ∙ w.2)
+    (c.beginning-name.ensures ∙ ap cut c.split_word.ensures.front) _ c.new-arguments.ensures.items in
+    (w.0, w.1, subroutine_view c.beginning-name.result c.new-arguments.result ∙ w.2)
 
 pub returns-in_default : goal.returns-in_default
 returns-in_default c =
@@ -46,5 +47,5 @@ returns c =
     let n : is_name c.split_word.result.0.now ≡ true = cc in
     let g = c.in_ok-arguments.ensures in
     let w = subroutine_whole c.args.text.now c.split_word.result.1.now c.in-Some.behind.now c.in-Some-without_close.inner.now _ g.0 _ (ap is_name (sym c.split_word.ensures.front) ∙ n) c.split_word.ensures.back
-    (sym c.in-Some.ensures) (sym c.in-Some-without_close.ensures) g.1 g.2 (c.in_ok-name.ensures ∙ c.split_word.ensures.front) in
-    (w.0, w.1, subroutine_view c.in_ok-name.name c.in_ok-arguments.arguments ∙ w.2)
+    (sym c.in-Some.ensures) (sym c.in-Some-without_close.ensures) g.1 g.2 (c.beginning-name.ensures ∙ ap cut c.split_word.ensures.front) in
+    (w.0, w.1, subroutine_view c.beginning-name.result c.in_ok-arguments.arguments ∙ w.2)

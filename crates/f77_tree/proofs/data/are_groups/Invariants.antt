@@ -1,9 +1,11 @@
-use Rattle.std.proofs.Common.{◌≡◌, drop}
+use Rattle.std.proofs.Common.{◌≡◌, ◌×◌, drop}
 use Rattle.std.specs.Prelude.{map}
 use Rattle.std.specs.List.{list_all}
-use Rattle.f77_tree.specs.Data.{data_group_of, is_group}
+use Rattle.f77_tree.specs.Data.{data_group_of, is_group, group_names}
 use Rattle.f77_tree.proofs.data.are_groups.Given as goal
 
--- the answer rests on the other groups
+-- the answers rest on the other groups
 abbrev pub invariant-loop-group : goal.invariant-loop-group
-invariant-loop-group l = list_all is_group (map data_group_of l.groups) ≡ list_all is_group (map data_group_of (drop l.group-index l.groups))
+invariant-loop-group l =
+    (list_all is_group (map data_group_of l.groups) ≡ list_all is_group (map data_group_of (drop l.group-index l.groups)))
+    × (list_all group_names (map data_group_of l.groups) ≡ list_all group_names (map data_group_of (drop l.group-index l.groups)))

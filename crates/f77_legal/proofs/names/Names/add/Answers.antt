@@ -1,16 +1,13 @@
-use Rattle.std.proofs.Common.{rules, ◌≡◌, ap, ◌∙◌, map}
-use Rattle.std.specs.Str.{bytes_eq}
-use Rattle.indexmap.specs.IndexMap.{insert_entry}
+use Rattle.std.proofs.Common.{ap, ◌∙◌, map}
 use Rattle.f77_legal.specs.NameTable.{entry_of, with_fact, mention_of}
 use Rattle.f77_legal.proofs.Noting.{said_new}
 use Rattle.f77_legal.proofs.names.Names.add.Goals as goal
 
 pub returns-clause-noted : goal.returns-clause-noted
 returns-clause-noted c =
-    let same : c.in_ok-key.key ≡ c.args.name.now = search rules in
     let entries = c.args.self.now.facts.entries in
     let name = c.args.name.now in
     λ absent.
-    ap (map entry_of) (c.in_ok-insert.ensures.entries ∙ ap (λ k. insert_entry bytes_eq entries k c.note.new.self) same)
+    ap (map entry_of) c.in_ok-insert.ensures.entries
     ∙ said_new name c.note.new.self entries c.args.said absent
     (c.in_ok-note.ensures.noted name ∙ ap (λ f. with_fact f (mention_of name c.args.said)) c.none-facts.ensures)

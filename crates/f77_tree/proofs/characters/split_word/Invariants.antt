@@ -1,6 +1,6 @@
 use Rattle.std.proofs.Common.{◌≡◌, ◌++◌, take, drop}
 use Rattle.f77_tree.specs.Reading.{word, past_word}
-use Rattle.f77_syntax.proofs.scan.split_word.Given as goal
+use Rattle.f77_tree.proofs.characters.split_word.Given as goal
 
 abbrev pub invariant-loop-i : goal.invariant-loop-i
 invariant-loop-i l = record {

@@ -1,0 +1,9 @@
+use Rattle.std.proofs.Common.{sym, subst}
+use Rattle.std.specs.Prelude.{IsUtf8}
+use Rattle.f77_tree.specs.Reading.{word}
+use Rattle.f77_tree.proofs.Names.{name_utf8}
+use Rattle.f77_tree.proofs.name.Name.as_str.Goals as goal
+
+pub unreachable-requires : goal.unreachable-requires
+unreachable-requires c =
+    c.in-Err.ensures.cases.0 (subst IsUtf8 (sym c.split_word.ensures.front) (name_utf8 (word c.self.inside.letters) c.self.invariant.named))
