@@ -1,6 +1,6 @@
 -- What keeps a program from being printed, and what is read of what was printed.
 use Rattle.std.proofs.Common.{arith, ◌≡◌, ◌⊎◌, inl, inr, ◌≤◌, ℕ, length, List, [], ◌∷◌, Bool, true, false, cond, refl, ap, sym, ◌∙◌, subst, Option, Some, None}
-use Rattle.std.specs.Prelude.{map, ◌||◌, is_some, nat_lt, option_map}
+use Rattle.std.specs.Prelude.{map, ◌||◌, is_some, IsSome, nat_lt, option_map}
 use Rattle.std.specs.List.{All, list_all, slice_get, cons_option}
 use Rattle.std.proofs.lemmas.List.Elements.{All-head, All-tail, All-cons}
 use Rattle.std.proofs.lemmas.Bool.{ltb-false}
@@ -31,40 +31,57 @@ pub program_formed : {before : Option Group} {lines : List LineFields} → IsPro
 program_formed IsProgram.finished = tt
 program_formed (IsProgram.next {line = line} may rest) = (is_formed line.stmt may.1.0, program_formed rest)
 
--- a line's fault is that of its card
-line_told : (line : LineFields) → statement_formed line.stmt ≡ true → option_map told (card_fault (card_of line)) ≡ print_fault line
+-- a line's fault is what is told of its card's
+line_told : (line : LineFields) → statement_formed line.stmt ≡ true → option_map told (card_fault (card_of line)) ≡ option_map Some (print_fault line)
 unfolding card_fault print_fault
 line_told line f = rw (printable_statement line.stmt f) (step (is_bad_label line.label) (nat_lt 19 (continuation_count (statement_text line.stmt))))
   where
     step : (b d : Bool) → option_map told (cond b (Some (BadLabel line.line)) (cond d (Some (TooManyContinuations line.line)) None))
-        ≡ cond b (Some (BadConstant line.line)) (cond d (Some (TooLong line.line)) None)
+        ≡ option_map Some (cond b (Some (BadConstant line.line)) (cond d (Some (TooLong line.line)) None))
     step true d = refl
     step false true = refl
     step false false = refl
 
-one_told : (o : Option FormFault) (p : Option SyntaxFault) (faults : List FormFault) (others : List SyntaxFault) → option_map told o ≡ p → map told faults ≡ others
-    → map told (cons_option o faults) ≡ cons_option p others
-one_told None p faults others e h = rw (sym e, sym h) refl
-one_told (Some fault) p faults others e h = rw (sym e, sym h) refl
+one_told : (o : Option FormFault) (p : Option SyntaxFault) (faults : List FormFault) (others : List SyntaxFault)
+    → option_map told o ≡ option_map Some p → map told faults ≡ map Some others → map told (cons_option o faults) ≡ map Some (cons_option p others)
+one_told None None faults others e h = h
+one_told None (Some said) faults others e h = cc
+one_told (Some fault) None faults others e h = cc
+one_told (Some fault) (Some said) faults others e h = cc
 
-faults_told : (lines : List LineFields) → AreFormed lines → map told (card_faults (map card_of lines)) ≡ print_faults lines
+faults_told : (lines : List LineFields) → AreFormed lines → map told (card_faults (map card_of lines)) ≡ map Some (print_faults lines)
 faults_told [] f = refl
 faults_told (line ∷ lines) f =
     one_told (card_fault (card_of line)) (print_fault line) (card_faults (map card_of lines)) (print_faults lines) (line_told line f.0) (faults_told lines f.1)
 
+no_faults : (faults : List SyntaxFault) → map Some faults ≡ [] → faults ≡ []
+no_faults [] e = refl
+no_faults (fault ∷ faults) e = cc
+
 pub printed_whole : (lines : List LineFields) → AreFormed lines → card_faults (map card_of lines) ≡ [] → print_faults lines ≡ []
-printed_whole lines f none = sym (faults_told lines f) ∙ ap (map told) none
+printed_whole lines f none = no_faults (print_faults lines) (sym (faults_told lines f) ∙ ap (map told) none)
 
-first_told : (faults : List FormFault) (fault : FormFault) → slice_get faults 0 ≡ Some fault → slice_get (map told faults) 0 ≡ Some (told fault)
-first_told [] fault e = cc
-first_told (f ∷ faults) fault e = cc
+-- what is told of the first of the faults is the first of those that are told
+first_told : (faults : List FormFault) (others : List SyntaxFault) (fault : FormFault) → map told faults ≡ map Some others
+    → slice_get faults 0 ≡ Some fault → (said : SyntaxFault) × (slice_get others 0 ≡ Some said) × (told fault ≡ Some said)
+first_told [] others fault e h = cc
+first_told (f ∷ faults) [] fault e h = cc
+first_told (f ∷ faults) (said ∷ others) fault e h = (said, refl, (cc))
 
-pub first_refused : (lines : List LineFields) (fault : FormFault) (said : SyntaxFault) → AreFormed lines → said ≡ told fault
-    → (slice_get (card_faults (map card_of lines)) 0 ≡ Some fault) ⊎ (fault ≡ FormFault.Memory)
-    → (slice_get (print_faults lines) 0 ≡ Some said) ⊎ (said ≡ Memory)
+-- what the writer tells of these cards
+abbrev pub IsRefusal : List LineFields → FormFault → Type 0
+IsRefusal lines fault = (slice_get (card_faults (map card_of lines)) 0 ≡ Some fault) ⊎ (fault ≡ FormFault.Memory)
+
+pub is_told : (lines : List LineFields) (fault : FormFault) → AreFormed lines → IsRefusal lines fault → IsSome (told fault)
+is_told lines fault f (inl first) =
+    let (said, here, same) = first_told (card_faults (map card_of lines)) (print_faults lines) fault (faults_told lines f) first in rw same refl
+is_told lines fault f (inr memory) = rw memory refl
+
+pub first_refused : (lines : List LineFields) (fault : FormFault) (said : SyntaxFault) → AreFormed lines → told fault ≡ Some said
+    → IsRefusal lines fault → (slice_get (print_faults lines) 0 ≡ Some said) ⊎ (said ≡ Memory)
 first_refused lines fault said f same (inl first) =
-    inl (ap (λ z. slice_get z 0) (sym (faults_told lines f)) ∙ first_told (card_faults (map card_of lines)) fault first ∙ ap Some (sym same))
-first_refused lines fault said f same (inr memory) = inr (same ∙ ap told memory)
+    let (found, here, is) = first_told (card_faults (map card_of lines)) (print_faults lines) fault (faults_told lines f) first in inl (cc)
+first_refused lines fault said f same (inr memory) = let is : told FormFault.Memory ≡ Some said = rw memory at same in inr (cc)
 
 -- no line of the cards is a comment
 or_true : (b : Bool) → (b || true) ≡ true

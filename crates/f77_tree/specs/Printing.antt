@@ -35,15 +35,15 @@ print_fault line =
 abbrev pub print_faults : List LineFields → List SyntaxFault
 print_faults program = filter_map print_fault program
 
--- what is told of a card that cannot be written
-abbrev pub told : FormFault → SyntaxFault
-told (BadLabel line) = BadConstant line
-told (TooManyContinuations line) = TooLong line
-told FormMemory = Memory
-told TooLarge = Memory
-told (NotAscii line) = Memory
-told (Tab line) = Memory
-told (LooseContinuation line) = Memory
+-- What is told of a card that cannot be written. Nothing is told of a fault that no card with a printable text has.
+abbrev pub told : FormFault → Option SyntaxFault
+told (BadLabel line) = Some (BadConstant line)
+told (TooManyContinuations line) = Some (TooLong line)
+told FormMemory = Some Memory
+told TooLarge = None
+told (NotAscii line) = None
+told (Tab line) = None
+told (LooseContinuation line) = None
 
 -- a statement of an unmutated program, and its limits, those on names and on the length of its text aside
 pub record KeepsLimits (s : Statement) : Type 0 where

@@ -1,6 +1,6 @@
 //! Programs printed in fixed form.
 
-ghost use Rattle.std.specs.Prelude.{◌≡◌, ◌⊎◌, [], Some, IfOk, IfErr, map, string_bytes};
+ghost use Rattle.std.specs.Prelude.{◌≡◌, ◌⊎◌, [], Some, IsSome, IfOk, IfErr, map, string_bytes};
 ghost use Rattle.std.specs.List.{All, slice_get};
 ghost use Rattle.f77_tree.specs.Parsing.{line_of};
 ghost use Rattle.f77_tree.specs.Printing as printing;
@@ -13,14 +13,16 @@ use f77_source::law::written_cards_are_read;
 use f77_source::{Card, FormFault, write_form};
 use std::alloc::Global;
 
-/// What is told of a card that cannot be written. Canonical texts are printable, so no other refusal comes.
+/// What is told of a card that cannot be written. Canonical texts are printable, so that no other refusal comes.
 fn told(fault: FormFault) -> SyntaxFault
-    ensures { result ≡ told fault }
+    requires { IsSome (told fault) }
+    ensures { told fault ≡ Some result }
 {
     match fault {
         FormFault::BadLabel(line) => SyntaxFault::BadConstant(line),
         FormFault::TooManyContinuations(line) => SyntaxFault::TooLong(line),
-        _ => SyntaxFault::Memory,
+        FormFault::Memory => SyntaxFault::Memory,
+        _ => unreachable!(),
     }
 }
 

@@ -3,7 +3,7 @@ use Rattle.std.specs.Prelude.{map}
 use Rattle.f77_source.specs.Write.{card_faults}
 use Rattle.f77_tree.specs.Parsing.{line_of}
 use Rattle.f77_tree.specs.Printing.{card_of, printed}
-use Rattle.f77_tree.proofs.ReadAgain.{program_formed, printed_whole, first_refused, prints_back}
+use Rattle.f77_tree.proofs.ReadAgain.{program_formed, printed_whole, is_told, first_refused, prints_back}
 use Rattle.f77_tree.proofs.printing.print.Goals as goal
 
 pub returns-in-Ok-clause-accepted : goal.returns-in-Ok-clause-accepted
@@ -16,6 +16,9 @@ returns-in-Ok-clause-back c =
     let none : card_faults (map card_of (map line_of c.args.program.now)) ≡ [] = search rules in
     let is : string_bytes c.in-Ok.text ≡ printed (map line_of c.args.program.now) = search rules in
     prints_back (string_bytes c.in-Ok.text) (map line_of c.args.program.now) c.lines.ensures.program none is c.written_cards_are_read.ensures
+
+pub told-requires : goal.told-requires
+told-requires c = is_told (map line_of c.args.program.now) c.in-Err.fault (program_formed c.lines.ensures.program) (search rules)
 
 pub returns-clause-refused : goal.returns-clause-refused
 returns-clause-refused c =
