@@ -11,12 +11,11 @@ ghost use Rattle.f77_tree.specs.View.{clipped};
 use f77_tree::Operator;
 use f77_tree::characters::is_digit;
 
-const OPERATORS: [Operator; 15] = [
-    Operator::Power,
-    Operator::Multiply,
-    Operator::Divide,
-    Operator::Add,
-    Operator::Subtract,
+/// The operators that begin with an asterisk, one before that whose text begins its own.
+const STARRED: [Operator; 2] = [Operator::Power, Operator::Multiply];
+
+/// The operators that begin with a dot.
+const DOTTED: [Operator; 10] = [
     Operator::Less,
     Operator::LessOrEqual,
     Operator::Equal,
@@ -62,7 +61,15 @@ pub(crate) fn next_operator(text: &[u8]) -> Option<(Operator, &[u8])>
     ensures found { option_map (λ x. (x.0, x.1.now)) result ≡ operator_at text.now }
     ensures shorter { IfSome result (λ x. length x.1.now < length text.now) }
 {
-    first_operator(&OPERATORS, text)
+    let (first, rest) = text.split_first()?;
+    match *first {
+        b'*' => first_operator(&STARRED, text),
+        b'+' => Some((Operator::Add, rest)),
+        b'-' => Some((Operator::Subtract, rest)),
+        b'.' => first_operator(&DOTTED, text),
+        b'/' => Some((Operator::Divide, rest)),
+        _ => None,
+    }
 }
 
 /// The first of these operators whose text stands at the front, and what follows it.
