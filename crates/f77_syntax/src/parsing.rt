@@ -1,9 +1,10 @@
 //! Programs read from cards.
 
-ghost use Rattle.std.specs.Prelude.{◌≡◌, ◌≢◌, ◌⊎◌, List, ◌∷◌, [], ◌++◌, true, false, IfOk, IfErr, MatchResult, map, Some, None, Err};
+ghost use Rattle.std.specs.Prelude.{◌≡◌, ◌≢◌, ◌≤◌, ◌⊎◌, List, ◌∷◌, [], ◌++◌, true, false, IfOk, IfErr, MatchResult, map, Some, None, Err};
 ghost use Rattle.f77_source.specs.Card.{CardFields};
 ghost use Rattle.f77_tree.specs.StatementGrammar.{SpellsStatement};
 ghost use Rattle.f77_tree.specs.Group.{group_of, may_stand};
+ghost use Rattle.f77_tree.specs.Limits.{character_count, most_characters};
 ghost use Rattle.f77_tree.specs.Parsing.{IsAdmitted, IsRefused, IsFirstFault, AreLines, IsProgram, LineFields, line_of, misplaced, unfinished};
 ghost use Rattle.f77_tree.specs.Tree.{Statement};
 ghost use Rattle.f77_tree.specs.StatementView.{statement_of, clip_statement};
@@ -33,15 +34,13 @@ fn spelled(alloc: Global, line: u32, text: &[u8]) -> Result<Stmt, SyntaxFault>
     }
 }
 
-/// The statement that a text spells within the limits.
-pub(crate) fn admitted(alloc: Global, line: u32, text: &[u8]) -> Result<Stmt, SyntaxFault>
+/// The statement that a text of not too many characters spells within the other limits.
+fn limited(alloc: Global, line: u32, text: &[u8]) -> Result<Stmt, SyntaxFault>
+    requires { character_count text.now ≤ most_characters }
     ensures { MatchResult result
         (λ stmt. IsAdmitted text.now (statement_of stmt))
         (λ fault. (fault ≡ SyntaxFault.Memory) ⊎ IsRefused line text.now fault) }
 {
-    if text.len() > MOST_CHARACTERS {
-        return Err(SyntaxFault::TooLong(line));
-    }
     if is_too_deep(text) {
         return Err(SyntaxFault::TooDeep(line));
     }
@@ -56,6 +55,25 @@ pub(crate) fn admitted(alloc: Global, line: u32, text: &[u8]) -> Result<Stmt, Sy
         return Err(SyntaxFault::TooLong(line));
     }
     Ok(stmt)
+}
+
+/// How many characters the text has.
+fn character_count(text: &str) -> usize
+    ensures { result ≡ character_count text.now }
+{
+    text.chars().count()
+}
+
+/// The statement that a text spells within the limits.
+pub(crate) fn admitted(alloc: Global, line: u32, text: &str) -> Result<Stmt, SyntaxFault>
+    ensures { MatchResult result
+        (λ stmt. IsAdmitted text.now (statement_of stmt))
+        (λ fault. (fault ≡ SyntaxFault.Memory) ⊎ IsRefused line text.now fault) }
+{
+    if character_count(text) > MOST_CHARACTERS {
+        return Err(SyntaxFault::TooLong(line));
+    }
+    limited(alloc, line, text.as_bytes())
 }
 
 fn misplaced(before: Option<Group>, line: u32) -> SyntaxFault
@@ -76,7 +94,7 @@ fn in_place(alloc: Global, before: Option<Group>, card: &Card) -> Result<Stmt, S
     if is_end(before) {
         return Err(SyntaxFault::AfterEnd(card.line()));
     }
-    let stmt = admitted(alloc, card.line(), card.text().as_bytes())?;
+    let stmt = admitted(alloc, card.line(), card.text())?;
     if !stmt.group().may_stand(before) {
         return Err(misplaced(before, card.line()));
     }

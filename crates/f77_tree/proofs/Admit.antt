@@ -1,19 +1,19 @@
 -- What the limits say of the text and of the statement that is kept, they say of the one that the text spells.
-use Rattle.std.proofs.Common.{arith, ◌≡◌, ◌⊎◌, inl, inr, ◌≤◌, ◌<◌, ℕ, List, length, Bool, true, false, ap, sym, ◌∙◌, subst}
+use Rattle.std.proofs.Common.{arith, ◌≡◌, ◌⊎◌, inl, inr, ◌≤◌, ◌<◌, ℕ, List, Bool, true, false, ap, sym, ◌∙◌, subst}
 use Rattle.std.specs.Prelude.{min}
 use Rattle.f77_tree.specs.declared.fault.SyntaxFault.{SyntaxFault}
 use Rattle.f77_tree.specs.declared.fault.SyntaxFault.TheVariants.{Memory, Unknown, BadName, BadConstant, TooLong}
 use Rattle.f77_tree.specs.Tree.{Statement}
 use Rattle.f77_tree.specs.StatementGrammar.{SpellsStatement}
 use Rattle.f77_tree.specs.StatementView.{clip_statement}
-use Rattle.f77_tree.specs.Limits.{most_characters, IsTooDeep}
+use Rattle.f77_tree.specs.Limits.{character_count, most_characters, IsTooDeep}
 use Rattle.f77_tree.specs.StatementLimits.{statement_names, statement_constants, statement_nodes}
 use Rattle.f77_tree.specs.Parsing.{IsAdmitted, IsRefused}
 use Rattle.f77_tree.proofs.StatementClip.{statement_constants_clip, statement_nodes_clip, statement_kept}
 
 -- a text within the limits on texts, and the statement that was kept of it
 pub record Kept (text : List ℕ) (got : Statement) : Type 0 where
-  pub characters : length text ≤ most_characters
+  pub characters : character_count text ≤ most_characters
   pub flat : ¬ (IsTooDeep text)
   pub spells : (s : Statement) × SpellsStatement text s × (got ≡ clip_statement s)
 
@@ -58,7 +58,7 @@ all_well text got b d n k e f g h i j =
       nodes = omega arith;
     }
 
-pub not_spelled : (line : ℕ) (text : List ℕ) (fault : SyntaxFault) → length text ≤ most_characters → ¬ (IsTooDeep text)
+pub not_spelled : (line : ℕ) (text : List ℕ) (fault : SyntaxFault) → character_count text ≤ most_characters → ¬ (IsTooDeep text)
     → (fault ≡ Memory) ⊎ ((fault ≡ Unknown line) × ((s : Statement) → ¬ (SpellsStatement text s))) → (fault ≡ Memory) ⊎ IsRefused line text fault
 not_spelled line text fault h flat (inl e) = inl e
 not_spelled line text fault h flat (inr p) = inr (subst (λ f. IsRefused line text f) (sym p.0) (IsRefused.unknown h flat p.1))

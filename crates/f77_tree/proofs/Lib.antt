@@ -23,6 +23,7 @@ pub mod Back
 pub mod StatementBack
 pub mod Forming
 pub mod StatementForming
+pub mod CharacterCounts
 pub mod Plain
 pub mod StatementPlain
 pub mod Order

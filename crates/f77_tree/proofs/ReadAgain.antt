@@ -21,6 +21,7 @@ use Rattle.f77_tree.specs.Printing.{card_of, printed, print_fault, print_faults,
 use Rattle.f77_tree.proofs.StatementForming.{is_formed}
 use Rattle.f77_tree.proofs.StatementPlain.{printable_statement, statement_starts, reads_back}
 use Rattle.f77_tree.proofs.Plain.{squeezed_short}
+use Rattle.f77_tree.proofs.CharacterCounts.{characters_few}
 
 -- each statement is one that some text spells
 abbrev pub AreFormed : List LineFields → Type 0
@@ -110,9 +111,11 @@ few_lines card p e = step (is_bad_label card.label) (nat_lt 19 (continuation_cou
     step false true is f = cc
     step false false is f = let few = ltb-false 19 (continuation_count card.text) is in omega arith
 
-admitted : (line : LineFields) → IsFormed line.stmt → statement_names line.stmt ≡ true → KeepsLimits line.stmt → card_fault (card_of line) ≡ None → IsAdmitted (squeezed (statement_text line.stmt)) line.stmt
+admitted : (line : LineFields) → IsFormed line.stmt → statement_names line.stmt ≡ true → KeepsLimits line.stmt → card_fault (card_of line) ≡ None
+    → IsAdmitted (squeezed (statement_text line.stmt)) line.stmt
 admitted line f n k e = record {
-  characters = let few = few_lines (card_of line) (printable_statement line.stmt (is_formed line.stmt f)) e in omega (arith, squeezed_short (statement_text line.stmt));
+  characters = let few = few_lines (card_of line) (printable_statement line.stmt (is_formed line.stmt f)) e in
+      omega (arith, squeezed_short (statement_text line.stmt), characters_few (squeezed (statement_text line.stmt)));
   flat = k.flat;
   spells = reads_back line.stmt f k.unmutated k.constants;
   names = n;

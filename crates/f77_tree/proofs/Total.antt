@@ -10,7 +10,7 @@ use Rattle.f77_tree.specs.declared.group.Group.{Group}
 use Rattle.f77_tree.specs.declared.group.Group.TheVariants.{Subroutine, Declaration, Data, Executable, End}
 use Rattle.f77_tree.specs.Tree.{Statement}
 use Rattle.f77_tree.specs.Group.{group_of, may_stand}
-use Rattle.f77_tree.specs.Limits.{count, most_open, most_characters, most_nodes, IsTooDeep}
+use Rattle.f77_tree.specs.Limits.{count, most_open, character_count, most_characters, most_nodes, IsTooDeep}
 use Rattle.f77_tree.specs.Parsing.{IsAdmitted, IsRefused, line_with, AreLines, IsFirstFault, HasLinesOrFault, misplaced, unfinished}
 use Rattle.f77_tree.specs.Statement.{statement_at}
 use Rattle.f77_tree.specs.StatementGrammar.{SpellsStatement}
@@ -66,7 +66,7 @@ abbrev Answer : ℕ → List ℕ → Type 0
 Answer line text = ((s : Statement) × IsAdmitted text s) ⊎ ((fault : SyntaxFault) × IsRefused line text fault)
 
 -- a text within the limits on texts, which spells this statement
-limited : (line : ℕ) (text : List ℕ) (s : Statement) → length text ≤ most_characters → ¬ (IsTooDeep text) → SpellsStatement text s
+limited : (line : ℕ) (text : List ℕ) (s : Statement) → character_count text ≤ most_characters → ¬ (IsTooDeep text) → SpellsStatement text s
     → (names constants few : Bool) → statement_names s ≡ names → statement_constants s ≡ constants → nat_le (statement_nodes s) most_nodes ≡ few → Answer line text
 limited line text s h flat p false constants few e f g = inr (BadName line, IsRefused.name h flat p e)
 limited line text s h flat p true false few e f g = inr (BadConstant line, IsRefused.constant h flat p e f)
@@ -75,19 +75,19 @@ limited line text s h flat p true true true e f g =
     inl (s, record { characters = h; flat = flat; spells = p; names = e; constants = f; nodes = grind (arith, nat_tests) })
 
 admitted_or_refused : (line : ℕ) (text : List ℕ) → Answer line text
-admitted_or_refused line text = by_length (nat_le (length text) most_characters) refl
+admitted_or_refused line text = by_length (nat_le (character_count text) most_characters) refl
   where
-    by_spelling : length text ≤ most_characters → ¬ (IsTooDeep text)
+    by_spelling : character_count text ≤ most_characters → ¬ (IsTooDeep text)
         → ((s : Statement) × SpellsStatement text s) ⊎ ((s : Statement) → ¬ (SpellsStatement text s)) → Answer line text
     by_spelling h flat (inl x) =
         limited line text x.0 h flat x.1 (statement_names x.0) (statement_constants x.0) (nat_le (statement_nodes x.0) most_nodes) refl refl refl
     by_spelling h flat (inr none) = inr (Unknown line, IsRefused.unknown h flat none)
 
-    by_depth : length text ≤ most_characters → IsTooDeep text ⊎ (¬ (IsTooDeep text)) → Answer line text
+    by_depth : character_count text ≤ most_characters → IsTooDeep text ⊎ (¬ (IsTooDeep text)) → Answer line text
     by_depth h (inl deep) = inr (TooDeep line, IsRefused.parentheses h deep)
     by_depth h (inr flat) = by_spelling h flat (spelled_or_not text)
 
-    by_length : (b : Bool) → nat_le (length text) most_characters ≡ b → Answer line text
+    by_length : (b : Bool) → nat_le (character_count text) most_characters ≡ b → Answer line text
     by_length true e = by_depth (grind (arith, nat_tests)) (deep_or_flat text)
     by_length false e = inr (TooLong line, IsRefused.characters (grind (arith, nat_tests)))
 

@@ -1,6 +1,11 @@
 -- The limits of a statement: two on its text, three on what the text spells.
 use Rattle.std.specs.Prelude.{ℕ, ◌+◌, ◌<◌, ◌==◌, Bool, true, ◌&&◌, nat_le, List, take, filter, length}
+use Rattle.std.specs.Str.{chars}
 use Rattle.f77_tree.specs.Tree.{Tree, Trees}
+
+-- how many characters the text has: one of several bytes counts once
+abbrev pub character_count : List ℕ → ℕ
+character_count text = length (chars text)
 
 -- the most characters of a statement's text: 20 lines of 66
 abbrev pub most_characters : ℕ

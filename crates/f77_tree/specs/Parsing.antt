@@ -1,10 +1,10 @@
 -- Which cards are which program, and why cards are none.
-use Rattle.std.specs.Prelude.{◌≡◌, ◌≢◌, ℕ, zero, suc, ◌≤◌, ◌<◌, ◌⊎◌, true, false, List, [], ◌∷◌, length, Option, Some, None}
+use Rattle.std.specs.Prelude.{◌≡◌, ◌≢◌, ℕ, zero, suc, ◌≤◌, ◌<◌, ◌⊎◌, true, false, List, [], ◌∷◌, Option, Some, None}
 use Rattle.std.specs.List.{slice_get}
 use Rattle.f77_source.specs.Card.{CardFields}
 use Rattle.f77_tree.specs.Tree.{Statement}
 use Rattle.f77_tree.specs.StatementGrammar.{SpellsStatement, IsFormed}
-use Rattle.f77_tree.specs.Limits.{most_characters, most_nodes, IsTooDeep}
+use Rattle.f77_tree.specs.Limits.{character_count, most_characters, most_nodes, IsTooDeep}
 use Rattle.f77_tree.specs.StatementLimits.{statement_names, statement_constants, statement_nodes}
 use Rattle.f77_tree.specs.Group.{group_of, may_stand}
 use Rattle.f77_tree.specs.StatementView.{statement_of}
@@ -16,7 +16,7 @@ use Rattle.f77_tree.specs.declared.fault.SyntaxFault.TheVariants.{Unknown, BadNa
 
 -- the text spells the statement within the limits
 pub record IsAdmitted (text : List ℕ) (s : Statement) : Type 0 where
-  pub characters : length text ≤ most_characters
+  pub characters : character_count text ≤ most_characters
   pub flat : ¬ (IsTooDeep text)
   pub spells : SpellsStatement text s
   pub names : statement_names s ≡ true
@@ -25,15 +25,15 @@ pub record IsAdmitted (text : List ℕ) (s : Statement) : Type 0 where
 
 -- why the text of the card with this line is not admitted
 pub data IsRefused (line : ℕ) (text : List ℕ) : SyntaxFault → Type 0 where
-  characters : most_characters < length text → IsRefused line text (TooLong line)
-  parentheses : length text ≤ most_characters → IsTooDeep text → IsRefused line text (TooDeep line)
-  unknown : length text ≤ most_characters → ¬ (IsTooDeep text) → ((s : Statement) → ¬ (SpellsStatement text s))
+  characters : most_characters < character_count text → IsRefused line text (TooLong line)
+  parentheses : character_count text ≤ most_characters → IsTooDeep text → IsRefused line text (TooDeep line)
+  unknown : character_count text ≤ most_characters → ¬ (IsTooDeep text) → ((s : Statement) → ¬ (SpellsStatement text s))
       → IsRefused line text (Unknown line)
-  name : {s : Statement} → length text ≤ most_characters → ¬ (IsTooDeep text) → SpellsStatement text s
+  name : {s : Statement} → character_count text ≤ most_characters → ¬ (IsTooDeep text) → SpellsStatement text s
       → statement_names s ≡ false → IsRefused line text (BadName line)
-  constant : {s : Statement} → length text ≤ most_characters → ¬ (IsTooDeep text) → SpellsStatement text s
+  constant : {s : Statement} → character_count text ≤ most_characters → ¬ (IsTooDeep text) → SpellsStatement text s
       → statement_names s ≡ true → statement_constants s ≡ false → IsRefused line text (BadConstant line)
-  nodes : {s : Statement} → length text ≤ most_characters → ¬ (IsTooDeep text) → SpellsStatement text s
+  nodes : {s : Statement} → character_count text ≤ most_characters → ¬ (IsTooDeep text) → SpellsStatement text s
       → statement_names s ≡ true → statement_constants s ≡ true → most_nodes < statement_nodes s
       → IsRefused line text (TooLong line)
 

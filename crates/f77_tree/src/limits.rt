@@ -1,6 +1,6 @@
 //! The limits of a statement, that on names aside: a `Name` keeps it.
 
-ghost use Rattle.std.specs.Prelude.{◌≡◌, ◌≤◌, ◌+◌, length, true, false, map, min, if◌then◌else◌, option_map};
+ghost use Rattle.std.specs.Prelude.{◌≡◌, true, false, map, min, if◌then◌else◌, option_map};
 ghost use Rattle.std.specs.List.{list_all};
 ghost use Rattle.f77_tree.specs.Limits as limits;
 ghost use Rattle.f77_tree.specs.StatementLimits as statements;
@@ -24,7 +24,6 @@ fn one_if(holds: bool) -> usize
 
 /// Whether some beginning of the text opens over 40 parentheses more than it closes.
 pub fn is_too_deep(text: &[u8]) -> bool
-    requires { length text.now ≤ limits.most_characters }
     ensures deep { result ≡ true → IsTooDeep text.now }
     ensures flat { result ≡ false → ¬ (IsTooDeep text.now) }
 {

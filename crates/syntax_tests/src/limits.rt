@@ -46,3 +46,12 @@ fn limits_the_length(rt: HostRuntime) -> Result<(), Fail> {
     assert_eq!(rt; shown(&rt, long.as_str())?.as_str(), "TooLong(2)");
     Ok(())
 }
+
+#[test]
+fn a_character_of_two_bytes_counts_once(rt: HostRuntime) -> Result<(), Fail> {
+    let most = repeated(&rt, "", 1320, "é", "")?;
+    assert_eq!(rt; shown(&rt, most.as_str())?.as_str(), "Unknown(2)");
+    let more = repeated(&rt, "", 1321, "é", "")?;
+    assert_eq!(rt; shown(&rt, more.as_str())?.as_str(), "TooLong(2)");
+    Ok(())
+}

@@ -1,0 +1,50 @@
+use Rattle.std.proofs.Common.{inr}
+use Rattle.std.proofs.lemmas.Result.{err_from_is_err_and}
+use Rattle.f77_tree.specs.Parsing.{IsRefused}
+use Rattle.f77_tree.specs.StatementView.{statement_of}
+use Rattle.f77_tree.proofs.Admit.{Kept, bad_name, bad_constant, many_nodes, all_well, not_spelled}
+use Rattle.f77_syntax.proofs.parsing.limited.Goals as goal
+
+pub returns-then-is_too_deep : goal.returns-then-is_too_deep
+returns-then-is_too_deep c = inr (IsRefused.parentheses c.requires (c.is_too_deep.ensures.deep c.if-is_too_deep.true))
+
+pub returns-in_err-stmt : goal.returns-in_err-stmt
+returns-in_err-stmt c =
+    let p = err_from_is_err_and c.from_residual.result c.from_residual.ensures.1 in
+    rw (p.1, p.2) (not_spelled c.args.line c.args.text.now c.in_err-stmt.field-0.0 c.requires (c.is_too_deep.ensures.flat c.if-is_too_deep.false) c.in_err-stmt.ensures)
+
+pub returns-then-not-has_short_names : goal.returns-then-not-has_short_names
+returns-then-not-has_short_names c =
+    let k : Kept c.args.text.now (statement_of c.in_ok-stmt.stmt) = record {
+      characters = c.requires;
+      flat = c.is_too_deep.ensures.flat c.if-is_too_deep.false;
+      spells = c.in_ok-stmt.ensures;
+    } in
+    inr (bad_name c.args.line c.args.text.now _ c.has_short_names.result k c.has_short_names.ensures c.if-not-has_short_names.true)
+
+pub returns-then-not-statement_constants : goal.returns-then-not-statement_constants
+returns-then-not-statement_constants c =
+    let k : Kept c.args.text.now (statement_of c.in_ok-stmt.stmt) = record {
+      characters = c.requires;
+      flat = c.is_too_deep.ensures.flat c.if-is_too_deep.false;
+      spells = c.in_ok-stmt.ensures;
+    } in
+    inr (bad_constant c.args.line c.args.text.now _ c.has_short_names.result c.statement_constants.result k c.has_short_names.ensures c.if-not-has_short_names.false c.statement_constants.ensures c.if-not-statement_constants.true)
+
+pub returns-then-statement_nodes-gt-MOST_NODES : goal.returns-then-statement_nodes-gt-MOST_NODES
+returns-then-statement_nodes-gt-MOST_NODES c =
+    let k : Kept c.args.text.now (statement_of c.in_ok-stmt.stmt) = record {
+      characters = c.requires;
+      flat = c.is_too_deep.ensures.flat c.if-is_too_deep.false;
+      spells = c.in_ok-stmt.ensures;
+    } in
+    inr (many_nodes c.args.line c.args.text.now _ c.has_short_names.result c.statement_constants.result c.statement_nodes.result k c.has_short_names.ensures c.if-not-has_short_names.false c.statement_constants.ensures c.if-not-statement_constants.false c.statement_nodes.ensures c.if-statement_nodes-gt-MOST_NODES.true)
+
+pub returns : goal.returns
+returns c =
+    let k : Kept c.args.text.now (statement_of c.in_ok-stmt.stmt) = record {
+      characters = c.requires;
+      flat = c.is_too_deep.ensures.flat c.if-is_too_deep.false;
+      spells = c.in_ok-stmt.ensures;
+    } in
+    all_well c.args.text.now _ c.has_short_names.result c.statement_constants.result c.statement_nodes.result k c.has_short_names.ensures c.if-not-has_short_names.false c.statement_constants.ensures c.if-not-statement_constants.false c.statement_nodes.ensures c.if-statement_nodes-gt-MOST_NODES.false
