@@ -4,3 +4,4 @@ pub mod Read
 pub mod Reader
 pub mod Write
 pub mod Law
+pub mod SameCards

@@ -1,8 +1,10 @@
 //! Cards: statements as they stand on their lines.
 
 ghost use Rattle.std.specs.Prelude.{◌≡◌, OnOk, false, string_bytes};
+ghost use Rattle.std.specs.Cmp.{partial_equiv_from_equiv};
 ghost use Rattle.f77_source.specs.Line.{has_foreign};
-ghost use Rattle.f77_source.specs.Card.{extended};
+ghost use Rattle.f77_source.specs.Card.{extended, same_card};
+ghost use Rattle.f77_source.specs.SameCards.{same_card_equiv};
 
 use crate::line::append_line_part;
 use std::alloc::AllocError;
@@ -12,7 +14,7 @@ use std::marker::Model;
 ///
 /// As read, the label is 1 to 99999, the text has no blanks and is in upper case, and lines count from 1. A card that
 /// is to be written may hold any label and any text.
-#[derive(Drop)]
+#[derive(Debug, Drop)]
 pub struct Card {
     label: Option<u32>,
     text: String,
@@ -26,6 +28,20 @@ impl Model for Card {
     ghost Value = { CardFields };
 
     ghost view = { λ c. record { label = c.label; text = string_bytes c.text; line = c.line } };
+}
+
+impl PartialEq for Card {
+    ghost eq = { same_card };
+
+    ghost laws = { partial_equiv_from_equiv same_card_equiv };
+
+    fn eq(&self, other: &Card) -> bool {
+        self.label == other.label && self.text == other.text && self.line == other.line
+    }
+}
+
+impl Eq for Card {
+    ghost laws = { same_card_equiv };
 }
 
 impl Card {

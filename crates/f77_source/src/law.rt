@@ -1,8 +1,8 @@
 //! What holds of the line form itself.
 
-ghost use Rattle.std.specs.Prelude.{◌≡◌, ℕ, [], List};
+ghost use Rattle.std.specs.Prelude.{◌≡◌, ◌↔◌, ℕ, true, [], List};
 ghost use Rattle.std.specs.List.{All};
-ghost use Rattle.f77_source.specs.Card.{CardFields};
+ghost use Rattle.f77_source.specs.Card.{CardFields, same_card};
 ghost use Rattle.f77_source.specs.Law.{HasInitialLine, HasCardsOrFault, IsReadAs};
 ghost use Rattle.f77_source.specs.Read.{lines, AreCards, IsFirstFault};
 ghost use Rattle.f77_source.specs.Write.{card_faults, written};
@@ -24,4 +24,10 @@ pub fn one_reading()
         → fault ≡ other }
     ensures either { (source : List ℕ) (cards : List CardFields) (fault : FormFault) → AreCards 1 (lines source) cards
         → ¬ (IsFirstFault (lines source) fault) }
+{}
+
+/// Cards are equal by `==` exactly where they have the same label or none, the same text and the same line.
+#[tactic(auto, using(crate::specs::SameCards::same_card_decides))]
+pub fn equal_cards_are_one()
+    ensures { (card other : CardFields) → (same_card card other ≡ true) ↔ (card ≡ other) }
 {}
