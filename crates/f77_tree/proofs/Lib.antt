@@ -52,3 +52,4 @@ pub mod NodeStatements
 pub mod NodeCounts
 pub mod Copies
 pub mod Names
+pub mod Comparisons

@@ -13,10 +13,12 @@ use Rattle.f77_tree.specs.declared.tree.Expr.TheOpen.{Expr-F}
 use Rattle.f77_tree.specs.declared.tree.Expr.TheFolds.{fold-roll-Expr, fold_out-Ref}
 use Rattle.f77_tree.specs.declared.tree.Stmt.{Stmt}
 use Rattle.f77_tree.specs.declared.tree.Stmt.TheVariants.{rolls-Subroutine, rolls-Declare, rolls-Dimension, rolls-Preset, rolls-Assign, rolls-ComputedGoto, rolls-ArithIf, rolls-LogicalIf, rolls-BlockIf, rolls-ElseIf, rolls-Else, rolls-Loop}
+use Rattle.f77_tree.specs.declared.tree.Stmt.TheVariants.{rolls-Goto, rolls-EndIf, rolls-Continue, rolls-Return, rolls-Stop, rolls-Trap, rolls-End}
 use Rattle.f77_tree.specs.declared.tree.Stmt.TheVariants as forms
 use Rattle.f77_tree.specs.declared.tree.Stmt.TheViews as boxed
+use Rattle.f77_tree.specs.declared.tree.Stmt as inside
 use Rattle.f77_tree.specs.declared.tree.Stmt.TheOpen.{Stmt-F}
-use Rattle.f77_tree.specs.declared.tree.Stmt.TheFolds.{fold-roll-Stmt}
+use Rattle.f77_tree.specs.declared.tree.Stmt.TheFolds.{fold-roll-Stmt, fold_out-Stmt}
 use Rattle.f77_tree.specs.Tree.{Tree, Statement}
 use Rattle.f77_tree.specs.View.{trees, expr_step, ref_step, tree_of, place_of}
 use Rattle.f77_tree.specs.StatementView.{stmt_step, statement_of}
@@ -90,3 +92,28 @@ loop_view label variable first last step =
 
 pub else_view : statement_of forms.Else ≡ Statement.Else
 else_view = ap statement_of (sym rolls-Else) ∙ fold-roll-Stmt Statement stmt_step Stmt-F.Else
+
+pub goto_view : (label : ℕ) → statement_of (forms.Goto label) ≡ Statement.Goto label
+goto_view label = ap statement_of (sym (rolls-Goto label)) ∙ fold-roll-Stmt Statement stmt_step (Stmt-F.Goto label)
+
+pub end_if_view : statement_of forms.EndIf ≡ Statement.EndIf
+end_if_view = ap statement_of (sym rolls-EndIf) ∙ fold-roll-Stmt Statement stmt_step Stmt-F.EndIf
+
+pub continue_view : statement_of forms.Continue ≡ Statement.Continue
+continue_view = ap statement_of (sym rolls-Continue) ∙ fold-roll-Stmt Statement stmt_step Stmt-F.Continue
+
+pub return_view : statement_of forms.Return ≡ Statement.Return
+return_view = ap statement_of (sym rolls-Return) ∙ fold-roll-Stmt Statement stmt_step Stmt-F.Return
+
+pub stop_view : statement_of forms.Stop ≡ Statement.Stop
+stop_view = ap statement_of (sym rolls-Stop) ∙ fold-roll-Stmt Statement stmt_step Stmt-F.Stop
+
+pub trap_view : statement_of forms.Trap ≡ Statement.Trap
+trap_view = ap statement_of (sym rolls-Trap) ∙ fold-roll-Stmt Statement stmt_step Stmt-F.Trap
+
+pub end_view : statement_of forms.End ≡ Statement.End
+end_view = ap statement_of (sym rolls-End) ∙ fold-roll-Stmt Statement stmt_step Stmt-F.End
+
+pub inner_view : (condition : Expr) (pointer : _) (a : Stmt) → statement_of (inside.LogicalIf' condition pointer a) ≡ Statement.LogicalIf (tree_of condition) (statement_of a)
+unfolding boxed.out-Stmt denote.Hole.Carrier.out
+inner_view condition pointer a = fold_out-Stmt Statement stmt_step (inside.LogicalIf' condition pointer a)

@@ -26,3 +26,5 @@ pub mod Node
 pub mod Parsing
 pub mod Printing
 pub mod Name
+pub mod Comparing
+pub mod SameTrees

@@ -31,7 +31,7 @@ pub struct Value {
 }
 
 /// Names with the values that they get, each in order (ANSI X3.9-1978, section 9).
-#[derive(Drop)]
+#[derive(Debug, Drop)]
 pub struct DataGroup {
     /// Variables and arrays: an array takes a value for each element, the first subscript varying fastest (5.2.4).
     pub names: Vec<Name>,

@@ -12,7 +12,7 @@ use crate::name::Name;
 use std::alloc::AllocError;
 
 /// A declared name, with its bounds where it is an array (ANSI X3.9-1978, 8.1 and 8.4).
-#[derive(Drop)]
+#[derive(Debug, Drop)]
 pub struct Decl {
     /// A variable, or an array where bounds follow.
     pub name: Name,

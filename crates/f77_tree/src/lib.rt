@@ -5,6 +5,7 @@
 mod canonical;
 pub mod characters;
 mod classification;
+mod comparing;
 mod copying;
 mod data;
 mod declaration;
@@ -12,6 +13,7 @@ mod fault;
 mod formed;
 mod group;
 mod intrinsic;
+pub mod law;
 pub mod limits;
 mod name;
 mod node;

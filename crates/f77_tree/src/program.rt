@@ -2,8 +2,12 @@
 
 ghost use Rattle.std.specs.Prelude.{◌≡◌, List, None, true, false, map, option_map, IfOk, IfSome, IsOk, IsSome, IsNone};
 ghost use Rattle.std.specs.Coded.{codes};
+ghost use Rattle.std.specs.Cmp.{on_equiv, partial_equiv_from_equiv};
+ghost use Rattle.std.specs.Ordering.{on};
 ghost use Rattle.f77_tree.specs.contracts.tree.Expr as expr;
 ghost use Rattle.f77_tree.specs.contracts.tree.Stmt as stmt;
+ghost use Rattle.f77_tree.specs.Comparing.{same_lines};
+ghost use Rattle.f77_tree.specs.SameTrees.{lines_equiv};
 ghost use Rattle.f77_tree.specs.Parsing.{IsProgram, MayFollow, line_of, line_at};
 ghost use Rattle.f77_tree.specs.declared.program.Line.{Line};
 
@@ -14,7 +18,7 @@ use std::alloc::AllocError;
 use std::marker::Model;
 
 /// A statement with its label, where it has one, and the number of its initial line.
-#[derive(Drop)]
+#[derive(Debug, Drop)]
 pub struct Line {
     pub label: Option<u32>,
     pub stmt: Stmt,
@@ -23,7 +27,7 @@ pub struct Line {
 
 /// A subroutine: SUBROUTINE first, then declarations, then DATA, then what is executed, END last and only there (ANSI
 /// X3.9-1978, 3.5), each a statement that some text spells.
-#[derive(Drop)]
+#[derive(Debug, Drop)]
 pub struct Program {
     lines: Vec<Line>,
 }
@@ -47,6 +51,21 @@ impl Clone for Program {
             lines: self.lines.clone()?,
         })
     }
+}
+
+impl PartialEq for Program {
+    ghost eq = { on (map line_of) same_lines };
+
+    ghost laws = { partial_equiv_from_equiv (on_equiv (map line_of) lines_equiv) };
+
+    #[tactic(auto, using(crate::proofs::Comparisons::lines_by_view))]
+    fn eq(&self, other: &Program) -> bool {
+        self.lines == other.lines
+    }
+}
+
+impl Eq for Program {
+    ghost laws = { on_equiv (map line_of) lines_equiv };
 }
 
 /// Whether the line may follow a statement of this group, or be the first, and some text spells its statement.

@@ -18,7 +18,7 @@ pub enum Kind {
 
 /// An expression (ANSI X3.9-1978, section 6).
 #[cycle(tree)]
-#[derive(Drop)]
+#[derive(Debug, Drop)]
 pub enum Expr {
     /// An unsigned INTEGER constant.
     Number(u32),
@@ -40,14 +40,14 @@ pub enum Expr {
 
 /// A name, with the subscripts that follow it.
 #[cycle(tree)]
-#[derive(Drop)]
+#[derive(Debug, Drop)]
 pub struct Ref {
     pub name: Name,
     pub subscripts: Vec<Expr>,
 }
 
 /// A statement (ANSI X3.9-1978, section 7). Labels are 1 to 99999.
-#[derive(Drop)]
+#[derive(Debug, Drop)]
 pub enum Stmt {
     /// SUBROUTINE with the unit's name and its dummy arguments, in order (15.6).
     Subroutine {

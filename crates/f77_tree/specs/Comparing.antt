@@ -1,0 +1,121 @@
+-- Which expressions, statements and lines are the same: those of one form with the same parts.
+use Rattle.std.specs.Prelude.{ℕ, ◌==◌, nat_eq, List, Bool, true, false, ◌&&◌}
+use Rattle.std.specs.Bool.{beq}
+use Rattle.std.specs.Cmp.Lexicographic.{pointwise}
+use Rattle.std.specs.Option.{option_eq}
+use Rattle.std.specs.Ordering.{int_eq}
+use Rattle.std.specs.Str.{bytes_eq}
+use Rattle.f77_tree.specs.declared.data.Constant.{Constant}
+use Rattle.f77_tree.specs.declared.data.Constant.TheVariants.{Number, Truth}
+use Rattle.f77_tree.specs.declared.data.Value.{Value}
+use Rattle.f77_tree.specs.declared.intrinsic.Intrinsic.{Intrinsic}
+use Rattle.f77_tree.specs.declared.intrinsic.Intrinsic.TheVariants as function
+use Rattle.f77_tree.specs.declared.operator.Operator.{Operator}
+use Rattle.f77_tree.specs.declared.operator.Operator.TheVariants as operator
+use Rattle.f77_tree.specs.declared.operator.Sign.{Sign}
+use Rattle.f77_tree.specs.declared.operator.Sign.TheVariants.{Plus, Minus}
+use Rattle.f77_tree.specs.declared.tree.Kind.{Kind}
+use Rattle.f77_tree.specs.declared.tree.Kind.TheVariants.{Integer, Logical}
+use Rattle.f77_tree.specs.Tree.{Tree, Trees, Statement, DeclFields, GroupFields}
+use Rattle.f77_tree.specs.View.{trees}
+use Rattle.f77_tree.specs.Parsing.{LineFields}
+
+abbrev pub same_kind : Kind → Kind → Bool
+same_kind Integer Integer = true
+same_kind Logical Logical = true
+same_kind _ _ = false
+
+abbrev pub same_sign : Sign → Sign → Bool
+same_sign Plus Plus = true
+same_sign Minus Minus = true
+same_sign _ _ = false
+
+abbrev pub same_function : Intrinsic → Intrinsic → Bool
+same_function function.Mod function.Mod = true
+same_function function.Iabs function.Iabs = true
+same_function function.Min0 function.Min0 = true
+same_function function.Max0 function.Max0 = true
+same_function _ _ = false
+
+abbrev pub same_operator : Operator → Operator → Bool
+same_operator operator.Equivalent operator.Equivalent = true
+same_operator operator.NotEquivalent operator.NotEquivalent = true
+same_operator operator.Or operator.Or = true
+same_operator operator.And operator.And = true
+same_operator operator.Less operator.Less = true
+same_operator operator.LessOrEqual operator.LessOrEqual = true
+same_operator operator.Equal operator.Equal = true
+same_operator operator.NotEqual operator.NotEqual = true
+same_operator operator.GreaterOrEqual operator.GreaterOrEqual = true
+same_operator operator.Greater operator.Greater = true
+same_operator operator.Add operator.Add = true
+same_operator operator.Subtract operator.Subtract = true
+same_operator operator.Multiply operator.Multiply = true
+same_operator operator.Divide operator.Divide = true
+same_operator operator.Power operator.Power = true
+same_operator _ _ = false
+
+abbrev pub same_constant : Constant → Constant → Bool
+same_constant (Number z) (Number w) = int_eq z w
+same_constant (Truth a) (Truth b) = beq a b
+same_constant _ _ = false
+
+abbrev pub same_value : Value → Value → Bool
+same_value v w = v.times == w.times && same_constant v.constant w.constant
+
+abbrev mutual
+  pub same_tree : Tree → Tree → Bool
+  same_tree (Tree.Number n) (Tree.Number m) = n == m
+  same_tree (Tree.Truth a) (Tree.Truth b) = beq a b
+  same_tree (Tree.Reference name items) (Tree.Reference other others) = bytes_eq name other && same_trees items others
+  same_tree (Tree.Call f items) (Tree.Call g others) = same_function f g && same_trees items others
+  same_tree (Tree.Signed sign t) (Tree.Signed other u) = same_sign sign other && same_tree t u
+  same_tree (Tree.Not t) (Tree.Not u) = same_tree t u
+  same_tree (Tree.Binary op a b) (Tree.Binary other c d) = same_operator op other && (same_tree a c && same_tree b d)
+  same_tree (Tree.ZeroPush t) (Tree.ZeroPush u) = same_tree t u
+  same_tree _ _ = false
+
+  pub same_trees : Trees → Trees → Bool
+  same_trees Trees.None Trees.None = true
+  same_trees (Trees.Then t ts) (Trees.Then u us) = same_tree t u && same_trees ts us
+  same_trees _ _ = false
+
+-- a name with its subscripts
+abbrev pub same_place : List ℕ × List Tree → List ℕ × List Tree → Bool
+same_place p q = bytes_eq p.0 q.0 && same_trees (trees p.1) (trees q.1)
+
+abbrev pub same_decl : DeclFields → DeclFields → Bool
+same_decl d e = bytes_eq d.name e.name && pointwise nat_eq d.bounds e.bounds
+
+abbrev pub same_group : GroupFields → GroupFields → Bool
+same_group g h = pointwise bytes_eq g.names h.names && pointwise same_value g.values h.values
+
+abbrev pub same_statement : Statement → Statement → Bool
+same_statement (Statement.Subroutine name names) (Statement.Subroutine other others) = bytes_eq name other && pointwise bytes_eq names others
+same_statement (Statement.Declare kind ds) (Statement.Declare other es) = same_kind kind other && pointwise same_decl ds es
+same_statement (Statement.Dimension ds) (Statement.Dimension es) = pointwise same_decl ds es
+same_statement (Statement.Preset gs) (Statement.Preset hs) = pointwise same_group gs hs
+same_statement (Statement.Assign name items t) (Statement.Assign other others u) =
+    (bytes_eq name other && same_trees items others) && same_tree t u
+same_statement (Statement.Goto l) (Statement.Goto m) = l == m
+same_statement (Statement.ComputedGoto ls t) (Statement.ComputedGoto ms u) = pointwise nat_eq ls ms && same_tree t u
+same_statement (Statement.ArithIf t l m n) (Statement.ArithIf u i j k) = same_tree t u && (l == i && (m == j && n == k))
+same_statement (Statement.LogicalIf t a) (Statement.LogicalIf u b) = same_tree t u && same_statement a b
+same_statement (Statement.BlockIf t) (Statement.BlockIf u) = same_tree t u
+same_statement (Statement.ElseIf t) (Statement.ElseIf u) = same_tree t u
+same_statement Statement.Else Statement.Else = true
+same_statement Statement.EndIf Statement.EndIf = true
+same_statement (Statement.Loop l name a b c) (Statement.Loop m other d e f) =
+    l == m && (bytes_eq name other && (same_tree a d && (same_tree b e && option_eq same_tree c f)))
+same_statement Statement.Continue Statement.Continue = true
+same_statement Statement.Return Statement.Return = true
+same_statement Statement.Stop Statement.Stop = true
+same_statement Statement.Trap Statement.Trap = true
+same_statement Statement.End Statement.End = true
+same_statement _ _ = false
+
+abbrev pub same_line : LineFields → LineFields → Bool
+same_line l m = option_eq nat_eq l.label m.label && (same_statement l.stmt m.stmt && l.line == m.line)
+
+abbrev pub same_lines : List LineFields → List LineFields → Bool
+same_lines = pointwise same_line

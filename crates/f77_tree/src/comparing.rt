@@ -1,0 +1,227 @@
+//! Comparisons of statements and of their parts: equal are those that stand for the same.
+//!
+//! They are written out, since a derived `eq` says nothing of a type that holds itself.
+
+ghost use Rattle.std.specs.Prelude.{◌≡◌, map};
+ghost use Rattle.std.specs.Cmp.{on_equiv, partial_equiv_from_equiv};
+ghost use Rattle.std.specs.Ordering.{on};
+ghost use Rattle.f77_tree.specs.Comparing.{same_tree, same_trees, same_place, same_decl, same_group, same_statement, same_line};
+ghost use Rattle.f77_tree.specs.SameTrees.{tree_equiv, place_equiv, decl_equiv, group_equiv, statement_equiv, line_equiv};
+ghost use Rattle.f77_tree.specs.View.{trees, tree_of, place_of};
+ghost use Rattle.f77_tree.specs.StatementView.{statement_of};
+ghost use Rattle.f77_tree.specs.Declaration.{decl_of};
+ghost use Rattle.f77_tree.specs.Data.{data_group_of};
+ghost use Rattle.f77_tree.specs.Parsing.{line_of};
+
+use crate::data::DataGroup;
+use crate::declaration::Decl;
+use crate::program::Line;
+use crate::tree::{Expr, Ref, Stmt};
+
+impl PartialEq for Expr {
+    ghost eq = { on tree_of same_tree };
+
+    ghost laws = { partial_equiv_from_equiv (on_equiv tree_of tree_equiv) };
+
+    #[cycle(comparing)]
+    fn eq(&self, other: &Expr) -> bool {
+        match (self, other) {
+            (Expr::Number(number), Expr::Number(other)) => number == other,
+            (Expr::Truth(truth), Expr::Truth(other)) => truth == other,
+            (Expr::Reference(place), Expr::Reference(other)) => Ref::eq(place, other),
+            (Expr::Call(function, arguments), Expr::Call(other, others)) => {
+                function == other && same_all(arguments, others)
+            }
+            (Expr::Signed(sign, operand), Expr::Signed(other, value)) => {
+                sign == other && Expr::eq(operand, value)
+            }
+            (Expr::Not(operand), Expr::Not(other)) => Expr::eq(operand, other),
+            (Expr::Binary(operator, left, right), Expr::Binary(other, first, second)) => {
+                operator == other && Expr::eq(left, first) && Expr::eq(right, second)
+            }
+            (Expr::ZeroPush(operand), Expr::ZeroPush(other)) => Expr::eq(operand, other),
+            _ => false,
+        }
+    }
+}
+
+impl Eq for Expr {
+    ghost laws = { on_equiv tree_of tree_equiv };
+}
+
+impl PartialEq for Ref {
+    ghost eq = { on place_of same_place };
+
+    ghost laws = { partial_equiv_from_equiv (on_equiv place_of place_equiv) };
+
+    #[cycle(comparing)]
+    fn eq(&self, other: &Ref) -> bool {
+        self.name == other.name && same_all(&self.subscripts, &other.subscripts)
+    }
+}
+
+impl Eq for Ref {
+    ghost laws = { on_equiv place_of place_equiv };
+}
+
+/// A comparison by `Vec`'s own `eq` would leave the cycle.
+#[cycle(comparing)]
+fn same_all(items: &[Expr], others: &[Expr]) -> bool
+    ensures { result ≡ same_trees (trees (map tree_of items.now)) (trees (map tree_of others.now)) }
+{
+    if items.len() != others.len() {
+        return false;
+    }
+    for (i, item) in items.iter().enumerate() {
+        if !Expr::eq(item, &others[i]) {
+            return false;
+        }
+    }
+    true
+}
+
+impl PartialEq for Decl {
+    ghost eq = { on decl_of same_decl };
+
+    ghost laws = { partial_equiv_from_equiv (on_equiv decl_of decl_equiv) };
+
+    fn eq(&self, other: &Decl) -> bool {
+        self.name == other.name && self.bounds == other.bounds
+    }
+}
+
+impl Eq for Decl {
+    ghost laws = { on_equiv decl_of decl_equiv };
+}
+
+impl PartialEq for DataGroup {
+    ghost eq = { on data_group_of same_group };
+
+    ghost laws = { partial_equiv_from_equiv (on_equiv data_group_of group_equiv) };
+
+    fn eq(&self, other: &DataGroup) -> bool {
+        self.names == other.names && self.values == other.values
+    }
+}
+
+impl Eq for DataGroup {
+    ghost laws = { on_equiv data_group_of group_equiv };
+}
+
+impl PartialEq for Stmt {
+    ghost eq = { on statement_of same_statement };
+
+    ghost laws = { partial_equiv_from_equiv (on_equiv statement_of statement_equiv) };
+
+    #[tactic(auto, using(crate::proofs::Comparisons::form_by_form))]
+    fn eq(&self, other: &Stmt) -> bool {
+        match (self, other) {
+            (
+                Stmt::Subroutine { name, arguments },
+                Stmt::Subroutine {
+                    name: other_name,
+                    arguments: other_arguments,
+                },
+            ) => name == other_name && arguments == other_arguments,
+            (
+                Stmt::Declare { kind, items },
+                Stmt::Declare {
+                    kind: other_kind,
+                    items: other_items,
+                },
+            ) => kind == other_kind && items == other_items,
+            (Stmt::Dimension { items }, Stmt::Dimension { items: other }) => items == other,
+            (Stmt::Preset { groups }, Stmt::Preset { groups: other }) => groups == other,
+            (
+                Stmt::Assign { target, value },
+                Stmt::Assign {
+                    target: other_target,
+                    value: other_value,
+                },
+            ) => target == other_target && value == other_value,
+            (Stmt::Goto { label }, Stmt::Goto { label: other }) => label == other,
+            (
+                Stmt::ComputedGoto { labels, value },
+                Stmt::ComputedGoto {
+                    labels: other_labels,
+                    value: other_value,
+                },
+            ) => labels == other_labels && value == other_value,
+            (
+                Stmt::ArithIf {
+                    value,
+                    negative,
+                    zero,
+                    positive,
+                },
+                Stmt::ArithIf {
+                    value: other_value,
+                    negative: other_negative,
+                    zero: other_zero,
+                    positive: other_positive,
+                },
+            ) => value == other_value
+                && negative == other_negative
+                && zero == other_zero
+                && positive == other_positive,
+            (
+                Stmt::LogicalIf {
+                    condition,
+                    statement,
+                },
+                Stmt::LogicalIf {
+                    condition: other_condition,
+                    statement: other_statement,
+                },
+            ) => condition == other_condition && Stmt::eq(statement, other_statement),
+            (Stmt::BlockIf { condition }, Stmt::BlockIf { condition: other }) => condition == other,
+            (Stmt::ElseIf { condition }, Stmt::ElseIf { condition: other }) => condition == other,
+            (
+                Stmt::Loop {
+                    label,
+                    variable,
+                    first,
+                    last,
+                    step,
+                },
+                Stmt::Loop {
+                    label: other_label,
+                    variable: other_variable,
+                    first: other_first,
+                    last: other_last,
+                    step: other_step,
+                },
+            ) => label == other_label
+                && variable == other_variable
+                && first == other_first
+                && last == other_last
+                && step == other_step,
+            (Stmt::Else, Stmt::Else)
+            | (Stmt::EndIf, Stmt::EndIf)
+            | (Stmt::Continue, Stmt::Continue)
+            | (Stmt::Return, Stmt::Return)
+            | (Stmt::Stop, Stmt::Stop)
+            | (Stmt::Trap, Stmt::Trap)
+            | (Stmt::End, Stmt::End) => true,
+            _ => false,
+        }
+    }
+}
+
+impl Eq for Stmt {
+    ghost laws = { on_equiv statement_of statement_equiv };
+}
+
+impl PartialEq for Line {
+    ghost eq = { on line_of same_line };
+
+    ghost laws = { partial_equiv_from_equiv (on_equiv line_of line_equiv) };
+
+    fn eq(&self, other: &Line) -> bool {
+        self.label == other.label && self.stmt == other.stmt && self.line == other.line
+    }
+}
+
+impl Eq for Line {
+    ghost laws = { on_equiv line_of line_equiv };
+}
