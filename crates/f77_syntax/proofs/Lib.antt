@@ -1,0 +1,3 @@
+pub mod WordLengths
+pub mod ItemLengths
+pub mod StatementLengths

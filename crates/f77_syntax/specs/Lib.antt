@@ -17,3 +17,4 @@ pub use Rattle.f77_tree.specs.StatementView
 pub use Rattle.f77_tree.specs.Subroutine
 pub use Rattle.f77_tree.specs.Tree
 pub use Rattle.f77_tree.specs.View
+pub mod NameLengths

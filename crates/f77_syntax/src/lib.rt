@@ -12,6 +12,7 @@ mod do_loop;
 mod expression;
 mod label;
 pub mod law;
+mod name_lengths;
 mod names;
 mod parsing;
 mod scan;
