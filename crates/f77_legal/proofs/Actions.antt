@@ -43,7 +43,7 @@ text_acts _ h = absurd (cc (h))
 
 formed_at : (before : Option Group) (p : List LineFields) → IsProgram before p → (i : ℕ) (s : Statement) → statement_at p i ≡ Some s → IsFormed s
 formed_at before p IsProgram.finished i s at = absurd (cc (at))
-formed_at before p (IsProgram.next {line = line} may rest) zero s at = let same : line.stmt ≡ s = cc (at) in subst IsFormed same may.1.0
+formed_at before p (IsProgram.next {line = line} may rest) zero s at = let same : line.stmt ≡ s = cc (at) in subst IsFormed same may.1
 formed_at before p (IsProgram.next {line = line} {lines = lines} may rest) (suc i) s at = formed_at (Some (group_of line.stmt)) lines rest i s at
 
 pub inner_acts : (p : List LineFields) → IsProgram None p → (i : ℕ) (t : Tree) (s : Statement) → statement_at p i ≡ Some (Statement.LogicalIf t s) → is_action s ≡ true

@@ -30,7 +30,7 @@ AreFormed (line ∷ lines) = (statement_formed line.stmt ≡ true) × AreFormed 
 
 pub program_formed : {before : Option Group} {lines : List LineFields} → IsProgram before lines → AreFormed lines
 program_formed IsProgram.finished = tt
-program_formed (IsProgram.next {line = line} may rest) = (is_formed line.stmt may.1.0, program_formed rest)
+program_formed (IsProgram.next {line = line} may rest) = (is_formed line.stmt may.1, program_formed rest)
 
 -- a line's fault is what is told of its card's
 line_told : (line : LineFields) → statement_formed line.stmt ≡ true → option_map told (card_fault (card_of line)) ≡ option_map Some (print_fault line)
@@ -141,7 +141,7 @@ read_again (IsProgram.next {line = line} {lines = lines} may rest) keeps none (c
     let more_texts : map (λ card. card.text) read ≡ map (λ card. squeezed card.text) (map card_of lines) = cc in
     let (found, are, alike) = read_again rest (All-tail (λ line. KeepsLimits line.stmt) line lines keeps) others read more_labels more_texts in
     let is : IsAdmitted card.text line.stmt =
-    subst (λ z. IsAdmitted z line.stmt) (sym text) (admitted line may.1.0 may.1.1 (All-head (λ line. KeepsLimits line.stmt) line lines keeps) first) in
+    subst (λ z. IsAdmitted z line.stmt) (sym text) (admitted line may.1 may.2 (All-head (λ line. KeepsLimits line.stmt) line lines keeps) first) in
     (line_with card line.stmt ∷ found, AreLines.next line.stmt is may.0 are, ap (λ z. (z, line.stmt) ∷ map unnumbered found) label ∙ ap (λ z. (line.label, line.stmt) ∷ z) alike)
 
 pub prints_back : (source : List ℕ) (lines : List LineFields) → IsProgram None lines → card_faults (map card_of lines) ≡ [] → source ≡ printed lines

@@ -1,4 +1,4 @@
-use Rattle.std.proofs.Common.{◌≡◌, ◌×◌, drop}
+use Rattle.std.proofs.Common.{◌≡◌, drop}
 use Rattle.std.specs.Prelude.{map}
 use Rattle.f77_tree.specs.Formed.{all_formed}
 use Rattle.f77_tree.specs.Limits.{all_short_names}

@@ -1,4 +1,4 @@
-use Rattle.std.proofs.Common.{◌≡◌, ◌×◌, drop}
+use Rattle.std.proofs.Common.{◌≡◌, drop}
 use Rattle.std.specs.List.{list_all}
 use Rattle.f77_tree.specs.Grammar.{is_name}
 use Rattle.f77_tree.specs.Limits.{is_short}
