@@ -10,6 +10,8 @@ mod limits;
 #[cfg(test)]
 mod lines;
 #[cfg(test)]
+mod name_lengths;
+#[cfg(test)]
 mod names;
 #[cfg(test)]
 mod nodes;

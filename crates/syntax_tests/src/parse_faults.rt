@@ -66,6 +66,7 @@ const SOURCES: &[&str] = &[
     "      SUBROUTINE A\n      K=\n      END\n      END\n => Unknown(2)",
     "      SUBROUTINE A(I\n      END\n => Unknown(1)",
     "      SUBROUTINE ABCDEFG\n      END\n => BadName(1)",
+    "      SUBROUTINE A(I,ABCDEFG)\n      END\n => BadName(1)",
     "      SUBROUTINE ADD(I,J,K)\n      K=I+J\n      INTEGER L\n      END\n => Unknown(3)",
     "      SUBROUTINE A\n      DATA I/1/\n      INTEGER I\n      END\n => Unknown(3)",
     "      subroutine a ( i , j )\n      k = i\n      end\n => 3",
