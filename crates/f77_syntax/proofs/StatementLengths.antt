@@ -70,8 +70,12 @@ action_words : {text : List ℕ} {s : Statement} → SpellsAction text s
     ⊎ ((ends_without_name s ≡ false) × (keyword_of s ≡ []) × (has_short_words text ≡ statement_names s))
 unfolding has_short_words
 action_words (SpellsAction.assign {x = x} {y = y} {name = name} {items = items} {t = t} p q) =
-    inr (refl, refl, joined_by 61 x y refl
-    ∙ rw (reference_names p, spelled_names q) (and_both (is_short name) (all_short_names items) (short_names t)))
+    inr (
+      refl,
+      refl,
+      joined_by 61 x y refl
+          ∙ rw (reference_names p, spelled_names q) (and_both (is_short name) (all_short_names items) (short_names t)),
+    )
 action_words (SpellsAction.go_to row n) = inl (refl, number_words row n, refl)
 action_words (SpellsAction.computed_go_to {x = x} {y = y} comma p q) =
     inr (refl, refl, joined_by 41 x (optional_comma comma ++ y) refl ∙ rw (labels_short p, optional_short comma y) (spelled_names q))

@@ -24,7 +24,6 @@ fn is_short_word(word: &[u8]) -> bool
 }
 
 /// Whether each word of the text is short.
-#[tactic(auto, unfolding(crate::specs::NameLengths::has_short_words))]
 fn has_short_words(text: &[u8]) -> bool
     ensures { result ≡ lengths.has_short_words text.now }
 {
