@@ -11,7 +11,7 @@ use Rattle.f77_legal.specs.Legal.{IsLegal}
 use Rattle.f77_legal.specs.Names.{Symbol, mentions, symbols, bounds_of, some_items}
 use Rattle.f77_legal.specs.NameTable.{FactsFields, IsNameTable, fields_of, facts_of, bounds_at}
 use Rattle.f77_legal.specs.Presets.{product}
-use Rattle.f77_check.specs.Slots.{slot_count}
+use Rattle.f77_check.specs.Slots.{slot_count, most_slots}
 use Rattle.f77_legal.proofs.Lookups.{same_bounds}
 use Rattle.f77_legal.proofs.NameTables.{rows}
 use Rattle.f77_legal.proofs.NoFaults.{few_symbols, few_elements}
@@ -50,11 +50,16 @@ module _ (bounds : Symbol → List ℕ) where
           let one = one_slot (bounds name) t in
           rw t (omega (arith, whole, one, rest))
 
+pub few_slots : (program : List LineFields) → IsLegal program → slot_count (bounds_of program) (symbols program) ≤ most_slots
+few_slots program legal =
+    let within = slots_of_arrays (bounds_of program) (symbols program) in
+    let few = few_symbols program legal in
+    let elements = few_elements program legal in
+    omega (arith, within, few, elements)
+
 pub slots_few : (names : Names) (program : List LineFields) → IsNameTable names program → IsLegal program → slot_count (bounds_at names) (keys names.facts) < 2 ^ 32
 slots_few names program is legal =
     let same : slot_count (bounds_at names) (keys names.facts) ≡ slot_count (bounds_of program) (symbols program) =
     λ i. slot_count (same_bounds names program is i) (keys_are names program is i) in
-    let within = slots_of_arrays (bounds_of program) (symbols program) in
-    let few = few_symbols program legal in
-    let elements = few_elements program legal in
-    omega (arith, same, within, few, elements)
+    let few = few_slots program legal in
+    omega (arith, same, few)

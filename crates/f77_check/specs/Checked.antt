@@ -1,7 +1,5 @@
 -- What a checked program is: a legal one, with the shapes of its dummy arguments and what a run of it starts with.
-use Rattle.std.specs.Prelude.{◌≡◌, ℕ, true, List, map, Some, None, if◌then◌else◌}
-use Rattle.std.specs.List.{list_any}
-use Rattle.std.specs.Str.{bytes_eq}
+use Rattle.std.specs.Prelude.{◌≡◌, ℕ, List, map, Some, None, if◌then◌else◌}
 use Rattle.f77_tree.specs.Parsing.{LineFields, IsProgram, line_of}
 use Rattle.f77_tree.specs.declared.program.Line.{Line}
 use Rattle.f77_check.specs.declared.checked.Shape.{Shape}
@@ -37,7 +35,7 @@ pub record IsChecked (checked : CheckedFields) : Type 0 where
   pub formed : IsProgram None (map line_of checked.program)
   pub legal : IsLegal (map line_of checked.program)
   pub arguments : checked.arguments ≡ shapes (map line_of checked.program)
+  pub names : checked.names ≡ symbols (map line_of checked.program)
   pub slots : checked.slots ≡ slot_count (bounds_of (map line_of checked.program)) checked.names
   pub statements : AreResolved (map line_of checked.program) checked.names checked.statements
   pub start : IsStartOf (map line_of checked.program) checked.names checked.start
-  pub covered : (name : Symbol) → list_any (bytes_eq name) (symbols (map line_of checked.program)) ≡ true → list_any (bytes_eq name) checked.names ≡ true

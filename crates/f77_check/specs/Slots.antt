@@ -1,5 +1,5 @@
 -- Where the values of names are kept: a slot for each element, name by name in the order of a list, the first subscript of an array varying fastest.
-use Rattle.std.specs.Prelude.{ℕ, List, map, take, Option, option_map, position}
+use Rattle.std.specs.Prelude.{ℕ, ◌+◌, List, map, take, Option, option_map, position}
 use Rattle.std.specs.List.{sum}
 use Rattle.std.specs.Str.{bytes_eq}
 use Rattle.f77_legal.specs.Names.{Symbol}
@@ -12,3 +12,7 @@ slot_count bounds names = sum (map (λ name. product (bounds name)) names)
 -- the first slot of a name
 abbrev pub first_slot : (Symbol → List ℕ) → List Symbol → Symbol → Option ℕ
 first_slot bounds names name = option_map (λ n. slot_count bounds (take n names)) (position (bytes_eq name) names)
+
+-- the most slots that a legal program has: one for each of 100 names, and 10,000 for the elements of its arrays
+abbrev pub most_slots : ℕ
+most_slots = 100 + 10000

@@ -1,6 +1,6 @@
 //! Programs that were checked.
 
-ghost use Rattle.std.specs.Prelude.{◌≡◌, length};
+ghost use Rattle.std.specs.Prelude.{◌≡◌, ◌≤◌, length};
 ghost use Rattle.std.specs.Coded.{codes};
 ghost use Rattle.f77_tree.specs.contracts.tree.Expr as expr;
 ghost use Rattle.f77_tree.specs.contracts.tree.Stmt as stmt;
@@ -11,6 +11,7 @@ ghost use Rattle.f77_check.specs.contracts.expression.Element as element;
 ghost use Rattle.f77_check.specs.contracts.expression.Number as number;
 ghost use Rattle.f77_check.specs.Checked.{CheckedFields, IsChecked};
 ghost use Rattle.f77_check.specs.CheckedView.{fields_of};
+ghost use Rattle.f77_check.specs.Slots.{most_slots};
 
 use crate::resolve::Resolver;
 use crate::resolved::Resolved;
@@ -90,7 +91,9 @@ impl Checked {
 
     /// How many slots the variables and arrays have: one for each variable and each element of an array, 0 to 10100. It takes no memory.
     pub fn slots(&self) -> usize
-        ensures { result ≡ self.now.slots }
+        ensures slots { result ≡ self.now.slots }
+        ensures few { result ≤ most_slots }
+        ensures checked { IsChecked self.now }
     {
         self.resolver.slots.count
     }

@@ -107,7 +107,7 @@ module _ (checked : CheckedFields) (is : IsChecked checked) where
           ∙ same_mapped (λ k. None) (given_at name) (λ k. sym (ap (option_map constant_value) (unpreset program name (other (list_any (bytes_eq name) (symbols program)) refl apart) k))) (first_numbers (elements program name))
         where
           other : (b : Bool) → list_any (bytes_eq name) (symbols program) ≡ b → list_any (bytes_eq name) checked.names ≡ false → list_any (bytes_eq name) (symbols program) ≡ false
-          other true e apart = let there = is.covered name e in absurd (cc (there, apart))
+          other true e apart = let there = ap (list_any (bytes_eq name)) is.names ∙ e in absurd (cc (there, apart))
           other false e apart = e
 
   -- no DO is active
