@@ -1,7 +1,7 @@
 -- DATA gives each slot what its element is preset to: the first constant that a group gives it.
 use Rattle.std.proofs.Common.{arith, ◌≡◌, ℕ, zero, suc, ◌+◌, ◌<◌, ◌≤◌, ◌==◌, Bool, true, false, cond, List, [], ◌∷◌, ◌++◌, map, take, drop, replicate, append_assoc, append-nil, Option, Some, None, refl, sym, ap, subst, ◌∙◌}
 use Rattle.std.specs.Prelude.{fold, is_some, not, slice_set, if◌then◌else◌}
-use Rattle.std.specs.List.{find, flat_map, list_all, list_any}
+use Rattle.std.specs.List.{find, flat_map, list_all, list_any, zip}
 use Rattle.std.specs.Option.{option_and_then, option_map_or, option_or}
 use Rattle.std.specs.Str.{bytes_eq}
 use Rattle.std.proofs.lemmas.Bool.{and_parts, eqb-true}
@@ -16,7 +16,7 @@ use Rattle.f77_legal.specs.Blocks.{first_numbers}
 use Rattle.f77_check.specs.Initial.{slots_of, is_free, give, give_run, give_values, give_group, give_groups}
 use Rattle.f77_legal.specs.Names.{Symbol, bounds_of}
 use Rattle.f77_legal.specs.Presets.{product, groups_of}
-use Rattle.f77_check.specs.Start.{Cell, cells, pairs, presets_of, is_cell}
+use Rattle.f77_check.specs.Start.{Cell, cells, presets_of, is_cell}
 use Rattle.f77_check.proofs.Cells.{slot_from, first_is, laid_out, with_cell, get_laid, set_laid}
 use Rattle.f77_legal.proofs.Symbols.{Apart, same_symbol}
 
@@ -125,18 +125,18 @@ module _ (bounds : Symbol → List ℕ) (names : List Symbol) where
 
   -- the next slots are given so many copies
   give_copies : (times : ℕ) (constant : Constant) (list : List Cell) (held : List (Option Constant)) (rest : List Constant)
-      → fold give_cell held (pairs list (replicate times constant ++ rest))
-      ≡ fold give_cell (give_run constant held (take times (map slot_at list))) (pairs (drop times list) rest)
+      → fold give_cell held (zip list (replicate times constant ++ rest))
+      ≡ fold give_cell (give_run constant held (take times (map slot_at list))) (zip (drop times list) rest)
   give_copies zero constant list held rest = refl
   give_copies (suc times) constant [] held rest = refl
   give_copies (suc times) constant (cell ∷ list) held rest = give_copies times constant list (give constant held (slot_at cell)) rest
 
-  no_pairs : (list : List Cell) → pairs list (flat_map (λ (v : Value). replicate v.times v.constant) []) ≡ []
+  no_pairs : (list : List Cell) → zip list (flat_map (λ (v : Value). replicate v.times v.constant) []) ≡ []
   no_pairs [] = refl
   no_pairs (cell ∷ list) = refl
 
   give_each : (values : List Value) (list : List Cell) (held : List (Option Constant))
-      → give_values held (map slot_at list) values ≡ fold give_cell held (pairs list (flat_map (λ v. replicate v.times v.constant) values))
+      → give_values held (map slot_at list) values ≡ fold give_cell held (zip list (flat_map (λ v. replicate v.times v.constant) values))
   give_each [] list held = ap (fold give_cell held) (sym (no_pairs list))
   give_each (v ∷ values) list held =
       ap (λ slots. give_values (give_run v.constant held (take v.times (map slot_at list))) slots values) (drop-map slot_at v.times list)
@@ -153,7 +153,7 @@ module _ (bounds : Symbol → List ℕ) (names : List Symbol) where
       subst AreCells (sym (map-append (λ k. (name, k)) (first_numbers n) (n ∷ [])))
       (AreCells-append (map (λ k. (name, k)) (first_numbers n)) ((name, n) ∷ []) (own_cells name n among (omega arith)) (among, omega arith, tt))
 
-  paired_cells : (list : List Cell) (constants : List Constant) → AreCells list → AreCells (map (λ one. one.0) (pairs list constants))
+  paired_cells : (list : List Cell) (constants : List Constant) → AreCells list → AreCells (map (λ one. one.0) (zip list constants))
   paired_cells [] constants are = tt
   paired_cells (cell ∷ list) [] are = tt
   paired_cells (cell ∷ list) (constant ∷ constants) are = (are.0, are.1, paired_cells list constants are.2)

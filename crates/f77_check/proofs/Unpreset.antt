@@ -1,6 +1,6 @@
 -- DATA gives nothing to a name that no statement of its program bears.
 use Rattle.std.proofs.Common.{◌≡◌, ℕ, List, [], ◌∷◌, ◌++◌, Bool, false, ◌||◌, refl, sym, ap, ◌∙◌, map, Some, None}
-use Rattle.std.specs.List.{filter_map, find, flat_map, list_any}
+use Rattle.std.specs.List.{filter_map, find, flat_map, list_any, zip}
 use Rattle.std.specs.Option.{option_and_then}
 use Rattle.std.specs.Str.{bytes_eq}
 use Rattle.std.proofs.lemmas.List.{append-nil, map-append}
@@ -15,7 +15,7 @@ use Rattle.f77_tree.specs.declared.data.Value.{Value}
 use Rattle.f77_legal.specs.Blocks.{first_numbers}
 use Rattle.f77_legal.specs.Names.{Symbol, Mention, name_in, mentions_of, mentions, symbols}
 use Rattle.f77_legal.specs.Presets.{elements, groups_of}
-use Rattle.f77_check.specs.Start.{Cell, cells, pairs, presets_of, presets, is_cell, preset_at}
+use Rattle.f77_check.specs.Start.{Cell, cells, presets_of, presets, is_cell, preset_at}
 use Rattle.f77_legal.proofs.Symbols.{or_false, any_once}
 
 -- The names of the nodes of DATA are the names of its groups.
@@ -93,7 +93,7 @@ module _ (program : List LineFields) (name : Symbol) (k : ℕ) where
       ∙ none_append (is_cell (name, k)) (own other) (cells program names)
       (other_cells other (first_numbers (elements program other)) parts.0) (no_cell names parts.1)
 
-  no_pair : (cs : List Cell) (constants : List Constant) → list_any (is_cell (name, k)) cs ≡ false → list_any gives (pairs cs constants) ≡ false
+  no_pair : (cs : List Cell) (constants : List Constant) → list_any (is_cell (name, k)) cs ≡ false → list_any gives (zip cs constants) ≡ false
   no_pair [] constants none = refl
   no_pair (c ∷ cs) [] none = refl
   no_pair (c ∷ cs) (constant ∷ constants) none =

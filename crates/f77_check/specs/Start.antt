@@ -1,8 +1,8 @@
 -- Where a run of a program starts: its first executable statement, its dummy arguments, and what DATA gives each element of a name
 -- (ANSI X3.9-1978, section 9 and 15.9).
-use Rattle.std.specs.Prelude.{◌≡◌, ℕ, ◌&&◌, ◌==◌, Bool, false, true, List, [], ◌∷◌, map, Option, Some, replicate, position}
-use Rattle.std.specs.List.{find, flat_map}
-use Rattle.std.specs.Option.{option_and_then, option_map_or}
+use Rattle.std.specs.Prelude.{◌≡◌, ℕ, ◌&&◌, ◌==◌, Bool, false, true, List, map, Option, Some, replicate, position}
+use Rattle.std.specs.List.{find, flat_map, zip}
+use Rattle.std.specs.Option.{option_and_then}
 use Rattle.std.specs.Str.{bytes_eq}
 use Rattle.f77_tree.specs.Parsing.{LineFields}
 use Rattle.f77_tree.specs.Tree.{GroupFields, Statement}
@@ -21,14 +21,9 @@ Cell = Symbol × ℕ
 abbrev pub cells : List LineFields → List Symbol → List Cell
 cells p names = flat_map (λ name. map (λ k. (name, k)) (first_numbers (elements p name))) names
 
-abbrev pub pairs : {A B : Type 0} → List A → List B → List (A × B)
-pairs [] bs = []
-pairs (a ∷ rest) [] = []
-pairs (a ∷ rest) (b ∷ bs) = (a, b) ∷ pairs rest bs
-
 -- the elements that a group of DATA gives a constant, each with it
 abbrev pub presets_of : List LineFields → GroupFields → List (Cell × Constant)
-presets_of p g = pairs (cells p g.names) (flat_map (λ v. replicate v.times v.constant) g.values)
+presets_of p g = zip (cells p g.names) (flat_map (λ v. replicate v.times v.constant) g.values)
 
 abbrev pub presets : List LineFields → List (Cell × Constant)
 presets p = flat_map (λ line. flat_map (presets_of p) (groups_of line.stmt)) p
