@@ -2,24 +2,18 @@
 use Rattle.std.proofs.Common.{arith, ◌+◌, ◌<◌, ℕ, zero, suc, List, [], ◌∷◌, ◌++◌, length, take, get_or, sym, subst}
 use Rattle.std.specs.Prelude.{IsSome}
 use Rattle.std.proofs.lemmas.List.{take_more}
+use Rattle.indexmap.proofs.SetLemmas.{AllZip-push}
 use Rattle.f77_tree.specs.Parsing.{LineFields}
 use Rattle.f77_legal.specs.Labels.{place_of}
 use Rattle.f77_check.specs.Action.{IsJump, AreJumps}
 use Rattle.f77_check.specs.Ready.{AreFound}
 use Rattle.f77_check.specs.declared.action.Jump.{Jump}
 
-jumps_push : (p : List LineFields) (i : ℕ) (labels : List ℕ) (jumps : List Jump) (label : ℕ) (jump : Jump)
-    → AreJumps p i labels jumps → IsJump p i label jump → AreJumps p i (labels ++ label ∷ []) (jumps ++ jump ∷ [])
-jumps_push p i [] [] label jump are is = (is, tt)
-jumps_push p i (l ∷ labels) (j ∷ jumps) label jump are is = (are.0, jumps_push p i labels jumps label jump are.1 is)
-jumps_push p i [] (j ∷ jumps) label jump are is = absurd are
-jumps_push p i (l ∷ labels) [] label jump are is = absurd are
-
 pub jumps_more : (p : List LineFields) (i : ℕ) (labels : List ℕ) (jumps : List Jump) (k otherwise : ℕ) (jump : Jump) → k < length labels
     → AreJumps p i (take k labels) jumps → IsJump p i (get_or labels k otherwise) jump → AreJumps p i (take (k + 1) labels) (jumps ++ jump ∷ [])
 jumps_more p i labels jumps k otherwise jump here are is =
     subst (λ first. AreJumps p i first (jumps ++ jump ∷ [])) (sym (take_more labels k otherwise here))
-    (jumps_push p i (take k labels) jumps (get_or labels k otherwise) jump are is)
+    (AllZip-push (IsJump p i) (take k labels) jumps (get_or labels k otherwise) jump are is)
 
 -- each of the labels stands on a statement
 pub found_label : (p : List LineFields) (labels : List ℕ) (k otherwise : ℕ) → AreFound p labels

@@ -1,5 +1,6 @@
 -- Which statement is which with its names and labels looked up: by cases on both. Statements are numbered from 0 here.
-use Rattle.std.specs.Prelude.{◌≡◌, ⊤, ℕ, List, [], ◌∷◌, Option, Some, None, pos}
+use Rattle.std.specs.Prelude.{◌≡◌, ⊤, ℕ, List, Option, Some, None, pos}
+use Rattle.std.specs.List.{AllZip}
 use Rattle.f77_tree.specs.Parsing.{LineFields}
 use Rattle.f77_tree.specs.Tree.{Tree, Trees, Statement}
 use Rattle.f77_tree.specs.declared.tree.Kind.{Kind}
@@ -22,9 +23,7 @@ pub record IsJump (program : List LineFields) (i label : ℕ) (jump : Jump) : Ty
 
 -- the jumps from i to the statements with these labels, in order
 abbrev pub AreJumps : List LineFields → ℕ → List ℕ → List Jump → Type 0
-AreJumps p i [] [] = ⊤
-AreJumps p i (label ∷ labels) (jump ∷ jumps) = IsJump p i label jump × AreJumps p i labels jumps
-AreJumps p i _ _ = ⊥
+AreJumps program i labels jumps = AllZip (IsJump program i) labels jumps
 
 -- the incrementation parameter of a DO, 1 where none is written
 abbrev pub IsStep : (Symbol → List ℕ) → List Symbol → Option Tree → Number → Type 0

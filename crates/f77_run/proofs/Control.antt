@@ -16,7 +16,8 @@ use Rattle.f77_run.specs.declared.finish.Fault.{Fault}
 use Rattle.f77_run.specs.Control.{Stands, IsPlacedAt, AreLoops, IsPlaced, is_last, Leads, IsSound}
 use Rattle.f77_run.specs.Number.{in_range, trip_count}
 use Rattle.f77_run.specs.Value.{Store, put, number, truth, value, place}
-use Rattle.f77_run.specs.Step.{Place, Execute, Increment, Turn, Turns, Config, config, Next, Goes, Ends, Step, with_turn, left_behind, numbered, by_sign, step_number}
+use Rattle.f77_run.specs.Choice.{by_sign, numbered}
+use Rattle.f77_run.specs.Step.{Place, Execute, Increment, Turn, Turns, Config, config, Next, Goes, Ends, Step, with_turn, left_behind, step_number}
 use Rattle.f77_run.proofs.Stepping.{sound_step, innermost, Found, is_found, chosen, goes_on, jumps, last_pass, passes, begins, unless_fault, either, of_option, jumps_or_on, executes, increments, next_at}
 use Rattle.f77_run.proofs.Numbered.{numbered_among}
 use Rattle.f77_run.specs.declared.value.Value.TheVariants as held

@@ -6,9 +6,8 @@ use Rattle.std.proofs.lemmas.Bool.{and_parts, eq-eqb, or_left, or_right}
 use Rattle.f77_tree.specs.Parsing.{LineFields}
 use Rattle.f77_check.specs.declared.action.Jump.{Jump}
 use Rattle.f77_check.specs.Action.{IsJump, AreJumps}
-use Rattle.f77_run.specs.Moves as moves
+use Rattle.f77_run.specs.Choice.{numbered}
 use Rattle.f77_run.specs.Reach.{jump_within}
-use Rattle.f77_run.specs.Step.{numbered}
 
 label_among : (labels : List ℕ) (k label : ℕ) → slice_get labels k ≡ Some label → list_any (λ x. x == label) labels ≡ true
 label_among [] k label e = absurd (cc (e))
@@ -38,7 +37,7 @@ jump_there p i _ _ h k = absurd h
 
 -- the jump for a value is one to the label for it
 pub numbered_jump : (p : List LineFields) (i : ℕ) (labels : List ℕ) (jumps : List Jump) → AreJumps p i labels jumps → (z : ℤ)
-    → IsJumpOf p i (numbered labels z) (moves.numbered jumps z)
+    → IsJumpOf p i (numbered labels z) (numbered jumps z)
 numbered_jump p i labels jumps h (pos zero) = tt
 numbered_jump p i labels jumps h (pos (suc k)) = jump_there p i labels jumps h k
 numbered_jump p i labels jumps h (negsuc k) = tt
@@ -54,7 +53,7 @@ place_within n (x ∷ jumps) (suc k) jump within e =
 
 -- the jump for a value is one of the jumps
 pub numbered_within : (n : ℕ) (jumps : List Jump) (z : ℤ) (jump : Jump) → list_all (jump_within n) jumps ≡ true
-    → moves.numbered jumps z ≡ Some jump → jump_within n jump ≡ true
+    → numbered jumps z ≡ Some jump → jump_within n jump ≡ true
 numbered_within n jumps (pos zero) jump within e = absurd (cc (e))
 numbered_within n jumps (pos (suc k)) jump within e = place_within n jumps k jump within e
 numbered_within n jumps (negsuc k) jump within e = absurd (cc (e))

@@ -31,6 +31,7 @@ use Rattle.f77_run.specs.declared.machine.Place.TheVariants.{Execute, Increment}
 use Rattle.f77_run.specs.declared.machine.Turn.{Turn}
 use Rattle.f77_run.specs.declared.value.Value.{Value}
 use Rattle.f77_run.specs.declared.value.Value.TheVariants as held
+use Rattle.f77_run.specs.Choice.{by_sign, numbered}
 use Rattle.f77_run.specs.Evaluation.{slot_in, number_in}
 use Rattle.f77_run.specs.Machine.{values_of, turn_of, turns_of, placed, config_of, next_of}
 use Rattle.f77_run.specs.Moves as moves
@@ -156,8 +157,8 @@ module _ (p : List LineFields) (names : List Symbol) (cells : Cells) (turns : Tu
           = ap (λ ds. turns_of (without turns ds)) h.leaves ∙ turns_left p i jump.target turns long in
           (jump.target, h.target, e ∙ ap (λ active. run.Goes (config (run.Execute jump.target) store active)) left)
 
-      jumps_by_sign : (l m k : ℕ) (a b c : Jump) → IsJump p i l a → IsJump p i m b → IsJump p i k c → (z : ℤ) → n ≡ next (jump_to (moves.by_sign z a b c) cells turns)
-          → Jumps p i (run.by_sign z l m k) store (turns_of turns) n
+      jumps_by_sign : (l m k : ℕ) (a b c : Jump) → IsJump p i l a → IsJump p i m b → IsJump p i k c → (z : ℤ) → n ≡ next (jump_to (by_sign z a b c) cells turns)
+          → Jumps p i (by_sign z l m k) store (turns_of turns) n
       jumps_by_sign l m k a b c f g h (negsuc z) e = jumps l a f e
       jumps_by_sign l m k a b c f g h (pos zero) e = jumps m b g e
       jumps_by_sign l m k a b c f g h (pos (suc z)) e = jumps k c h e
@@ -179,7 +180,7 @@ module _ (p : List LineFields) (names : List Symbol) (cells : Cells) (turns : Tu
       executes (Statement.Goto label) (Goto jump) h fits may e = jumps label jump h e
       executes (Statement.ComputedGoto labels t) (ComputedGoto x js) h fits may e =
           with_used (bounds_of p) names cells _ _ (same_number (bounds_of p) names cells t x h.0) _ n _
-          (λ z. jumps_or_continues (run.numbered labels z) (moves.numbered js.items z) (numbered_jump p i labels js.items h.1 z)) e
+          (λ z. jumps_or_continues (numbered labels z) (numbered js.items z) (numbered_jump p i labels js.items h.1 z)) e
       executes (Statement.ArithIf t l m k) (ArithmeticIf x a b c) h fits may e =
           with_used (bounds_of p) names cells _ _ (same_number (bounds_of p) names cells t x h.0) _ n _ (jumps_by_sign l m k a b c h.1 h.2 h.3) e
       executes (Statement.LogicalIf t s) (LogicalIf' x q action) h fits may e =

@@ -17,7 +17,8 @@ use Rattle.f77_run.specs.declared.finish.Finish.{Finish}
 use Rattle.f77_run.specs.declared.finish.Finish.TheVariants.{Returned, Stopped, Failed, StepLimit}
 use Rattle.f77_run.specs.Number.{in_range, trip_count}
 use Rattle.f77_run.specs.Value.{Store, put, number, truth, value, place}
-use Rattle.f77_run.specs.Step.{Place, Execute, Increment, Turn, Turns, Config, config, Next, Goes, Ends, with_turn, left_behind, GoesOn, Jumps, Passes, Begins, With, Either, Skips, numbered, by_sign, step_number, Executes, Increments, StepAt, Step}
+use Rattle.f77_run.specs.Choice.{by_sign, numbered}
+use Rattle.f77_run.specs.Step.{Place, Execute, Increment, Turn, Turns, Config, config, Next, Goes, Ends, with_turn, left_behind, GoesOn, Jumps, Passes, Begins, With, Either, Skips, step_number, Executes, Increments, StepAt, Step}
 use Rattle.f77_run.specs.Outcome.{IsOutcome}
 use Rattle.f77_run.specs.declared.value.Value.TheVariants as held
 

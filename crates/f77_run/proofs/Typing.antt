@@ -30,7 +30,8 @@ use Rattle.f77_run.specs.Number.{in_range, trip_count}
 use Rattle.f77_run.specs.Outcome.{IsOutcome}
 use Rattle.f77_run.specs.Interpreter.{values_in, has_shape, is_count, is_single, AreFitting}
 use Rattle.f77_run.specs.Start.{IsStart}
-use Rattle.f77_run.specs.Step.{Place, Execute, Increment, Turn, Turns, Config, Next, Goes, Ends, Step, with_turn, GoesOn, Jumps, Passes, Begins, With, Either, Skips, numbered, by_sign, step_number, Executes, Increments, StepAt}
+use Rattle.f77_run.specs.Choice.{by_sign, numbered}
+use Rattle.f77_run.specs.Step.{Place, Execute, Increment, Turn, Turns, Config, Next, Goes, Ends, Step, with_turn, GoesOn, Jumps, Passes, Begins, With, Either, Skips, step_number, Executes, Increments, StepAt}
 use Rattle.f77_run.specs.Typed.{has_kind, HasValues, IsTyped}
 use Rattle.f77_run.specs.Value.{Store, put, given, number, truth, value, place}
 

@@ -1,4 +1,5 @@
 pub mod Number
+pub mod Choice
 pub mod Value
 pub mod Step
 pub mod Outcome

@@ -17,6 +17,7 @@ use Rattle.f77_run.specs.declared.machine.Place.TheVariants.{Execute, Increment}
 use Rattle.f77_run.specs.declared.machine.Turn.{Turn}
 use Rattle.f77_run.specs.declared.value.Value.{Value}
 use Rattle.f77_run.specs.declared.value.Value.TheVariants as held
+use Rattle.f77_run.specs.Choice.{by_sign, numbered}
 use Rattle.f77_run.specs.Evaluation.{held_in, slot_in, number_in, truth_in}
 use Rattle.f77_run.specs.Number.{in_range, trip_count}
 use Rattle.f77_run.specs.Value.{whole}
@@ -77,17 +78,6 @@ without turns (d ∷ ds) = without (slice_set turns d None) ds
 
 abbrev pub jump_to : Jump → Cells → Turns → Move
 jump_to jump cells turns = Goes (state (Execute jump.target) cells (without turns jump.leaves.items))
-
--- the jump of this number, counted from 1
-abbrev pub numbered : List Jump → ℤ → Option Jump
-numbered jumps (pos zero) = None
-numbered jumps (pos (suc n)) = slice_get jumps n
-numbered jumps (negsuc n) = None
-
-abbrev pub by_sign : {A : Type 0} → ℤ → A → A → A → A
-by_sign (negsuc z) a b c = a
-by_sign (pos zero) a b c = b
-by_sign (pos (suc z)) a b c = c
 
 -- the DO d, which ends at this statement, has so many passes to make
 abbrev pub passing : Resolved → ℕ → ℕ → ℤ → Cells → Turns → Move

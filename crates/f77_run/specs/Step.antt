@@ -1,5 +1,5 @@
 -- One step of a run, by cases on the statement where control is (ANSI X3.9-1978, sections 10 and 11). Statements are numbered from 0 here.
-use Rattle.std.specs.Prelude.{◌≡◌, ℕ, zero, suc, ◌+◌, ◌-◌, ◌<◌, ◌==◌, ◌⊎◌, Bool, true, false, List, Option, Some, None, IsSome, slice_get, if◌then◌else◌, ℤ, pos, negsuc, ◌+ℤ◌, Result, Ok, MatchResult, MatchOption}
+use Rattle.std.specs.Prelude.{◌≡◌, ℕ, zero, suc, ◌+◌, ◌-◌, ◌<◌, ◌==◌, ◌⊎◌, Bool, true, false, List, Option, Some, None, IsSome, if◌then◌else◌, ℤ, pos, negsuc, ◌+ℤ◌, Result, Ok, MatchResult, MatchOption}
 use Rattle.f77_tree.specs.Parsing.{LineFields}
 use Rattle.f77_tree.specs.Tree.{Tree, Trees, Statement}
 use Rattle.f77_legal.specs.Blocks.{branch_end, behind}
@@ -10,6 +10,7 @@ use Rattle.f77_run.specs.declared.finish.Fault.{Fault}
 use Rattle.f77_run.specs.declared.finish.Fault.TheVariants.{ZeroStep, Trapped}
 use Rattle.f77_run.specs.declared.finish.Finish.{Finish}
 use Rattle.f77_run.specs.declared.finish.Finish.TheVariants.{Returned, Stopped, Failed}
+use Rattle.f77_run.specs.Choice.{by_sign, numbered}
 use Rattle.f77_run.specs.Number.{in_range, trip_count}
 use Rattle.f77_run.specs.Value.{Store, put, number, truth, value, place}
 use Rattle.f77_run.specs.declared.value.Value.TheVariants as held
@@ -89,18 +90,6 @@ Either false P Q = Q
 -- control goes from the beginning of a branch to the next ELSE IF, ELSE or END IF of its block, which is executed then
 abbrev pub Skips : List LineFields → ℕ → Store → Turns → Next → Type 0
 Skips p i s active n = (j : ℕ) × (branch_end p i ≡ Some j) × (n ≡ Goes (config (Execute j) s active))
-
--- the label of an arithmetic IF
-abbrev pub by_sign : ℤ → ℕ → ℕ → ℕ → ℕ
-by_sign (negsuc z) l m n = l
-by_sign (pos zero) l m n = m
-by_sign (pos (suc z)) l m n = n
-
--- the label that a computed GO TO has for this value, counted from 1
-abbrev pub numbered : List ℕ → ℤ → Option ℕ
-numbered labels (pos zero) = None
-numbered labels (pos (suc n)) = slice_get labels n
-numbered labels (negsuc n) = None
 
 abbrev pub step_number : (Symbol → List ℕ) → Store → Option Tree → Result ℤ Fault
 step_number bounds s None = Ok (pos 1)

@@ -5,10 +5,11 @@ ghost use Rattle.std.specs.List.{list_all};
 ghost use Rattle.std.specs.Option.{option_map_or};
 ghost use Rattle.f77_check.specs.declared.action.Action.{Loop};
 ghost use Rattle.f77_check.specs.declared.expression.Number.{Number};
+ghost use Rattle.f77_run.specs.Choice as choice;
 ghost use Rattle.f77_run.specs.Evaluation.{element_within, number_within, condition_within, slot_in, number_in, truth_in};
 ghost use Rattle.f77_run.specs.Machine.{KeepsLengths};
 ghost use Rattle.f77_run.specs.Moves as moves;
-ghost use Rattle.f77_run.specs.Moves.{Goes, state, state_of, move_of, used, chosen, by_sign, jump_to, passing, passing_at, begun, acted, incremented, is_executed, moved};
+ghost use Rattle.f77_run.specs.Moves.{Goes, state, state_of, move_of, used, chosen, jump_to, passing, passing_at, begun, acted, incremented, is_executed, moved};
 ghost use Rattle.f77_run.specs.Reach.{are_below, jump_within, action_within, all_within};
 ghost use Rattle.f77_run.specs.Value.{given};
 
@@ -100,7 +101,7 @@ fn jump_by_sign(
     requires negative { jump_within (length machine.old.turns.items) negative.now ≡ true }
     requires zero { jump_within (length machine.old.turns.items) zero.now ≡ true }
     requires positive { jump_within (length machine.old.turns.items) positive.now ≡ true }
-    ensures moved { let cells = machine.old.cells.items in move_of result machine.new ≡ used (number_in cells value.now) cells (λ z. jump_to (by_sign z negative.now zero.now positive.now) cells machine.old.turns.items) }
+    ensures moved { let cells = machine.old.cells.items in move_of result machine.new ≡ used (number_in cells value.now) cells (λ z. jump_to (choice.by_sign z negative.now zero.now positive.now) cells machine.old.turns.items) }
     ensures lengths { KeepsLengths machine.old machine.new }
 {
     let value = number(value, &machine.cells)?;
@@ -115,7 +116,7 @@ fn jump_by_sign(
 
 /// The jump of this number, counted from 1.
 fn numbered(jumps: &[Jump], number: i32) -> Option<&Jump>
-    ensures { option_map (λ jump. jump.now) result ≡ moves.numbered jumps.now number }
+    ensures { option_map (λ jump. jump.now) result ≡ choice.numbered jumps.now number }
 {
     let number = usize::try_from(number).ok()?;
     jumps.get(number.checked_sub(1)?)
@@ -132,7 +133,7 @@ fn jump_by_number(
     requires value { number_within (length machine.old.cells.items) value.now ≡ true }
     requires jumps { list_all (jump_within (length machine.old.turns.items)) jumps.now ≡ true }
     requires ends { are_below (length machine.old.turns.items) resolved.now.ends.items ≡ true }
-    ensures moved { let cells = machine.old.cells.items in let turns = machine.old.turns.items in move_of result machine.new ≡ used (number_in cells value.now) cells (λ z. option_map_or (λ jump. jump_to jump cells turns) (moves.numbered jumps.now z) (moves.go_on resolved.now cells turns)) }
+    ensures moved { let cells = machine.old.cells.items in let turns = machine.old.turns.items in move_of result machine.new ≡ used (number_in cells value.now) cells (λ z. option_map_or (λ jump. jump_to jump cells turns) (choice.numbered jumps.now z) (moves.go_on resolved.now cells turns)) }
     ensures lengths { KeepsLengths machine.old machine.new }
 {
     let value = number(value, &machine.cells)?;
