@@ -5,7 +5,8 @@ use Rattle.f77_tree.specs.Parsing.{LineFields}
 use Rattle.f77_tree.specs.Tree.{Tree, Trees, Statement}
 use Rattle.f77_tree.specs.declared.tree.Kind.{Kind}
 use Rattle.f77_tree.specs.declared.tree.Kind.TheVariants.{Integer, Logical}
-use Rattle.f77_check.specs.declared.action.Action.{Action, Declaration, AssignNumber, AssignTruth, Goto, ComputedGoto, ArithmeticIf, LogicalIf', Branch, Continue, Loop, Return, Stop, Trap}
+use Rattle.f77_check.specs.declared.action.Action.{Action, Declaration, AssignNumber, AssignTruth, Goto, ComputedGoto, ArithmeticIf}
+use Rattle.f77_check.specs.declared.action.Action.{LogicalIf', Branch, Continue, Loop, Return, Stop, Trap}
 use Rattle.f77_check.specs.declared.action.Jump.{Jump}
 use Rattle.f77_check.specs.declared.expression.Number.{Number}
 use Rattle.f77_check.specs.declared.expression.Number as number
@@ -27,40 +28,46 @@ AreJumps program i labels jumps = AllZip (IsJump program i) labels jumps
 
 -- the incrementation parameter of a DO, 1 where none is written
 abbrev pub IsStep : (Symbol → List ℕ) → List Symbol → Option Tree → Number → Type 0
-IsStep bounds names None x = x ≡ number.Constant (pos 1)
-IsStep bounds names (Some t) x = IsNumber bounds names t x
+IsStep bounds names None step = step ≡ number.Constant (pos 1)
+IsStep bounds names (Some tree) step = IsNumber bounds names tree step
 
 -- an assignment, by the kind of what is assigned to
 abbrev pub IsAssignment : (Symbol → Kind) → (Symbol → List ℕ) → List Symbol → Symbol → Trees → Tree → Action → Type 0
-IsAssignment kinds bounds names name items t (AssignNumber e x) = (kinds name ≡ Integer) × IsElement bounds names name items e × IsNumber bounds names t x
-IsAssignment kinds bounds names name items t (AssignTruth e x) = (kinds name ≡ Logical) × IsElement bounds names name items e × IsCondition bounds names t x
-IsAssignment kinds bounds names name items t _ = ⊥
+IsAssignment kinds bounds names name items tree (AssignNumber element value) =
+    (kinds name ≡ Integer) × IsElement bounds names name items element × IsNumber bounds names tree value
+IsAssignment kinds bounds names name items tree (AssignTruth element value) =
+    (kinds name ≡ Logical) × IsElement bounds names name items element × IsCondition bounds names tree value
+IsAssignment kinds bounds names name items tree _ = ⊥
 
 -- The action is what the statement i does, where names have these kinds and bounds, and slots in the order of this list.
 abbrev pub IsAction : (Symbol → Kind) → (Symbol → List ℕ) → List Symbol → List LineFields → ℕ → Statement → Action → Type 0
-IsAction kinds bounds names p i (Statement.Subroutine name dummies) Declaration = ⊤
-IsAction kinds bounds names p i (Statement.Declare kind ds) Declaration = ⊤
-IsAction kinds bounds names p i (Statement.Dimension ds) Declaration = ⊤
-IsAction kinds bounds names p i (Statement.Preset gs) Declaration = ⊤
-IsAction kinds bounds names p i (Statement.Assign name items t) action = IsAssignment kinds bounds names name items t action
-IsAction kinds bounds names p i (Statement.Goto label) (Goto jump) = IsJump p i label jump
-IsAction kinds bounds names p i (Statement.ComputedGoto labels t) (ComputedGoto x jumps) = IsNumber bounds names t x × AreJumps p i labels jumps.items
-IsAction kinds bounds names p i (Statement.ArithIf t l m n) (ArithmeticIf x negative middle positive) =
-    IsNumber bounds names t x × IsJump p i l negative × IsJump p i m middle × IsJump p i n positive
-IsAction kinds bounds names p i (Statement.LogicalIf t s) (LogicalIf' x q action) = IsCondition bounds names t x × IsAction kinds bounds names p i s action
-IsAction kinds bounds names p i (Statement.BlockIf t) (Branch x otherwise) = IsCondition bounds names t x × (branch_end p i ≡ Some otherwise)
-IsAction kinds bounds names p i (Statement.ElseIf t) (Branch x otherwise) = IsCondition bounds names t x × (branch_end p i ≡ Some otherwise)
-IsAction kinds bounds names p i Statement.Else Continue = ⊤
-IsAction kinds bounds names p i Statement.EndIf Continue = ⊤
-IsAction kinds bounds names p i (Statement.Loop label name a b c) (Loop variable first last step t) =
+IsAction kinds bounds names program i (Statement.Subroutine name dummies) Declaration = ⊤
+IsAction kinds bounds names program i (Statement.Declare kind declarations) Declaration = ⊤
+IsAction kinds bounds names program i (Statement.Dimension declarations) Declaration = ⊤
+IsAction kinds bounds names program i (Statement.Preset groups) Declaration = ⊤
+IsAction kinds bounds names program i (Statement.Assign name items tree) action = IsAssignment kinds bounds names name items tree action
+IsAction kinds bounds names program i (Statement.Goto label) (Goto jump) = IsJump program i label jump
+IsAction kinds bounds names program i (Statement.ComputedGoto labels tree) (ComputedGoto value jumps) =
+    IsNumber bounds names tree value × AreJumps program i labels jumps.items
+IsAction kinds bounds names program i (Statement.ArithIf tree first second third) (ArithmeticIf value negative middle positive) =
+    IsNumber bounds names tree value × IsJump program i first negative × IsJump program i second middle × IsJump program i third positive
+IsAction kinds bounds names program i (Statement.LogicalIf tree statement) (LogicalIf' condition _ action) =
+    IsCondition bounds names tree condition × IsAction kinds bounds names program i statement action
+IsAction kinds bounds names program i (Statement.BlockIf tree) (Branch condition otherwise) =
+    IsCondition bounds names tree condition × (branch_end program i ≡ Some otherwise)
+IsAction kinds bounds names program i (Statement.ElseIf tree) (Branch condition otherwise) =
+    IsCondition bounds names tree condition × (branch_end program i ≡ Some otherwise)
+IsAction kinds bounds names program i Statement.Else Continue = ⊤
+IsAction kinds bounds names program i Statement.EndIf Continue = ⊤
+IsAction kinds bounds names program i (Statement.Loop label name first last step) (Loop variable from to by last_statement) =
     (first_slot bounds names name ≡ Some variable)
-    × IsNumber bounds names a first
-    × IsNumber bounds names b last
-    × IsStep bounds names c step
-    × (terminal p i ≡ Some t)
-IsAction kinds bounds names p i Statement.Continue Continue = ⊤
-IsAction kinds bounds names p i Statement.Return Return = ⊤
-IsAction kinds bounds names p i Statement.Stop Stop = ⊤
-IsAction kinds bounds names p i Statement.Trap Trap = ⊤
-IsAction kinds bounds names p i Statement.End Return = ⊤
-IsAction kinds bounds names p i _ _ = ⊥
+    × IsNumber bounds names first from
+    × IsNumber bounds names last to
+    × IsStep bounds names step by
+    × (terminal program i ≡ Some last_statement)
+IsAction kinds bounds names program i Statement.Continue Continue = ⊤
+IsAction kinds bounds names program i Statement.Return Return = ⊤
+IsAction kinds bounds names program i Statement.Stop Stop = ⊤
+IsAction kinds bounds names program i Statement.Trap Trap = ⊤
+IsAction kinds bounds names program i Statement.End Return = ⊤
+IsAction kinds bounds names program i _ _ = ⊥

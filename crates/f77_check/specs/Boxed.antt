@@ -8,7 +8,7 @@ use Rattle.f77_check.specs.Expression.{IsNumber, IsCondition}
 use Rattle.f77_legal.specs.Names.{Symbol}
 
 unfoldable pub HoldsNumber : (Symbol → List ℕ) → List Symbol → Tree → Box Number Global → Type 0
-HoldsNumber bounds names t box = IsNumber bounds names t box.value
+HoldsNumber bounds names tree box = IsNumber bounds names tree box.value
 
 unfoldable pub HoldsCondition : (Symbol → List ℕ) → List Symbol → Tree → Box Condition Global → Type 0
-HoldsCondition bounds names t box = IsCondition bounds names t box.value
+HoldsCondition bounds names tree box = IsCondition bounds names tree box.value

@@ -48,42 +48,47 @@ abbrev mutual
   -- a reference to a variable or an array element
   pub IsElement : (Symbol → List ℕ) → List Symbol → Symbol → Trees → Element → Type 0
   IsElement bounds names name Trees.None (Variable slot) = (bounds name ≡ []) × (first_slot bounds names name ≡ Some slot)
-  IsElement bounds names name (Trees.Then t Trees.None) (Vector' first bound p x) =
-      (bounds name ≡ bound ∷ []) × (first_slot bounds names name ≡ Some first) × IsNumber bounds names t x
-  IsElement bounds names name (Trees.Then t (Trees.Then u Trees.None)) (Matrix' first rows columns p x q y) =
-      (bounds name ≡ rows ∷ (columns ∷ [])) × (first_slot bounds names name ≡ Some first) × IsNumber bounds names t x × IsNumber bounds names u y
+  IsElement bounds names name (Trees.Then tree Trees.None) (Vector' first bound _ subscript) =
+      (bounds name ≡ bound ∷ []) × (first_slot bounds names name ≡ Some first) × IsNumber bounds names tree subscript
+  IsElement bounds names name (Trees.Then left (Trees.Then right Trees.None)) (Matrix' first rows columns _ row _ column) =
+      (bounds name ≡ rows ∷ (columns ∷ []))
+      × (first_slot bounds names name ≡ Some first)
+      × IsNumber bounds names left row
+      × IsNumber bounds names right column
   IsElement bounds names name _ _ = ⊥
 
   -- an INTEGER expression
   pub IsNumber : (Symbol → List ℕ) → List Symbol → Tree → Number → Type 0
-  IsNumber bounds names (Tree.Number n) (Constant z) = (z ≡ pos n) × (n ≤ 2147483647)
-  IsNumber bounds names (Tree.Number n) TooLarge = 2147483647 < n
-  IsNumber bounds names (Tree.Reference name items) (number.Element e) = IsElement bounds names name items e
-  IsNumber bounds names (Tree.Call Mod (Trees.Then t (Trees.Then u Trees.None))) (Binary' op p x q y) =
-      (op ≡ arithmetic.Modulus) × IsNumber bounds names t x × IsNumber bounds names u y
-  IsNumber bounds names (Tree.Call Iabs (Trees.Then t Trees.None)) (Absolute' p x) = IsNumber bounds names t x
-  IsNumber bounds names (Tree.Call Min0 items) x = IsChosen bounds names arithmetic.Least items x
-  IsNumber bounds names (Tree.Call Max0 items) x = IsChosen bounds names arithmetic.Greatest items x
-  IsNumber bounds names (Tree.Signed Plus t) x = IsNumber bounds names t x
-  IsNumber bounds names (Tree.Signed Minus t) (Negated' p x) = IsNumber bounds names t x
-  IsNumber bounds names (Tree.Binary op t u) (Binary' o p x q y) = (arithmetic_of op ≡ Some o) × IsNumber bounds names t x × IsNumber bounds names u y
-  IsNumber bounds names (Tree.ZeroPush t) (ZeroPush' p x) = IsNumber bounds names t x
+  IsNumber bounds names (Tree.Number value) (Constant whole) = (whole ≡ pos value) × (value ≤ 2147483647)
+  IsNumber bounds names (Tree.Number value) TooLarge = 2147483647 < value
+  IsNumber bounds names (Tree.Reference name items) (number.Element element) = IsElement bounds names name items element
+  IsNumber bounds names (Tree.Call Mod (Trees.Then left (Trees.Then right Trees.None))) (Binary' operation _ first _ second) =
+      (operation ≡ arithmetic.Modulus) × IsNumber bounds names left first × IsNumber bounds names right second
+  IsNumber bounds names (Tree.Call Iabs (Trees.Then tree Trees.None)) (Absolute' _ operand) = IsNumber bounds names tree operand
+  IsNumber bounds names (Tree.Call Min0 items) chosen = IsChosen bounds names arithmetic.Least items chosen
+  IsNumber bounds names (Tree.Call Max0 items) chosen = IsChosen bounds names arithmetic.Greatest items chosen
+  IsNumber bounds names (Tree.Signed Plus tree) operand = IsNumber bounds names tree operand
+  IsNumber bounds names (Tree.Signed Minus tree) (Negated' _ operand) = IsNumber bounds names tree operand
+  IsNumber bounds names (Tree.Binary written left right) (Binary' operation _ first _ second) =
+      (arithmetic_of written ≡ Some operation) × IsNumber bounds names left first × IsNumber bounds names right second
+  IsNumber bounds names (Tree.ZeroPush tree) (ZeroPush' _ operand) = IsNumber bounds names tree operand
   IsNumber bounds names _ _ = ⊥
 
   -- the least or the greatest of numbers, the first of them and then the rest
   pub IsChosen : (Symbol → List ℕ) → List Symbol → Arithmetic → Trees → Number → Type 0
-  IsChosen bounds names op Trees.None x = ⊥
-  IsChosen bounds names op (Trees.Then t Trees.None) x = IsNumber bounds names t x
-  IsChosen bounds names op (Trees.Then t (Trees.Then u us)) (Binary' o p x q y) =
-      (o ≡ op) × IsNumber bounds names t x × IsChosen bounds names op (Trees.Then u us) y
-  IsChosen bounds names op _ _ = ⊥
+  IsChosen bounds names choice Trees.None chosen = ⊥
+  IsChosen bounds names choice (Trees.Then tree Trees.None) chosen = IsNumber bounds names tree chosen
+  IsChosen bounds names choice (Trees.Then left (Trees.Then right trees)) (Binary' operation _ first _ rest) =
+      (operation ≡ choice) × IsNumber bounds names left first × IsChosen bounds names choice (Trees.Then right trees) rest
+  IsChosen bounds names choice _ _ = ⊥
 
 -- a LOGICAL expression
 abbrev pub IsCondition : (Symbol → List ℕ) → List Symbol → Tree → Condition → Type 0
-IsCondition bounds names (Tree.Truth b) (condition.Constant c) = c ≡ b
-IsCondition bounds names (Tree.Reference name items) (condition.Element e) = IsElement bounds names name items e
-IsCondition bounds names (Tree.Not t) (Not' p x) = IsCondition bounds names t x
-IsCondition bounds names (Tree.Binary op t u) (Related o x y) = (relation_of op ≡ Some o) × IsNumber bounds names t x × IsNumber bounds names u y
-IsCondition bounds names (Tree.Binary op t u) (Connected' o p x q y) =
-    (connective_of op ≡ Some o) × IsCondition bounds names t x × IsCondition bounds names u y
+IsCondition bounds names (Tree.Truth truth) (condition.Constant constant) = constant ≡ truth
+IsCondition bounds names (Tree.Reference name items) (condition.Element element) = IsElement bounds names name items element
+IsCondition bounds names (Tree.Not tree) (Not' _ operand) = IsCondition bounds names tree operand
+IsCondition bounds names (Tree.Binary written left right) (Related related first second) =
+    (relation_of written ≡ Some related) × IsNumber bounds names left first × IsNumber bounds names right second
+IsCondition bounds names (Tree.Binary written left right) (Connected' connected _ first _ second) =
+    (connective_of written ≡ Some connected) × IsCondition bounds names left first × IsCondition bounds names right second
 IsCondition bounds names _ _ = ⊥

@@ -1,5 +1,6 @@
 -- What DATA gives each slot, group by group, where names have slots in the order of a list.
-use Rattle.std.specs.Prelude.{◌<◌, ◌^◌, ℕ, ◌+◌, Bool, false, not, List, [], ◌∷◌, map, fold, take, drop, Option, Some, is_some, slice_get, slice_set, if◌then◌else◌}
+use Rattle.std.specs.Prelude.{◌<◌, ◌^◌, ◌+◌, ◌∷◌, if◌then◌else◌}
+use Rattle.std.specs.Prelude.{ℕ, Bool, false, not, List, [], map, fold, take, drop, Option, Some, is_some, slice_get, slice_set}
 use Rattle.std.specs.List.{flat_map, list_all}
 use Rattle.std.specs.Option.{option_map_or}
 use Rattle.indexmap.specs.IndexMap.{keys}
@@ -36,19 +37,19 @@ give_run constant = fold (give constant)
 -- the slots are given the values, each so many times
 abbrev pub give_values : List (Option Constant) → List ℕ → List Value → List (Option Constant)
 give_values held slots [] = held
-give_values held slots (v ∷ values) = give_values (give_run v.constant held (take v.times slots)) (drop v.times slots) values
+give_values held slots (value ∷ values) = give_values (give_run value.constant held (take value.times slots)) (drop value.times slots) values
 
 abbrev pub give_group : (Symbol → List ℕ) → List Symbol → List (Option Constant) → GroupFields → List (Option Constant)
-give_group bounds names held g = give_values held (flat_map (slots_of bounds names) g.names) g.values
+give_group bounds names held group = give_values held (flat_map (slots_of bounds names) group.names) group.values
 
 abbrev pub give_groups : (Symbol → List ℕ) → List Symbol → List (Option Constant) → List GroupFields → List (Option Constant)
 give_groups bounds names = fold (give_group bounds names)
 
 -- the table of slots is one of few slots
-pub record HasSlots (r : Resolver) : Type 0 where
-  pub table : IsSlotTable r.slots r.tables.names
-  pub few : slot_count (bounds_at r.tables.names) (keys r.tables.names.facts) < 2 ^ 32
+pub record HasSlots (resolver : Resolver) : Type 0 where
+  pub table : IsSlotTable resolver.slots resolver.tables.names
+  pub few : slot_count (bounds_at resolver.tables.names) (keys resolver.tables.names.facts) < 2 ^ 32
 
 -- the table has each name of the groups
 abbrev pub groups_kept : Names → List GroupFields → Bool
-groups_kept names gs = list_all (λ g. list_all (is_kept names) g.names) gs
+groups_kept names groups = list_all (λ group. list_all (is_kept names) group.names) groups

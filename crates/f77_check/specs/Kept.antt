@@ -14,39 +14,40 @@ is_kept names name = is_some (get bytes_eq names.facts name)
 -- every name of an expression is
 abbrev mutual
   pub tree_kept : Names → Tree → Bool
-  tree_kept names (Tree.Number n) = true
-  tree_kept names (Tree.Truth b) = true
+  tree_kept names (Tree.Number number) = true
+  tree_kept names (Tree.Truth truth) = true
   tree_kept names (Tree.Reference name items) = is_kept names name && items_kept names items
-  tree_kept names (Tree.Call f items) = items_kept names items
-  tree_kept names (Tree.Signed sign t) = tree_kept names t
-  tree_kept names (Tree.Not t) = tree_kept names t
-  tree_kept names (Tree.Binary op a b) = tree_kept names a && tree_kept names b
-  tree_kept names (Tree.ZeroPush t) = tree_kept names t
+  tree_kept names (Tree.Call function items) = items_kept names items
+  tree_kept names (Tree.Signed sign tree) = tree_kept names tree
+  tree_kept names (Tree.Not tree) = tree_kept names tree
+  tree_kept names (Tree.Binary operator left right) = tree_kept names left && tree_kept names right
+  tree_kept names (Tree.ZeroPush tree) = tree_kept names tree
 
   pub items_kept : Names → Trees → Bool
   items_kept names Trees.None = true
-  items_kept names (Trees.Then t ts) = tree_kept names t && items_kept names ts
+  items_kept names (Trees.Then tree trees) = tree_kept names tree && items_kept names trees
 
 abbrev pub step_kept : Names → Option Tree → Bool
 step_kept names None = true
-step_kept names (Some t) = tree_kept names t
+step_kept names (Some tree) = tree_kept names tree
 
 -- every name of a statement that can be executed is
 abbrev pub names_kept : Names → Statement → Bool
 names_kept names (Statement.Subroutine name dummies) = true
-names_kept names (Statement.Declare kind ds) = true
-names_kept names (Statement.Dimension ds) = true
-names_kept names (Statement.Preset gs) = true
-names_kept names (Statement.Assign name items t) = is_kept names name && (items_kept names items && tree_kept names t)
+names_kept names (Statement.Declare kind declarations) = true
+names_kept names (Statement.Dimension declarations) = true
+names_kept names (Statement.Preset groups) = true
+names_kept names (Statement.Assign name items tree) = is_kept names name && (items_kept names items && tree_kept names tree)
 names_kept names (Statement.Goto label) = true
-names_kept names (Statement.ComputedGoto labels t) = tree_kept names t
-names_kept names (Statement.ArithIf t l m n) = tree_kept names t
-names_kept names (Statement.LogicalIf t s) = tree_kept names t && names_kept names s
-names_kept names (Statement.BlockIf t) = tree_kept names t
-names_kept names (Statement.ElseIf t) = tree_kept names t
+names_kept names (Statement.ComputedGoto labels tree) = tree_kept names tree
+names_kept names (Statement.ArithIf tree first second third) = tree_kept names tree
+names_kept names (Statement.LogicalIf tree statement) = tree_kept names tree && names_kept names statement
+names_kept names (Statement.BlockIf tree) = tree_kept names tree
+names_kept names (Statement.ElseIf tree) = tree_kept names tree
 names_kept names Statement.Else = true
 names_kept names Statement.EndIf = true
-names_kept names (Statement.Loop label name a b c) = is_kept names name && (tree_kept names a && (tree_kept names b && step_kept names c))
+names_kept names (Statement.Loop label name first last step) =
+    is_kept names name && (tree_kept names first && (tree_kept names last && step_kept names step))
 names_kept names Statement.Continue = true
 names_kept names Statement.Return = true
 names_kept names Statement.Stop = true

@@ -21,26 +21,28 @@ use Rattle.f77_check.specs.declared.action.Action.{Action}
 use Rattle.f77_check.specs.declared.resolve.Resolver.{Resolver}
 
 -- these are the tables of a legal program
-pub record CanResolve (r : Resolver) (program : List LineFields) : Type 0 where
-  pub tables : AreTables r.tables program
-  pub slots : IsSlotTable r.slots r.tables.names
+pub record CanResolve (resolver : Resolver) (program : List LineFields) : Type 0 where
+  pub tables : AreTables resolver.tables program
+  pub slots : IsSlotTable resolver.slots resolver.tables.names
   pub formed : IsProgram None program
   pub legal : IsLegal program
 
 -- the names of the statement can be looked up
-pub record IsReady (r : Resolver) (s : Statement) : Type 0 where
-  pub table : IsSlotTable r.slots r.tables.names
-  pub flat : AreFlat r.tables.names
-  pub kinds : kinds_agree (kind_at r.tables.names) s ≡ true
-  pub bounds : dimensions_fit (bounds_at r.tables.names) s ≡ true
-  pub kept : names_kept r.tables.names s ≡ true
+pub record IsReady (resolver : Resolver) (statement : Statement) : Type 0 where
+  pub table : IsSlotTable resolver.slots resolver.tables.names
+  pub flat : AreFlat resolver.tables.names
+  pub kinds : kinds_agree (kind_at resolver.tables.names) statement ≡ true
+  pub bounds : dimensions_fit (bounds_at resolver.tables.names) statement ≡ true
+  pub kept : names_kept resolver.tables.names statement ≡ true
 
 -- the action is what the statement does, by the tables
 abbrev pub Does : Resolver → List LineFields → ℕ → Statement → Action → Type 0
-Does r program i s action = IsAction (kind_at r.tables.names) (bounds_at r.tables.names) (keys r.tables.names.facts) program i s action
+Does resolver program i statement action =
+    IsAction (kind_at resolver.tables.names) (bounds_at resolver.tables.names) (keys resolver.tables.names.facts) program i statement action
 
 abbrev pub Assigns : Resolver → Symbol → Trees → Tree → Action → Type 0
-Assigns r name items t action = IsAssignment (kind_at r.tables.names) (bounds_at r.tables.names) (keys r.tables.names.facts) name items t action
+Assigns resolver name items tree action =
+    IsAssignment (kind_at resolver.tables.names) (bounds_at resolver.tables.names) (keys resolver.tables.names.facts) name items tree action
 
 -- each of these labels stands on a statement
 abbrev pub AreFound : List LineFields → List ℕ → Type 0
@@ -55,8 +57,8 @@ pub record HasBranch (program : List LineFields) (i : ℕ) : Type 0 where
 
 -- the statement i ends where it has to, or holds what it may
 abbrev pub HasEnd : List LineFields → ℕ → Statement → Type 0
-HasEnd program i (Statement.LogicalIf t s) = is_action s ≡ true
-HasEnd program i (Statement.BlockIf t) = HasBranch program i
-HasEnd program i (Statement.ElseIf t) = HasBranch program i
-HasEnd program i (Statement.Loop label name a b c) = IsSome (terminal program i)
+HasEnd program i (Statement.LogicalIf tree statement) = is_action statement ≡ true
+HasEnd program i (Statement.BlockIf tree) = HasBranch program i
+HasEnd program i (Statement.ElseIf tree) = HasBranch program i
+HasEnd program i (Statement.Loop label name first last step) = IsSome (terminal program i)
 HasEnd program i _ = ⊤

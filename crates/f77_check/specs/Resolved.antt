@@ -9,12 +9,13 @@ use Rattle.f77_legal.specs.Labels.{statement_at}
 use Rattle.f77_legal.specs.Loops.{loops_ending}
 use Rattle.f77_legal.specs.Names.{Symbol, kind_of, bounds_of}
 
-pub record IsResolved (program : List LineFields) (names : List Symbol) (i : ℕ) (s : Statement) (r : Resolved) : Type 0 where
-  pub action : IsAction (kind_of program) (bounds_of program) names program i s r.action
-  pub next : behind program i ≡ Some r.next
-  pub ends : r.ends.items ≡ loops_ending program i
+pub record IsResolved (program : List LineFields) (names : List Symbol) (i : ℕ) (statement : Statement) (resolved : Resolved) : Type 0 where
+  pub action : IsAction (kind_of program) (bounds_of program) names program i statement resolved.action
+  pub next : behind program i ≡ Some resolved.next
+  pub ends : resolved.ends.items ≡ loops_ending program i
 
 -- each statement resolved, in order, where names have slots in the order of this list
 pub record AreResolved (program : List LineFields) (names : List Symbol) (list : List Resolved) : Type 0 where
   pub count : length list ≡ length program
-  pub each : (i : ℕ) (s : Statement) (r : Resolved) → statement_at program i ≡ Some s → slice_get list i ≡ Some r → IsResolved program names i s r
+  pub each : (i : ℕ) (statement : Statement) (resolved : Resolved) → statement_at program i ≡ Some statement → slice_get list i ≡ Some resolved
+      → IsResolved program names i statement resolved

@@ -19,26 +19,26 @@ abbrev pub Cell : Type 0
 Cell = Symbol × ℕ
 
 abbrev pub cells : List LineFields → List Symbol → List Cell
-cells p names = flat_map (λ name. map (λ k. (name, k)) (first_numbers (elements p name))) names
+cells program names = flat_map (λ name. map (λ k. (name, k)) (first_numbers (elements program name))) names
 
 -- the elements that a group of DATA gives a constant, each with it
 abbrev pub presets_of : List LineFields → GroupFields → List (Cell × Constant)
-presets_of p g = zip (cells p g.names) (flat_map (λ v. replicate v.times v.constant) g.values)
+presets_of program group = zip (cells program group.names) (flat_map (λ value. replicate value.times value.constant) group.values)
 
 abbrev pub presets : List LineFields → List (Cell × Constant)
-presets p = flat_map (λ line. flat_map (presets_of p) (groups_of line.stmt)) p
+presets program = flat_map (λ line. flat_map (presets_of program) (groups_of line.stmt)) program
 
 abbrev pub is_cell : Cell → Cell → Bool
-is_cell a b = bytes_eq a.0 b.0 && a.1 == b.1
+is_cell one other = bytes_eq one.0 other.0 && one.1 == other.1
 
 abbrev pub preset_at : List LineFields → Symbol → ℕ → Option Constant
-preset_at p name k = option_and_then (λ given. Some given.1) (find (λ given. is_cell (name, k) given.0) (presets p))
+preset_at program name k = option_and_then (λ given. Some given.1) (find (λ given. is_cell (name, k) given.0) (presets program))
 
 abbrev pub is_executable : Statement → Bool
 is_executable (Statement.Subroutine name names) = false
-is_executable (Statement.Declare kind ds) = false
-is_executable (Statement.Dimension ds) = false
-is_executable (Statement.Preset gs) = false
+is_executable (Statement.Declare kind declarations) = false
+is_executable (Statement.Dimension declarations) = false
+is_executable (Statement.Preset groups) = false
 is_executable _ = true
 
 -- What a run of a program starts with: its first executable statement, the first slot of each dummy argument, and what DATA gives each slot.

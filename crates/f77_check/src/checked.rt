@@ -40,7 +40,15 @@ pub struct Checked {
 impl Model for Checked {
     ghost Value = { CheckedFields };
 
-    ghost coded = { Prim.hlevel (codes, expr.the_row.coded, stmt.the_row.coded, element.the_row.coded, number.the_row.coded, condition.the_row.coded, action.the_row.coded) };
+    ghost coded = { Prim.hlevel (
+      codes,
+      expr.the_row.coded,
+      stmt.the_row.coded,
+      element.the_row.coded,
+      number.the_row.coded,
+      condition.the_row.coded,
+      action.the_row.coded,
+    ) };
 
     ghost view = { λ c. fields_of c.program c.arguments.items c.resolver c.statements.items c.start };
 

@@ -159,7 +159,8 @@ fn call(
     requires kinds { is_of (kind_at names.now) Integer (Tree.Call function (trees (map tree_of arguments.now))) ≡ true }
     requires fits { fits (bounds_at names.now) (Tree.Call function (trees (map tree_of arguments.now))) ≡ true }
     requires kept { tree_kept names.now (Tree.Call function (trees (map tree_of arguments.now))) ≡ true }
-    ensures number { IfOk result (λ x. IsNumber (bounds_at names.now) (keys names.now.facts) (Tree.Call function (trees (map tree_of arguments.now))) x) }
+    ensures number { IfOk result
+        (λ x. IsNumber (bounds_at names.now) (keys names.now.facts) (Tree.Call function (trees (map tree_of arguments.now))) x) }
     ensures memory { IfErr result (λ fault. fault ≡ Memory) }
 {
     match function {
@@ -276,7 +277,8 @@ fn related(
     requires fits { fits (bounds_at names.now) (Tree.Binary operator (tree_of left.now) (tree_of right.now)) ≡ true }
     requires kept { tree_kept names.now (Tree.Binary operator (tree_of left.now) (tree_of right.now)) ≡ true }
     requires relation { relation_of operator ≡ Some relation }
-    ensures condition { IfOk result (λ x. IsCondition (bounds_at names.now) (keys names.now.facts) (Tree.Binary operator (tree_of left.now) (tree_of right.now)) x) }
+    ensures condition { IfOk result
+        (λ x. IsCondition (bounds_at names.now) (keys names.now.facts) (Tree.Binary operator (tree_of left.now) (tree_of right.now)) x) }
     ensures memory { IfErr result (λ fault. fault ≡ Memory) }
 {
     Ok(Condition::Related(

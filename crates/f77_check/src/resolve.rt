@@ -116,7 +116,9 @@ impl Resolver {
         ghost program: { List LineFields }
         requires tables { AreTables self.now.tables program }
         requires ready { IsReady self.now (Statement.ArithIf (tree_of value.now) negative zero positive) }
-        requires found { IsSome (labels.place_of program negative) × IsSome (labels.place_of program zero) × IsSome (labels.place_of program positive) }
+        requires found { IsSome (labels.place_of program negative)
+            × IsSome (labels.place_of program zero)
+            × IsSome (labels.place_of program positive) }
         ensures action { IfOk result (λ action. Does self.now program i (Statement.ArithIf (tree_of value.now) negative zero positive) action) }
         ensures memory { IfErr result (λ fault. fault ≡ Memory) }
     {
@@ -180,7 +182,8 @@ impl Resolver {
         requires ready { IsReady self.now (Statement.LogicalIf (tree_of test.now) (statement_of statement.now)) }
         requires found { AreFound program (jumps_of (statement_of statement.now)) }
         requires acts { is_action (statement_of statement.now) ≡ true }
-        ensures action { IfOk result (λ action. Does self.now program i (Statement.LogicalIf (tree_of test.now) (statement_of statement.now)) action) }
+        ensures action { IfOk result
+            (λ action. Does self.now program i (Statement.LogicalIf (tree_of test.now) (statement_of statement.now)) action) }
         ensures memory { IfErr result (λ fault. fault ≡ Memory) }
     {
         let condition = condition(alloc, &self.tables.names, &self.slots, test)?;
@@ -222,9 +225,12 @@ impl Resolver {
     ) -> Result<Action, CheckFault>
         ghost program: { List LineFields }
         requires tables { AreTables self.now.tables program }
-        requires ready { IsReady self.now (Statement.Loop label variable.now (tree_of first.now) (tree_of last.now) (option_map tree_of increment.now)) }
+        requires ready { IsReady self.now
+            (Statement.Loop label variable.now (tree_of first.now) (tree_of last.now) (option_map tree_of increment.now)) }
         requires ends { IsSome (terminal program i) }
-        ensures action { IfOk result (λ action. Does self.now program i (Statement.Loop label variable.now (tree_of first.now) (tree_of last.now) (option_map tree_of increment.now)) action) }
+        ensures action { IfOk result
+            (λ action. Does self.now program i
+            (Statement.Loop label variable.now (tree_of first.now) (tree_of last.now) (option_map tree_of increment.now)) action) }
         ensures memory { IfErr result (λ fault. fault ≡ Memory) }
     {
         let names = &self.tables.names;
@@ -293,7 +299,8 @@ impl Resolver {
         requires lines { map line_of lines.now ≡ program }
         requires within { i < length lines.now }
         requires can { CanResolve self.now program }
-        ensures resolved { IfOk result (λ resolved. (s : Statement) → statement_at program i ≡ Some s → IsResolved program (keys self.now.tables.names.facts) i s resolved) }
+        ensures resolved { IfOk result (λ resolved. (s : Statement) → statement_at program i ≡ Some s
+            → IsResolved program (keys self.now.tables.names.facts) i s resolved) }
         ensures memory { IfErr result (λ fault. fault ≡ Memory) }
     {
         let stmt = statement(lines, i);

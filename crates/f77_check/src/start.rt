@@ -132,7 +132,8 @@ impl Resolver {
     fn add_slots(&self, slots: &mut Vec<usize>, name: &Name) -> Result<(), CheckFault>
         requires slots { HasSlots self.now }
         requires kept { is_kept self.now.tables.names name.now ≡ true }
-        ensures slots { OnOk result (slots.new.items ≡ slots.old.items ++ slots_of (bounds_at self.now.tables.names) (keys self.now.tables.names.facts) name.now) }
+        ensures slots { OnOk result (slots.new.items
+            ≡ slots.old.items ++ slots_of (bounds_at self.now.tables.names) (keys self.now.tables.names.facts) name.now) }
         ensures memory { IfErr result (λ fault. fault ≡ Memory) }
     {
         let names = &self.tables.names;
@@ -147,7 +148,8 @@ impl Resolver {
     fn slots_of(&self, alloc: Global, list: &[Name]) -> Result<Vec<usize>, CheckFault>
         requires slots { HasSlots self.now }
         requires kept { list_all (is_kept self.now.tables.names) list.now ≡ true }
-        ensures slots { IfOk result (λ slots. slots.items ≡ flat_map (slots_of (bounds_at self.now.tables.names) (keys self.now.tables.names.facts)) list.now) }
+        ensures slots { IfOk result
+            (λ slots. slots.items ≡ flat_map (slots_of (bounds_at self.now.tables.names) (keys self.now.tables.names.facts)) list.now) }
         ensures memory { IfErr result (λ fault. fault ≡ Memory) }
     {
         let mut slots = Vec::new(alloc);
@@ -161,7 +163,8 @@ impl Resolver {
     fn first_slots(&self, alloc: Global, list: &[Name]) -> Result<Vec<usize>, CheckFault>
         requires slots { HasSlots self.now }
         requires kept { list_all (is_kept self.now.tables.names) list.now ≡ true }
-        ensures slots { IfOk result (λ slots. map (first_slot (bounds_at self.now.tables.names) (keys self.now.tables.names.facts)) list.now ≡ map (λ slot. Some slot) slots.items) }
+        ensures slots { IfOk result (λ slots. map (first_slot (bounds_at self.now.tables.names) (keys self.now.tables.names.facts)) list.now
+            ≡ map (λ slot. Some slot) slots.items) }
         ensures memory { IfErr result (λ fault. fault ≡ Memory) }
     {
         let mut slots = Vec::new(alloc);
@@ -179,7 +182,8 @@ impl Resolver {
     ) -> Result<(), CheckFault>
         requires slots { HasSlots self.now }
         requires kept { groups_kept self.now.tables.names (map data_group_of groups.now) ≡ true }
-        ensures given { OnOk result (held.new ≡ given.give_groups (bounds_at self.now.tables.names) (keys self.now.tables.names.facts) held.old (map data_group_of groups.now)) }
+        ensures given { OnOk result (held.new
+            ≡ given.give_groups (bounds_at self.now.tables.names) (keys self.now.tables.names.facts) held.old (map data_group_of groups.now)) }
         ensures memory { IfErr result (λ fault. fault ≡ Memory) }
     {
         for group in groups {
@@ -192,7 +196,9 @@ impl Resolver {
     /// What DATA gives each slot.
     fn initial(&self, alloc: Global, lines: &[Line]) -> Result<Vec<Option<Constant>>, CheckFault>
         requires { CanResolve self.now (map line_of lines.now) }
-        ensures initial { IfOk result (λ initial. initial.items ≡ flat_map (λ name. map (preset_at (map line_of lines.now) name) (first_numbers (elements (map line_of lines.now) name))) (keys self.now.tables.names.facts)) }
+        ensures initial { IfOk result (λ initial. initial.items ≡ flat_map
+            (λ name. map (preset_at (map line_of lines.now) name) (first_numbers (elements (map line_of lines.now) name)))
+            (keys self.now.tables.names.facts)) }
         ensures memory { IfErr result (λ fault. fault ≡ Memory) }
     {
         let mut held = vec![in alloc; None; self.slots.count]?;

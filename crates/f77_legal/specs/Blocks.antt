@@ -1,5 +1,6 @@
 -- Block IFs and their branches (ANSI X3.9-1978, 11.6 to 11.9). Statements are numbered from 0 here.
-use Rattle.std.specs.Prelude.{ℕ, zero, suc, ◌+◌, ◌-◌, ◌==◌, ◌&&◌, ◌||◌, Bool, true, false, not, nat_lt, is_some, List, [], ◌∷◌, ◌++◌, length, filter, take, drop, Option, Some, if◌then◌else◌}
+use Rattle.std.specs.Prelude.{◌+◌, ◌-◌, ◌==◌, ◌&&◌, ◌||◌, ◌∷◌, ◌++◌, if◌then◌else◌}
+use Rattle.std.specs.Prelude.{ℕ, zero, suc, Bool, true, false, not, nat_lt, is_some, List, [], length, filter, take, drop, Option, Some}
 use Rattle.std.specs.List.{find, list_any}
 use Rattle.std.specs.Option.{option_map_or}
 use Rattle.f77_tree.specs.Parsing.{LineFields}
@@ -7,7 +8,7 @@ use Rattle.f77_tree.specs.Tree.{Statement}
 use Rattle.f77_legal.specs.Labels.{statement_at}
 
 abbrev pub is_block_if : Statement → Bool
-is_block_if (Statement.BlockIf t) = true
+is_block_if (Statement.BlockIf tree) = true
 is_block_if _ = false
 
 abbrev pub is_end_if : Statement → Bool
@@ -20,7 +21,7 @@ is_else _ = false
 
 -- ELSE IF and ELSE begin a further branch of a block
 abbrev pub is_alternative : Statement → Bool
-is_alternative (Statement.ElseIf t) = true
+is_alternative (Statement.ElseIf tree) = true
 is_alternative Statement.Else = true
 is_alternative _ = false
 
@@ -58,15 +59,19 @@ behind program i = if has_at is_alternative program (i + 1) then block_end progr
 -- i stands between a block IF and its END IF
 abbrev pub is_in_block : List LineFields → ℕ → Bool
 is_in_block program i =
-    list_any (λ b. has_at is_block_if program b && (nat_lt b i && option_map_or (nat_lt i) (block_end program b) false)) (numbers program)
+    list_any
+    (λ block. has_at is_block_if program block && (nat_lt block i && option_map_or (nat_lt i) (block_end program block) false))
+    (numbers program)
 
 -- j is the END IF of a block IF
 abbrev pub is_closing : List LineFields → ℕ → Bool
-is_closing program j = list_any (λ b. has_at is_block_if program b && option_map_or (λ e. e == j) (block_end program b) false) (numbers program)
+is_closing program j =
+    list_any (λ block. has_at is_block_if program block && option_map_or (λ end. end == j) (block_end program block) false) (numbers program)
 
 -- i ends a branch that an ELSE begins
 abbrev pub ends_else : List LineFields → ℕ → Bool
-ends_else program i = list_any (λ b. has_at is_else program b && option_map_or (λ e. e == i) (branch_end program b) false) (numbers program)
+ends_else program i =
+    list_any (λ branch. has_at is_else program branch && option_map_or (λ end. end == i) (branch_end program branch) false) (numbers program)
 
 -- i begins a branch of a block that has its END IF
 abbrev pub begins_branch : List LineFields → ℕ → Bool

@@ -6,7 +6,8 @@ use Rattle.f77_tree.specs.Tree.{Statement}
 use Rattle.f77_legal.specs.declared.clause.Clause.{Clause}
 use Rattle.f77_legal.specs.declared.clause.Clause.TheVariants.{Kinds, Bounds, NamedLabels, Targets, Terminals, Nests, Jumps, Variables}
 use Rattle.f77_legal.specs.declared.fault.CheckFault.{CheckFault}
-use Rattle.f77_legal.specs.declared.fault.CheckFault.TheVariants.{TypeClash, Dimensions, NoLabel, BadTarget, IntoBlock, BadTerminal, Nesting, DoVariable}
+use Rattle.f77_legal.specs.declared.fault.CheckFault.TheVariants.{TypeClash, Dimensions, NoLabel, BadTarget}
+use Rattle.f77_legal.specs.declared.fault.CheckFault.TheVariants.{IntoBlock, BadTerminal, Nesting, DoVariable}
 use Rattle.f77_legal.specs.Names.{kind_of, bounds_of}
 use Rattle.f77_legal.specs.Kinds.{kinds_agree}
 use Rattle.f77_legal.specs.Dimensions.{dimensions_fit}
@@ -15,14 +16,14 @@ use Rattle.f77_legal.specs.Loops.{breaks_nesting, jumps_in, sets_variable}
 
 -- the statement, which has this number from 0, breaks the clause
 abbrev pub breaks : Clause → List LineFields → ℕ → Statement → Bool
-breaks Kinds program i s = not (kinds_agree (kind_of program) s)
-breaks Bounds program i s = not (dimensions_fit (bounds_of program) s)
-breaks NamedLabels program i s = names_no_label program s
-breaks Targets program i s = jumps_badly program s
-breaks Terminals program i s = ends_badly program s
-breaks Nests program i s = breaks_nesting program i
-breaks Jumps program i s = jumps_in program i s
-breaks Variables program i s = sets_variable program i s
+breaks Kinds program i statement = not (kinds_agree (kind_of program) statement)
+breaks Bounds program i statement = not (dimensions_fit (bounds_of program) statement)
+breaks NamedLabels program i statement = names_no_label program statement
+breaks Targets program i statement = jumps_badly program statement
+breaks Terminals program i statement = ends_badly program statement
+breaks Nests program i statement = breaks_nesting program i
+breaks Jumps program i statement = jumps_in program i statement
+breaks Variables program i statement = sets_variable program i statement
 
 abbrev pub fault_at : Clause → ℕ → CheckFault
 fault_at Kinds line = TypeClash line

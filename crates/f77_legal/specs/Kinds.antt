@@ -2,7 +2,8 @@
 use Rattle.std.specs.Prelude.{◌&&◌, Bool, true, false, Option, Some, None}
 use Rattle.f77_tree.specs.Tree.{Tree, Trees, Statement}
 use Rattle.f77_tree.specs.declared.operator.Operator.{Operator}
-use Rattle.f77_tree.specs.declared.operator.Operator.TheVariants.{Equivalent, NotEquivalent, Or, And, Less, LessOrEqual, Equal, NotEqual, GreaterOrEqual, Greater, Add, Subtract, Multiply, Divide, Power}
+use Rattle.f77_tree.specs.declared.operator.Operator.TheVariants.{Equivalent, NotEquivalent, Or, And, Less, LessOrEqual, Equal, NotEqual}
+use Rattle.f77_tree.specs.declared.operator.Operator.TheVariants.{GreaterOrEqual, Greater, Add, Subtract, Multiply, Divide, Power}
 use Rattle.f77_tree.specs.declared.tree.Kind.{Kind}
 use Rattle.f77_tree.specs.declared.tree.Kind.TheVariants.{Integer, Logical}
 use Rattle.f77_legal.specs.Names.{Symbol}
@@ -51,40 +52,41 @@ operand_kind Power = Integer
 -- the expression is of this kind, and so are its parts of theirs, where names are of these kinds
 abbrev mutual
   pub is_of : (Symbol → Kind) → Kind → Tree → Bool
-  is_of kinds kind (Tree.Number n) = same_kind Integer kind
-  is_of kinds kind (Tree.Truth b) = same_kind Logical kind
+  is_of kinds kind (Tree.Number number) = same_kind Integer kind
+  is_of kinds kind (Tree.Truth truth) = same_kind Logical kind
   is_of kinds kind (Tree.Reference name items) = same_kind (kinds name) kind && are_integer kinds items
-  is_of kinds kind (Tree.Call f items) = same_kind Integer kind && are_integer kinds items
-  is_of kinds kind (Tree.Signed sign t) = same_kind Integer kind && is_of kinds Integer t
-  is_of kinds kind (Tree.Not t) = same_kind Logical kind && is_of kinds Logical t
-  is_of kinds kind (Tree.Binary op a b) = same_kind (result_kind op) kind && (is_of kinds (operand_kind op) a && is_of kinds (operand_kind op) b)
-  is_of kinds kind (Tree.ZeroPush t) = same_kind Integer kind && is_of kinds Integer t
+  is_of kinds kind (Tree.Call function items) = same_kind Integer kind && are_integer kinds items
+  is_of kinds kind (Tree.Signed sign tree) = same_kind Integer kind && is_of kinds Integer tree
+  is_of kinds kind (Tree.Not tree) = same_kind Logical kind && is_of kinds Logical tree
+  is_of kinds kind (Tree.Binary operator left right) =
+      same_kind (result_kind operator) kind && (is_of kinds (operand_kind operator) left && is_of kinds (operand_kind operator) right)
+  is_of kinds kind (Tree.ZeroPush tree) = same_kind Integer kind && is_of kinds Integer tree
 
   pub are_integer : (Symbol → Kind) → Trees → Bool
   are_integer kinds Trees.None = true
-  are_integer kinds (Trees.Then t ts) = is_of kinds Integer t && are_integer kinds ts
+  are_integer kinds (Trees.Then tree trees) = is_of kinds Integer tree && are_integer kinds trees
 
 abbrev pub is_step : (Symbol → Kind) → Option Tree → Bool
 is_step kinds None = true
-is_step kinds (Some t) = is_of kinds Integer t
+is_step kinds (Some tree) = is_of kinds Integer tree
 
 -- the kinds of a statement agree
 abbrev pub kinds_agree : (Symbol → Kind) → Statement → Bool
 kinds_agree kinds (Statement.Subroutine name names) = true
-kinds_agree kinds (Statement.Declare kind ds) = true
-kinds_agree kinds (Statement.Dimension ds) = true
-kinds_agree kinds (Statement.Preset gs) = true
-kinds_agree kinds (Statement.Assign name items t) = are_integer kinds items && is_of kinds (kinds name) t
+kinds_agree kinds (Statement.Declare kind declarations) = true
+kinds_agree kinds (Statement.Dimension declarations) = true
+kinds_agree kinds (Statement.Preset groups) = true
+kinds_agree kinds (Statement.Assign name items tree) = are_integer kinds items && is_of kinds (kinds name) tree
 kinds_agree kinds (Statement.Goto label) = true
-kinds_agree kinds (Statement.ComputedGoto labels t) = is_of kinds Integer t
-kinds_agree kinds (Statement.ArithIf t l m n) = is_of kinds Integer t
-kinds_agree kinds (Statement.LogicalIf t s) = is_of kinds Logical t && kinds_agree kinds s
-kinds_agree kinds (Statement.BlockIf t) = is_of kinds Logical t
-kinds_agree kinds (Statement.ElseIf t) = is_of kinds Logical t
+kinds_agree kinds (Statement.ComputedGoto labels tree) = is_of kinds Integer tree
+kinds_agree kinds (Statement.ArithIf tree first second third) = is_of kinds Integer tree
+kinds_agree kinds (Statement.LogicalIf tree statement) = is_of kinds Logical tree && kinds_agree kinds statement
+kinds_agree kinds (Statement.BlockIf tree) = is_of kinds Logical tree
+kinds_agree kinds (Statement.ElseIf tree) = is_of kinds Logical tree
 kinds_agree kinds Statement.Else = true
 kinds_agree kinds Statement.EndIf = true
-kinds_agree kinds (Statement.Loop label name a b c) =
-    same_kind (kinds name) Integer && (is_of kinds Integer a && (is_of kinds Integer b && is_step kinds c))
+kinds_agree kinds (Statement.Loop label name first last step) =
+    same_kind (kinds name) Integer && (is_of kinds Integer first && (is_of kinds Integer last && is_step kinds step))
 kinds_agree kinds Statement.Continue = true
 kinds_agree kinds Statement.Return = true
 kinds_agree kinds Statement.Stop = true

@@ -1,5 +1,6 @@
 -- Labels: which stand on a statement, which are named, and what a statement that is named may be (ANSI X3.9-1978, 3.4 and 11.1 to 11.10).
-use Rattle.std.specs.Prelude.{ℕ, ◌==◌, ◌||◌, Bool, true, false, not, nat_le, List, [], ◌∷◌, length, filter, Option, Some, None, is_some, option_map, position}
+use Rattle.std.specs.Prelude.{◌==◌, ◌||◌, ◌∷◌}
+use Rattle.std.specs.Prelude.{ℕ, Bool, true, false, not, nat_le, List, [], length, filter, Option, Some, None, is_some, option_map, position}
 use Rattle.std.specs.List.{filter_map, list_any, slice_get}
 use Rattle.std.specs.Option.{option_and_then, option_map_or}
 use Rattle.f77_tree.specs.Parsing.{LineFields}
@@ -29,46 +30,47 @@ statement_with program label = option_and_then (statement_at program) (place_of 
 -- the labels that control may go to from a statement
 abbrev pub jumps_of : Statement → List ℕ
 jumps_of (Statement.Goto label) = label ∷ []
-jumps_of (Statement.ComputedGoto labels t) = labels
-jumps_of (Statement.ArithIf t l m n) = l ∷ (m ∷ (n ∷ []))
-jumps_of (Statement.LogicalIf t s) = jumps_of s
+jumps_of (Statement.ComputedGoto labels tree) = labels
+jumps_of (Statement.ArithIf tree first second third) = first ∷ (second ∷ (third ∷ []))
+jumps_of (Statement.LogicalIf tree statement) = jumps_of statement
 jumps_of _ = []
 
 -- the label of the terminal statement that a DO names
 abbrev pub terminal_label : Statement → Option ℕ
-terminal_label (Statement.Loop label name a b c) = Some label
+terminal_label (Statement.Loop label name first last step) = Some label
 terminal_label _ = None
 
 -- the statement names a label that stands on none
 abbrev pub names_no_label : List LineFields → Statement → Bool
-names_no_label program s =
-    list_any (λ label. not (is_some (place_of program label))) (jumps_of s)
-    || option_map_or (λ label. not (is_some (place_of program label))) (terminal_label s) false
+names_no_label program statement =
+    list_any (λ label. not (is_some (place_of program label))) (jumps_of statement)
+    || option_map_or (λ label. not (is_some (place_of program label))) (terminal_label statement) false
 
 -- control may go there: the statement is executable, and no ELSE IF or ELSE
 abbrev pub is_target : Statement → Bool
 is_target (Statement.Subroutine name names) = false
-is_target (Statement.Declare kind ds) = false
-is_target (Statement.Dimension ds) = false
-is_target (Statement.Preset gs) = false
-is_target (Statement.ElseIf t) = false
+is_target (Statement.Declare kind declarations) = false
+is_target (Statement.Dimension declarations) = false
+is_target (Statement.Preset groups) = false
+is_target (Statement.ElseIf tree) = false
 is_target Statement.Else = false
 is_target _ = true
 
 -- a jump of the statement leads to one where control may not go
 abbrev pub jumps_badly : List LineFields → Statement → Bool
-jumps_badly program s = list_any (λ label. option_map_or (λ target. not (is_target target)) (statement_with program label) false) (jumps_of s)
+jumps_badly program statement =
+    list_any (λ label. option_map_or (λ target. not (is_target target)) (statement_with program label) false) (jumps_of statement)
 
 -- it may be the terminal statement of a DO
 abbrev pub is_terminal : Statement → Bool
-is_terminal (Statement.Assign name items t) = true
-is_terminal (Statement.ComputedGoto labels t) = true
-is_terminal (Statement.LogicalIf t s) = true
+is_terminal (Statement.Assign name items tree) = true
+is_terminal (Statement.ComputedGoto labels tree) = true
+is_terminal (Statement.LogicalIf tree statement) = true
 is_terminal Statement.Continue = true
 is_terminal Statement.Trap = true
 is_terminal _ = false
 
 -- the statement is a DO that names one which may be no terminal statement
 abbrev pub ends_badly : List LineFields → Statement → Bool
-ends_badly program s =
-    option_map_or (λ label. option_map_or (λ last. not (is_terminal last)) (statement_with program label) false) (terminal_label s) false
+ends_badly program statement =
+    option_map_or (λ label. option_map_or (λ last. not (is_terminal last)) (statement_with program label) false) (terminal_label statement) false

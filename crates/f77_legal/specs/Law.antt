@@ -19,8 +19,9 @@ pub record KeepsEveryRule (program : List LineFields) : Type 0 where
   -- no label stands on two statements
   pub distinct : All (λ label. is_double program label ≡ false) (labels program)
   -- no statement breaks a clause
-  pub statements : (clause : Clause) (i : ℕ) (s : Statement) → statement_at program i ≡ Some s → breaks clause program i s ≡ false
+  pub statements : (clause : Clause) (i : ℕ) (statement : Statement) → statement_at program i ≡ Some statement
+      → breaks clause program i statement ≡ false
   -- no DATA statement gives a dummy argument or a name a second time, or other values than its names want
-  pub presets : (i : ℕ) (s : Statement) → statement_at program i ≡ Some s → presets_badly program i s ≡ false
+  pub presets : (i : ℕ) (statement : Statement) → statement_at program i ≡ Some statement → presets_badly program i statement ≡ false
   -- at most 500 statements, 100 variables and arrays, and 10,000 elements over all arrays
   pub sizes : is_too_large program ≡ false

@@ -1,6 +1,7 @@
 -- Which programs are legal: no clause has a fault. What is told of another is the first of its faults, clause by clause, and within a
 -- clause in the order of the names, the labels or the lines.
-use Rattle.std.specs.Prelude.{◌≡◌, ◌⊎◌, ◌||◌, Bool, nat_lt, List, [], ◌∷◌, ◌++◌, length, map, filter, if◌then◌else◌, Option, Some, is_some, Result, Ok, Err}
+use Rattle.std.specs.Prelude.{◌≡◌, ◌⊎◌, ◌||◌, ◌∷◌, ◌++◌, if◌then◌else◌}
+use Rattle.std.specs.Prelude.{Bool, nat_lt, List, [], length, map, filter, Option, Some, is_some, Result, Ok, Err}
 use Rattle.std.specs.List.{flat_map, sum, slice_get}
 use Rattle.f77_tree.specs.Parsing.{LineFields}
 use Rattle.f77_legal.specs.declared.clause.Clause.{Clause}
@@ -66,10 +67,10 @@ first_fault program = slice_get (faults program) 0
 
 -- there are no faults; or the first of them is told, or want of memory
 abbrev pub Tells : Result (Unit {0}) CheckFault → List CheckFault → Type 0
-Tells (Ok u) faults = faults ≡ []
+Tells (Ok unit) faults = faults ≡ []
 Tells (Err fault) faults = (fault ≡ Memory) ⊎ (slice_get faults 0 ≡ Some fault)
 
 -- there are no faults; or the first of them is told, and never want of memory
 abbrev pub TellsFirst : Result (Unit {0}) CheckFault → List CheckFault → Type 0
-TellsFirst (Ok u) faults = faults ≡ []
+TellsFirst (Ok unit) faults = faults ≡ []
 TellsFirst (Err fault) faults = slice_get faults 0 ≡ Some fault

@@ -67,17 +67,17 @@ abbrev pub goes_in : List LineFields → ℕ → ℕ → Bool
 goes_in program i j = not (starts_with (λ a b. a == b) (enclosing program i) (enclosing program j))
 
 abbrev pub jumps_in : List LineFields → ℕ → Statement → Bool
-jumps_in program i s = list_any (λ label. option_map_or (goes_in program i) (place_of program label) false) (jumps_of s)
+jumps_in program i statement = list_any (λ label. option_map_or (goes_in program i) (place_of program label) false) (jumps_of statement)
 
 -- the variable that a statement sets by its own rule: the target of an assignment, a DO variable
 abbrev pub set_by : Statement → Option Symbol
-set_by (Statement.Assign name items t) = Some name
-set_by (Statement.LogicalIf t s) = set_by s
-set_by (Statement.Loop label name a b c) = Some name
+set_by (Statement.Assign name items tree) = Some name
+set_by (Statement.LogicalIf tree statement) = set_by statement
+set_by (Statement.Loop label name first last step) = Some name
 set_by _ = None
 
 abbrev pub variable_of : Statement → Option Symbol
-variable_of (Statement.Loop label name a b c) = Some name
+variable_of (Statement.Loop label name first last step) = Some name
 variable_of _ = None
 
 -- the statement i is in the range of the DO d, whose variable this is
@@ -86,4 +86,4 @@ holds_with program i name d = range_holds program d i && option_map_or (bytes_eq
 
 -- the statement sets the variable of a DO whose range holds it
 abbrev pub sets_variable : List LineFields → ℕ → Statement → Bool
-sets_variable program i s = option_map_or (λ name. list_any (holds_with program i name) (numbers program)) (set_by s) false
+sets_variable program i statement = option_map_or (λ name. list_any (holds_with program i name) (numbers program)) (set_by statement) false

@@ -14,7 +14,8 @@ use Rattle.f77_legal.specs.declared.names.Times.{Times}
 use Rattle.f77_legal.specs.declared.names.Times.TheVariants.{Never, Once, More}
 use Rattle.f77_legal.specs.declared.mentions.Said.{Said}
 use Rattle.f77_legal.specs.declared.mentions.Said.TheVariants as said
-use Rattle.f77_legal.specs.Names.{Symbol, Mention, name_in, mentions, each_once, dummies_given, kinds_given, bounds_given, first_or, some_items, is_integer_name}
+use Rattle.f77_legal.specs.Names.{Symbol, Mention, name_in, mentions, each_once, dummies_given}
+use Rattle.f77_legal.specs.Names.{kinds_given, bounds_given, first_or, some_items, is_integer_name}
 use Rattle.f77_legal.specs.Presets.{product}
 
 abbrev pub kind_at : Names → Symbol → Kind
@@ -32,7 +33,7 @@ pub record FactsFields : Type 0 where
   pub bounds : List ℕ
 
 abbrev pub fields_of : Facts → FactsFields
-fields_of f = record { dummy = f.dummy; typed = f.typed; kind = f.kind; dimensioned = f.dimensioned; bounds = f.bounds.items }
+fields_of facts = record { dummy = facts.dummy; typed = facts.typed; kind = facts.kind; dimensioned = facts.dimensioned; bounds = facts.bounds.items }
 
 abbrev pub times : {X : Type 0} → List X → Times
 times [] = Never
@@ -41,25 +42,25 @@ times (x ∷ (y ∷ xs)) = More
 
 -- what the mentions say of a name: its kind and its bounds are the first that are given
 abbrev pub facts_of : List Mention → Symbol → FactsFields
-facts_of ms name = record {
-  dummy = times (dummies_given ms name);
-  typed = times (kinds_given ms name);
-  kind = first_or Integer (kinds_given ms name);
-  dimensioned = times (bounds_given ms name);
-  bounds = first_or [] (bounds_given ms name);
+facts_of all name = record {
+  dummy = times (dummies_given all name);
+  typed = times (kinds_given all name);
+  kind = first_or Integer (kinds_given all name);
+  dimensioned = times (bounds_given all name);
+  bounds = first_or [] (bounds_given all name);
 }
 
 abbrev pub Entries : Type 0
 Entries = List (Symbol × FactsFields)
 
 abbrev pub entry_of : Symbol × Facts → Symbol × FactsFields
-entry_of e = (e.0, fields_of e.1)
+entry_of entry = (entry.0, fields_of entry.1)
 
 abbrev pub entries_of : Names → Entries
 entries_of names = map entry_of names.facts.entries
 
 abbrev pub table : List Mention → Entries
-table ms = map (λ name. (name, facts_of ms name)) (each_once (map name_in ms))
+table all = map (λ name. (name, facts_of all name)) (each_once (map name_in all))
 
 -- the table holds the names of the program with their facts
 abbrev pub IsNameTable : Names → List LineFields → Type 0
@@ -77,35 +78,36 @@ first_said Once new old = old
 first_said More new old = old
 
 abbrev pub with_kind : FactsFields → Kind → FactsFields
-with_kind f kind = record f { typed = once_more f.typed; kind = first_said f.typed kind f.kind }
+with_kind facts kind = record facts { typed = once_more facts.typed; kind = first_said facts.typed kind facts.kind }
 
 abbrev pub with_shape : FactsFields → List ℕ → FactsFields
-with_shape f bounds = record f { dimensioned = once_more f.dimensioned; bounds = first_said f.dimensioned bounds f.bounds }
+with_shape facts bounds = record facts { dimensioned = once_more facts.dimensioned; bounds = first_said facts.dimensioned bounds facts.bounds }
 
 abbrev pub with_bounds : FactsFields → List ℕ → FactsFields
-with_bounds f [] = f
-with_bounds f (bound ∷ bounds) = with_shape f (bound ∷ bounds)
+with_bounds facts [] = facts
+with_bounds facts (bound ∷ bounds) = with_shape facts (bound ∷ bounds)
 
 abbrev pub with_fact : FactsFields → Mention → FactsFields
-with_fact f (Mention.Dummy name) = record f { dummy = once_more f.dummy }
-with_fact f (Mention.Typed kind d) = with_bounds (with_kind f kind) d.bounds
-with_fact f (Mention.Dimensioned d) = with_bounds f d.bounds
-with_fact f (Mention.Plain name) = f
+with_fact facts (Mention.Dummy name) = record facts { dummy = once_more facts.dummy }
+with_fact facts (Mention.Typed kind declaration) = with_bounds (with_kind facts kind) declaration.bounds
+with_fact facts (Mention.Dimensioned declaration) = with_bounds facts declaration.bounds
+with_fact facts (Mention.Plain name) = facts
 
 abbrev pub no_facts : FactsFields
 no_facts = record { dummy = Never; typed = Never; kind = Integer; dimensioned = Never; bounds = [] }
 
 -- a name that is there keeps its place, and a new one goes last
 abbrev pub with_mention : Entries → Mention → Entries
-with_mention [] m = (name_in m, with_fact no_facts m) ∷ []
-with_mention (e ∷ es) m = if bytes_eq (name_in m) e.0 then (e.0, with_fact e.1 m) ∷ es else e ∷ with_mention es m
+with_mention [] mention = (name_in mention, with_fact no_facts mention) ∷ []
+with_mention (entry ∷ entries) mention =
+    if bytes_eq (name_in mention) entry.0 then (entry.0, with_fact entry.1 mention) ∷ entries else entry ∷ with_mention entries mention
 
 abbrev pub with_mentions : Entries → List Mention → Entries
 with_mentions = fold with_mention
 
 -- with the names that the nodes bear, each as a plain mention
 abbrev pub with_nodes : Entries → List NodeOf → Entries
-with_nodes es nodes = with_mentions es (map Mention.Plain (filter_map name_of nodes))
+with_nodes entries nodes = with_mentions entries (map Mention.Plain (filter_map name_of nodes))
 
 -- the mention of a name of which this is said
 abbrev pub mention_of : Symbol → Said → Mention
@@ -129,14 +131,14 @@ abbrev pub dummy_at : Names → Symbol → Bool
 dummy_at names name = option_map_or (λ facts. not (is_never facts.dummy)) (get bytes_eq names.facts name) false
 
 abbrev pub tells_real : Symbol × FactsFields → Bool
-tells_real e = is_never e.1.typed && not (is_integer_name e.0)
+tells_real entry = is_never entry.1.typed && not (is_integer_name entry.0)
 
 abbrev pub tells_twice : Option Symbol → Symbol × FactsFields → Bool
-tells_twice unit e =
-    is_more e.1.typed
-    || (is_more e.1.dimensioned
-    || (is_more e.1.dummy
-    || (option_map_or (bytes_eq e.0) unit false || is_some (function_named e.0))))
+tells_twice unit entry =
+    is_more entry.1.typed
+    || (is_more entry.1.dimensioned
+    || (is_more entry.1.dummy
+    || (option_map_or (bytes_eq entry.0) unit false || is_some (function_named entry.0))))
 
 abbrev pub array_size : FactsFields → ℕ
-array_size f = if is_some (some_items f.bounds) then product f.bounds else 0
+array_size facts = if is_some (some_items facts.bounds) then product facts.bounds else 0

@@ -23,16 +23,16 @@ pub data Mention : Type 0 where
 
 abbrev pub name_in : Mention → Symbol
 name_in (Dummy name) = name
-name_in (Typed kind d) = d.name
-name_in (Dimensioned d) = d.name
+name_in (Typed kind declaration) = declaration.name
+name_in (Dimensioned declaration) = declaration.name
 name_in (Plain name) = name
 
 -- the mentions of a statement in order; the unit's own name is none
 abbrev pub mentions_of : Statement → List Mention
 mentions_of (Statement.Subroutine name names) = map Dummy names
-mentions_of (Statement.Declare kind ds) = map (Typed kind) ds
-mentions_of (Statement.Dimension ds) = map Dimensioned ds
-mentions_of s = map Plain (names_of s)
+mentions_of (Statement.Declare kind declarations) = map (Typed kind) declarations
+mentions_of (Statement.Dimension declarations) = map Dimensioned declarations
+mentions_of statement = map Plain (names_of statement)
 
 abbrev pub mentions : List LineFields → List Mention
 mentions program = flat_map (λ line. mentions_of line.stmt) program
@@ -48,15 +48,15 @@ symbols program = each_once (map name_in (mentions program))
 
 abbrev pub is_dummy : Mention → Bool
 is_dummy (Dummy name) = true
-is_dummy (Typed kind d) = false
-is_dummy (Dimensioned d) = false
+is_dummy (Typed kind declaration) = false
+is_dummy (Dimensioned declaration) = false
 is_dummy (Plain name) = false
 
 -- the kind that a mention gives
 abbrev pub kind_in : Mention → Option Kind
 kind_in (Dummy name) = None
-kind_in (Typed kind d) = Some kind
-kind_in (Dimensioned d) = None
+kind_in (Typed kind declaration) = Some kind
+kind_in (Dimensioned declaration) = None
 kind_in (Plain name) = None
 
 -- a list that is not empty
@@ -67,21 +67,21 @@ some_items (x ∷ xs) = Some (x ∷ xs)
 -- the bounds that a mention gives
 abbrev pub bounds_in : Mention → Option (List ℕ)
 bounds_in (Dummy name) = None
-bounds_in (Typed kind d) = some_items d.bounds
-bounds_in (Dimensioned d) = some_items d.bounds
+bounds_in (Typed kind declaration) = some_items declaration.bounds
+bounds_in (Dimensioned declaration) = some_items declaration.bounds
 bounds_in (Plain name) = None
 
 abbrev pub mentions_with : List Mention → Symbol → List Mention
-mentions_with ms name = filter (λ m. bytes_eq name (name_in m)) ms
+mentions_with all name = filter (λ mention. bytes_eq name (name_in mention)) all
 
 abbrev pub dummies_given : List Mention → Symbol → List Mention
-dummies_given ms name = filter is_dummy (mentions_with ms name)
+dummies_given all name = filter is_dummy (mentions_with all name)
 
 abbrev pub kinds_given : List Mention → Symbol → List Kind
-kinds_given ms name = filter_map kind_in (mentions_with ms name)
+kinds_given all name = filter_map kind_in (mentions_with all name)
 
 abbrev pub bounds_given : List Mention → Symbol → List (List ℕ)
-bounds_given ms name = filter_map bounds_in (mentions_with ms name)
+bounds_given all name = filter_map bounds_in (mentions_with all name)
 
 abbrev pub first_or : {X : Type 0} → X → List X → X
 first_or other [] = other

@@ -21,21 +21,21 @@ abbrev pub elements : List LineFields → Symbol → ℕ
 elements program name = product (bounds_of program name)
 
 abbrev pub constant_kind : Constant → Kind
-constant_kind (Number z) = Integer
-constant_kind (Truth b) = Logical
+constant_kind (Number number) = Integer
+constant_kind (Truth truth) = Logical
 
 -- the kinds of the elements of a group, in order, and of its values, repeats counted
 abbrev pub wanted_kinds : List LineFields → GroupFields → List Kind
-wanted_kinds program g = flat_map (λ name. replicate (elements program name) (kind_of program name)) g.names
+wanted_kinds program group = flat_map (λ name. replicate (elements program name) (kind_of program name)) group.names
 
 abbrev pub given_kinds : GroupFields → List Kind
-given_kinds g = flat_map (λ v. replicate v.times (constant_kind v.constant)) g.values
+given_kinds group = flat_map (λ value. replicate value.times (constant_kind value.constant)) group.values
 
 abbrev pub is_filled : List LineFields → GroupFields → Bool
-is_filled program g = pointwise same_kind (wanted_kinds program g) (given_kinds g)
+is_filled program group = pointwise same_kind (wanted_kinds program group) (given_kinds group)
 
 abbrev pub groups_of : Statement → List GroupFields
-groups_of (Statement.Preset gs) = gs
+groups_of (Statement.Preset groups) = groups
 groups_of _ = []
 
 abbrev pub is_dummy_name : List LineFields → Symbol → Bool
@@ -43,7 +43,7 @@ is_dummy_name program name = nat_le 1 (length (dummies_given (mentions program) 
 
 -- the names of DATA
 abbrev pub names_preset : List LineFields → List Symbol
-names_preset program = flat_map (λ line. flat_map (λ g. g.names) (groups_of line.stmt)) program
+names_preset program = flat_map (λ line. flat_map (λ group. group.names) (groups_of line.stmt)) program
 
 -- the name has stood in DATA twice when the statement i ends
 abbrev pub is_preset_twice : List LineFields → ℕ → Symbol → Bool
@@ -51,6 +51,6 @@ is_preset_twice program i name = nat_le 2 (length (filter (bytes_eq name) (names
 
 -- in the statement i a name is a dummy argument or has stood in DATA before, or a group has other values than its names want
 abbrev pub presets_badly : List LineFields → ℕ → Statement → Bool
-presets_badly program i s =
-    list_any (λ name. is_dummy_name program name || is_preset_twice program i name) (flat_map (λ g. g.names) (groups_of s))
-    || list_any (λ g. not (is_filled program g)) (groups_of s)
+presets_badly program i statement =
+    list_any (λ name. is_dummy_name program name || is_preset_twice program i name) (flat_map (λ group. group.names) (groups_of statement))
+    || list_any (λ group. not (is_filled program group)) (groups_of statement)

@@ -1,5 +1,6 @@
 -- DATA by what is known of each name, and kinds that stand in runs.
-use Rattle.std.specs.Prelude.{ℕ, zero, suc, ◌||◌, Bool, not, nat_le, List, [], ◌∷◌, ◌++◌, filter, length, map, replicate, if◌then◌else◌, Option, Some, None}
+use Rattle.std.specs.Prelude.{◌||◌, ◌∷◌, ◌++◌, if◌then◌else◌}
+use Rattle.std.specs.Prelude.{ℕ, zero, suc, Bool, not, nat_le, List, [], filter, length, map, replicate, Option, Some, None}
 use Rattle.std.specs.Borrow.{Bor}
 use Rattle.std.specs.List.{flat_map, list_any}
 use Rattle.std.specs.Cmp.Lexicographic.{pointwise}
@@ -14,7 +15,7 @@ use Rattle.f77_legal.specs.Presets.{product, constant_kind, given_kinds, groups_
 
 -- the kinds of values, repeats counted
 abbrev pub kinds_in : List Value → List Kind
-kinds_in values = flat_map (λ v. replicate v.times (constant_kind v.constant)) values
+kinds_in values = flat_map (λ value. replicate value.times (constant_kind value.constant)) values
 
 abbrev pub kinds_left : Remaining → List Kind
 kinds_left rest = replicate rest.times rest.kind ++ kinds_in rest.values.now
@@ -22,18 +23,18 @@ kinds_left rest = replicate rest.times rest.kind ++ kinds_in rest.values.now
 -- what stands behind the first n, where these are all of the kind
 abbrev pub behind : ℕ → Kind → List Kind → Option (List Kind)
 behind zero kind given = Some given
-behind (suc n) kind [] = None
-behind (suc n) kind (other ∷ given) = if same_kind kind other then behind n kind given else None
+behind (suc count) kind [] = None
+behind (suc count) kind (other ∷ given) = if same_kind kind other then behind count kind given else None
 
 -- the kinds that names want which have these bounds and kinds
 abbrev pub kinds_wanted : (Symbol → List ℕ) → (Symbol → Kind) → List Symbol → List Kind
 kinds_wanted bounds kinds names = flat_map (λ name. replicate (product (bounds name)) (kinds name)) names
 
 abbrev pub fills : (Symbol → List ℕ) → (Symbol → Kind) → GroupFields → Bool
-fills bounds kinds g = pointwise same_kind (kinds_wanted bounds kinds g.names) (given_kinds g)
+fills bounds kinds group = pointwise same_kind (kinds_wanted bounds kinds group.names) (given_kinds group)
 
 abbrev pub group_names : List GroupFields → List Symbol
-group_names gs = flat_map (λ g. g.names) gs
+group_names groups = flat_map (λ group. group.names) groups
 
 -- of names that stand in DATA behind others, one is a dummy argument or stands there twice
 abbrev pub misplaces : (Symbol → Bool) → List Symbol → List Symbol → Bool
@@ -41,11 +42,11 @@ misplaces dummy before names = list_any (λ name. dummy name || nat_le 2 (length
 
 -- groups preset badly behind these names of DATA
 abbrev pub groups_break : (Symbol → List ℕ) → (Symbol → Kind) → (Symbol → Bool) → List Symbol → List GroupFields → Bool
-groups_break bounds kinds dummy before gs =
-    misplaces dummy before (group_names gs) || list_any (λ g. not (fills bounds kinds g)) gs
+groups_break bounds kinds dummy before groups =
+    misplaces dummy before (group_names groups) || list_any (λ group. not (fills bounds kinds group)) groups
 
 abbrev pub breaks_data : (Symbol → List ℕ) → (Symbol → Kind) → (Symbol → Bool) → List Symbol → Statement → Bool
-breaks_data bounds kinds dummy before s = groups_break bounds kinds dummy before (groups_of s)
+breaks_data bounds kinds dummy before statement = groups_break bounds kinds dummy before (groups_of statement)
 
 -- the names that a set of names holds
 abbrev pub names_held : List (Bor (List ℕ)) → List Symbol

@@ -19,7 +19,7 @@ pub record AreTables (tables : Tables) (program : List LineFields) : Type 0 wher
 
 -- the terminal statement that a DO names
 abbrev pub terminal_of : List LineFields → Statement → Option ℕ
-terminal_of program s = option_and_then (place_of program) (terminal_label s)
+terminal_of program statement = option_and_then (place_of program) (terminal_label statement)
 
 -- the end of the branch that i begins, of a block that has its END IF
 abbrev pub closed_branch_end : List LineFields → ℕ → Option ℕ

@@ -1,6 +1,7 @@
 //! The table of blocks: where each block IF and each branch ends, and what stands in a block.
 
-ghost use Rattle.std.specs.Prelude.{◌≡◌, ℕ, ◌+◌, ◌<◌, ◌^◌, ◌&&◌, ◌||◌, ◌==◌, false, nat_lt, List, length, map, take, slice_index_or, Some, None, IfOk, IfErr};
+ghost use Rattle.std.specs.Prelude.{◌≡◌, ◌+◌, ◌<◌, ◌^◌, ◌&&◌, ◌||◌, ◌==◌};
+ghost use Rattle.std.specs.Prelude.{ℕ, false, nat_lt, List, length, map, take, slice_index_or, Some, None, IfOk, IfErr};
 ghost use Rattle.std.specs.Option.{option_map_or};
 ghost use Rattle.f77_tree.specs.Parsing.{LineFields, line_of};
 ghost use Rattle.f77_tree.specs.StatementView.{statement_of};
@@ -185,7 +186,8 @@ fn else_end_at(lines: &[Line], i: usize) -> Option<usize>
 #[tactic(auto, using(crate::proofs::BlockScan::branch_end_is))]
 fn branch_end_at(lines: &[Line], i: usize, end: Option<usize>, inside: bool) -> Option<usize>
     requires { i < length lines.now }
-    ensures { end ≡ table.block_end_at (map line_of lines.now) i → inside ≡ is_in_block (map line_of lines.now) i → result ≡ table.branch_end_at (map line_of lines.now) i }
+    ensures { end ≡ table.block_end_at (map line_of lines.now) i → inside ≡ is_in_block (map line_of lines.now) i
+        → result ≡ table.branch_end_at (map line_of lines.now) i }
 {
     let begins = end.is_some() || (is_alternative(statement(lines, i)) && inside);
     if !begins {
@@ -246,7 +248,8 @@ fn is_marked(marks: &[bool], i: usize) -> bool
 
 /// Marks the statement that is an end.
 fn mark(marks: &mut [bool], end: Option<usize>)
-    ensures marked { (k : ℕ) → k < length marks.old → slice_index_or marks.new k false ≡ (slice_index_or marks.old k false || option_map_or (λ e. e == k) end false) }
+    ensures marked { (k : ℕ) → k < length marks.old
+        → slice_index_or marks.new k false ≡ (slice_index_or marks.old k false || option_map_or (λ e. e == k) end false) }
     ensures long { length marks.new ≡ length marks.old }
 {
     let Some(place) = end else {
@@ -300,7 +303,8 @@ fn branch_ends(
     ends: &[Option<usize>],
     inside: &[bool],
 ) -> Result<Vec<Option<usize>>, CheckFault>
-    ensures made { ends.now ≡ tabled table.block_end_at (map line_of lines.now) → inside.now ≡ tabled is_in_block (map line_of lines.now) → IfOk result (λ found. found.items ≡ tabled table.branch_end_at (map line_of lines.now)) }
+    ensures made { ends.now ≡ tabled table.block_end_at (map line_of lines.now) → inside.now ≡ tabled is_in_block (map line_of lines.now)
+        → IfOk result (λ found. found.items ≡ tabled table.branch_end_at (map line_of lines.now)) }
     ensures memory { IfErr result (λ fault. fault ≡ Memory) }
 {
     let mut found = Vec::with_capacity(alloc, lines.len())?;
@@ -355,7 +359,8 @@ impl Blocks {
     /// The statement that ends the branch which the statement of this number begins, None where it begins none.
     pub fn branch_end(&self, i: usize) -> Option<usize>
         ensures value { (program : List LineFields) → IsBlockTable self.now program → result ≡ table.branch_end_at program i }
-        ensures holds { (program : List LineFields) (k : ℕ) → IsBlockTable self.now program → (nat_lt i k && option_map_or (nat_lt k) result false) ≡ branch_holds program i k }
+        ensures holds { (program : List LineFields) (k : ℕ) → IsBlockTable self.now program
+            → (nat_lt i k && option_map_or (nat_lt k) result false) ≡ branch_holds program i k }
     {
         end_in(&self.branch_ends, i)
     }

@@ -1,6 +1,8 @@
 //! The labels of a program: where they stand, and which statements name them.
 
-ghost use Rattle.std.specs.Prelude.{◌≡◌, ◌++◌, ℕ, List, [], ◌∷◌, Option, None, false, filter, length, map, not, nat_eq, is_some, option_map, slice_get, IfOk, IfErr, OnOk};
+ghost use Rattle.std.specs.Prelude.{◌≡◌, ◌++◌, ◌∷◌};
+ghost use Rattle.std.specs.Prelude.{ℕ, List, [], Option, None, false, filter, length, map};
+ghost use Rattle.std.specs.Prelude.{not, nat_eq, is_some, option_map, slice_get, IfOk, IfErr, OnOk};
 ghost use Rattle.std.specs.List.{find, list_any};
 ghost use Rattle.std.specs.Option.{option_and_then, option_map_or};
 ghost use Rattle.indexmap.specs.IndexMap.{get, IsUnique};
@@ -64,7 +66,8 @@ impl Labels {
 
     /// Puts the label of the statement `i` into the table of the statements before it.
     fn note(&mut self, i: usize, line: &Line) -> Result<(), CheckFault>
-        ensures table { OnOk result ((program : List LineFields) → IsLabelTable self.old program → length program ≡ i → IsLabelTable self.new (program ++ line_of line.now ∷ [])) }
+        ensures table { OnOk result ((program : List LineFields) → IsLabelTable self.old program → length program ≡ i
+            → IsLabelTable self.new (program ++ line_of line.now ∷ [])) }
         ensures memory { IfErr result (λ e. e ≡ fault.Memory) }
     {
         let Some(label) = line.label else {
@@ -87,7 +90,8 @@ impl Labels {
     /// The first label that stands on two statements (3.4).
     #[tactic(auto, using(crate::proofs::LabelTables::first_double))]
     pub(crate) fn first_double(&self) -> Option<u32>
-        ensures { (program : List LineFields) → IsLabelTable self.now program → result ≡ slice_get (filter (is_double program) (clause.labels program)) 0 }
+        ensures { (program : List LineFields) → IsLabelTable self.now program
+            → result ≡ slice_get (filter (is_double program) (clause.labels program)) 0 }
     {
         self.first_again()
     }
@@ -102,7 +106,8 @@ impl Labels {
 
     /// Whether the label, if any, stands on no statement.
     fn misses(&self, label: Option<u32>) -> bool
-        ensures { (program : List LineFields) → IsLabelTable self.now program → result ≡ option_map_or (λ label. not (is_some (place_of program label))) label false }
+        ensures { (program : List LineFields) → IsLabelTable self.now program
+            → result ≡ option_map_or (λ label. not (is_some (place_of program label))) label false }
     {
         match label {
             Some(label) => self.place(label).is_none(),
@@ -112,7 +117,8 @@ impl Labels {
 
     /// The statement that bears the label, where there is one.
     fn statement_with<'a>(&self, lines: &'a [Line], label: Option<u32>) -> Option<&'a Stmt>
-        ensures { IsLabelTable self.now (map line_of lines.now) → option_map (λ stmt. statement_of stmt.now) result ≡ option_and_then (clause.statement_with (map line_of lines.now)) label }
+        ensures { IsLabelTable self.now (map line_of lines.now)
+            → option_map (λ stmt. statement_of stmt.now) result ≡ option_and_then (clause.statement_with (map line_of lines.now)) label }
     {
         let place = self.place(label?)?;
         let line = lines.get(place)?;
@@ -214,7 +220,8 @@ pub(crate) fn terminal_label(stmt: &Stmt) -> Option<u32>
 
 /// Whether a jump of the statement names a label that stands on none.
 fn jumps_nowhere(labels: &Labels, stmt: &Stmt) -> bool
-    ensures { (program : List LineFields) → IsLabelTable labels.now program → result ≡ list_any (λ label. not (is_some (place_of program label))) (clause.jumps_of (statement_of stmt.now)) }
+    ensures { (program : List LineFields) → IsLabelTable labels.now program
+        → result ≡ list_any (λ label. not (is_some (place_of program label))) (clause.jumps_of (statement_of stmt.now)) }
 {
     for k in 0..jump_count(stmt) {
         if labels.misses(jump_label(stmt, k)) {
@@ -260,7 +267,9 @@ pub(crate) fn is_target(stmt: &Stmt) -> bool
 
 /// Whether the label, if any, stands on a statement where control may not go.
 fn leads_badly(labels: &Labels, lines: &[Line], label: Option<u32>) -> bool
-    ensures { IsLabelTable labels.now (map line_of lines.now) → result ≡ option_map_or (λ label. option_map_or (λ target. not (clause.is_target target)) (clause.statement_with (map line_of lines.now) label) false) label false }
+    ensures { IsLabelTable labels.now (map line_of lines.now)
+        → result ≡ option_map_or
+        (λ label. option_map_or (λ target. not (clause.is_target target)) (clause.statement_with (map line_of lines.now) label) false) label false }
 {
     match labels.statement_with(lines, label) {
         Some(target) => !is_target(target),

@@ -2,7 +2,8 @@
 
 ghost use Rattle.std.specs.Prelude.{◌≡◌, [], List, map, slice_get, Some, Err, IsOk};
 ghost use Rattle.f77_tree.specs.Parsing.{LineFields, line_of};
-ghost use Rattle.f77_legal.specs.Legal.{Tells, TellsFirst, name_faults, clause_faults, label_faults, data_faults, size_faults, statement_faults, faults};
+ghost use Rattle.f77_legal.specs.Legal.{Tells, TellsFirst, name_faults, clause_faults, label_faults};
+ghost use Rattle.f77_legal.specs.Legal.{data_faults, size_faults, statement_faults, faults};
 ghost use Rattle.f77_legal.specs.LabelTable.{IsLabelTable};
 ghost use Rattle.f77_legal.specs.NameTable.{IsNameTable};
 ghost use Rattle.f77_legal.specs.Tables.{AreTables};

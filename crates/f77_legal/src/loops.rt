@@ -145,7 +145,8 @@ impl Ranges {
         terminals: Vec<Option<usize>>,
         branch_ends: Vec<Option<usize>>,
     ) -> Result<Ranges, CheckFault>
-        ensures table { IfOk result (λ ranges. (program : List LineFields) → length terminals.items ≡ length program → IsTerminals terminals.items program → IsBranches branch_ends.items program → IsRangeTable ranges program) }
+        ensures table { IfOk result (λ ranges. (program : List LineFields) → length terminals.items ≡ length program
+            → IsTerminals terminals.items program → IsBranches branch_ends.items program → IsRangeTable ranges program) }
         ensures memory { IfErr result (λ e. e ≡ fault.Memory) }
     {
         let rows = enclosing_rows(alloc, &terminals, &branch_ends)?;
@@ -204,7 +205,8 @@ impl Ranges {
     /// The DOs whose terminal statement is `t`, the innermost first (11.10).
     #[tactic(auto, using(crate::proofs::LoopTables::ending_row))]
     pub fn ending(&self, alloc: Global, t: usize) -> Result<Vec<usize>, CheckFault>
-        ensures ends { IfOk result (λ ends. (program : List LineFields) → IsRangeTable self.now program → loops.AreNested program → ends.items ≡ loops.loops_ending program t) }
+        ensures ends { IfOk result (λ ends. (program : List LineFields) → IsRangeTable self.now program → loops.AreNested program
+            → ends.items ≡ loops.loops_ending program t) }
         ensures memory { IfErr result (λ e. e ≡ fault.Memory) }
     {
         ending_in(alloc, &self.terminals, self.row(t), t)

@@ -11,7 +11,8 @@ ghost use Rattle.f77_tree.specs.StatementView.{statement_of};
 ghost use Rattle.f77_tree.specs.View.{trees, tree_of, place_of};
 ghost use Rattle.f77_legal.specs.declared.fault.CheckFault.TheVariants as fault;
 ghost use Rattle.f77_legal.specs.Names.{Mention, mentions_of};
-ghost use Rattle.f77_legal.specs.NameTable.{fields_of, entries_of, once_more, first_said, with_kind, with_shape, with_bounds, with_fact, no_facts, with_mention, with_mentions, with_nodes, mention_of};
+ghost use Rattle.f77_legal.specs.NameTable.{fields_of, entries_of, once_more, first_said, with_kind, with_shape, with_bounds};
+ghost use Rattle.f77_legal.specs.NameTable.{with_fact, no_facts, with_mention, with_mentions, with_nodes, mention_of};
 
 use crate::fault::CheckFault;
 use crate::names::{Facts, Names, Times};
@@ -124,7 +125,8 @@ impl Facts {
 
 impl Names {
     fn add(&mut self, alloc: Global, name: &Name, said: Said) -> Result<(), CheckFault>
-        ensures noted { get bytes_eq self.old.facts name.now ≡ None → OnOk result (entries_of self.new ≡ with_mention (entries_of self.old) (mention_of name.now said.entry)) }
+        ensures noted { get bytes_eq self.old.facts name.now ≡ None
+            → OnOk result (entries_of self.new ≡ with_mention (entries_of self.old) (mention_of name.now said.entry)) }
         ensures memory { IfErr result (λ f. f ≡ fault.Memory) }
     {
         let mut facts = Facts::none(alloc);
@@ -145,7 +147,8 @@ impl Names {
 
     #[cycle(trees)]
     fn note_place(&mut self, alloc: Global, place: &Ref) -> Result<(), CheckFault>
-        ensures noted { OnOk result (entries_of self.new ≡ with_nodes (entries_of self.old) (nodes.target_nodes (place_of place.now).0 (trees (place_of place.now).1))) }
+        ensures noted { OnOk result (entries_of self.new
+            ≡ with_nodes (entries_of self.old) (nodes.target_nodes (place_of place.now).0 (trees (place_of place.now).1))) }
         ensures memory { IfErr result (λ f. f ≡ fault.Memory) }
     {
         self.note(alloc, &place.name, Said::Plain)?;
@@ -175,7 +178,8 @@ impl Names {
     #[cycle(trees)]
     #[tactic(auto, using(crate::proofs::Noting::items_more))]
     fn note_items(&mut self, alloc: Global, items: &[Expr]) -> Result<(), CheckFault>
-        ensures noted { OnOk result (entries_of self.new ≡ with_nodes (entries_of self.old) (map NodeOf.Part (all_parts (trees (map tree_of items.now))))) }
+        ensures noted { OnOk result (entries_of self.new
+            ≡ with_nodes (entries_of self.old) (map NodeOf.Part (all_parts (trees (map tree_of items.now))))) }
         ensures memory { IfErr result (λ f. f ≡ fault.Memory) }
     {
         for item in items {
@@ -202,7 +206,8 @@ impl Names {
         last: &Expr,
         step: &Option<Expr>,
     ) -> Result<(), CheckFault>
-        ensures noted { OnOk result (entries_of self.new ≡ with_nodes (entries_of self.old) (nodes.parameter_nodes (tree_of first.now) (tree_of last.now) (option_map tree_of step.now))) }
+        ensures noted { OnOk result (entries_of self.new
+            ≡ with_nodes (entries_of self.old) (nodes.parameter_nodes (tree_of first.now) (tree_of last.now) (option_map tree_of step.now))) }
         ensures memory { IfErr result (λ f. f ≡ fault.Memory) }
     {
         self.note_tree(alloc, first)?;
@@ -219,7 +224,8 @@ impl Names {
         last: &Expr,
         step: &Option<Expr>,
     ) -> Result<(), CheckFault>
-        ensures noted { OnOk result (entries_of self.new ≡ with_nodes (entries_of self.old) (NodeOf.Named variable.now ∷ nodes.parameter_nodes (tree_of first.now) (tree_of last.now) (option_map tree_of step.now))) }
+        ensures noted { OnOk result (entries_of self.new ≡ with_nodes (entries_of self.old) (NodeOf.Named variable.now
+            ∷ nodes.parameter_nodes (tree_of first.now) (tree_of last.now) (option_map tree_of step.now))) }
         ensures memory { IfErr result (λ f. f ≡ fault.Memory) }
     {
         self.note(alloc, variable, Said::Plain)?;
@@ -233,7 +239,9 @@ impl Names {
         target: &Ref,
         value: &Expr,
     ) -> Result<(), CheckFault>
-        ensures noted { OnOk result (entries_of self.new ≡ with_nodes (entries_of self.old) (nodes.target_nodes (place_of target.now).0 (trees (place_of target.now).1) ++ tree_nodes (tree_of value.now))) }
+        ensures noted { OnOk result (entries_of self.new
+            ≡ with_nodes (entries_of self.old) (nodes.target_nodes (place_of target.now).0 (trees (place_of target.now).1)
+            ++ tree_nodes (tree_of value.now))) }
         ensures memory { IfErr result (λ f. f ≡ fault.Memory) }
     {
         self.note_place(alloc, target)?;
@@ -269,7 +277,8 @@ impl Names {
     }
 
     fn note_groups(&mut self, alloc: Global, groups: &[DataGroup]) -> Result<(), CheckFault>
-        ensures noted { OnOk result (entries_of self.new ≡ with_nodes (entries_of self.old) (flat_map nodes.group_nodes (map data_group_of groups.now))) }
+        ensures noted { OnOk result (entries_of self.new
+            ≡ with_nodes (entries_of self.old) (flat_map nodes.group_nodes (map data_group_of groups.now))) }
         ensures memory { IfErr result (λ f. f ≡ fault.Memory) }
     {
         for group in groups {

@@ -1,6 +1,7 @@
 //! The table of names: each variable and array with what the declarations say of it.
 
-ghost use Rattle.std.specs.Prelude.{◌≡◌, ◌-◌, ◌^◌, List, nat_lt, not, map, filter, sum, min, slice_get, option_map, is_some, length, ◌||◌, false, IfOk, IfErr};
+ghost use Rattle.std.specs.Prelude.{◌≡◌, ◌-◌, ◌^◌, ◌||◌};
+ghost use Rattle.std.specs.Prelude.{List, nat_lt, not, map, filter, sum, min, slice_get, option_map, is_some, length, false, IfOk, IfErr};
 ghost use Rattle.std.specs.List.{find};
 ghost use Rattle.std.specs.Map.Iter.{deref_pair};
 ghost use Rattle.std.specs.Option.{option_and_then, option_map_or};
@@ -182,13 +183,15 @@ impl Names {
 
     /// The first name that is REAL by its first letter (4.1.2).
     pub(crate) fn first_real(&self) -> Option<&Name>
-        ensures { (program : List LineFields) → IsNameTable self.now program → option_map (λ name. name.now) result ≡ slice_get (filter (is_real program) (symbols program)) 0 }
+        ensures { (program : List LineFields) → IsNameTable self.now program
+            → option_map (λ name. name.now) result ≡ slice_get (filter (is_real program) (symbols program)) 0 }
     {
         self.find_real().map(|(name, _)| name)
     }
 
     fn find_twice(&self, unit: Option<&Name>) -> Option<(&Name, &Facts)>
-        ensures { option_map deref_pair result ≡ find (λ e. table.tells_twice (option_map (λ n. n.now) unit.entry) (entry_of e)) self.now.facts.entries }
+        ensures { option_map deref_pair result
+            ≡ find (λ e. table.tells_twice (option_map (λ n. n.now) unit.entry) (entry_of e)) self.now.facts.entries }
     {
         self.facts
             .iter()
@@ -215,7 +218,8 @@ impl Names {
 
     /// Whether all arrays have more elements than this.
     pub(crate) fn has_over(&self, limit: u32) -> bool
-        ensures { (program : List LineFields) → IsNameTable self.now program → result ≡ nat_lt limit (sum (map (presets.elements program) (filter (is_array program) (symbols program)))) }
+        ensures { (program : List LineFields) → IsNameTable self.now program
+            → result ≡ nat_lt limit (sum (map (presets.elements program) (filter (is_array program) (symbols program)))) }
     {
         self.elements() > u64::from(limit)
     }

@@ -179,8 +179,10 @@ fn are_groups_misplaced<'a>(
     seen: &mut IndexSet<&'a Name>,
     groups: &'a [DataGroup],
 ) -> Result<bool, CheckFault>
-    ensures misplaced { IfOk result (λ bad. bad ≡ misplaces (dummy_at names.now) (names_held seen.old.keys) (group_names (map data_group_of groups.now))) }
-    ensures noted { IfOk result (λ bad. bad ≡ false → names_held seen.new.keys ≡ names_held seen.old.keys ++ group_names (map data_group_of groups.now)) }
+    ensures misplaced { IfOk result
+        (λ bad. bad ≡ misplaces (dummy_at names.now) (names_held seen.old.keys) (group_names (map data_group_of groups.now))) }
+    ensures noted { IfOk result (λ bad. bad ≡ false → names_held seen.new.keys
+        ≡ names_held seen.old.keys ++ group_names (map data_group_of groups.now)) }
     ensures memory { IfErr result (λ e. e ≡ fault.Memory) }
 {
     for group in groups {
@@ -207,8 +209,11 @@ fn groups_break<'a>(
     seen: &mut IndexSet<&'a Name>,
     groups: &'a [DataGroup],
 ) -> Result<bool, CheckFault>
-    ensures breaks { IfOk result (λ bad. bad ≡ groups_break (bounds_at names.now) (kind_at names.now) (dummy_at names.now) (names_held seen.old.keys) (map data_group_of groups.now)) }
-    ensures noted { IfOk result (λ bad. bad ≡ false → names_held seen.new.keys ≡ names_held seen.old.keys ++ group_names (map data_group_of groups.now)) }
+    ensures breaks { IfOk result
+        (λ bad. bad ≡ groups_break (bounds_at names.now) (kind_at names.now) (dummy_at names.now) (names_held seen.old.keys)
+        (map data_group_of groups.now)) }
+    ensures noted { IfOk result (λ bad. bad ≡ false → names_held seen.new.keys
+        ≡ names_held seen.old.keys ++ group_names (map data_group_of groups.now)) }
     ensures memory { IfErr result (λ e. e ≡ fault.Memory) }
 {
     if are_groups_misplaced(names, seen, groups)? {
@@ -224,8 +229,10 @@ fn breaks_data<'a>(
     seen: &mut IndexSet<&'a Name>,
     stmt: &'a Stmt,
 ) -> Result<bool, CheckFault>
-    ensures breaks { IfOk result (λ bad. bad ≡ breaks_data (bounds_at names.now) (kind_at names.now) (dummy_at names.now) (names_held seen.old.keys) (statement_of stmt.now)) }
-    ensures noted { IfOk result (λ bad. bad ≡ false → names_held seen.new.keys ≡ names_held seen.old.keys ++ group_names (groups_of (statement_of stmt.now))) }
+    ensures breaks { IfOk result
+        (λ bad. bad ≡ breaks_data (bounds_at names.now) (kind_at names.now) (dummy_at names.now) (names_held seen.old.keys) (statement_of stmt.now)) }
+    ensures noted { IfOk result (λ bad. bad ≡ false → names_held seen.new.keys
+        ≡ names_held seen.old.keys ++ group_names (groups_of (statement_of stmt.now))) }
     ensures memory { IfErr result (λ e. e ≡ fault.Memory) }
 {
     match stmt {
@@ -257,7 +264,8 @@ pub(crate) fn first_bad_data(
     names: &Names,
     lines: &[Line],
 ) -> Result<Option<u32>, CheckFault>
-    ensures line { IsNameTable names.now (map line_of lines.now) → IfOk result (λ line. line ≡ slice_get (lines_where (presets_badly (map line_of lines.now)) (map line_of lines.now)) 0) }
+    ensures line { IsNameTable names.now (map line_of lines.now)
+        → IfOk result (λ line. line ≡ slice_get (lines_where (presets_badly (map line_of lines.now)) (map line_of lines.now)) 0) }
     ensures memory { IfErr result (λ e. e ≡ fault.Memory) }
 {
     let mut seen = IndexSet::new(alloc);

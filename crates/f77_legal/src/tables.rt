@@ -49,7 +49,8 @@ fn terminals(
     labels: &Labels,
     lines: &[Line],
 ) -> Result<Vec<Option<usize>>, CheckFault>
-    ensures terminals { IfOk result (λ ends. (program : List LineFields) → IsLabelTable labels.now program → ends.items ≡ map (λ line. terminal_of program (statement_of line.stmt)) lines.now) }
+    ensures terminals { IfOk result (λ ends. (program : List LineFields) → IsLabelTable labels.now program
+        → ends.items ≡ map (λ line. terminal_of program (statement_of line.stmt)) lines.now) }
     ensures memory { IfErr result (λ fault. fault ≡ Memory) }
 {
     let mut ends = Vec::new(alloc);
@@ -65,7 +66,8 @@ fn branch_ends(
     blocks: &Blocks,
     count: usize,
 ) -> Result<Vec<Option<usize>>, CheckFault>
-    ensures ends { IfOk result (λ ends. (program : List LineFields) → IsBlockTable blocks.now program → ends.items ≡ map (closed_branch_end program) (first_numbers count)) }
+    ensures ends { IfOk result (λ ends. (program : List LineFields) → IsBlockTable blocks.now program
+        → ends.items ≡ map (closed_branch_end program) (first_numbers count)) }
     ensures memory { IfErr result (λ fault. fault ≡ Memory) }
 {
     let mut ends = Vec::new(alloc);
@@ -97,7 +99,8 @@ impl Tables {
 
     /// Whether control goes into a range or a branch where it goes from the statement `i` to this label, if any.
     fn leads_in(&self, i: usize, label: Option<u32>) -> bool
-        ensures { (program : List LineFields) → AreTables self.now program → result ≡ option_map_or (λ label. option_map_or (loops.goes_in program i) (place_of program label) false) label false }
+        ensures { (program : List LineFields) → AreTables self.now program
+            → result ≡ option_map_or (λ label. option_map_or (loops.goes_in program i) (place_of program label) false) label false }
     {
         let Some(label) = label else {
             return false;
@@ -139,7 +142,8 @@ impl Tables {
 
     /// The line of the first statement that breaks the clause.
     fn first_line(&self, clause: Clause, lines: &[Line]) -> Option<u32>
-        ensures { AreTables self.now (map line_of lines.now) → result ≡ slice_get (clauses.lines_where (clauses.breaks clause (map line_of lines.now)) (map line_of lines.now)) 0 }
+        ensures { AreTables self.now (map line_of lines.now)
+            → result ≡ slice_get (clauses.lines_where (clauses.breaks clause (map line_of lines.now)) (map line_of lines.now)) 0 }
     {
         for i in 0..lines.len() {
             let line = &lines[i];

@@ -44,7 +44,8 @@ pub record IsSound (p : List LineFields) : Type 0 where
   pub closes : (i : ℕ) → has_at is_alternative p i ≡ true → Leads p (block_end p i)
   pub blocks : (i : ℕ) (t : Tree) → statement_at p i ≡ Some (Statement.BlockIf t) → Leads p (branch_end p i)
   pub branches : (i : ℕ) (t : Tree) → statement_at p i ≡ Some (Statement.ElseIf t) → Leads p (branch_end p i)
-  pub jumps : (i : ℕ) (s : Statement) (label : ℕ) → statement_at p i ≡ Some s → list_any (λ l. l == label) (jumps_of s) ≡ true → Leads p (place_of p label)
+  pub jumps : (i : ℕ) (s : Statement) (label : ℕ) → statement_at p i ≡ Some s → list_any (λ l. l == label) (jumps_of s) ≡ true
+      → Leads p (place_of p label)
   pub ends : (d : ℕ) → IsSome (option_and_then terminal_label (statement_at p d)) → (t : ℕ) × (terminal p d ≡ Some t) × Stands p (t + 1)
   pub inner : (i : ℕ) (t : Tree) (s : Statement) → statement_at p i ≡ Some (Statement.LogicalIf t s) → is_action s ≡ true
 

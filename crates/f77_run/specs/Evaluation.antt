@@ -1,5 +1,6 @@
 -- The values of resolved expressions over slots.
-use Rattle.std.specs.Prelude.{ℕ, ◌+◌, ◌*◌, ◌&&◌, ◌||◌, Bool, true, not, nat_lt, if◌then◌else◌, List, [], ◌∷◌, Option, slice_get, ℤ, ◌+ℤ◌, ◌-ℤ◌, ◌*ℤ◌, Result, Ok, Err}
+use Rattle.std.specs.Prelude.{◌+◌, ◌*◌, ◌&&◌, ◌||◌, if◌then◌else◌, ◌∷◌, ◌+ℤ◌, ◌-ℤ◌, ◌*ℤ◌}
+use Rattle.std.specs.Prelude.{ℕ, Bool, true, not, nat_lt, List, [], Option, slice_get, ℤ, Result, Ok, Err}
 use Rattle.std.specs.Option.{option_and_then}
 use Rattle.f77_check.specs.declared.expression.Arithmetic.{Arithmetic}
 use Rattle.f77_check.specs.declared.expression.Arithmetic.TheVariants as arithmetic

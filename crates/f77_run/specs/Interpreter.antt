@@ -1,5 +1,6 @@
 -- What is answered for a checked program, values of its dummy arguments and a limit on steps.
-use Rattle.std.specs.Prelude.{◌≡◌, ℕ, ◌+◌, ◌==◌, ◌&&◌, Bool, true, false, not, List, [], ◌∷◌, length, map, Option, Some, None, option_map, position, if◌then◌else◌}
+use Rattle.std.specs.Prelude.{◌≡◌, ◌+◌, ◌==◌, ◌&&◌, ◌∷◌, if◌then◌else◌}
+use Rattle.std.specs.Prelude.{ℕ, Bool, true, false, not, List, [], length, map, Option, Some, None, option_map, position}
 use Rattle.std.specs.List.{AllZip, zip}
 use Rattle.f77_tree.specs.Parsing.{LineFields}
 use Rattle.f77_tree.specs.declared.tree.Kind.TheVariants.{Integer, Logical}
@@ -56,7 +57,9 @@ first_misfit shapes arguments = position (λ pair. not (has_shape pair.0 pair.1)
 -- what is told of arguments that do not fit, their number before their shapes, which are numbered from 1
 abbrev pub refusal : List Shape → List Arg → Option RunFault
 refusal shapes arguments =
-    if length arguments == length shapes then option_map (λ i. fault_of.ArgumentShape (i + 1)) (first_misfit shapes arguments) else Some fault_of.ArgumentCount
+    if length arguments == length shapes
+    then option_map (λ i. fault_of.ArgumentShape (i + 1)) (first_misfit shapes arguments)
+    else Some fault_of.ArgumentCount
 
 -- the arguments are what the dummy arguments hold, and have their shapes
 pub record AreArguments (program : List LineFields) (s : Store) (arguments : List Arg) : Type 0 where

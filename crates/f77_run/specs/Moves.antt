@@ -1,8 +1,11 @@
 -- One step of a machine over slots: what it does to its place, its slots and its active DOs. Statements are numbered from 0 here.
-use Rattle.std.specs.Prelude.{ℕ, zero, suc, ◌+◌, ◌-◌, List, [], ◌∷◌, Option, Some, None, is_some, slice_get, slice_set, ℤ, pos, negsuc, ◌+ℤ◌, Bool, true, false, if◌then◌else◌, option_map, Result, Ok, Err}
+use Rattle.std.specs.Prelude.{◌+◌, ◌-◌, ◌∷◌, ◌+ℤ◌, if◌then◌else◌}
+use Rattle.std.specs.Prelude.{ℕ, zero, suc, List, [], Option, Some, None, is_some, slice_get, slice_set}
+use Rattle.std.specs.Prelude.{ℤ, pos, negsuc, Bool, true, false, option_map, Result, Ok, Err}
 use Rattle.std.specs.List.{find}
 use Rattle.std.specs.Option.{option_and_then, option_map_or}
-use Rattle.f77_check.specs.declared.action.Action.{Action, Declaration, AssignNumber, AssignTruth, Goto, ComputedGoto, ArithmeticIf, LogicalIf', Branch, Continue, Loop, Return, Stop, Trap}
+use Rattle.f77_check.specs.declared.action.Action.{Action, Declaration, AssignNumber, AssignTruth, Goto, ComputedGoto, ArithmeticIf}
+use Rattle.f77_check.specs.declared.action.Action.{LogicalIf', Branch, Continue, Loop, Return, Stop, Trap}
 use Rattle.f77_check.specs.declared.action.Jump.{Jump}
 use Rattle.f77_check.specs.declared.resolved.Resolved.{Resolved}
 use Rattle.f77_run.specs.declared.finish.Fault.{Fault}
@@ -152,5 +155,6 @@ moved statements s = at s.place
     at (Execute i) =
         option_and_then (λ r. if is_executed r.action then Some (acted statements i r r.action s.cells s.turns) else None) (slice_get statements i)
     at (Increment d) =
-        option_and_then (λ r. if is_loop r.action then option_map (λ turn. incremented statements d r.action turn s.cells s.turns) (turn_at s.turns d) else None)
+        option_and_then
+        (λ r. if is_loop r.action then option_map (λ turn. incremented statements d r.action turn s.cells s.turns) (turn_at s.turns d) else None)
         (slice_get statements d)

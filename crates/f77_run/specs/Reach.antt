@@ -1,7 +1,8 @@
 -- The slots and the statements that resolved statements name are among so many.
 use Rattle.std.specs.Prelude.{ℕ, ◌&&◌, Bool, true, nat_lt, List}
 use Rattle.std.specs.List.{list_all}
-use Rattle.f77_check.specs.declared.action.Action.{Action, Declaration, AssignNumber, AssignTruth, Goto, ComputedGoto, ArithmeticIf, LogicalIf', Branch, Continue, Loop, Return, Stop, Trap}
+use Rattle.f77_check.specs.declared.action.Action.{Action, Declaration, AssignNumber, AssignTruth, Goto, ComputedGoto, ArithmeticIf}
+use Rattle.f77_check.specs.declared.action.Action.{LogicalIf', Branch, Continue, Loop, Return, Stop, Trap}
 use Rattle.f77_check.specs.declared.action.Jump.{Jump}
 use Rattle.f77_check.specs.declared.resolved.Resolved.{Resolved}
 use Rattle.f77_run.specs.Evaluation.{element_within, number_within, condition_within}

@@ -1,10 +1,12 @@
 -- What variables and arrays hold, and the values of expressions (ANSI X3.9-1978, sections 5 and 6).
-use Rattle.std.specs.Prelude.{ℕ, zero, suc, ◌+◌, ◌*◌, ◌&&◌, ◌||◌, Bool, true, false, not, nat_lt, if◌then◌else◌, List, [], ◌∷◌, Option, Some, slice_get, slice_set, ℤ, pos, ◌+ℤ◌, ◌-ℤ◌, ◌*ℤ◌, Result, Ok, Err}
+use Rattle.std.specs.Prelude.{◌+◌, ◌*◌, ◌&&◌, ◌||◌, if◌then◌else◌, ◌∷◌, ◌+ℤ◌, ◌-ℤ◌, ◌*ℤ◌}
+use Rattle.std.specs.Prelude.{ℕ, zero, suc, Bool, true, false, not, nat_lt, List, [], Option, Some, slice_get, slice_set, ℤ, pos, Result, Ok, Err}
 use Rattle.std.specs.Option.{option_and_then}
 use Rattle.std.specs.Str.{bytes_eq}
 use Rattle.f77_tree.specs.Tree.{Tree, Trees}
 use Rattle.f77_tree.specs.declared.operator.Operator.{Operator}
-use Rattle.f77_tree.specs.declared.operator.Operator.TheVariants.{Equivalent, NotEquivalent, Or, And, Less, LessOrEqual, Equal, NotEqual, GreaterOrEqual, Greater, Add, Subtract, Multiply, Divide, Power}
+use Rattle.f77_tree.specs.declared.operator.Operator.TheVariants.{Equivalent, NotEquivalent, Or, And, Less, LessOrEqual, Equal, NotEqual}
+use Rattle.f77_tree.specs.declared.operator.Operator.TheVariants.{GreaterOrEqual, Greater, Add, Subtract, Multiply, Divide, Power}
 use Rattle.f77_tree.specs.declared.tree.Kind.{Kind}
 use Rattle.f77_tree.specs.declared.tree.Kind.TheVariants.{Integer, Logical}
 use Rattle.f77_legal.specs.Names.{Symbol}

@@ -9,7 +9,8 @@ ghost use Rattle.f77_run.specs.Choice as choice;
 ghost use Rattle.f77_run.specs.Evaluation.{element_within, number_within, condition_within, slot_in, number_in, truth_in};
 ghost use Rattle.f77_run.specs.Machine.{KeepsLengths};
 ghost use Rattle.f77_run.specs.Moves as moves;
-ghost use Rattle.f77_run.specs.Moves.{Goes, state, state_of, move_of, used, chosen, jump_to, passing, passing_at, begun, acted, incremented, is_executed, moved};
+ghost use Rattle.f77_run.specs.Moves.{Goes, state, state_of, move_of, used, chosen, jump_to};
+ghost use Rattle.f77_run.specs.Moves.{passing, passing_at, begun, acted, incremented, is_executed, moved};
 ghost use Rattle.f77_run.specs.Reach.{are_below, jump_within, action_within, all_within};
 ghost use Rattle.f77_run.specs.Value.{given};
 
@@ -62,7 +63,9 @@ fn assign_number(
     requires element { element_within (length machine.old.cells.items) element.now ≡ true }
     requires term { number_within (length machine.old.cells.items) term.now ≡ true }
     requires ends { are_below (length machine.old.turns.items) resolved.now.ends.items ≡ true }
-    ensures moved { let cells = machine.old.cells.items in move_of result machine.new ≡ used (slot_in cells element.now) cells (λ k. used (number_in cells term.now) cells (λ z. moves.go_on resolved.now (slice_set cells k (Some (Value.Number z))) machine.old.turns.items)) }
+    ensures moved { let cells = machine.old.cells.items in move_of result machine.new ≡ used (slot_in cells element.now) cells
+        (λ k. used (number_in cells term.now) cells
+        (λ z. moves.go_on resolved.now (slice_set cells k (Some (Value.Number z))) machine.old.turns.items)) }
     ensures lengths { KeepsLengths machine.old machine.new }
 {
     let slot = slot(element, &machine.cells)?;
@@ -80,7 +83,9 @@ fn assign_truth(
     requires element { element_within (length machine.old.cells.items) element.now ≡ true }
     requires condition { condition_within (length machine.old.cells.items) condition.now ≡ true }
     requires ends { are_below (length machine.old.turns.items) resolved.now.ends.items ≡ true }
-    ensures moved { let cells = machine.old.cells.items in move_of result machine.new ≡ used (slot_in cells element.now) cells (λ k. used (truth_in cells condition.now) cells (λ b. moves.go_on resolved.now (slice_set cells k (Some (Value.Truth b))) machine.old.turns.items)) }
+    ensures moved { let cells = machine.old.cells.items in move_of result machine.new ≡ used (slot_in cells element.now) cells
+        (λ k. used (truth_in cells condition.now) cells
+        (λ b. moves.go_on resolved.now (slice_set cells k (Some (Value.Truth b))) machine.old.turns.items)) }
     ensures lengths { KeepsLengths machine.old machine.new }
 {
     let slot = slot(element, &machine.cells)?;
@@ -101,7 +106,8 @@ fn jump_by_sign(
     requires negative { jump_within (length machine.old.turns.items) negative.now ≡ true }
     requires zero { jump_within (length machine.old.turns.items) zero.now ≡ true }
     requires positive { jump_within (length machine.old.turns.items) positive.now ≡ true }
-    ensures moved { let cells = machine.old.cells.items in move_of result machine.new ≡ used (number_in cells value.now) cells (λ z. jump_to (choice.by_sign z negative.now zero.now positive.now) cells machine.old.turns.items) }
+    ensures moved { let cells = machine.old.cells.items in move_of result machine.new ≡ used (number_in cells value.now) cells
+        (λ z. jump_to (choice.by_sign z negative.now zero.now positive.now) cells machine.old.turns.items) }
     ensures lengths { KeepsLengths machine.old machine.new }
 {
     let value = number(value, &machine.cells)?;
@@ -133,7 +139,9 @@ fn jump_by_number(
     requires value { number_within (length machine.old.cells.items) value.now ≡ true }
     requires jumps { list_all (jump_within (length machine.old.turns.items)) jumps.now ≡ true }
     requires ends { are_below (length machine.old.turns.items) resolved.now.ends.items ≡ true }
-    ensures moved { let cells = machine.old.cells.items in let turns = machine.old.turns.items in move_of result machine.new ≡ used (number_in cells value.now) cells (λ z. option_map_or (λ jump. jump_to jump cells turns) (choice.numbered jumps.now z) (moves.go_on resolved.now cells turns)) }
+    ensures moved { let cells = machine.old.cells.items in let turns = machine.old.turns.items in move_of result machine.new
+        ≡ used (number_in cells value.now) cells
+        (λ z. option_map_or (λ jump. jump_to jump cells turns) (choice.numbered jumps.now z) (moves.go_on resolved.now cells turns)) }
     ensures lengths { KeepsLengths machine.old machine.new }
 {
     let value = number(value, &machine.cells)?;
@@ -152,7 +160,9 @@ fn branch(
 ) -> Result<Control, Fault>
     requires condition { condition_within (length machine.old.cells.items) condition.now ≡ true }
     requires ends { are_below (length machine.old.turns.items) resolved.now.ends.items ≡ true }
-    ensures moved { let cells = machine.old.cells.items in let turns = machine.old.turns.items in move_of result machine.new ≡ used (truth_in cells condition.now) cells (λ b. chosen b (moves.go_on resolved.now cells turns) (Goes (state (Place.Execute otherwise) cells turns))) }
+    ensures moved { let cells = machine.old.cells.items in let turns = machine.old.turns.items in move_of result machine.new
+        ≡ used (truth_in cells condition.now) cells
+        (λ b. chosen b (moves.go_on resolved.now cells turns) (Goes (state (Place.Execute otherwise) cells turns))) }
     ensures lengths { KeepsLengths machine.old machine.new }
 {
     if truth(condition, &machine.cells)? {
@@ -191,7 +201,8 @@ fn pass_at(
     requires terminal { terminal < length statements.now }
     requires within { d < length machine.old.turns.items }
     requires number { d + 1 < 2 ^ 64 }
-    ensures moved { move_of (Ok result) machine.new ≡ passing_at statements.now terminal d turn.passes turn.step machine.old.cells.items machine.old.turns.items }
+    ensures moved { move_of (Ok result) machine.new
+        ≡ passing_at statements.now terminal d turn.passes turn.step machine.old.cells.items machine.old.turns.items }
     ensures lengths { KeepsLengths machine.old machine.new }
 {
     pass(&statements[terminal], d, turn, machine)
@@ -215,7 +226,10 @@ impl Parameters {
         requires first { number_within (length cells.now) first.now ≡ true }
         requires last { number_within (length cells.now) last.now ≡ true }
         requires step { number_within (length cells.now) step.now ≡ true }
-        ensures { result ≡ given (number_in cells.now first.now) (λ a. given (number_in cells.now last.now) (λ b. given (number_in cells.now step.now) (λ c. Ok (record { first = a; last = b; step = c })))) }
+        ensures { result ≡ given (number_in cells.now first.now)
+            (λ a. given (number_in cells.now last.now)
+            (λ b. given (number_in cells.now step.now)
+            (λ c. Ok (record { first = a; last = b; step = c })))) }
     {
         let first = number(first, cells)?;
         let last = number(last, cells)?;
@@ -238,7 +252,8 @@ fn begin(
     requires variable { variable < length machine.old.cells.items }
     requires within { d < length machine.old.turns.items }
     requires number { d + 1 < 2 ^ 64 }
-    ensures moved { move_of result machine.new ≡ begun statements.now d variable terminal parameters.first parameters.last parameters.step machine.old.cells.items machine.old.turns.items }
+    ensures moved { move_of result machine.new
+        ≡ begun statements.now d variable terminal parameters.first parameters.last parameters.step machine.old.cells.items machine.old.turns.items }
     ensures lengths { KeepsLengths machine.old machine.new }
 {
     let Parameters { first, last, step } = parameters;
@@ -264,7 +279,8 @@ fn increment(
     requires variable { variable < length machine.old.cells.items }
     requires within { d < length machine.old.turns.items }
     requires number { d + 1 < 2 ^ 64 }
-    ensures moved { (first last step : Number) → move_of result machine.new ≡ incremented statements.now d (Loop variable first last step terminal) turn machine.old.cells.items machine.old.turns.items }
+    ensures moved { (first last step : Number) → move_of result machine.new
+        ≡ incremented statements.now d (Loop variable first last step terminal) turn machine.old.cells.items machine.old.turns.items }
     ensures lengths { KeepsLengths machine.old machine.new }
 {
     let value = held_number(&machine.cells, variable)?;

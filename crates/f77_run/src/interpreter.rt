@@ -72,7 +72,8 @@ fn no_turns(alloc: Global, count: usize) -> Result<Vec<Option<Turn>>, RunFault>
 fn begin(alloc: Global, checked: &Checked, arguments: &[Arg]) -> Result<Machine, RunFault>
     requires { AreFitting checked.now.arguments arguments.now }
     ensures running { IfOk result (λ machine. IsRunning (site_of checked.now arguments.now) checked.now.statements machine) }
-    ensures starts { IfOk result (λ machine. IsStart (map line_of checked.now.program) (map values_in arguments.now) (config_at (site_of checked.now arguments.now) machine)) }
+    ensures starts { IfOk result
+        (λ machine. IsStart (map line_of checked.now.program) (map values_in arguments.now) (config_at (site_of checked.now arguments.now) machine)) }
     ensures memory { IfErr result (λ e. e ≡ fault.Memory) }
 {
     let start = checked.start();
@@ -89,7 +90,8 @@ fn begin(alloc: Global, checked: &Checked, arguments: &[Arg]) -> Result<Machine,
 /// What the dummy arguments hold.
 fn dummies(alloc: Global, checked: &Checked, machine: &Machine) -> Result<Values<Arg>, RunFault>
     requires { HoldsDummies checked.now machine.now }
-    ensures arguments { IfOk result (λ arguments. AreArguments (map line_of checked.now.program) (held checked.now machine.now.cells.items) arguments) }
+    ensures arguments { IfOk result
+        (λ arguments. AreArguments (map line_of checked.now.program) (held checked.now machine.now.cells.items) arguments) }
     ensures memory { IfErr result (λ e. e ≡ fault.Memory) }
 {
     held_arguments(
@@ -148,7 +150,8 @@ pub fn run(
     steps: u32,
 ) -> Result<Outcome, RunFault>
     ensures outcome { IfOk result (λ outcome. IsOutcomeOf (map line_of checked.now.program) arguments.now steps outcome) }
-    ensures only { IfOk result (λ outcome. (other : Outcome) → IsOutcomeOf (map line_of checked.now.program) arguments.now steps other → other ≡ outcome) }
+    ensures only { IfOk result (λ outcome. (other : Outcome) → IsOutcomeOf (map line_of checked.now.program) arguments.now steps other
+        → other ≡ outcome) }
     ensures refused { IfSome (refusal checked.now.arguments arguments.now) (λ e. result ≡ Err e) }
     ensures fault { IfErr result (λ e. (e ≡ fault.Memory) ⊎ (refusal checked.now.arguments arguments.now ≡ Some e)) }
 {

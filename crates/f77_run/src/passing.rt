@@ -140,7 +140,8 @@ pub(crate) fn arguments(
     requires within { AreWithin (length cells.now) (zip shapes.now dummies.now) }
     requires hold { AllHold cells.now (zip shapes.now dummies.now) }
     ensures fitting { IfOk result (λ arguments. AreFitting shapes.now arguments) }
-    ensures values { IfOk result (λ arguments. map (λ argument. map (λ v. Some v) (values_in argument)) arguments ≡ map (λ pair. span pair.1 (size_of pair.0) cells.now) (zip shapes.now dummies.now)) }
+    ensures values { IfOk result (λ arguments. map (λ argument. map (λ v. Some v) (values_in argument)) arguments
+        ≡ map (λ pair. span pair.1 (size_of pair.0) cells.now) (zip shapes.now dummies.now)) }
     ensures memory { IfErr result (λ e. e ≡ fault.Memory) }
 {
     let mut arguments = Vec::new(alloc);
