@@ -1,7 +1,6 @@
 -- The first line that breaks a clause, and the first fault of several clauses, searched from the front.
 use Rattle.std.proofs.Math.Numerals.{add-one}
 use Rattle.std.proofs.Common.{◌≡◌, ◌≤◌, ◌<◌, ℕ, zero, suc, ◌+◌, Bool, true, false, List, [], ◌∷◌, ◌++◌, length, drop, get_or, map, filter, Option, Some, None, refl, ◌∙◌, ap, arith}
-use Rattle.std.proofs.lemmas.List.{append-nil}
 use Rattle.std.proofs.lemmas.Option.{slice_get-map, slice_get_read}
 use Rattle.std.specs.Prelude.{slice_get, option_map}
 use Rattle.std.specs.List.{enumerate_from}
@@ -81,12 +80,3 @@ second_told f g xs ys y none some = rw (empty_from xs none) (slice_get-map g ys 
 
 pub nothing_told : {X A : Type 0} (f g : X → A) (xs ys : List X) → slice_get xs 0 ≡ None → slice_get ys 0 ≡ None → map f xs ++ map g ys ≡ []
 nothing_told f g xs ys none no_more = rw (empty_from xs none, empty_from ys no_more) refl
-
--- where one of the two lists has a first element, something is told
-pub some_first : {X A : Type 0} (f g : X → A) (xs ys : List X) (x : X) → slice_get xs 0 ≡ Some x → map f xs ++ map g ys ≡ [] → ⊥
-some_first f g [] ys x some none = absurd (cc (some))
-some_first f g (y ∷ xs) ys x some none = absurd (cc (none))
-
-pub some_second : {X A : Type 0} (f g : X → A) (xs ys : List X) (y : X) → slice_get ys 0 ≡ Some y → map f xs ++ map g ys ≡ [] → ⊥
-some_second f g [] ys y some none = some_first g g ys [] y some (append-nil (map g ys) ∙ none)
-some_second f g (x ∷ xs) ys y some none = absurd (cc (none))

@@ -1,6 +1,6 @@
 //! The clauses of legality, in the order of test.
 
-ghost use Rattle.std.specs.Prelude.{◌≡◌, [], List, map, slice_get, Some, Err, IsOk};
+ghost use Rattle.std.specs.Prelude.{◌≡◌, ◌++◌, List, map, slice_get, Some, Err};
 ghost use Rattle.f77_tree.specs.Parsing.{LineFields, line_of};
 ghost use Rattle.f77_legal.specs.Legal.{Tells, TellsFirst, name_faults, clause_faults, label_faults};
 ghost use Rattle.f77_legal.specs.Legal.{data_faults, size_faults, statement_faults, faults};
@@ -25,8 +25,7 @@ const MOST_NAMES: usize = 100;
 const MOST_ELEMENTS: u32 = 10_000;
 
 fn check_names(names: &Names, lines: &[Line]) -> Result<(), CheckFault>
-    ensures tells { IsNameTable names.now (map line_of lines.now) → TellsFirst result (name_faults (map line_of lines.now)) }
-    ensures ok { IsNameTable names.now (map line_of lines.now) → name_faults (map line_of lines.now) ≡ [] → IsOk result }
+    ensures { IsNameTable names.now (map line_of lines.now) → TellsFirst result (name_faults (map line_of lines.now)) }
 {
     if let Some(name) = names.first_real() {
         return Err(CheckFault::RealName(*name));
@@ -75,11 +74,11 @@ fn check_size(names: &Names, lines: &[Line]) -> Result<(), CheckFault>
 
 /// The first fault of a program, given its tables, clause by clause, in the order of test; or want of memory.
 ///
-/// Where no name has a fault, the first fault of a statement or a label is told whatever memory there is.
+/// The first fault of a name, a statement or a label is told whatever memory there is.
 pub fn judge(alloc: Global, tables: &Tables, lines: &[Line]) -> Result<(), CheckFault>
     ensures tells { AreTables tables.now (map line_of lines.now) → Tells result (faults (map line_of lines.now)) }
-    ensures told { let program = map line_of lines.now in (fault : CheckFault) → AreTables tables.now program → name_faults program ≡ []
-        → slice_get (statement_faults program) 0 ≡ Some fault → result ≡ Err fault }
+    ensures told { let program = map line_of lines.now in (fault : CheckFault) → AreTables tables.now program
+        → slice_get (name_faults program ++ statement_faults program) 0 ≡ Some fault → result ≡ Err fault }
 {
     check_names(&tables.names, lines)?;
     check_clauses(tables, &[Clause::Kinds, Clause::Bounds], lines)?;

@@ -23,7 +23,7 @@ returns-in_default c =
 
 pub returns-in_err-subscripts : goal.returns-in_err-subscripts
 returns-in_err-subscripts c =
-    let p = err_from_is_err_and c.from_residual-in_err-subscripts.result c.from_residual-in_err-subscripts.ensures.1 in
+    let p = err_from_is_err_and c.from_residual.result c.from_residual.ensures.1 in
     let n : is_name c.split_word.result.0.now ≡ true = cc in
     rw (p.1, p.2) (reference_fails_items c.args.text.now c.in-Some.inner.now _ (ap is_name (sym c.split_word.ensures.front) ∙ n)
     (ap (after 40) (sym c.split_word.ensures.back) ∙ sym c.in-Some.ensures) c.in_err-subscripts.ensures)

@@ -19,7 +19,7 @@ returns-in_default-clause-found c =
 
 pub returns-in_err-bounds-clause-found : goal.returns-in_err-bounds-clause-found
 returns-in_err-bounds-clause-found c =
-    let p = err_from_is_err_and c.from_residual-in_err-bounds.result c.from_residual-in_err-bounds.ensures.1 in
+    let p = err_from_is_err_and c.from_residual.result c.from_residual.ensures.1 in
     let n : is_name c.split_word.result.0.now ≡ true = cc in
     rw (p.1, p.2) (decl_fails_bounds c.args.text.now c.in-Some.inner.now _ (ap is_name (sym c.split_word.ensures.front) ∙ n)
     (ap (after 40) (sym c.split_word.ensures.back) ∙ sym c.in-Some.ensures) c.in_err-bounds.ensures)

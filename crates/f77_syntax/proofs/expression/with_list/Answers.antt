@@ -7,8 +7,8 @@ use Rattle.f77_tree.specs.View.{tree_of, trees}
 use Rattle.f77_tree.proofs.Views.{reference_view}
 use Rattle.f77_syntax.proofs.expression.with_list.Goals as goal
 
-pub returns : goal.returns
-returns c =
+pub returns-in-None : goal.returns-in-None
+returns-in-None c =
     let none = sym c.named.ensures ∙ c.in-None.is in
     reference_view _ ∙ ap (λ (z : List ℕ). Tree.Reference z (trees (map tree_of c.args.items.items))) c.beginning.ensures
     ∙ ap (λ o. listed_by o (cut c.args.name.now) (trees (map tree_of c.args.items.items))) (sym none)

@@ -37,7 +37,7 @@ returns-in_default-without_close c =
 
 pub returns-in_err-arguments : goal.returns-in_err-arguments
 returns-in_err-arguments c =
-    let p = err_from_is_err_and c.from_residual-in_err-arguments.result c.from_residual-in_err-arguments.ensures.1 in
+    let p = err_from_is_err_and c.from_residual.result c.from_residual.ensures.1 in
     let n : is_name c.split_word.result.0.now ≡ true = cc in
     rw (p.1, p.2) (subroutine_fails c.args.text.now c.split_word.result.1.now c.in-Some.behind.now c.in-Some-without_close.inner.now _ (ap is_name (sym c.split_word.ensures.front) ∙ n) c.split_word.ensures.back
     (sym c.in-Some.ensures) (sym c.in-Some-without_close.ensures) c.in_err-arguments.ensures)
