@@ -6,6 +6,8 @@ mod both_forms;
 #[cfg(test)]
 mod count_limits;
 #[cfg(test)]
+mod fault_texts;
+#[cfg(test)]
 mod full_fields;
 #[cfg(test)]
 mod gates;

@@ -20,6 +20,8 @@ mod checked;
 #[cfg(test)]
 mod expression_texts;
 #[cfg(test)]
+mod fault_texts;
+#[cfg(test)]
 mod outcomes;
 #[cfg(test)]
 mod programs;

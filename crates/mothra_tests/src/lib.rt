@@ -4,6 +4,8 @@
 #[cfg(test)]
 mod answers;
 #[cfg(test)]
+mod fault_texts;
+#[cfg(test)]
 mod job_keys;
 #[cfg(test)]
 mod jobs;

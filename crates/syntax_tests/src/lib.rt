@@ -6,6 +6,8 @@ mod cards;
 #[cfg(test)]
 mod copies;
 #[cfg(test)]
+mod fault_texts;
+#[cfg(test)]
 mod limits;
 #[cfg(test)]
 mod lines;
