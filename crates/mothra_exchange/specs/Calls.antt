@@ -29,7 +29,8 @@ LostTo v op w new = (found : Word) × AtMost w found × (found ≢ w) × (new �
 
 -- v is the view after a load that found w, and new the view after the answer
 abbrev pub OfferLeaves : ℕ → View → Ticket → Word → Offer → View → Type 0
-OfferLeaves C v t w Accepted new = (offer_answer C t.number w ≡ Accepted) × (times (index t.op) (w.offered + 1) v.offered ≡ 0) × (new ≡ view_after_offer v t.op w)
+OfferLeaves C v t w Accepted new =
+    (offer_answer C t.number w ≡ Accepted) × (times (index t.op) (w.offered + 1) v.offered ≡ 0) × (new ≡ view_after_offer v t.op w)
 OfferLeaves C v t w OfferBusy new = (offer_answer C t.number w ≡ Accepted) × LostTo v t.op w new
 OfferLeaves C v t w OfferGaveUp new = ⊥
 OfferLeaves C v t w a new = (offer_answer C t.number w ≡ a) × (new ≡ v)

@@ -55,7 +55,11 @@ Stands t log = (j : ℕ) × (get_elem? log j ≡ some (Offered t))
 
 -- e may come after these events, where C tickets of an operator may be offered and not handed out
 abbrev pub MayFollow : ℕ → List ℕ → List Event → Event → Type 0
-MayFollow C counts log (Offered t) = (t.number ≡ offers (index t.op) log + 1) × (t.number ≤ slice_index counts (index t.op)) × (closes (index t.op) log ≡ false) × (offers (index t.op) log < hands (index t.op) log + C)
+MayFollow C counts log (Offered t) =
+    (t.number ≡ offers (index t.op) log + 1)
+    × (t.number ≤ slice_index counts (index t.op))
+    × (closes (index t.op) log ≡ false)
+    × (offers (index t.op) log < hands (index t.op) log + C)
 MayFollow C counts log (Handed t) = (t.number ≡ hands (index t.op) log + 1) × Stands t log
 MayFollow C counts log (Closed op) = closes (index op) log ≡ false
 

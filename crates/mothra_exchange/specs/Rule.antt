@@ -9,11 +9,15 @@ use Rattle.mothra_exchange.specs.declared.word.Word.{Word}
 use Rattle.mothra_exchange.specs.declared.view.View.{View}
 use Rattle.mothra_exchange.specs.Word.{pack, Fits, AtMost, InBounds}
 use Rattle.mothra_exchange.specs.Ticket.{times, once_up_to}
-use Rattle.mothra_exchange.specs.View.{once_if_closed, total, first_look, look_at, whole_part, spent_view, view_after_load, view_after_finding, view_after_take, view_after_offer, view_after_close, settled_view}
+use Rattle.mothra_exchange.specs.View.{once_if_closed, total, first_look, look_at, whole_part, spent_view, settled_view}
+use Rattle.mothra_exchange.specs.View.{view_after_load, view_after_finding, view_after_take, view_after_offer, view_after_close}
 
 -- the last words that a view has seen of the operator at the place i are at most w
 abbrev pub Knows : ℕ → View → Word → Type 0
-Knows i v w = AtMost (look_at v i).seen w × AtMost (slice_index_or v.mine i (first_look 0)).seen w × AtMost (slice_index_or v.theirs i (first_look 0)).seen w
+Knows i v w =
+    AtMost (look_at v i).seen w
+    × AtMost (slice_index_or v.mine i (first_look 0)).seen w
+    × AtMost (slice_index_or v.theirs i (first_look 0)).seen w
 
 -- one operator: its place, its count, its word, and what the views have of it
 pub record OpRule (C : ℕ) (i : ℕ) (n : ℕ) (w : Word) (views : List View) : Type 0 where
@@ -51,18 +55,29 @@ Looks C s me found new = (w : Word) × (found ≡ pack w) × Loads C me.0 s.word
 
 -- an exchange that found another word than it expected has changed nothing
 abbrev pub Loses : {S : Type 0} → Step S → Me S View → ℕ → Me S View → Type 0
-Loses s me found new = (w : Word) × (found ≡ pack w) × (¬ (found ≡ s.first)) × Fits w × AtMost (look_at me.0 s.word).loaded w × (new ≡ (view_after_finding me.0 s.word w, me.1))
+Loses s me found new =
+    (w : Word) × (found ≡ pack w) × (¬ (found ≡ s.first)) × Fits w × AtMost (look_at me.0 s.word).loaded w
+    × (new ≡ (view_after_finding me.0 s.word w, me.1))
 
 abbrev pub Takes : {S : Type 0} → Step S → Me S View → ℕ → Me S View → Type 0
-Takes s me found new = ((found ≡ s.first) × (times s.word ((look_at me.0 s.word).loaded.handed + 1) me.0.taken ≡ 0) × (new ≡ (view_after_take me.0 (op_at s.word) (look_at me.0 s.word).loaded, me.1))) ⊎ Loses s me found new
+Takes s me found new =
+    ((found ≡ s.first) × (times s.word ((look_at me.0 s.word).loaded.handed + 1) me.0.taken ≡ 0)
+    × (new ≡ (view_after_take me.0 (op_at s.word) (look_at me.0 s.word).loaded, me.1)))
+    ⊎ Loses s me found new
 
 abbrev pub Offers : {S : Type 0} → Step S → Me S View → ℕ → Me S View → Type 0
-Offers s me found new = ((found ≡ s.first) × (times s.word ((look_at me.0 s.word).loaded.offered + 1) me.0.offered ≡ 0) × (new ≡ (view_after_offer me.0 (op_at s.word) (look_at me.0 s.word).loaded, me.1))) ⊎ Loses s me found new
+Offers s me found new =
+    ((found ≡ s.first) × (times s.word ((look_at me.0 s.word).loaded.offered + 1) me.0.offered ≡ 0)
+    × (new ≡ (view_after_offer me.0 (op_at s.word) (look_at me.0 s.word).loaded, me.1)))
+    ⊎ Loses s me found new
 
 abbrev pub Closes : {S : Type 0} → Step S → Me S View → ℕ → Me S View → Type 0
-Closes s me found new = ((found ≡ s.first) × (Unit {0}) × (new ≡ (view_after_close me.0 (op_at s.word) (look_at me.0 s.word).loaded, me.1))) ⊎ Loses s me found new
+Closes s me found new =
+    ((found ≡ s.first) × (Unit {0}) × (new ≡ (view_after_close me.0 (op_at s.word) (look_at me.0 s.word).loaded, me.1)))
+    ⊎ Loses s me found new
 
--- of the operator at the place i, whose word is w: the view and the two that were merged into it had seen no more, and no ticket or closing stands twice
+-- of the operator at the place i, whose word is w: the view and the two that were merged into it had seen no more, and no
+-- ticket or closing stands twice
 pub record AgreesAt (C : ℕ) (i : ℕ) (v : View) (w : Word) : Type 0 where
   pub bounds : InBounds C w
   pub knows : Knows i v w

@@ -14,7 +14,8 @@ IsOver v op = ((look_at v (index op)).seen.closed ≡ true) × ((look_at v (inde
 pub record MergesAt (v w : View) (op : Op) : Type 0 where
   pub left_over : IsOver v op → IsOver (united_view v w) op
   pub right_over : IsOver w op → IsOver (united_view v w) op
-  pub same_close : (look_at v (index op)).seen.closed ≡ true → (look_at w (index op)).seen.closed ≡ true → (look_at v (index op)).seen.offered ≡ (look_at w (index op)).seen.offered
+  pub same_close : (look_at v (index op)).seen.closed ≡ true → (look_at w (index op)).seen.closed ≡ true
+      → (look_at v (index op)).seen.offered ≡ (look_at w (index op)).seen.offered
   pub taken : (k : ℕ) → times (index op) k v.taken + times (index op) k w.taken ≤ 1
   pub offered : (k : ℕ) → times (index op) k v.offered + times (index op) k w.offered ≤ 1
   pub closings : (k : ℕ) → times (index op) k v.closings + times (index op) k w.closings ≤ 1

@@ -30,7 +30,16 @@ whole_part = 1048576
 
 -- the first pass of an exchange
 abbrev pub whole_view : List ℕ → View
-whole_view counts = record { counts = counts; part = whole_part; offered = []; taken = []; closings = []; looks = map first_look counts; mine = []; theirs = [] }
+whole_view counts = record {
+  counts = counts;
+  part = whole_part;
+  offered = [];
+  taken = [];
+  closings = [];
+  looks = map first_look counts;
+  mine = [];
+  theirs = [];
+}
 
 -- what a pass leaves that was merged into another
 abbrev pub spent_view : View
@@ -75,7 +84,16 @@ joined_looks (a ∷ rest) (b ∷ bs) = joined_look a b ∷ joined_looks rest bs
 
 -- a merge: the view of the pass that stays
 abbrev pub united_view : View → View → View
-united_view v w = record { counts = v.counts; part = v.part + w.part; offered = v.offered ++ w.offered; taken = v.taken ++ w.taken; closings = v.closings ++ w.closings; looks = joined_looks v.looks w.looks; mine = []; theirs = [] }
+united_view v w = record {
+  counts = v.counts;
+  part = v.part + w.part;
+  offered = v.offered ++ w.offered;
+  taken = v.taken ++ w.taken;
+  closings = v.closings ++ w.closings;
+  looks = joined_looks v.looks w.looks;
+  mine = [];
+  theirs = [];
+}
 
 -- between the two steps of a merge the view has the looks of both passes
 abbrev pub merging_view : View → View → View

@@ -29,7 +29,12 @@ pub record AtMost (a b : Word) : Type 0 where
 
 -- the greater of two words, field by field
 abbrev pub greater_word : Word → Word → Word
-greater_word a b = record { count = max a.count b.count; offered = max a.offered b.offered; handed = max a.handed b.handed; closed = a.closed || b.closed }
+greater_word a b = record {
+  count = max a.count b.count;
+  offered = max a.offered b.offered;
+  handed = max a.handed b.handed;
+  closed = a.closed || b.closed;
+}
 
 abbrev pub opening_word : ℕ → Word
 opening_word n = record { count = n; offered = 0; handed = 0; closed = false }

@@ -23,7 +23,8 @@ ghost use Rattle.mothra_exchange.specs.Answer.{offer_answer, take_answer, close_
 ghost use Rattle.mothra_exchange.specs.Calls.{OfferDid, TakeDid, CloseDid};
 ghost use Rattle.mothra_exchange.specs.Sharing.{IsOver, MergesWell};
 ghost use Rattle.mothra_exchange.specs.Log.{offers, hands, taken_in, one_to};
-ghost use Rattle.mothra_exchange.specs.Laws.{IsWordOf, IsAmong, StandsInOne, StandsInNone, AreOneTo, ChangesOnly, BetweenSteps, InLegalLogs, Shows, ShowsNext};
+ghost use Rattle.mothra_exchange.specs.Laws.{IsWordOf, IsAmong, StandsInOne, StandsInNone, AreOneTo, ChangesOnly, BetweenSteps};
+ghost use Rattle.mothra_exchange.specs.Laws.{InLegalLogs, Shows, ShowsNext};
 
 /// In a legal log the tickets of an operator are handed out in order, each once.
 pub fn handed_in_order()
