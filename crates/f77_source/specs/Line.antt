@@ -1,6 +1,7 @@
 -- One line of a source (ANSI X3.9-1978, 3.2): its columns, its kind, its label and its part of a statement.
 -- Columns are numbered from 1. Those from 73 on do not count.
-use Rattle.std.specs.Prelude.{ℕ, ◌-◌, ◌==◌, ◌&&◌, ◌||◌, not, Bool, true, if◌then◌else◌, List, take, drop, map, filter, Option, Some, None, slice_index_or}
+use Rattle.std.specs.Prelude.{ℕ, ◌-◌, ◌==◌, ◌&&◌, ◌||◌, not, Bool, true, if◌then◌else◌}
+use Rattle.std.specs.Prelude.{List, take, drop, map, filter, Option, Some, None, slice_index_or}
 use Rattle.std.specs.List.{list_all, list_any}
 use Rattle.std.specs.Char.{is_ascii_digit, to_ascii_uppercase}
 use Rattle.std.specs.Int.{is_in_range}

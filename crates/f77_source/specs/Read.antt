@@ -1,6 +1,7 @@
 -- Fixed source form (ANSI X3.9-1978, 3.2 and 3.3): which cards the lines of a source are, and which line is the
 -- first that breaks the form.
-use Rattle.std.specs.Prelude.{◌≡◌, ℕ, ◌+◌, ◌<◌, ◌≤◌, ◌==◌, not, Bool, true, false, if◌then◌else◌, List, [], ◌∷◌, ◌++◌, map, filter, take, reverse, length, Option, Some, None, slice_index_or}
+use Rattle.std.specs.Prelude.{◌≡◌, ℕ, ◌+◌, ◌<◌, ◌≤◌, ◌==◌, not, Bool, true, false, if◌then◌else◌}
+use Rattle.std.specs.Prelude.{List, [], ◌∷◌, ◌++◌, map, filter, take, reverse, length, Option, Some, None, slice_index_or}
 use Rattle.std.specs.List.{All, list_any, flat_map, slice_split, take_while}
 use Rattle.std.specs.Option.{option_or}
 use Rattle.std.specs.Str.Lines.{strip_carriage_return}
