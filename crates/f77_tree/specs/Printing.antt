@@ -14,7 +14,8 @@ use Rattle.f77_tree.specs.Parsing.{LineFields, AreLines}
 use Rattle.f77_tree.specs.declared.fault.SyntaxFault.{SyntaxFault}
 use Rattle.f77_tree.specs.declared.fault.SyntaxFault.TheVariants.{Memory, BadConstant, TooLong}
 use Rattle.f77_source.specs.declared.fault.FormFault.{FormFault}
-use Rattle.f77_source.specs.declared.fault.FormFault.TheVariants.{Memory as FormMemory, TooLarge, NotAscii, Tab, BadLabel, LooseContinuation, TooManyContinuations}
+use Rattle.f77_source.specs.declared.fault.FormFault.TheVariants.{Memory as FormMemory, TooLarge, NotAscii, Tab, BadLabel}
+use Rattle.f77_source.specs.declared.fault.FormFault.TheVariants.{LooseContinuation, TooManyContinuations}
 
 -- the card with the canonical text of the line's statement
 abbrev pub card_of : LineFields → CardFields

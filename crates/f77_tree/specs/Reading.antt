@@ -1,8 +1,10 @@
 -- Reading from left to right: an operand, and then operators with their right operands.
-use Rattle.std.specs.Prelude.{ℕ, zero, suc, List, [], ◌∷◌, length, Option, Some, None, option_and_then, true, false, ◌&&◌, nat_le, ◌==◌, if◌then◌else◌, codes, unwrap_or}
+use Rattle.std.specs.Prelude.{ℕ, zero, suc, List, [], ◌∷◌, length, true, false, ◌&&◌, nat_le, ◌==◌, if◌then◌else◌, codes}
+use Rattle.std.specs.Prelude.{Option, Some, None, option_and_then, unwrap_or}
 use Rattle.std.specs.Str.Parse.{digits_value}
 use Rattle.f77_tree.specs.declared.operator.Operator.{Operator}
-use Rattle.f77_tree.specs.declared.operator.Operator.TheVariants.{Equivalent, NotEquivalent, Or, And, Less, LessOrEqual, Equal, NotEqual, GreaterOrEqual, Greater, Add, Subtract, Multiply, Divide, Power}
+use Rattle.f77_tree.specs.declared.operator.Operator.TheVariants.{Equivalent, NotEquivalent, Or, And, Less, LessOrEqual, Equal, NotEqual}
+use Rattle.f77_tree.specs.declared.operator.Operator.TheVariants.{GreaterOrEqual, Greater, Add, Subtract, Multiply, Divide, Power}
 use Rattle.f77_tree.specs.declared.operator.Sign.{Sign}
 use Rattle.f77_tree.specs.declared.operator.Sign.TheVariants.{Plus, Minus}
 use Rattle.f77_tree.specs.declared.intrinsic.Intrinsic.{Intrinsic}
@@ -41,7 +43,9 @@ past_digits (c ∷ s) = if is_digit c then past_digits s else c ∷ s
 
 -- each operator, one before those whose text begins its own
 abbrev pub operators : List Operator
-operators = Power ∷ Multiply ∷ Divide ∷ Add ∷ Subtract ∷ Less ∷ LessOrEqual ∷ Equal ∷ NotEqual ∷ GreaterOrEqual ∷ Greater ∷ And ∷ Or ∷ Equivalent ∷ NotEquivalent ∷ []
+operators =
+    Power ∷ Multiply ∷ Divide ∷ Add ∷ Subtract
+    ∷ Less ∷ LessOrEqual ∷ Equal ∷ NotEqual ∷ GreaterOrEqual ∷ Greater ∷ And ∷ Or ∷ Equivalent ∷ NotEquivalent ∷ []
 
 abbrev pub or_operator : Operator → Option (List ℕ) → Option (Operator × List ℕ) → Option (Operator × List ℕ)
 or_operator op None other = other

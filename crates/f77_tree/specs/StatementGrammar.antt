@@ -50,7 +50,8 @@ pub data SpellsStatement : List ℕ → Statement → Type 0 where
       → SpellsStatement (codes "SUBROUTINE" ++ name) (Statement.Subroutine name [])
   subroutine_of : {name : List ℕ} (names : List (List ℕ)) → is_name name ≡ true → list_all is_name names ≡ true
       → SpellsStatement (codes "SUBROUTINE" ++ (name ++ (40 ∷ (join_with_byte 44 names ++ 41 ∷ [])))) (Statement.Subroutine name names)
-  declare : {text : List ℕ} {ds : List DeclFields} (kind : Kind) → SpellsDecls text ds → SpellsStatement (kind_keyword kind ++ text) (Statement.Declare kind ds)
+  declare : {text : List ℕ} {ds : List DeclFields} (kind : Kind) → SpellsDecls text ds
+      → SpellsStatement (kind_keyword kind ++ text) (Statement.Declare kind ds)
   dimension : {text : List ℕ} {ds : List DeclFields} → SpellsDecls text ds → all_bounded ds ≡ true
       → SpellsStatement (codes "DIMENSION" ++ text) (Statement.Dimension ds)
   preset : {text : List ℕ} {gs : List GroupFields} → SpellsGroups text gs → SpellsStatement (codes "DATA" ++ text) (Statement.Preset gs)

@@ -37,7 +37,8 @@ fn own_level(expr: &Expr) -> u8
 /// Writes an operand, in parentheses where its level is below the wanted one.
 #[cycle(printer)]
 fn operand(out: &mut String, wanted: u8, expr: &Expr) -> Result<(), AllocError>
-    ensures { OnOk result (string_bytes out.new ≡ string_bytes out.old ++ canonical.operand wanted (canonical.own_level (tree_of expr.now)) (canonical.text_of (tree_of expr.now))) }
+    ensures { OnOk result (string_bytes out.new ≡ string_bytes out.old
+        ++ canonical.operand wanted (canonical.own_level (tree_of expr.now)) (canonical.text_of (tree_of expr.now))) }
 {
     if own_level(expr) < wanted {
         out.push('(')?;
@@ -179,7 +180,8 @@ fn print_labels(out: &mut String, labels: &[u32]) -> Result<(), AllocError>
 
 /// Writes a computed GO TO.
 fn computed(out: &mut String, labels: &[u32], value: &Expr) -> Result<(), AllocError>
-    ensures { OnOk result (string_bytes out.new ≡ string_bytes out.old ++ canonical.statement_text (Statement.ComputedGoto labels.now (tree_of value.now))) }
+    ensures { OnOk result (string_bytes out.new ≡ string_bytes out.old
+        ++ canonical.statement_text (Statement.ComputedGoto labels.now (tree_of value.now))) }
 {
     out.push_str("GO TO ")?;
     print_labels(out, labels)?;
@@ -288,7 +290,8 @@ fn statement(out: &mut String, stmt: &Stmt) -> Result<(), AllocError>
 pub fn print_stmt(alloc: Global, stmt: &Stmt) -> Result<String, SyntaxFault>
     ensures text { IfOk result (λ text. string_bytes text ≡ canonical.statement_text (statement_of stmt.now)) }
     // Without its blanks it spells the statement.
-    ensures back { IfOk result (λ text. IsFormed (statement_of stmt.now) → IsUnmutated (statement_of stmt.now) → statement_constants (statement_of stmt.now) ≡ true
+    ensures back { IfOk result (λ text. IsFormed (statement_of stmt.now) → IsUnmutated (statement_of stmt.now)
+        → statement_constants (statement_of stmt.now) ≡ true
         → SpellsStatement (squeezed (string_bytes text)) (statement_of stmt.now)) }
     ensures refused { IfErr result (λ fault. fault ≡ SyntaxFault.Memory) }
 {

@@ -243,7 +243,8 @@ fn loop_node<'a>(
     step: &'a Option<Expr>,
     position: usize,
 ) -> Result<Node<'a>, usize>
-    ensures { IsNode result (nodes.control_nodes label variable.now ++ nodes.parameter_nodes (tree_of first.now) (tree_of last.now) (option_map tree_of step.now)) position }
+    ensures { IsNode result (nodes.control_nodes label variable.now
+        ++ nodes.parameter_nodes (tree_of first.now) (tree_of last.now) (option_map tree_of step.now)) position }
 {
     match control_node(label, variable, position) {
         Ok(found) => Ok(found),
