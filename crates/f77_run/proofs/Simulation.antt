@@ -34,7 +34,6 @@ use Rattle.f77_run.specs.declared.value.Value.TheVariants as held
 use Rattle.f77_run.specs.Choice.{by_sign, numbered}
 use Rattle.f77_run.specs.Evaluation.{slot_in, number_in}
 use Rattle.f77_run.specs.Machine.{values_of, turn_of, turns_of, placed, config_of, next_of}
-use Rattle.f77_run.specs.Moves as moves
 use Rattle.f77_run.specs.Moves.{Cells, Turns, State, Move, state, used, turn_at, go_on, without, jump_to, chosen, acted, incremented, is_executed, is_loop, moved}
 use Rattle.f77_run.specs.Step as run
 use Rattle.f77_run.specs.Step.{Next, config, GoesOn, Jumps, Begins, With, Either, step_number, Executes, Increments, StepAt, Step}

@@ -6,6 +6,8 @@ mod cards;
 #[cfg(test)]
 mod copies;
 #[cfg(test)]
+mod equality;
+#[cfg(test)]
 mod fault_texts;
 #[cfg(test)]
 mod limits;
@@ -27,6 +29,8 @@ mod print_stmt;
 mod program_of;
 #[cfg(test)]
 mod read_form;
+#[cfg(test)]
+mod shown;
 #[cfg(test)]
 mod statements;
 #[cfg(test)]
