@@ -1,7 +1,8 @@
 //! Expressions read from texts, by recursive descent.
 
 ghost use Rattle.std.specs.Prelude.{◌≡◌, ◌<◌, ◌≤◌, true, length, map, codes, IfOk, option_map};
-ghost use Rattle.f77_tree.specs.Reading.{reading, close_at, after, word, past_word, start_at, enclosed_at, signed_at, negated_at, dotted_at, word_at, listed_by, past_comma};
+ghost use Rattle.f77_tree.specs.Reading.{reading, close_at, after, word, past_word, past_comma};
+ghost use Rattle.f77_tree.specs.Reading.{start_at, enclosed_at, signed_at, negated_at, dotted_at, word_at, listed_by};
 ghost use Rattle.f77_tree.specs.Grammar.{is_name};
 ghost use Rattle.f77_tree.specs.Intrinsic.{function_named};
 ghost use Rattle.f77_tree.specs.Limits.{cut};

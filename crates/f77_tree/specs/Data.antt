@@ -1,5 +1,6 @@
 -- Initial values (ANSI X3.9-1978, section 9). Names, repeats and constants are of any length and size in a text.
-use Rattle.std.specs.Prelude.{◌≡◌, ℕ, zero, suc, ◌+◌, ℤ, pos, negsuc, List, [], ◌∷◌, ◌++◌, length, map, Option, Some, None, option_map, unwrap_or, Bool, true, false, ◌&&◌, ◌==◌, nat_le, if◌then◌else◌, codes, Vec}
+use Rattle.std.specs.Prelude.{◌≡◌, ℕ, zero, suc, ◌+◌, ℤ, pos, negsuc, List, [], ◌∷◌, ◌++◌, length, map, codes, Vec}
+use Rattle.std.specs.Prelude.{Option, Some, None, option_map, unwrap_or, Bool, true, false, ◌&&◌, ◌==◌, nat_le, if◌then◌else◌}
 use Rattle.std.specs.Borrow.{Bor}
 use Rattle.std.specs.declared.alloc.Global.{Global}
 use Rattle.std.specs.Fmt.{decimal, signed_decimal}
@@ -114,7 +115,8 @@ groups_within (suc n) s = group_at s >>= λ x. with_groups (groups_within n) x.0
 unfoldable pub groups_at : List ℕ → Option (List GroupFields)
 groups_at s = groups_within (suc (length s)) s
 
--- What the code keeps of them: the first six characters of a name, a repeat that is too large as the least one that is, a number that is too large as -2147483648.
+-- What the code keeps of them: the first six characters of a name, a repeat that is too large as the least one that is, a number that is too
+-- large as -2147483648.
 abbrev pub kept : ℤ → ℤ
 kept z = if nat_le (size z) largest then z else negsuc largest
 
@@ -130,7 +132,8 @@ clip_group g = record { names = map cut g.names; values = map clip_value g.value
 
 -- what the code finds is what is read, as it is kept
 abbrev pub Finds : {A B : Type 0} → (A → B) → Option (B × Bor (List ℕ)) → Option (A × List ℕ) → Type 0
-Finds {A = A} {B = B} keep found read = option_map {U = B × List ℕ} (λ x. (x.0, x.1.now)) found ≡ option_map {U = B × List ℕ} (λ x. (keep x.0, x.1)) read
+Finds {A = A} {B = B} keep found read =
+    option_map {U = B × List ℕ} (λ x. (x.0, x.1.now)) found ≡ option_map {U = B × List ℕ} (λ x. (keep x.0, x.1)) read
 
 abbrev pub AreDataNames : Vec (List ℕ) Global × Bor (List ℕ) → List (List ℕ) × List ℕ → Type 0
 AreDataNames x a = (x.0.items ≡ map cut a.0) × (x.1.now ≡ a.1)

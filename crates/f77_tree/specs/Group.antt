@@ -45,8 +45,10 @@ may_stand (Some before) group = comes_later (rank before) (rank group)
 
 -- declarations, DATA and executable statements, so many of each, and END
 abbrev pub behind_heading : ℕ → ℕ → ℕ → List Group
-behind_heading d m e = replicate d Declaration ++ (replicate m Data ++ (replicate e Executable ++ (End ∷ [])))
+behind_heading declarations presets executables =
+    replicate declarations Declaration ++ (replicate presets Data ++ (replicate executables Executable ++ (End ∷ [])))
 
 -- SUBROUTINE, then declarations, then DATA, then executable statements, any number of each, and END
 abbrev pub AreInOrder : List Group → Type 0
-AreInOrder groups = (d : ℕ) × (m : ℕ) × (e : ℕ) × (groups ≡ Subroutine ∷ behind_heading d m e)
+AreInOrder groups =
+    (declarations : ℕ) × (presets : ℕ) × (executables : ℕ) × (groups ≡ Subroutine ∷ behind_heading declarations presets executables)

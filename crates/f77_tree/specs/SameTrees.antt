@@ -230,7 +230,8 @@ statement_is (Statement.Declare kind ds) (Statement.Declare other es) e =
 statement_is (Statement.Dimension ds) (Statement.Dimension es) e = ap Statement.Dimension ((decls_decide ds es).0 e)
 statement_is (Statement.Preset gs) (Statement.Preset hs) e = ap Statement.Preset ((groups_decide gs hs).0 e)
 statement_is (Statement.Assign name items t) (Statement.Assign other others u) e =
-    let place : (bytes_eq name other && same_trees items others) ≡ true = first_so (bytes_eq name other && same_trees items others) (same_tree t u) e in
+    let place : (bytes_eq name other && same_trees items others) ≡ true =
+    first_so (bytes_eq name other && same_trees items others) (same_tree t u) e in
     λ i. Statement.Assign ((bytes_decides name other).0 (first_so _ _ place) i) (trees_are items others (second_so _ _ place) i)
     (tree_is t u (second_so _ _ e) i)
 statement_is (Statement.Goto l) (Statement.Goto m) e = ap Statement.Goto ((unsigned_Decides l m).0 e)

@@ -13,7 +13,7 @@ ghost use Rattle.f77_tree.specs.Limits as limits;
 ghost use Rattle.f77_tree.specs.Limits.{cut};
 
 use crate::characters::{is_name, split_word};
-use std::fmt::{self, Display, Formatter};
+use std::fmt::{self, Debug, Display, Formatter};
 use std::hash::{Hash, Hasher};
 use std::marker::Model;
 use std::str;
@@ -23,7 +23,7 @@ const LONGEST_NAME: usize = 6;
 /// A symbolic name (ANSI X3.9-1978, 2.2): 1 to 6 letters and digits, the first of them a letter.
 ///
 /// They lie in the value itself, so a copy takes no memory.
-#[derive(Clone, Copy, Debug, Drop)]
+#[derive(Clone, Copy, Drop)]
 pub struct Name {
     /// With blanks behind them.
     letters: [u8; LONGEST_NAME],
@@ -67,6 +67,13 @@ impl Hash for Name {
 
     fn hash<H: Hasher>(&self, state: &mut H) {
         self.as_str().hash(state);
+    }
+}
+
+/// As a text in quotes.
+impl Debug for Name {
+    fn fmt<W: fmt::Write>(&self, f: &mut Formatter<W>) -> fmt::Result {
+        Debug::fmt(&self.as_str(), f)
     }
 }
 

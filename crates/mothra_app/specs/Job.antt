@@ -1,5 +1,6 @@
 -- The job that bytes are, or the first fault.
-use Rattle.std.specs.Prelude.{ℕ, zero, suc, ◌||◌, Bool, List, slice_get, codes, length, Option, Some, None, Result, Ok, Err, option_and_then, nat_lt, if◌then◌else◌}
+use Rattle.std.specs.Prelude.{ℕ, zero, suc, ◌||◌, Bool, nat_lt, if◌then◌else◌, List, slice_get, codes, length}
+use Rattle.std.specs.Prelude.{Option, Some, None, Result, Ok, Err, option_and_then}
 use Rattle.std.specs.Str.{bytes_eq, is_utf8}
 use Rattle.serde_json.specs.Data.{Data, Items, no_items, Members, no_members, member}
 use Rattle.serde_json.specs.Read.{read}

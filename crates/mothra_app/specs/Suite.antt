@@ -1,5 +1,6 @@
 -- The test suite of a job: the values that each test gives to the dummy arguments.
-use Rattle.std.specs.Prelude.{ℕ, ◌+◌, ℤ, pos, negsuc, ◌&&◌, not, List, [], ◌∷◌, length, filter_map, position, Option, Some, None, Result, Ok, Err, is_some, option_map, option_and_then, int_le, nat_lt, if◌then◌else◌}
+use Rattle.std.specs.Prelude.{ℕ, ◌+◌, ℤ, pos, negsuc, ◌&&◌, not, int_le, nat_lt, if◌then◌else◌, List, [], ◌∷◌, length, filter_map, position}
+use Rattle.std.specs.Prelude.{Option, Some, None, Result, Ok, Err, is_some, option_map, option_and_then}
 use Rattle.std.specs.Option.{option_or}
 use Rattle.serde_json.specs.Data.{Data, Items, no_items, item}
 use Rattle.serde_json.specs.Find.{as_array, as_bool, as_i64, as_number}

@@ -6,7 +6,10 @@ use std::test::Fail;
 
 /// The name that is written so.
 pub(crate) fn name(letters: &str) -> Result<Name, Fail> {
-    Name::new(letters).ok_or(Fail::new("no name"))
+    match Name::new(letters) {
+        Some(name) => Ok(name),
+        None => Err(Fail::new("no name")),
+    }
 }
 
 /// K = the value.

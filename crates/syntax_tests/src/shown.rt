@@ -33,27 +33,26 @@ fn shows_an_expression(rt: HostRuntime) -> Result<(), Fail> {
 
 #[test]
 fn shows_a_reference(rt: HostRuntime) -> Result<(), Fail> {
-    let letters = name(&rt, "M")?;
-    let want = format!(in rt.alloc(); "Ref {{ name: {letters:?}, subscripts: [Truth(true)] }}")?;
     let place = Ref {
-        name: letters,
+        name: name("M")?,
         subscripts: vec![in rt.alloc(); Expr::Truth(true)]?,
     };
     let text = format!(in rt.alloc(); "{place:?}")?;
-    assert_eq!(rt; text.as_str(), want.as_str());
+    assert_eq!(rt;
+        text.as_str(),
+        "Ref { name: \"M\", subscripts: [Truth(true)] }"
+    );
     Ok(())
 }
 
 #[test]
 fn shows_a_declared_name(rt: HostRuntime) -> Result<(), Fail> {
-    let letters = name(&rt, "M")?;
-    let want = format!(in rt.alloc(); "Decl {{ name: {letters:?}, bounds: [2, 3] }}")?;
     let item = Decl {
-        name: letters,
+        name: name("M")?,
         bounds: vec![in rt.alloc(); 2, 3]?,
     };
     let text = format!(in rt.alloc(); "{item:?}")?;
-    assert_eq!(rt; text.as_str(), want.as_str());
+    assert_eq!(rt; text.as_str(), "Decl { name: \"M\", bounds: [2, 3] }");
     Ok(())
 }
 
@@ -107,12 +106,11 @@ fn shows_a_line(rt: HostRuntime) -> Result<(), Fail> {
 #[test]
 fn shows_a_program(rt: HostRuntime) -> Result<(), Fail> {
     let program = parsed(&rt, "SUBROUTINEA", "STOP")?;
-    let letters = name(&rt, "A")?;
     let text = format!(in rt.alloc(); "{program:?}")?;
-    let want = format!(in rt.alloc();
-        "Program {{ lines: [Line {{ label: None, stmt: Subroutine {{ name: {letters:?}, arguments: [] }}, line: 1 }}, \
-         Line {{ label: None, stmt: Stop, line: 2 }}, Line {{ label: None, stmt: End, line: 3 }}] }}"
-    )?;
-    assert_eq!(rt; text.as_str(), want.as_str());
+    assert_eq!(rt;
+        text.as_str(),
+        "Program { lines: [Line { label: None, stmt: Subroutine { name: \"A\", arguments: [] }, line: 1 }, \
+         Line { label: None, stmt: Stop, line: 2 }, Line { label: None, stmt: End, line: 3 }] }"
+    );
     Ok(())
 }
