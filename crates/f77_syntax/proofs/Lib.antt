@@ -1,3 +1,4 @@
 pub mod WordLengths
 pub mod ItemLengths
 pub mod StatementLengths
+pub mod JoinedItems

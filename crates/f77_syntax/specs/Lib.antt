@@ -1,3 +1,4 @@
+pub mod Joined
 pub use Rattle.f77_tree.specs.Assignment
 pub use Rattle.f77_tree.specs.Classification
 pub use Rattle.f77_tree.specs.Condition

@@ -1,33 +1,34 @@
 //! Computed GO TO statements read from texts.
 
-ghost use Rattle.std.specs.Prelude.{◌≡◌, List, ℕ};
+ghost use Rattle.std.specs.Prelude.{◌≡◌, ◌≤◌, List, ℕ, length, IfOk};
 ghost use Rattle.f77_tree.specs.ComputedGoto.{selector_at, computed_at};
 ghost use Rattle.f77_tree.specs.Joined.{items_at};
 ghost use Rattle.f77_tree.specs.Label.{label_at};
 ghost use Rattle.f77_tree.specs.View.{Gives};
 ghost use Rattle.f77_tree.specs.StatementView.{IsStatement, AreLabels};
 
-use crate::expression::{after_byte, closed, expression, past_comma};
+use crate::expression::{closed, expression, past_comma};
+use crate::joined::joined;
 use crate::label::label;
 use f77_tree::{ReadError, Stmt};
 use std::alloc::Global;
+
+/// Reads a label, and what follows.
+fn item(text: &[u8]) -> Result<(u32, &[u8]), ReadError>
+    ensures found { Gives (λ x a. (x.0 ≡ a.0) × (x.1.now ≡ a.1)) result (label_at text.now) }
+    ensures shorter { IfOk result (λ x. length x.1.now ≤ length text.now) }
+{
+    match label(text) {
+        Some((number, rest)) => Ok((number, rest)),
+        None => Err(ReadError::Unknown),
+    }
+}
 
 /// Reads labels joined by commas, and what follows.
 fn labels(alloc: Global, text: &[u8]) -> Result<(Vec<u32>, &[u8]), ReadError>
     ensures { Gives AreLabels result (items_at label_at text.now) }
 {
-    let mut labels = Vec::new(alloc);
-    let mut rest = text;
-    loop {
-        let Some((number, behind)) = label(rest) else {
-            return Err(ReadError::Unknown);
-        };
-        labels.push(number)?;
-        let Some(next) = after_byte(behind, b',') else {
-            return Ok((labels, behind));
-        };
-        rest = next;
-    }
+    joined(alloc, text, item)
 }
 
 /// Reads the expression behind the labels.

@@ -1,14 +1,14 @@
 //! Names with their initial values, read from texts.
 
-ghost use Rattle.std.specs.Prelude.{◌<◌, length, IfOk};
+ghost use Rattle.std.specs.Prelude.{◌≡◌, ◌<◌, ◌≤◌, length, IfOk};
 ghost use Rattle.f77_tree.specs.Data.{repeat_at, value_at, data_names_at, data_values_at, group_at, groups_at};
 ghost use Rattle.f77_tree.specs.Data.{clip_value, Finds, AreDataNames, AreDataValues, IsGroup, AreGroups};
-ghost use Rattle.std.specs.Prelude.{◌≡◌};
 ghost use Rattle.f77_tree.specs.Reading.{after};
 ghost use Rattle.f77_tree.specs.View.{clipped, Gives};
 
 use crate::constants::{digits, read_constant};
 use crate::expression::{after_byte, past_comma};
+use crate::joined::joined;
 use crate::names::add_name;
 use f77_tree::{DataGroup, Name, ReadError, Value};
 use std::alloc::Global;
@@ -46,22 +46,22 @@ fn names(alloc: Global, text: &[u8]) -> Result<(Vec<Name>, &[u8]), ReadError>
     }
 }
 
+/// Reads a value with its repeat, or tells that there is none.
+fn value(text: &[u8]) -> Result<(Value, &[u8]), ReadError>
+    ensures found { Gives (λ x a. (x.0 ≡ clip_value a.0) × (x.1.now ≡ a.1)) result (value_at text.now) }
+    ensures shorter { IfOk result (λ x. length x.1.now ≤ length text.now) }
+{
+    match read_value(text) {
+        Some((value, rest)) => Ok((value, rest)),
+        None => Err(ReadError::Unknown),
+    }
+}
+
 /// Reads values joined by commas, and what follows them.
 fn values(alloc: Global, text: &[u8]) -> Result<(Vec<Value>, &[u8]), ReadError>
     ensures { Gives AreDataValues result (data_values_at text.now) }
 {
-    let mut values = Vec::new(alloc);
-    let mut rest = text;
-    loop {
-        let Some((value, behind)) = read_value(rest) else {
-            return Err(ReadError::Unknown);
-        };
-        values.push(value)?;
-        let Some(next) = after_byte(behind, b',') else {
-            return Ok((values, behind));
-        };
-        rest = next;
-    }
+    joined(alloc, text, value)
 }
 
 /// What follows a slash.

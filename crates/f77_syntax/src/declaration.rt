@@ -1,32 +1,33 @@
 //! Declared names with their bounds, read from texts.
 
-ghost use Rattle.std.specs.Prelude.{◌≤◌, length, IfOk};
-ghost use Rattle.f77_tree.specs.Declaration.{bounds_at, decl_at, declarations_at, AreBounds, IsDecl, AreDecls};
-ghost use Rattle.f77_tree.specs.View.{Gives};
+ghost use Rattle.std.specs.Prelude.{◌≡◌, ◌≤◌, length, IfOk};
+ghost use Rattle.f77_tree.specs.Declaration.{number_at, bounds_at, decl_at, declarations_at, AreBounds, IsDecl, AreDecls};
+ghost use Rattle.f77_tree.specs.View.{clipped, Gives};
 
 use crate::expression::{after_byte, closed};
+use crate::joined::joined;
 use crate::scan::number;
 use f77_tree::characters::{is_name, is_number, split_word};
 use f77_tree::{Decl, Name, ReadError};
 use std::alloc::Global;
 
+/// Reads a bound, and what follows it.
+fn bound(text: &[u8]) -> Result<(u32, &[u8]), ReadError>
+    ensures found { Gives (λ x a. (x.0 ≡ clipped a.0) × (x.1.now ≡ a.1)) result (number_at text.now) }
+    ensures shorter { IfOk result (λ x. length x.1.now ≤ length text.now) }
+{
+    let (front, rest) = split_word(text);
+    if !is_number(front) {
+        return Err(ReadError::Unknown);
+    }
+    Ok((number(front), rest))
+}
+
 /// Reads bounds joined by commas, and what follows them.
 fn bounds(alloc: Global, text: &[u8]) -> Result<(Vec<u32>, &[u8]), ReadError>
     ensures { Gives AreBounds result (bounds_at text.now) }
 {
-    let mut bounds = Vec::new(alloc);
-    let mut rest = text;
-    loop {
-        let (front, behind) = split_word(rest);
-        if !is_number(front) {
-            return Err(ReadError::Unknown);
-        }
-        bounds.push(number(front))?;
-        let Some(next) = after_byte(behind, b',') else {
-            return Ok((bounds, behind));
-        };
-        rest = next;
-    }
+    joined(alloc, text, bound)
 }
 
 /// Reads a declared name with its bounds, and what follows.

@@ -48,12 +48,7 @@ fn step(alloc: Global, text: &[u8]) -> Result<Option<Expr>, ReadError>
 }
 
 /// Reads the parameters of a DO with this label and DO variable.
-fn parameters(
-    alloc: Global,
-    label: u32,
-    variable: &[u8],
-    text: &[u8],
-) -> Result<Stmt, ReadError>
+fn parameters(alloc: Global, label: u32, variable: &[u8], text: &[u8]) -> Result<Stmt, ReadError>
     requires { is_name variable.now ≡ true }
     ensures { Gives IsStatement result (parameters_at label variable.now text.now) }
 {

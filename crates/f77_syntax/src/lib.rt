@@ -10,6 +10,7 @@ mod data;
 mod declaration;
 mod do_loop;
 mod expression;
+mod joined;
 mod label;
 pub mod law;
 mod name_lengths;

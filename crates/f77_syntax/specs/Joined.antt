@@ -1,0 +1,27 @@
+-- Items joined by commas, each of them read by a function.
+use Rattle.std.specs.Prelude.{◌≡◌, ℕ, ◌≤◌, List, [], ◌∷◌, length, Result, Ok, Err, Some, None}
+use Rattle.std.specs.Borrow.{Bor}
+use Rattle.f77_tree.specs.declared.fault.ReadError.{ReadError}
+use Rattle.f77_tree.specs.declared.fault.ReadError.TheVariants.{Memory}
+use Rattle.f77_tree.specs.Reading.{after}
+
+-- what a function may answer at a text: an item and what follows it, or why there is none
+abbrev pub Reads : Type 0 → Type 1
+Reads T = Bor (List ℕ) → Result (T × Bor (List ℕ)) ReadError → Type 0
+
+-- what follows an item is no longer than the text
+abbrev pub Shortens : {T : Type 0} → Reads T → Type 0
+Shortens {T = T} R = (text : Bor (List ℕ)) (x : T × Bor (List ℕ)) → R text (Ok x) → length x.1.now ≤ length text.now
+
+-- the text is read as these items, one behind each comma, and what follows them
+pub data Joins {T : Type 0} (R : Reads T) : List ℕ → List T → List ℕ → Type 0 where
+  last : {text : Bor (List ℕ)} {x : T × Bor (List ℕ)} → R text (Ok x) → after 44 x.1.now ≡ None → Joins R text.now (x.0 ∷ []) x.1.now
+  more : {text : Bor (List ℕ)} {x : T × Bor (List ℕ)} {rest behind : List ℕ} {xs : List T} → R text (Ok x)
+      → after 44 x.1.now ≡ Some rest → Joins R rest xs behind → Joins R text.now (x.0 ∷ xs) behind
+
+-- why it is read as none: memory ran out, or an item has this fault
+pub data Breaks {T : Type 0} (R : Reads T) : List ℕ → ReadError → Type 0 where
+  memory : {text : List ℕ} → Breaks R text Memory
+  here : {text : Bor (List ℕ)} {e : ReadError} → R text (Err e) → Breaks R text.now e
+  later : {text : Bor (List ℕ)} {x : T × Bor (List ℕ)} {rest : List ℕ} {e : ReadError} → R text (Ok x)
+      → after 44 x.1.now ≡ Some rest → Breaks R rest e → Breaks R text.now e

@@ -1,0 +1,32 @@
+//! Items joined by commas, read from texts.
+
+ghost use Rattle.std.specs.Prelude.{MatchResult};
+ghost use Rattle.f77_syntax.specs.Joined.{Joins, Breaks, Shortens};
+
+use crate::expression::after_byte;
+use f77_tree::ReadError;
+use std::alloc::Global;
+
+/// Reads items joined by commas, each by this function, and what follows them.
+pub(crate) fn joined<'a, T: Drop, F: Fn(&'a [u8]) -> Result<(T, &'a [u8]), ReadError>>(
+    alloc: Global,
+    text: &'a [u8],
+    item: F,
+) -> Result<(Vec<T>, &'a [u8]), ReadError>
+    requires callable { F.IsAlwaysCallable item }
+    requires shorter { Shortens (F.post item) }
+    ensures { MatchResult result
+        (λ x. Joins (F.post item) text.now x.0.items x.1.now)
+        (λ e. Breaks (F.post item) text.now e) }
+{
+    let mut items = Vec::new(alloc);
+    let mut rest = text;
+    loop {
+        let (value, behind) = item(rest)?;
+        items.push(value)?;
+        let Some(next) = after_byte(behind, b',') else {
+            return Ok((items, behind));
+        };
+        rest = next;
+    }
+}
