@@ -4,7 +4,7 @@ use Rattle.std.specs.Prelude.{◌&&◌, map, codes}
 use Rattle.std.specs.List.{list_all, list_any}
 use Rattle.std.specs.Fmt.{decimal}
 use Rattle.std.proofs.lemmas.List.{length-map}
-use Rattle.std.proofs.lemmas.List.Folds.{list_any-append, list_all-map}
+use Rattle.std.proofs.lemmas.List.Folds.{list_any-append}
 use Rattle.f77_tree.specs.Grammar.{is_name}
 use Rattle.f77_tree.proofs.WordTexts.{is_equals}
 use Rattle.f77_tree.specs.View.{clipped}

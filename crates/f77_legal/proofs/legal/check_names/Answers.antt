@@ -1,4 +1,4 @@
-use Rattle.std.proofs.Common.{◌≡◌, map, ap, Some, ◌∙◌, sym}
+use Rattle.std.proofs.Common.{map, ap, ◌∙◌, sym}
 use Rattle.std.specs.Prelude.{option_map}
 use Rattle.f77_tree.specs.Parsing.{line_of}
 use Rattle.f77_legal.specs.declared.fault.CheckFault.TheVariants.{RealName, Twice}
