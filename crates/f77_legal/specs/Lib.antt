@@ -15,3 +15,5 @@ pub mod Clause
 pub mod Tables
 pub mod Legal
 pub mod Law
+pub mod Frames
+pub mod Patches

@@ -28,3 +28,4 @@ pub mod Printing
 pub mod Name
 pub mod Comparing
 pub mod SameTrees
+pub mod Patching

@@ -1,0 +1,37 @@
+-- What a change of one statement leaves as it was: the frame of a program, in which every statement that can be executed has lost its
+-- expressions, references and jumps. Declarations and DATA, labels, blocks and the ranges of DOs are told from the frame alone.
+use Rattle.std.specs.Prelude.{◌≡◌, false, List, map, None}
+use Rattle.f77_tree.specs.Parsing.{LineFields}
+use Rattle.f77_tree.specs.Tree.{Tree, Statement}
+
+-- a statement with no expression, reference or jump: an action is CONTINUE, and a DO keeps its label and its variable
+abbrev pub framed : Statement → Statement
+framed (Statement.Subroutine name names) = Statement.Subroutine name names
+framed (Statement.Declare kind declarations) = Statement.Declare kind declarations
+framed (Statement.Dimension declarations) = Statement.Dimension declarations
+framed (Statement.Preset groups) = Statement.Preset groups
+framed (Statement.Assign name items tree) = Statement.Continue
+framed (Statement.Goto label) = Statement.Continue
+framed (Statement.ComputedGoto labels tree) = Statement.Continue
+framed (Statement.ArithIf tree first second third) = Statement.Continue
+framed (Statement.LogicalIf tree statement) = Statement.Continue
+framed (Statement.BlockIf tree) = Statement.BlockIf (Tree.Truth false)
+framed (Statement.ElseIf tree) = Statement.ElseIf (Tree.Truth false)
+framed Statement.Else = Statement.Else
+framed Statement.EndIf = Statement.EndIf
+framed (Statement.Loop label name first last step) = Statement.Loop label name (Tree.Number 0) (Tree.Number 0) None
+framed Statement.Continue = Statement.Continue
+framed Statement.Return = Statement.Continue
+framed Statement.Stop = Statement.Continue
+framed Statement.Trap = Statement.Continue
+framed Statement.End = Statement.End
+
+abbrev pub framed_line : LineFields → LineFields
+framed_line line = record (line) { stmt = framed line.stmt }
+
+abbrev pub frame : List LineFields → List LineFields
+frame program = map framed_line program
+
+-- they differ in expressions, references, jumps and actions alone
+abbrev pub HaveOneFrame : List LineFields → List LineFields → Type 0
+HaveOneFrame program other = frame program ≡ frame other

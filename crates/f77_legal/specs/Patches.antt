@@ -1,0 +1,46 @@
+-- What a changed statement owes by itself, where the rest of a legal program stays.
+use Rattle.std.specs.Prelude.{◌≡◌, ◌≤◌, ℕ, Bool, true, false, List, [], ◌∷◌, length, map, filter, Option, Some}
+use Rattle.std.specs.List.{All, list_any, list_all, sum, slice_get}
+use Rattle.std.specs.Str.{bytes_eq}
+use Rattle.f77_tree.specs.Parsing.{LineFields}
+use Rattle.f77_tree.specs.Tree.{Statement}
+use Rattle.f77_legal.specs.declared.clause.Clause.{Clause}
+use Rattle.f77_legal.specs.declared.clause.Clause.TheVariants.{Kinds, Bounds, NamedLabels, Targets, Jumps, Variables}
+use Rattle.f77_legal.specs.declared.fault.CheckFault.{CheckFault}
+use Rattle.f77_legal.specs.Clause.{breaks, fault_at}
+use Rattle.f77_legal.specs.Labels.{is_terminal}
+use Rattle.f77_legal.specs.Legal.{is_array}
+use Rattle.f77_legal.specs.Loops.{terminal}
+use Rattle.f77_legal.specs.Names.{Symbol, mentions_of, name_in, symbols, is_real, is_twice}
+use Rattle.f77_legal.specs.Presets.{elements}
+
+-- the clauses that a statement of an unchanged frame may break, in the order of test
+abbrev pub own_clauses : List Clause
+own_clauses = Kinds ∷ (Bounds ∷ (NamedLabels ∷ (Targets ∷ (Jumps ∷ (Variables ∷ [])))))
+
+-- the first fault of the statement i, on this line, by itself
+abbrev pub own_fault : List LineFields → ℕ → ℕ → Statement → Option CheckFault
+own_fault program i line statement =
+    slice_get (map (λ clause. fault_at clause line) (filter (λ clause. breaks clause program i statement) own_clauses)) 0
+
+-- where the statement i ends a DO, this one may, too
+abbrev pub MayStandAt : List LineFields → ℕ → Statement → Type 0
+MayStandAt program i statement = (d : ℕ) → terminal program d ≡ Some i → is_terminal statement ≡ true
+
+-- the name is one of these
+abbrev pub is_among : List Symbol → Symbol → Bool
+is_among names name = list_any (bytes_eq name) names
+
+-- Names that a program may have: its own are among them, each is there once, none is REAL or declared twice, and all together are within
+-- the limits.
+pub record IsStock (names : List Symbol) (program : List LineFields) : Type 0 where
+  pub covers : All (λ name. is_among names name ≡ true) (symbols program)
+  pub once : All (λ name. length (filter (bytes_eq name) names) ≡ 1) names
+  pub typed : All (λ name. is_real program name ≡ false) names
+  pub declared : All (λ name. is_twice program name ≡ false) names
+  pub few : length names ≤ 100
+  pub small : sum (map (elements program) (filter (is_array program) names)) ≤ 10000
+
+-- each name of the statement is among these
+abbrev pub NamesAmong : List Symbol → Statement → Type 0
+NamesAmong names statement = list_all (λ mention. is_among names (name_in mention)) (mentions_of statement) ≡ true
