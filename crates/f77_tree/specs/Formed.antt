@@ -1,7 +1,9 @@
 -- Which trees some text spells, told from the tree alone: constants are of any size.
 use Rattle.std.specs.Prelude.{ℕ, List, Bool, true, false, ◌&&◌, not, Option, Some, None}
 use Rattle.std.specs.List.{list_all}
+use Rattle.f77_tree.specs.Form.{form_of}
 use Rattle.f77_tree.specs.Tree.{Tree, Trees, Statement}
+use Rattle.f77_tree.specs.declared.form.Form.{Form}
 use Rattle.f77_tree.specs.Grammar.{is_name, is_call}
 use Rattle.f77_tree.specs.Joined.{has_items}
 use Rattle.f77_tree.specs.Declaration.{declaration_formed, all_bounded}
@@ -35,27 +37,20 @@ abbrev pub step_formed : Option Tree → Bool
 step_formed None = true
 step_formed (Some t) = formed t
 
--- a statement that may stand in a logical IF
+-- statements of this form may stand in a logical IF
+abbrev pub acts : Form → Bool
+acts Form.Assign = true
+acts Form.Goto = true
+acts Form.ComputedGoto = true
+acts Form.ArithIf = true
+acts Form.Continue = true
+acts Form.Return = true
+acts Form.Stop = true
+acts Form.Trap = true
+acts _ = false
+
 abbrev pub is_action : Statement → Bool
-is_action (Statement.Subroutine name names) = false
-is_action (Statement.Declare kind ds) = false
-is_action (Statement.Dimension ds) = false
-is_action (Statement.Preset gs) = false
-is_action (Statement.Assign name items t) = true
-is_action (Statement.Goto label) = true
-is_action (Statement.ComputedGoto labels t) = true
-is_action (Statement.ArithIf t l m n) = true
-is_action (Statement.LogicalIf t s) = false
-is_action (Statement.BlockIf t) = false
-is_action (Statement.ElseIf t) = false
-is_action Statement.Else = false
-is_action Statement.EndIf = false
-is_action (Statement.Loop label name a b c) = false
-is_action Statement.Continue = true
-is_action Statement.Return = true
-is_action Statement.Stop = true
-is_action Statement.Trap = true
-is_action Statement.End = false
+is_action statement = acts (form_of statement)
 
 abbrev pub statement_formed : Statement → Bool
 statement_formed (Statement.Subroutine name names) = is_name name && list_all is_name names

@@ -2,28 +2,21 @@
 use Rattle.std.specs.Prelude.{◌≡◌, ℕ, ◌==◌, ◌&&◌, nat_lt, nat_le, Bool, List, [], ◌∷◌, ◌++◌, replicate, Option, Some, None}
 use Rattle.f77_tree.specs.declared.group.Group.{Group}
 use Rattle.f77_tree.specs.declared.group.Group.TheVariants.{Subroutine, Declaration, Data, Executable, End}
+use Rattle.f77_tree.specs.Form.{form_of}
 use Rattle.f77_tree.specs.Tree.{Statement}
+use Rattle.f77_tree.specs.declared.form.Form.{Form}
+
+-- the group that statements of a form belong to
+abbrev pub form_group : Form → Group
+form_group Form.Subroutine = Subroutine
+form_group Form.Declare = Declaration
+form_group Form.Dimension = Declaration
+form_group Form.Preset = Data
+form_group Form.End = End
+form_group _ = Executable
 
 abbrev pub group_of : Statement → Group
-group_of (Statement.Subroutine name names) = Subroutine
-group_of (Statement.Declare kind ds) = Declaration
-group_of (Statement.Dimension ds) = Declaration
-group_of (Statement.Preset gs) = Data
-group_of (Statement.Assign name items t) = Executable
-group_of (Statement.Goto label) = Executable
-group_of (Statement.ComputedGoto labels t) = Executable
-group_of (Statement.ArithIf t l m n) = Executable
-group_of (Statement.LogicalIf t s) = Executable
-group_of (Statement.BlockIf t) = Executable
-group_of (Statement.ElseIf t) = Executable
-group_of Statement.Else = Executable
-group_of Statement.EndIf = Executable
-group_of (Statement.Loop label name a b c) = Executable
-group_of Statement.Continue = Executable
-group_of Statement.Return = Executable
-group_of Statement.Stop = Executable
-group_of Statement.Trap = Executable
-group_of Statement.End = End
+group_of statement = form_group (form_of statement)
 
 -- the rank of a group in a subroutine
 abbrev pub rank : Group → ℕ

@@ -2,6 +2,7 @@ pub mod Intrinsic
 pub mod Operator
 pub mod Tree
 pub mod Grammar
+pub mod Form
 pub mod Formed
 pub mod Canonical
 pub mod Reading

@@ -12,6 +12,7 @@ ghost use Rattle.f77_tree.specs.StatementView.{statement_of};
 
 use crate::data::data_formed;
 use crate::declaration::{all_bounded, declaration_formed};
+use crate::form::Form;
 use crate::intrinsic::Intrinsic;
 use crate::name::{Name, known};
 use crate::tree::{Expr, Stmt};
@@ -127,27 +128,17 @@ impl Stmt {
     pub fn is_action(&self) -> bool
         ensures { result ≡ forms.is_action (statement_of self.now) }
     {
-        match self {
-            Stmt::Assign { .. }
-            | Stmt::Goto { .. }
-            | Stmt::ComputedGoto { .. }
-            | Stmt::ArithIf { .. }
-            | Stmt::Continue
-            | Stmt::Return
-            | Stmt::Stop
-            | Stmt::Trap => true,
-            Stmt::Subroutine { .. }
-            | Stmt::Declare { .. }
-            | Stmt::Dimension { .. }
-            | Stmt::Preset { .. }
-            | Stmt::LogicalIf { .. }
-            | Stmt::BlockIf { .. }
-            | Stmt::ElseIf { .. }
-            | Stmt::Else
-            | Stmt::EndIf
-            | Stmt::Loop { .. }
-            | Stmt::End => false,
-        }
+        matches!(
+            self.form(),
+            Form::Assign
+                | Form::Goto
+                | Form::ComputedGoto
+                | Form::ArithIf
+                | Form::Continue
+                | Form::Return
+                | Form::Stop
+                | Form::Trap
+        )
     }
 
     /// Whether some text spells the statement, names and constants of any length and size allowed.

@@ -6,6 +6,7 @@ ghost use Rattle.f77_tree.specs.Group.{group_of, may_stand};
 ghost use Rattle.f77_tree.specs.StatementView.{statement_of};
 ghost use Rattle.f77_tree.specs.declared.group.Group.TheVariants as Group;
 
+use crate::form::Form;
 use crate::tree::Stmt;
 
 /// The part of a subroutine that a statement belongs to, in the order of a subroutine (ANSI X3.9-1978, 3.5).
@@ -28,25 +29,12 @@ impl Stmt {
     pub fn group(&self) -> Group
         ensures { result ≡ group_of (statement_of self.now) }
     {
-        match self {
-            Stmt::Subroutine { .. } => Group::Subroutine,
-            Stmt::Declare { .. } | Stmt::Dimension { .. } => Group::Declaration,
-            Stmt::Preset { .. } => Group::Data,
-            Stmt::Assign { .. }
-            | Stmt::Goto { .. }
-            | Stmt::ComputedGoto { .. }
-            | Stmt::ArithIf { .. }
-            | Stmt::LogicalIf { .. }
-            | Stmt::BlockIf { .. }
-            | Stmt::ElseIf { .. }
-            | Stmt::Else
-            | Stmt::EndIf
-            | Stmt::Loop { .. }
-            | Stmt::Continue
-            | Stmt::Return
-            | Stmt::Stop
-            | Stmt::Trap => Group::Executable,
-            Stmt::End => Group::End,
+        match self.form() {
+            Form::Subroutine => Group::Subroutine,
+            Form::Declare | Form::Dimension => Group::Declaration,
+            Form::Preset => Group::Data,
+            Form::End => Group::End,
+            _ => Group::Executable,
         }
     }
 }

@@ -1,0 +1,79 @@
+//! The forms of statements.
+
+ghost use Rattle.std.specs.Prelude.{◌≡◌};
+ghost use Rattle.f77_tree.specs.Form.{form_of};
+ghost use Rattle.f77_tree.specs.StatementView.{statement_of};
+
+use crate::tree::Stmt;
+
+/// What a statement is, apart from what it names and computes (ANSI X3.9-1978, 7.1).
+#[derive(Clone, Copy, Debug, PartialEq, Eq)]
+pub enum Form {
+    /// SUBROUTINE (15.6).
+    Subroutine,
+    /// INTEGER or LOGICAL (8.4).
+    Declare,
+    /// DIMENSION (8.1).
+    Dimension,
+    /// DATA (section 9).
+    Preset,
+    /// An assignment (section 10).
+    Assign,
+    /// An unconditional GO TO (11.1).
+    Goto,
+    /// A computed GO TO (11.2).
+    ComputedGoto,
+    /// An arithmetic IF (11.4).
+    ArithIf,
+    /// A logical IF (11.5).
+    LogicalIf,
+    /// A block IF (11.6).
+    BlockIf,
+    /// ELSE IF (11.7).
+    ElseIf,
+    /// ELSE (11.8).
+    Else,
+    /// END IF (11.9).
+    EndIf,
+    /// DO (11.10).
+    Loop,
+    /// CONTINUE (11.11).
+    Continue,
+    /// RETURN (15.8).
+    Return,
+    /// STOP (11.12).
+    Stop,
+    /// What a mutant has in place of a statement.
+    Trap,
+    /// END (11.13).
+    End,
+}
+
+impl Stmt {
+    /// Its form. It takes no memory.
+    pub fn form(&self) -> Form
+        ensures { result ≡ form_of (statement_of self.now) }
+    {
+        match self {
+            Stmt::Subroutine { .. } => Form::Subroutine,
+            Stmt::Declare { .. } => Form::Declare,
+            Stmt::Dimension { .. } => Form::Dimension,
+            Stmt::Preset { .. } => Form::Preset,
+            Stmt::Assign { .. } => Form::Assign,
+            Stmt::Goto { .. } => Form::Goto,
+            Stmt::ComputedGoto { .. } => Form::ComputedGoto,
+            Stmt::ArithIf { .. } => Form::ArithIf,
+            Stmt::LogicalIf { .. } => Form::LogicalIf,
+            Stmt::BlockIf { .. } => Form::BlockIf,
+            Stmt::ElseIf { .. } => Form::ElseIf,
+            Stmt::Else => Form::Else,
+            Stmt::EndIf => Form::EndIf,
+            Stmt::Loop { .. } => Form::Loop,
+            Stmt::Continue => Form::Continue,
+            Stmt::Return => Form::Return,
+            Stmt::Stop => Form::Stop,
+            Stmt::Trap => Form::Trap,
+            Stmt::End => Form::End,
+        }
+    }
+}
