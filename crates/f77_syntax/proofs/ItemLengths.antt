@@ -11,7 +11,7 @@ use Rattle.f77_tree.specs.Declaration.{SpellsName, SpellsNumber, SpellsDecl, Spe
 use Rattle.f77_tree.specs.Data.{SpellsConstant, SpellsValue, SpellsGroup, SpellsGroups, group_names, data_names}
 use Rattle.f77_tree.specs.Limits.{is_short}
 use Rattle.f77_tree.specs.StatementGrammar.{SpellsLabel}
-use Rattle.f77_tree.proofs.Steps.{and_true}
+use Rattle.f77_tree.proofs.Tests.{and_true}
 use Rattle.f77_syntax.specs.NameLengths.{has_short_words}
 use Rattle.f77_syntax.proofs.WordLengths.{and_yes, joined_by, number_short, name_short, truth_short, listed_short}
 

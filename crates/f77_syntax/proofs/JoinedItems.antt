@@ -4,10 +4,10 @@ use Rattle.std.specs.Prelude.{map, MatchResult, Vec}
 use Rattle.std.specs.Borrow.{Bor}
 use Rattle.std.specs.declared.alloc.Global.{Global}
 use Rattle.f77_tree.specs.declared.fault.ReadError.{ReadError}
-use Rattle.f77_tree.specs.Reading.{after}
-use Rattle.f77_tree.specs.Joined.{items_at}
-use Rattle.f77_tree.specs.View.{Gives, Fails}
-use Rattle.f77_tree.proofs.JoinedTexts.{Listing, listing_starts, listing_fails, listing_goes_on, listing_ends}
+use Rattle.f77_syntax.specs.Reading.{after}
+use Rattle.f77_syntax.specs.Joined.{items_at}
+use Rattle.f77_syntax.specs.View.{Gives, Fails}
+use Rattle.f77_syntax.proofs.JoinedTexts.{Listing, listing_starts, listing_fails, listing_goes_on, listing_ends}
 use Rattle.f77_syntax.specs.Joined.{Reads, Shortens, Joins, Breaks}
 
 module _ {X A B : Type 0} (view : X → B) (kept : A → B) (item : List ℕ → Option (A × List ℕ)) where

@@ -12,9 +12,10 @@ use Rattle.f77_tree.specs.Grammar.{Spells, is_word, is_name, is_number}
 use Rattle.f77_tree.specs.Limits.{is_short, short_names, all_short_names}
 use Rattle.f77_tree.specs.StatementGrammar.{SpellsAction, SpellsStatement, optional_comma, kind_keyword}
 use Rattle.f77_tree.specs.StatementLimits.{statement_names}
-use Rattle.f77_tree.specs.StatementView.{clip_statement}
-use Rattle.f77_tree.proofs.Steps.{and_true}
-use Rattle.f77_tree.proofs.Complete.{name_words, number_words}
+use Rattle.f77_syntax.specs.StatementView.{clip_statement}
+use Rattle.f77_tree.proofs.Tests.{and_true}
+use Rattle.f77_tree.proofs.Words.{name_words}
+use Rattle.f77_syntax.proofs.Complete.{number_words}
 use Rattle.f77_syntax.specs.NameLengths.{is_between, has_short_words, keyword_of, ends_without_name, names_part}
 use Rattle.f77_syntax.proofs.WordLengths.{and_yes, and_both, joined_by, word_alone, name_behind, number_short, name_short, listed_short, spelled_names, reference_names}
 use Rattle.f77_syntax.proofs.ItemLengths.{comma_short, labels_short, arguments_names, declared_names, preset_names}

@@ -17,9 +17,10 @@ use Rattle.f77_tree.specs.Intrinsic.{function_name}
 use Rattle.f77_tree.specs.Tree.{Tree, Trees}
 use Rattle.f77_tree.specs.Grammar.{Spells, SpellsReference, SpellsAll, is_letter, is_digit, is_word, is_name, is_number, truth_text}
 use Rattle.f77_tree.specs.Limits.{is_short, short_names, all_short_names}
-use Rattle.f77_tree.specs.Reading.{past_digits}
-use Rattle.f77_tree.proofs.Steps.{and_true}
-use Rattle.f77_tree.proofs.Complete.{name_words, number_words}
+use Rattle.f77_syntax.specs.Reading.{past_digits}
+use Rattle.f77_tree.proofs.Tests.{and_true}
+use Rattle.f77_tree.proofs.Words.{name_words}
+use Rattle.f77_syntax.proofs.Complete.{number_words}
 use Rattle.f77_syntax.specs.NameLengths.{is_between, is_short_word, has_short_words}
 
 pub and_yes : (b : Bool) → (b && true) ≡ b

@@ -1,9 +1,23 @@
--- Items joined by commas, each of them read by a function.
-use Rattle.std.specs.Prelude.{◌≡◌, ℕ, ◌≤◌, List, [], ◌∷◌, length, Result, Ok, Err, Some, None}
+-- Items joined by commas: how they are read, and what a function reads of them that reads each by another.
+use Rattle.std.specs.Prelude.{ℕ, zero, suc, List, [], ◌∷◌, length, Option, Some, None, ◌≡◌, ◌≤◌, Result, Ok, Err}
+use Rattle.f77_syntax.specs.Reading.{◌>>=◌, after}
 use Rattle.std.specs.Borrow.{Bor}
 use Rattle.f77_tree.specs.declared.fault.ReadError.{ReadError}
 use Rattle.f77_tree.specs.declared.fault.ReadError.TheVariants.{Memory}
-use Rattle.f77_tree.specs.Reading.{after}
+
+-- an item has been read: what stands behind the comma that follows it is more items
+abbrev pub with_others : {A : Type 0} → (List ℕ → Option (List A × List ℕ)) → A → List ℕ → Option (List ℕ) → Option (List A × List ℕ)
+with_others others x rest None = Some (x ∷ [], rest)
+with_others others x rest (Some behind) = others behind >>= λ y. Some (x ∷ y.0, y.1)
+
+-- at most this many items, as long as commas join them
+abbrev pub items_within : {A : Type 0} → (List ℕ → Option (A × List ℕ)) → ℕ → List ℕ → Option (List A × List ℕ)
+items_within item zero s = None
+items_within item (suc n) s = item s >>= λ x. with_others (items_within item n) x.0 x.1 (after 44 x.1)
+
+-- the items at the front, and what follows them
+unfoldable pub items_at : {A : Type 0} → (List ℕ → Option (A × List ℕ)) → List ℕ → Option (List A × List ℕ)
+items_at item s = items_within item (suc (length s)) s
 
 -- what a function may answer at a text: an item and what follows it, or why there is none
 abbrev pub Reads : Type 0 → Type 1

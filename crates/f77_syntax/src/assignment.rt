@@ -1,8 +1,8 @@
 //! Assignments read from texts.
 
-ghost use Rattle.f77_tree.specs.Assignment.{reference_at, assign_at};
-ghost use Rattle.f77_tree.specs.View.{Gives};
-ghost use Rattle.f77_tree.specs.StatementView.{IsStatement, IsReference};
+ghost use Rattle.f77_syntax.specs.Assignment.{reference_at, assign_at};
+ghost use Rattle.f77_syntax.specs.View.{Gives};
+ghost use Rattle.f77_syntax.specs.StatementView.{IsStatement, IsReference};
 
 use crate::expression::{after_byte, closed, expression, list};
 use f77_tree::characters::{is_name, split_word};

@@ -1,10 +1,21 @@
 //! What a statement is, from its text as a whole.
 
 ghost use Rattle.std.specs.Prelude.{◌≡◌, ◌<◌, option_map};
-ghost use Rattle.f77_tree.specs.Classification as classification;
-ghost use Rattle.f77_tree.specs.Classification.{behind, class_of};
+ghost use Rattle.f77_syntax.specs.Classification as classification;
+ghost use Rattle.f77_syntax.specs.Classification.{behind, class_of};
 
-use f77_tree::Class;
+/// The class of a statement: how it is told from the others (ANSI X3.9-1978, 3.3).
+#[derive(Clone, Copy, Debug, PartialEq, Eq)]
+pub(crate) enum Class {
+    /// An arithmetic, a logical or a block IF.
+    If,
+    /// A DO.
+    Loop,
+    /// An assignment.
+    Assignment,
+    /// What its keyword says.
+    Keyword,
+}
 
 /// How many parentheses are open behind this character.
 fn deeper(depth: usize, c: u8) -> usize
@@ -33,7 +44,7 @@ pub(crate) fn behind(byte: u8, text: &[u8]) -> Option<&[u8]>
 }
 
 /// Whether the text begins with `IF(` and the character after the matching parenthesis is no `=`.
-#[tactic(auto, unfolding(f77_tree::specs::Classification::begins_if))]
+#[tactic(auto, unfolding(crate::specs::Classification::begins_if))]
 fn begins_if(text: &[u8]) -> bool
     ensures { result ≡ classification.begins_if text.now }
 {
@@ -47,7 +58,7 @@ fn begins_if(text: &[u8]) -> bool
 }
 
 /// The class of the statement that a text spells, if it spells one.
-#[tactic(auto, unfolding(f77_tree::specs::Classification::class_of))]
+#[tactic(auto, unfolding(crate::specs::Classification::class_of))]
 pub(crate) fn class_of(text: &[u8]) -> Class
     ensures { result ≡ class_of text.now }
 {

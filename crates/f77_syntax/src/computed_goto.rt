@@ -1,11 +1,11 @@
 //! Computed GO TO statements read from texts.
 
 ghost use Rattle.std.specs.Prelude.{◌≡◌, ◌≤◌, List, ℕ, length, IfOk};
-ghost use Rattle.f77_tree.specs.ComputedGoto.{selector_at, computed_at};
-ghost use Rattle.f77_tree.specs.Joined.{items_at};
-ghost use Rattle.f77_tree.specs.Label.{label_at};
-ghost use Rattle.f77_tree.specs.View.{Gives};
-ghost use Rattle.f77_tree.specs.StatementView.{IsStatement, AreLabels};
+ghost use Rattle.f77_syntax.specs.ComputedGoto.{selector_at, computed_at};
+ghost use Rattle.f77_syntax.specs.Joined.{items_at};
+ghost use Rattle.f77_syntax.specs.Label.{label_at};
+ghost use Rattle.f77_syntax.specs.View.{Gives};
+ghost use Rattle.f77_syntax.specs.StatementView.{IsStatement, AreLabels};
 
 use crate::expression::{closed, expression, past_comma};
 use crate::joined::joined;

@@ -1,10 +1,11 @@
 //! The condition of an IF, and the labels of an arithmetic IF, read from texts.
 
-ghost use Rattle.f77_tree.specs.Condition.{arithmetic_at, condition_at};
+ghost use Rattle.f77_syntax.specs.Condition.{arithmetic_at, condition_at};
 ghost use Rattle.std.specs.Prelude.{◌≡◌};
 ghost use Rattle.f77_tree.specs.Tree.{Tree};
-ghost use Rattle.f77_tree.specs.View.{tree_of, clip, Gives, IsTree};
-ghost use Rattle.f77_tree.specs.StatementView.{IsStatement};
+ghost use Rattle.f77_tree.specs.View.{tree_of};
+ghost use Rattle.f77_syntax.specs.View.{clip, Gives, IsTree};
+ghost use Rattle.f77_syntax.specs.StatementView.{IsStatement};
 
 use crate::expression::{closed, expression};
 use crate::label::labels;
@@ -24,7 +25,7 @@ pub(crate) fn condition(alloc: Global, text: &[u8]) -> Result<(Expr, &[u8]), Rea
 }
 
 /// Reads the labels of an arithmetic IF.
-#[tactic(auto, unfolding(f77_tree::specs::Condition::arithmetic_at))]
+#[tactic(auto, unfolding(crate::specs::Condition::arithmetic_at))]
 pub(crate) fn arithmetic(value: Expr, text: &[u8]) -> Result<Stmt, ReadError>
     ensures { (t : Tree) → tree_of value ≡ clip t → Gives IsStatement result (arithmetic_at t text.now) }
 {

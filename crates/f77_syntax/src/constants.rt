@@ -1,10 +1,10 @@
 //! The constants of DATA, read from texts.
 
 ghost use Rattle.std.specs.Prelude.{◌≡◌, pos};
-ghost use Rattle.f77_tree.specs.Declaration.{number_at};
+ghost use Rattle.f77_syntax.specs.Declaration.{number_at};
 ghost use Rattle.f77_tree.specs.Data as initial;
-ghost use Rattle.f77_tree.specs.Data.{signed_at, truth_at, constant_at, clip_constant, kept, Finds};
-ghost use Rattle.f77_tree.specs.View.{clipped};
+ghost use Rattle.f77_syntax.specs.Data.{signed_at, truth_at, constant_at, clip_constant, kept, Finds};
+ghost use Rattle.f77_syntax.specs.View.{clipped};
 
 use crate::scan::number;
 use f77_tree::Constant;

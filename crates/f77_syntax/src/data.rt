@@ -1,10 +1,10 @@
 //! Names with their initial values, read from texts.
 
 ghost use Rattle.std.specs.Prelude.{◌≡◌, ◌<◌, ◌≤◌, length, IfOk};
-ghost use Rattle.f77_tree.specs.Data.{repeat_at, value_at, data_names_at, data_values_at, group_at, groups_at};
-ghost use Rattle.f77_tree.specs.Data.{clip_value, Finds, AreDataNames, AreDataValues, IsGroup, AreGroups};
-ghost use Rattle.f77_tree.specs.Reading.{after};
-ghost use Rattle.f77_tree.specs.View.{clipped, Gives};
+ghost use Rattle.f77_syntax.specs.Data.{repeat_at, value_at, data_names_at, data_values_at, group_at, groups_at};
+ghost use Rattle.f77_syntax.specs.Data.{clip_value, Finds, AreDataNames, AreDataValues, IsGroup, AreGroups};
+ghost use Rattle.f77_syntax.specs.Reading.{after};
+ghost use Rattle.f77_syntax.specs.View.{clipped, Gives};
 
 use crate::constants::{digits, read_constant};
 use crate::expression::{after_byte, past_comma};

@@ -1,8 +1,8 @@
 //! Declared names with their bounds, read from texts.
 
 ghost use Rattle.std.specs.Prelude.{◌≡◌, ◌≤◌, length, IfOk};
-ghost use Rattle.f77_tree.specs.Declaration.{number_at, bounds_at, decl_at, declarations_at, AreBounds, IsDecl, AreDecls};
-ghost use Rattle.f77_tree.specs.View.{clipped, Gives};
+ghost use Rattle.f77_syntax.specs.Declaration.{number_at, bounds_at, decl_at, declarations_at, AreBounds, IsDecl, AreDecls};
+ghost use Rattle.f77_syntax.specs.View.{clipped, Gives};
 
 use crate::expression::{after_byte, closed};
 use crate::joined::joined;

@@ -1,10 +1,10 @@
 //! DO statements read from texts.
 
 ghost use Rattle.std.specs.Prelude.{◌≡◌, true, IfOk};
-ghost use Rattle.f77_tree.specs.DoLoop.{control_at, step_at, parameters_at, loop_at};
+ghost use Rattle.f77_syntax.specs.DoLoop.{control_at, step_at, parameters_at, loop_at};
 ghost use Rattle.f77_tree.specs.Grammar.{is_name};
-ghost use Rattle.f77_tree.specs.View.{Gives};
-ghost use Rattle.f77_tree.specs.StatementView.{IsStatement, IsControl, IsStep};
+ghost use Rattle.f77_syntax.specs.View.{Gives};
+ghost use Rattle.f77_syntax.specs.StatementView.{IsStatement, IsControl, IsStep};
 
 use crate::expression::{after_byte, expression, past_comma};
 use crate::label::label;

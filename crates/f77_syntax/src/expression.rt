@@ -1,12 +1,14 @@
 //! Expressions read from texts, by recursive descent.
 
 ghost use Rattle.std.specs.Prelude.{◌≡◌, ◌<◌, ◌≤◌, true, length, map, codes, IfOk, option_map};
-ghost use Rattle.f77_tree.specs.Reading.{reading, close_at, after, word, past_word, past_comma};
-ghost use Rattle.f77_tree.specs.Reading.{start_at, enclosed_at, signed_at, negated_at, dotted_at, word_at, listed_by};
+ghost use Rattle.f77_syntax.specs.Reading.{reading, close_at, after, past_comma};
+ghost use Rattle.f77_tree.specs.Grammar.{word, past_word};
+ghost use Rattle.f77_syntax.specs.Reading.{start_at, enclosed_at, signed_at, negated_at, dotted_at, word_at, listed_by};
 ghost use Rattle.f77_tree.specs.Grammar.{is_name};
 ghost use Rattle.f77_tree.specs.Intrinsic.{function_named};
 ghost use Rattle.f77_tree.specs.Limits.{cut};
-ghost use Rattle.f77_tree.specs.View.{tree_of, trees, Gives, IsTree, IsStart, IsList};
+ghost use Rattle.f77_tree.specs.View.{tree_of, trees};
+ghost use Rattle.f77_syntax.specs.View.{Gives, IsTree, IsStart, IsList};
 
 use crate::scan::{next_operator, number};
 use f77_tree::characters::{is_name, is_number, split_word};

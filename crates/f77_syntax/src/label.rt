@@ -2,7 +2,7 @@
 
 ghost use Rattle.std.specs.Prelude.{◌≡◌, true, option_map};
 ghost use Rattle.f77_tree.specs.Grammar as grammar;
-ghost use Rattle.f77_tree.specs.Label as labels;
+ghost use Rattle.f77_syntax.specs.Label as labels;
 ghost use Rattle.f77_tree.specs.StatementGrammar.{label_number};
 
 use crate::expression::after_byte;
@@ -27,7 +27,7 @@ fn label_number(row: &[u8]) -> u32
 }
 
 /// A label, and what follows it.
-#[tactic(auto, unfolding(f77_tree::specs::Label::label_at))]
+#[tactic(auto, unfolding(crate::specs::Label::label_at))]
 pub(crate) fn label(text: &[u8]) -> Option<(u32, &[u8])>
     ensures { option_map (λ x. (x.0, x.1.now)) result ≡ labels.label_at text.now }
 {
@@ -39,7 +39,7 @@ pub(crate) fn label(text: &[u8]) -> Option<(u32, &[u8])>
 }
 
 /// The label that is the whole text.
-#[tactic(auto, unfolding(f77_tree::specs::Label::last_label))]
+#[tactic(auto, unfolding(crate::specs::Label::last_label))]
 pub(crate) fn last_label(text: &[u8]) -> Option<u32>
     ensures { result ≡ labels.last_label text.now }
 {
@@ -48,7 +48,7 @@ pub(crate) fn last_label(text: &[u8]) -> Option<u32>
 }
 
 /// A label with a comma behind it, and what follows.
-#[tactic(auto, unfolding(f77_tree::specs::Label::label_comma))]
+#[tactic(auto, unfolding(crate::specs::Label::label_comma))]
 fn label_comma(text: &[u8]) -> Option<(u32, &[u8])>
     ensures { option_map (λ x. (x.0, x.1.now)) result ≡ labels.label_comma text.now }
 {
@@ -57,7 +57,7 @@ fn label_comma(text: &[u8]) -> Option<(u32, &[u8])>
 }
 
 /// Three labels joined by commas.
-#[tactic(auto, unfolding(f77_tree::specs::Label::labels_at))]
+#[tactic(auto, unfolding(crate::specs::Label::labels_at))]
 pub(crate) fn labels(text: &[u8]) -> Option<(u32, u32, u32)>
     ensures { result ≡ labels.labels_at text.now }
 {

@@ -4,7 +4,7 @@ ghost use Rattle.std.specs.Prelude.{◌≡◌, ℕ, List, length, map, None};
 ghost use Rattle.f77_source.specs.Card.{CardFields};
 ghost use Rattle.f77_tree.specs.Grammar.{Spells};
 ghost use Rattle.f77_tree.specs.StatementGrammar.{SpellsStatement};
-ghost use Rattle.f77_tree.specs.Classification.{class_of, statement_class};
+ghost use Rattle.f77_syntax.specs.Classification.{class_of, statement_class};
 ghost use Rattle.f77_tree.specs.Parsing.{LineFields, AreLines, HasLinesOrFault, IsFirstFault, IsProgram};
 ghost use Rattle.f77_tree.specs.Group.{group_of, AreInOrder};
 ghost use Rattle.f77_tree.specs.Tree.{Tree, Statement};
@@ -13,19 +13,19 @@ ghost use Rattle.f77_tree.specs.StatementLimits.{statement_nodes};
 ghost use Rattle.f77_tree.specs.declared.fault.SyntaxFault.{SyntaxFault};
 
 /// A text spells one expression at most.
-#[tactic(auto, using(f77_tree::proofs::Complete::one_tree))]
+#[tactic(auto, using(crate::proofs::Complete::one_tree))]
 pub fn one_tree()
     ensures { (text : List ℕ) (t u : Tree) → Spells 1 text t → Spells 1 text u → t ≡ u }
 {}
 
 /// A text spells one statement at most, though no word is reserved (ANSI X3.9-1978, 2.3).
-#[tactic(auto, using(f77_tree::proofs::StatementComplete::one_statement))]
+#[tactic(auto, using(crate::proofs::StatementComplete::one_statement))]
 pub fn one_statement()
     ensures { (text : List ℕ) (s t : Statement) → SpellsStatement text s → SpellsStatement text t → s ≡ t }
 {}
 
 /// Outside parentheses a text tells the class of the statement that it spells (ANSI X3.9-1978, 2.3 and 3.3).
-#[tactic(auto, using(f77_tree::proofs::StatementComplete::class_agrees))]
+#[tactic(auto, using(crate::proofs::StatementComplete::class_agrees))]
 pub fn one_class()
     ensures { (text : List ℕ) (s : Statement) → SpellsStatement text s → class_of text ≡ statement_class s }
 {}
@@ -42,13 +42,13 @@ pub fn one_program()
 {}
 
 /// SUBROUTINE stands first, then declarations, then DATA, then what is executed, and END last (ANSI X3.9-1978, 3.5).
-#[tactic(auto, using(f77_tree::proofs::InOrder::are_in_order))]
+#[tactic(auto, using(crate::proofs::InOrder::are_in_order))]
 pub fn statements_are_in_order()
     ensures { (program : List LineFields) → IsProgram None program → AreInOrder (map (λ line. group_of line.stmt) program) }
 {}
 
 /// The number of nodes that is limited is the number of those that an edit may name.
-#[tactic(auto, using(f77_tree::proofs::NodeCounts::nodes_counted))]
+#[tactic(auto, using(crate::proofs::NodeCounts::nodes_counted))]
 pub fn nodes_are_counted()
     ensures { (s : Statement) → length (nodes_of s) ≡ statement_nodes s }
 {}

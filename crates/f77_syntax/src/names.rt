@@ -1,9 +1,9 @@
 //! Names read from texts.
 
 ghost use Rattle.std.specs.Prelude.{◌≡◌, ◌≤◌, ◌++◌, [], ◌∷◌, length, IfOk};
-ghost use Rattle.f77_tree.specs.Declaration.{name_at};
+ghost use Rattle.f77_syntax.specs.Declaration.{name_at};
 ghost use Rattle.f77_tree.specs.Limits.{cut};
-ghost use Rattle.f77_tree.specs.View.{Gives};
+ghost use Rattle.f77_syntax.specs.View.{Gives};
 
 use f77_tree::characters::{is_name, split_word};
 use f77_tree::{Name, ReadError};

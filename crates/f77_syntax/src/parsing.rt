@@ -7,7 +7,8 @@ ghost use Rattle.f77_tree.specs.Group.{group_of, may_stand};
 ghost use Rattle.f77_tree.specs.Limits.{character_count, most_characters};
 ghost use Rattle.f77_tree.specs.Parsing.{IsAdmitted, IsRefused, IsFirstFault, AreLines, IsProgram, LineFields, line_of, misplaced, unfinished};
 ghost use Rattle.f77_tree.specs.Tree.{Statement};
-ghost use Rattle.f77_tree.specs.StatementView.{statement_of, clip_statement};
+ghost use Rattle.f77_tree.specs.StatementView.{statement_of};
+ghost use Rattle.f77_syntax.specs.StatementView.{clip_statement};
 ghost use Rattle.f77_tree.specs.declared.group.Group.TheVariants.{End};
 
 use crate::name_lengths::has_short_names;

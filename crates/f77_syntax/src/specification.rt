@@ -1,8 +1,8 @@
 //! INTEGER, LOGICAL, DIMENSION and DATA statements read from texts.
 
-ghost use Rattle.f77_tree.specs.Statement.{declared_at, dimension_at, preset_at};
-ghost use Rattle.f77_tree.specs.View.{Gives};
-ghost use Rattle.f77_tree.specs.StatementView.{IsStatement};
+ghost use Rattle.f77_syntax.specs.Statement.{declared_at, dimension_at, preset_at};
+ghost use Rattle.f77_syntax.specs.View.{Gives};
+ghost use Rattle.f77_syntax.specs.StatementView.{IsStatement};
 
 use crate::data::groups;
 use crate::declaration::declarations;

@@ -2,21 +2,23 @@
 
 ghost use Rattle.std.specs.Prelude.{◌≡◌, option_map};
 ghost use Rattle.std.specs.Str.{bytes_eq};
-ghost use Rattle.f77_tree.specs.Statement as reading;
-ghost use Rattle.f77_tree.specs.Statement.{simple_at, simple_action_at, action_at, branch_at, else_at, specification_at, keyword_at, statement_at};
+ghost use Rattle.f77_syntax.specs.Statement as reading;
+ghost use Rattle.f77_syntax.specs.Statement.{simple_at, simple_action_at, action_at, branch_at, else_at, specification_at, keyword_at, statement_at};
 ghost use Rattle.f77_tree.specs.Tree.{Tree};
-ghost use Rattle.f77_tree.specs.View.{tree_of, clip, Gives};
-ghost use Rattle.f77_tree.specs.StatementView.{statement_of, IsStatement};
+ghost use Rattle.f77_tree.specs.View.{tree_of};
+ghost use Rattle.f77_syntax.specs.View.{clip, Gives};
+ghost use Rattle.f77_tree.specs.StatementView.{statement_of};
+ghost use Rattle.f77_syntax.specs.StatementView.{IsStatement};
 
 use crate::assignment::assignment;
-use crate::classification::class_of;
+use crate::classification::{Class, class_of};
 use crate::computed_goto::computed;
 use crate::condition::{arithmetic, condition};
 use crate::do_loop::loop_statement;
 use crate::label::last_label;
 use crate::specification::{declared, dimension, preset};
 use crate::subroutine::subroutine;
-use f77_tree::{Class, Expr, Kind, ReadError, Stmt};
+use f77_tree::{Expr, Kind, ReadError, Stmt};
 use std::alloc::Global;
 
 fn spells(text: &[u8], word: &str) -> bool
@@ -26,7 +28,7 @@ fn spells(text: &[u8], word: &str) -> bool
 }
 
 /// A statement of one keyword alone.
-#[tactic(auto, unfolding(f77_tree::specs::Statement::word_statement))]
+#[tactic(auto, unfolding(crate::specs::Statement::word_statement))]
 fn word_statement(text: &[u8]) -> Option<Stmt>
     ensures { option_map statement_of result ≡ reading.word_statement text.now }
 {
@@ -49,7 +51,7 @@ fn word_statement(text: &[u8]) -> Option<Stmt>
 }
 
 /// An unconditional GO TO, or a statement of one keyword alone.
-#[tactic(auto, unfolding(f77_tree::specs::Statement::without_expression))]
+#[tactic(auto, unfolding(crate::specs::Statement::without_expression))]
 fn without_expression(text: &[u8]) -> Option<Stmt>
     ensures { option_map statement_of result ≡ reading.without_expression text.now }
 {
@@ -61,7 +63,7 @@ fn without_expression(text: &[u8]) -> Option<Stmt>
 }
 
 /// Reads a GO TO, or a statement of one keyword alone.
-#[tactic(auto, unfolding(f77_tree::specs::Statement::simple_at))]
+#[tactic(auto, unfolding(crate::specs::Statement::simple_at))]
 fn simple(alloc: Global, text: &[u8]) -> Result<Stmt, ReadError>
     ensures { Gives IsStatement result (simple_at text.now) }
 {
@@ -72,7 +74,7 @@ fn simple(alloc: Global, text: &[u8]) -> Result<Stmt, ReadError>
 }
 
 /// Reads the same, where it may stand in a logical IF.
-#[tactic(auto, unfolding(f77_tree::specs::Statement::simple_action_at))]
+#[tactic(auto, unfolding(crate::specs::Statement::simple_action_at))]
 fn simple_action(alloc: Global, text: &[u8]) -> Result<Stmt, ReadError>
     ensures { Gives IsStatement result (simple_action_at text.now) }
 {
@@ -84,7 +86,7 @@ fn simple_action(alloc: Global, text: &[u8]) -> Result<Stmt, ReadError>
 }
 
 /// Reads a statement that may stand in a logical IF.
-#[tactic(auto, unfolding(f77_tree::specs::Statement::action_at))]
+#[tactic(auto, unfolding(crate::specs::Statement::action_at))]
 fn action(alloc: Global, text: &[u8]) -> Result<Stmt, ReadError>
     ensures { Gives IsStatement result (action_at text.now) }
 {
@@ -109,7 +111,7 @@ fn begins_digit(text: &[u8]) -> bool
 }
 
 /// Reads what stands behind the condition of an IF.
-#[tactic(auto, unfolding(f77_tree::specs::Statement::branch_at))]
+#[tactic(auto, unfolding(crate::specs::Statement::branch_at))]
 fn branch(alloc: Global, condition: Expr, text: &[u8]) -> Result<Stmt, ReadError>
     ensures { (t : Tree) → tree_of condition ≡ clip t → Gives IsStatement result (branch_at t text.now) }
 {
@@ -127,7 +129,7 @@ fn branch(alloc: Global, condition: Expr, text: &[u8]) -> Result<Stmt, ReadError
 }
 
 /// Reads what stands behind the keyword ELSE.
-#[tactic(auto, unfolding(f77_tree::specs::Statement::else_at))]
+#[tactic(auto, unfolding(crate::specs::Statement::else_at))]
 fn otherwise(alloc: Global, text: &[u8]) -> Result<Stmt, ReadError>
     ensures { Gives IsStatement result (else_at text.now) }
 {
@@ -142,7 +144,7 @@ fn otherwise(alloc: Global, text: &[u8]) -> Result<Stmt, ReadError>
 }
 
 /// Reads a declaration or DATA, or else a GO TO or a statement of one keyword alone.
-#[tactic(auto, unfolding(f77_tree::specs::Statement::specification_at))]
+#[tactic(auto, unfolding(crate::specs::Statement::specification_at))]
 fn specification(alloc: Global, text: &[u8]) -> Result<Stmt, ReadError>
     ensures { Gives IsStatement result (specification_at text.now) }
 {
@@ -162,7 +164,7 @@ fn specification(alloc: Global, text: &[u8]) -> Result<Stmt, ReadError>
 }
 
 /// Reads a statement by its keyword.
-#[tactic(auto, unfolding(f77_tree::specs::Statement::keyword_at))]
+#[tactic(auto, unfolding(crate::specs::Statement::keyword_at))]
 fn keyword(alloc: Global, text: &[u8]) -> Result<Stmt, ReadError>
     ensures { Gives IsStatement result (keyword_at text.now) }
 {
@@ -176,7 +178,7 @@ fn keyword(alloc: Global, text: &[u8]) -> Result<Stmt, ReadError>
 }
 
 /// Reads a statement.
-#[tactic(auto, unfolding(f77_tree::specs::Statement::statement_at))]
+#[tactic(auto, unfolding(crate::specs::Statement::statement_at))]
 pub(crate) fn statement(alloc: Global, text: &[u8]) -> Result<Stmt, ReadError>
     ensures { Gives IsStatement result (statement_at text.now) }
 {

@@ -1,9 +1,9 @@
 //! SUBROUTINE statements read from texts.
 
 ghost use Rattle.std.specs.Prelude.{◌≡◌, length, option_map};
-ghost use Rattle.f77_tree.specs.Subroutine.{names_at, before_close, subroutine_at};
-ghost use Rattle.f77_tree.specs.View.{Gives};
-ghost use Rattle.f77_tree.specs.StatementView.{IsStatement, AreNames};
+ghost use Rattle.f77_syntax.specs.Subroutine.{names_at, before_close, subroutine_at};
+ghost use Rattle.f77_syntax.specs.View.{Gives};
+ghost use Rattle.f77_syntax.specs.StatementView.{IsStatement, AreNames};
 
 use crate::expression::after_byte;
 use crate::names::add_name;

@@ -1,32 +1,32 @@
--- Initial values: which of them some text spells, their canonical texts, and their limits.
-use Rattle.std.proofs.Common.{arith, ◌≡◌, ℕ, zero, suc, length, List, [], ◌∷◌, ◌++◌, Bool, true, false, cond, refl, sym, ◌∙◌, append_assoc, subst}
-use Rattle.std.specs.Prelude.{ℤ, pos, negsuc, ◌==◌, ◌&&◌, not, nat_le, map, codes}
-use Rattle.std.specs.List.{list_all, list_any}
+-- Initial values: which of them some text spells, and their canonical texts.
+use Rattle.std.proofs.Common.{arith, ◌≡◌, ℕ, suc, length, List, [], ◌∷◌, ◌++◌, Bool, true, false, cond, refl, sym, append_assoc, subst}
+use Rattle.std.specs.Prelude.{pos, negsuc, ◌==◌, ◌&&◌, not, nat_le, codes}
+use Rattle.std.specs.List.{list_all}
 use Rattle.std.specs.Fmt.{decimal}
 use Rattle.std.proofs.lemmas.Bool.{eqb-true}
-use Rattle.std.proofs.lemmas.Bool.Decides.{nat_tests}
-use Rattle.std.proofs.lemmas.List.{length-map}
-use Rattle.std.proofs.lemmas.List.Folds.{list_any-append}
 use Rattle.f77_tree.specs.declared.data.Constant.{Constant}
 use Rattle.f77_tree.specs.declared.data.Constant.TheVariants.{Number, Truth}
 use Rattle.f77_tree.specs.declared.data.Value.{Value}
 use Rattle.f77_tree.specs.Grammar.{is_name, truth_text}
-use Rattle.f77_tree.proofs.WordTexts.{is_equals}
-use Rattle.f77_tree.specs.View.{clipped}
-use Rattle.f77_tree.specs.Limits.{cut, largest}
+use Rattle.f77_tree.specs.Limits.{largest}
 use Rattle.f77_tree.specs.Joined.{Joined, some_all, separated}
-use Rattle.f77_tree.specs.Declaration.{SpellsName}
+use Rattle.f77_tree.specs.Declaration.{SpellsName, SpellsNumber}
 use Rattle.f77_tree.specs.Tree.{GroupFields}
-use Rattle.f77_tree.specs.Data.{size, SpellsConstant, SpellsValue, SpellsGroup, SpellsGroups, kept, clip_constant, clip_value, clip_group, any_value, is_group, data_formed, group_names, small_constant, small_value, group_constants, data_names, data_constants, data_nodes, constant_text, repeat_text, value_text, name_text, group_text, groups_text}
-use Rattle.f77_tree.proofs.Steps.{and_true}
-use Rattle.f77_tree.proofs.Clip.{constant_clip, small_clipped, short_cuts}
-use Rattle.f77_tree.proofs.Complete.{name_words}
-use Rattle.f77_tree.proofs.WordTexts.{words_no_equals}
+use Rattle.f77_tree.specs.Data.{SpellsConstant, SpellsValue, SpellsGroup, SpellsGroups, any_value, is_group, data_formed, small_constant, small_value, group_constants, data_constants, constant_text, repeat_text, value_text, name_text, group_text, groups_text, negative}
+use Rattle.f77_tree.proofs.Tests.{and_true}
 use Rattle.f77_tree.proofs.Plain.{IsPlain, both, plain_name, plain_decimal}
-use Rattle.f77_tree.proofs.JoinedTexts.{joined_all, joined_text, joined_back, plain_separated, joined_no_equals}
-use Rattle.f77_tree.proofs.DeclarationTexts.{number_words}
-use Rattle.f77_tree.proofs.DataTexts.{unsigned_spelled, minus_spelled, repeated_spelled}
+use Rattle.f77_tree.proofs.JoinedForms.{joined_all, joined_text, joined_back, plain_separated}
 use Rattle.f77_tree.proofs.DeclarationForms.{number_for, number_back}
+
+-- Two signs of a constant, and a repeat.
+pub unsigned_spelled : {text : List ℕ} {n : ℕ} → SpellsNumber text n → SpellsConstant text (Number (pos n))
+unsigned_spelled (SpellsNumber.numeral h) = SpellsConstant.unsigned h
+
+pub minus_spelled : (text : List ℕ) (n : ℕ) → SpellsNumber text n → SpellsConstant (45 ∷ text) (Number (negative n))
+minus_spelled text n (SpellsNumber.numeral h) = SpellsConstant.minus h
+
+pub repeated_spelled : {digits text : List ℕ} {n : ℕ} {c : Constant} → SpellsNumber digits n → SpellsConstant text c → SpellsValue (digits ++ (42 ∷ text)) (record { times = n; constant = c })
+repeated_spelled (SpellsNumber.numeral {text = digits} h) p = SpellsValue.repeated digits h p
 
 -- groups joined by commas
 with_commas : {text : List ℕ} {gs : List GroupFields} → Joined SpellsGroup text gs → SpellsGroups text gs
@@ -152,83 +152,6 @@ plain_group g h =
 
 pub plain_data : (gs : List GroupFields) → data_formed gs ≡ true → IsPlain (groups_text gs)
 plain_data gs h = plain_separated is_group group_text plain_group [] refl gs (list_of_some is_group gs h)
-
-constant_no_equals : {text : List ℕ} {c : Constant} → SpellsConstant text c → list_any is_equals text ≡ false
-constant_no_equals (SpellsConstant.unsigned {text = text} h) = words_no_equals text (number_words text h)
-constant_no_equals (SpellsConstant.plus {text = text} h) = words_no_equals text (number_words text h)
-constant_no_equals (SpellsConstant.minus {text = text} h) = words_no_equals text (number_words text h)
-constant_no_equals (SpellsConstant.logical true) = refl
-constant_no_equals (SpellsConstant.logical false) = refl
-
-value_no_equals : (text : List ℕ) (v : Value) → SpellsValue text v → list_any is_equals text ≡ false
-value_no_equals text v (SpellsValue.once p) = constant_no_equals p
-value_no_equals text v (SpellsValue.repeated digits {text = t} h p) =
-    list_any-append is_equals digits (42 ∷ t) ∙ rw (words_no_equals digits (number_words digits h)) (constant_no_equals p)
-
-name_no_equals : (text name : List ℕ) → SpellsName text name → list_any is_equals text ≡ false
-name_no_equals text name (SpellsName.named h) = words_no_equals text (name_words text h)
-
-group_no_equals : {text : List ℕ} {g : GroupFields} → SpellsGroup text g → list_any is_equals text ≡ false
-group_no_equals (SpellsGroup.group {x = x} {y = y} p q) =
-    list_any-append is_equals x (47 ∷ (y ++ 47 ∷ []))
-    ∙ rw (joined_no_equals name_no_equals p, list_any-append is_equals y (47 ∷ []), joined_no_equals value_no_equals q) refl
-
-pub data_no_equals : {text : List ℕ} {gs : List GroupFields} → SpellsGroups text gs → list_any is_equals text ≡ false
-data_no_equals (SpellsGroups.last p) = group_no_equals p
-data_no_equals (SpellsGroups.more {text = text} {rest = rest} p q) = list_any-append is_equals text rest ∙ rw (group_no_equals p) (data_no_equals q)
-data_no_equals (SpellsGroups.more_by_comma {text = text} {rest = rest} p q) = list_any-append is_equals text (44 ∷ rest) ∙ rw (group_no_equals p) (data_no_equals q)
-
--- Keeping them changes no limit, and within the limits it changes nothing.
-number_clip : (z : ℤ) → nat_le (size (kept z)) largest ≡ nat_le (size z) largest
-number_clip z = either (nat_le (size z) largest) refl
-  where
-    either : (b : Bool) → nat_le (size z) largest ≡ b → nat_le (size (cond b z (negsuc largest))) largest ≡ b
-    either true e = e
-    either false e = grind (arith, nat_tests)
-
-constant_limit : (c : Constant) → small_constant (clip_constant c) ≡ small_constant c
-constant_limit (Number z) = number_clip z
-constant_limit (Truth b) = refl
-
-least_clip : (n : ℕ) → nat_le 1 (clipped n) ≡ nat_le 1 n
-least_clip zero = refl
-least_clip (suc n) = grind (arith, nat_tests)
-
-value_limit : (v : Value) → small_value (clip_value v) ≡ small_value v
-value_limit v = rw (least_clip v.times, constant_clip v.times, constant_limit v.constant) refl
-
-values_limit : (vs : List Value) → list_all small_value (map clip_value vs) ≡ list_all small_value vs
-values_limit [] = refl
-values_limit (v ∷ vs) = rw (value_limit v, values_limit vs) refl
-
-constant_same : (c : Constant) → small_constant c ≡ true → clip_constant c ≡ c
-constant_same (Number z) h = rw h refl
-constant_same (Truth b) h = refl
-
-value_same : (v : Value) → small_value v ≡ true → clip_value v ≡ v
-value_same v h =
-    let (least, rest) = and_true (nat_le 1 v.times) (nat_le v.times largest && small_constant v.constant) h in
-    let (most, fits) = and_true (nat_le v.times largest) (small_constant v.constant) rest in
-    rw (small_clipped v.times most, constant_same v.constant fits) refl
-
-values_same : (vs : List Value) → list_all small_value vs ≡ true → map clip_value vs ≡ vs
-values_same [] h = refl
-values_same (v ∷ vs) h = let (first, others) = and_true (small_value v) (list_all small_value vs) h in rw (value_same v first, values_same vs others) refl
-
-pub data_constants_clip : (gs : List GroupFields) → data_constants (map clip_group gs) ≡ data_constants gs
-data_constants_clip [] = refl
-data_constants_clip (g ∷ gs) = rw (values_limit g.values, data_constants_clip gs) refl
-
-pub data_nodes_clip : (gs : List GroupFields) → data_nodes (map clip_group gs) ≡ data_nodes gs
-data_nodes_clip [] = refl
-data_nodes_clip (g ∷ gs) = rw (length-map g.names cut, length-map g.values clip_value, data_nodes_clip gs) refl
-
-pub data_kept : (gs : List GroupFields) → data_names gs ≡ true → data_constants gs ≡ true → map clip_group gs ≡ gs
-data_kept [] n h = refl
-data_kept (g ∷ gs) n h =
-    let (named, others_named) = and_true (group_names g) (data_names gs) n in
-    let (first, others) = and_true (group_constants g) (data_constants gs) h in
-    rw (short_cuts g.names named, values_same g.values first, data_kept gs others_named others) refl
 
 -- what the code finds of values
 pub some_values : (values : List Value) (b : Bool) → b ≡ (length values == 0) → not b ≡ some_all any_value values

@@ -1,25 +1,17 @@
--- Declared names: which of them some text spells, their canonical texts, and their limits.
-use Rattle.std.proofs.Common.{arith, ◌≡◌, ℕ, List, [], ◌∷◌, ◌++◌, Bool, true, false, refl, sym, ◌∙◌, append-nil, subst}
-use Rattle.std.specs.Prelude.{◌&&◌, map, codes}
-use Rattle.std.specs.List.{list_all, list_any}
+-- Declared names: which of them some text spells, and their canonical texts.
+use Rattle.std.proofs.Common.{arith, ◌≡◌, ℕ, List, [], ◌∷◌, ◌++◌, Bool, true, refl, sym, append-nil, subst}
+use Rattle.std.specs.Prelude.{◌&&◌, codes}
+use Rattle.std.specs.List.{list_all}
 use Rattle.std.specs.Fmt.{decimal}
-use Rattle.std.proofs.lemmas.List.{length-map}
-use Rattle.std.proofs.lemmas.List.Folds.{list_any-append}
 use Rattle.f77_tree.specs.Grammar.{is_name}
-use Rattle.f77_tree.proofs.WordTexts.{is_equals}
-use Rattle.f77_tree.specs.View.{clipped}
 use Rattle.f77_tree.specs.Joined.{separated}
 use Rattle.f77_tree.specs.Tree.{DeclFields}
-use Rattle.f77_tree.specs.Declaration.{SpellsNumber, SpellsDecl, SpellsDecls, clip_decl, all_bounded, is_decl, declaration_formed, decl_name, small_bound, decl_constants, declaration_names, declaration_constants, declaration_nodes, bounds_text, decl_text, declarations_text}
-use Rattle.f77_tree.proofs.Steps.{and_true}
+use Rattle.f77_tree.specs.Declaration.{SpellsNumber, SpellsDecl, SpellsDecls, is_decl, declaration_formed, small_bound, decl_constants, declaration_constants, bounds_text, decl_text, declarations_text}
+use Rattle.f77_tree.proofs.Tests.{and_true}
 use Rattle.f77_tree.proofs.Back.{decimal_number, small}
 use Rattle.f77_tree.proofs.Forming.{numeral}
-use Rattle.f77_tree.proofs.Clip.{constant_clip, small_clipped, short_cut}
-use Rattle.f77_tree.proofs.Complete.{name_words}
-use Rattle.f77_tree.proofs.WordTexts.{words_no_equals}
 use Rattle.f77_tree.proofs.Plain.{IsPlain, both, plain_name, plain_decimal}
-use Rattle.f77_tree.proofs.JoinedTexts.{joined_all, joined_text, joined_back, plain_separated, joined_no_equals}
-use Rattle.f77_tree.proofs.DeclarationTexts.{number_words}
+use Rattle.f77_tree.proofs.JoinedForms.{joined_all, joined_text, joined_back, plain_separated}
 
 -- Some text spells them exactly where they are formed.
 decl_formed : (text : List ℕ) (d : DeclFields) → SpellsDecl text d → is_decl d ≡ true
@@ -89,43 +81,3 @@ plain_decl d h = both d.name (bounds_text d.bounds) (plain_name d.name h) (plain
 pub plain_declaration : (ds : List DeclFields) → declaration_formed ds ≡ true → IsPlain (declarations_text ds)
 plain_declaration [] h = cc
 plain_declaration (d ∷ ds) h = plain_separated is_decl decl_text plain_decl [] refl (d ∷ ds) h
-
-pub number_no_equals : (text : List ℕ) (n : ℕ) → SpellsNumber text n → list_any is_equals text ≡ false
-number_no_equals text n (SpellsNumber.numeral h) = words_no_equals text (number_words text h)
-
-decl_no_equals : (text : List ℕ) (d : DeclFields) → SpellsDecl text d → list_any is_equals text ≡ false
-decl_no_equals text d (SpellsDecl.scalar n) = words_no_equals text (name_words text n)
-decl_no_equals text d (SpellsDecl.array {name = name} {text = inner} n p) =
-    list_any-append is_equals name (40 ∷ (inner ++ 41 ∷ []))
-    ∙ rw (words_no_equals name (name_words name n), list_any-append is_equals inner (41 ∷ []), joined_no_equals number_no_equals p) refl
-
-pub declaration_no_equals : {text : List ℕ} {ds : List DeclFields} → SpellsDecls text ds → list_any is_equals text ≡ false
-declaration_no_equals p = joined_no_equals decl_no_equals p
-
--- Keeping them changes no bound's limit and no node, and within the limits it changes nothing.
-bounds_clip : (bounds : List ℕ) → list_all small_bound (map clipped bounds) ≡ list_all small_bound bounds
-bounds_clip [] = refl
-bounds_clip (b ∷ bs) = rw (constant_clip b, bounds_clip bs) refl
-
-bounds_kept : (bounds : List ℕ) → list_all small_bound bounds ≡ true → map clipped bounds ≡ bounds
-bounds_kept [] h = refl
-bounds_kept (b ∷ bs) h =
-    let (first, others) = and_true (small_bound b) (list_all small_bound bs) h in rw (small_clipped b first, bounds_kept bs others) refl
-
-pub all_bounded_clip : (ds : List DeclFields) → all_bounded (map clip_decl ds) ≡ all_bounded ds
-all_bounded_clip [] = refl
-all_bounded_clip (d ∷ ds) = rw (length-map d.bounds clipped, all_bounded_clip ds) refl
-
-pub declaration_constants_clip : (ds : List DeclFields) → declaration_constants (map clip_decl ds) ≡ declaration_constants ds
-declaration_constants_clip [] = refl
-declaration_constants_clip (d ∷ ds) = rw (bounds_clip d.bounds, declaration_constants_clip ds) refl
-
-pub declaration_nodes_clip : (ds : List DeclFields) → declaration_nodes (map clip_decl ds) ≡ declaration_nodes ds
-declaration_nodes_clip ds = length-map ds clip_decl
-
-pub declaration_kept : (ds : List DeclFields) → declaration_names ds ≡ true → declaration_constants ds ≡ true → map clip_decl ds ≡ ds
-declaration_kept [] n h = refl
-declaration_kept (d ∷ ds) n h =
-    let (named, others_named) = and_true (decl_name d) (declaration_names ds) n in
-    let (first, others) = and_true (decl_constants d) (declaration_constants ds) h in
-    rw (short_cut d.name named, bounds_kept d.bounds first, declaration_kept ds others_named others) refl

@@ -16,7 +16,7 @@ use Rattle.f77_tree.specs.Grammar.{Spells, SpellsReference, SpellsAll, is_name, 
 use Rattle.f77_tree.specs.StatementGrammar.{tree_in_text, trees_in_text}
 use Rattle.f77_tree.specs.Canonical.{own_level, operand}
 use Rattle.f77_tree.specs.Formed.{is_some_list, is_reference, formed, all_formed}
-use Rattle.f77_tree.proofs.Steps.{and_true}
+use Rattle.f77_tree.proofs.Tests.{and_true}
 use Rattle.f77_tree.proofs.Back.{digit_is, mod_lt, one_more, as_operand, own_low, reference_formed, no_call, call_formed}
 
 pub some_list : {text : List ℕ} {items : Trees} → SpellsAll text items → is_some_list items ≡ true

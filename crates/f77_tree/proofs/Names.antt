@@ -10,9 +10,9 @@ use Rattle.std.proofs.lemmas.Str.Ascii.{IsAscii-nil, IsAscii-cons}
 use Rattle.f77_tree.specs.Grammar.{is_letter, is_word, is_name}
 use Rattle.f77_tree.specs.Limits.{is_short, cut}
 use Rattle.f77_tree.specs.Name.{padded, IsPadded}
-use Rattle.f77_tree.specs.Reading.{word}
-use Rattle.f77_tree.proofs.Complete.{name_words}
-use Rattle.f77_tree.proofs.Steps.{and_true}
+use Rattle.f77_tree.specs.Grammar.{word}
+use Rattle.f77_tree.proofs.Words.{name_words}
+use Rattle.f77_tree.proofs.Tests.{and_true}
 use Rattle.f77_tree.proofs.Words.{EndsWord, word_front}
 
 words_ascii : (s : List ℕ) → list_all is_word s ≡ true → IsAscii s

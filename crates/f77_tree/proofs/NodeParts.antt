@@ -79,9 +79,6 @@ parts_split items i item here is =
     ap (λ z. all_parts (trees (map tree_of z))) (drop_more items i item here)
     ∙ ap (λ z. parts (tree_of z) ++ parts_from items (i + 1)) (sym is)
 
-pub parts_none : (items : List Expr) (i : ℕ) → drop i items ≡ [] → parts_from items i ≡ []
-parts_none items i none = ap (λ z. all_parts (trees (map tree_of z))) none
-
 zero_push_view : (a : Box Expr Global) → tree_of (views.ZeroPush a) ≡ Tree.ZeroPush (tree_of a.value)
 zero_push_view a = ap tree_of (sym (rolls-ZeroPush a)) ∙ fold-roll-Expr Tree (List ℕ × List Tree) expr_step ref_step (Expr-F.ZeroPush a)
 

@@ -23,7 +23,7 @@ use Rattle.f77_tree.specs.Tree.{Tree, Trees}
 use Rattle.f77_tree.specs.Grammar.{is_letter, is_word, is_name, truth_text}
 use Rattle.f77_tree.specs.Canonical.{own_level, operand, text_of, list_text, rest_text}
 use Rattle.f77_tree.specs.Formed.{formed, all_formed}
-use Rattle.f77_tree.proofs.Steps.{and_true}
+use Rattle.f77_tree.proofs.Tests.{and_true}
 use Rattle.f77_tree.proofs.Back.{reference_formed, no_call, call_formed}
 
 -- no blank and no lower-case letter, but printable

@@ -6,7 +6,7 @@ use Rattle.std.specs.Fmt.{decimal}
 use Rattle.std.proofs.lemmas.Bool.{leb-true, le-leb}
 use Rattle.std.proofs.lemmas.List.{append-nil}
 use Rattle.std.proofs.lemmas.Fmt.{length-decimal-le}
-use Rattle.f77_tree.proofs.Steps.{and_true}
+use Rattle.f77_tree.proofs.Tests.{and_true}
 use Rattle.f77_tree.specs.Tree.{Tree, Statement}
 use Rattle.f77_tree.specs.Grammar.{Spells, is_name, is_number}
 use Rattle.f77_tree.specs.Joined.{has_items, separated}
@@ -19,7 +19,7 @@ use Rattle.f77_tree.proofs.Back.{decimal_number, own_low, small, back, back_refe
 use Rattle.f77_tree.specs.StatementGrammar.{kind_keyword}
 use Rattle.f77_tree.specs.Declaration.{declarations_text, declaration_formed, all_bounded}
 use Rattle.f77_tree.specs.Data.{groups_text}
-use Rattle.f77_tree.proofs.JoinedTexts.{joined_back}
+use Rattle.f77_tree.proofs.JoinedForms.{joined_back}
 use Rattle.f77_tree.proofs.DeclarationForms.{declaration_back}
 use Rattle.f77_tree.proofs.DataForms.{data_back}
 

@@ -10,7 +10,7 @@ use Rattle.f77_tree.specs.Grammar.{is_name, is_number}
 use Rattle.f77_tree.specs.Joined.{Joined, has_items}
 use Rattle.f77_tree.specs.StatementGrammar.{SpellsLabel, SpellsAction, SpellsStatement, IsFormed, in_text, tree_in_text, label_number, label_in_text}
 use Rattle.f77_tree.specs.Formed.{formed, all_formed, step_formed, is_action, statement_formed}
-use Rattle.f77_tree.proofs.Steps.{and_true}
+use Rattle.f77_tree.proofs.Tests.{and_true}
 use Rattle.f77_tree.proofs.Back.{own_low, decimal_number}
 use Rattle.f77_tree.proofs.Forming.{tree_formed, reference_name, reference_items, tree_in_text_formed, trees_in_text_formed, text_for, reference_for}
 use Rattle.f77_tree.specs.StatementGrammar.{kind_keyword}

@@ -12,7 +12,7 @@ use Rattle.f77_tree.specs.StatementGrammar.{SpellsStatement, IsFormed, IsUnmutat
 use Rattle.f77_tree.specs.Grammar.{is_letter, is_word, is_name}
 use Rattle.f77_tree.specs.Canonical.{text_of, list_text, names_text, step_text, statement_text}
 use Rattle.f77_tree.specs.Formed.{formed, all_formed, step_formed, is_action, statement_formed}
-use Rattle.f77_tree.proofs.Steps.{and_true, not_true}
+use Rattle.f77_tree.proofs.Tests.{and_true, not_true}
 use Rattle.f77_tree.proofs.StatementForming.{is_formed}
 use Rattle.f77_tree.specs.StatementLimits.{statement_constants}
 use Rattle.f77_tree.proofs.StatementBack.{bare_text, back_statement}
@@ -23,7 +23,7 @@ use Rattle.f77_tree.specs.Declaration.{declarations_text, declaration_formed, al
 use Rattle.f77_tree.specs.Data.{groups_text}
 use Rattle.f77_tree.specs.declared.tree.Kind.{Kind}
 use Rattle.f77_tree.specs.declared.tree.Kind.TheVariants.{Integer, Logical}
-use Rattle.f77_tree.proofs.JoinedTexts.{plain_separated}
+use Rattle.f77_tree.proofs.JoinedForms.{plain_separated}
 use Rattle.f77_tree.proofs.DeclarationForms.{any_size, any_sizes, plain_declaration}
 use Rattle.f77_tree.proofs.DataForms.{plain_data}
 

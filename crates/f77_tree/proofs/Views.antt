@@ -1,19 +1,17 @@
 -- The tree of each form of expression.
 use Rattle.std.specs.Prelude.{◌≡◌, ℕ, List, map, Bool, Option, option_map, Box, Vec}
-use Rattle.f77_tree.specs.declared.intrinsic.Intrinsic.{Intrinsic}
 use Rattle.std.proofs.Common.{ap, sym, ◌∙◌}
 use Rattle.std.specs.declared.alloc.Global.{Global}
 use Rattle.f77_tree.specs.declared.tree.Expr.{Expr}
 use Rattle.f77_tree.specs.declared.tree.Ref.{Ref}
 use Rattle.f77_tree.specs.declared.operator.Operator.{Operator}
 use Rattle.f77_tree.specs.declared.operator.Sign.{Sign}
-use Rattle.f77_tree.specs.declared.tree.Expr.TheVariants.{Number, Truth, rolls-Number, rolls-Truth, rolls-Reference, rolls-Call, rolls-Signed, rolls-Not, rolls-Binary}
+use Rattle.f77_tree.specs.declared.tree.Expr.TheVariants.{Number, Truth, rolls-Number, rolls-Truth, rolls-Reference, rolls-Signed, rolls-Not, rolls-Binary}
 use Rattle.f77_tree.specs.declared.tree.Expr.TheViews as views
 use Rattle.f77_tree.specs.declared.tree.Expr.TheOpen.{Expr-F}
 use Rattle.f77_tree.specs.declared.tree.Expr.TheFolds.{fold-roll-Expr, fold_out-Ref}
 use Rattle.f77_tree.specs.declared.tree.Stmt.{Stmt}
-use Rattle.f77_tree.specs.declared.tree.Stmt.TheVariants.{rolls-Subroutine, rolls-Declare, rolls-Dimension, rolls-Preset, rolls-Assign, rolls-ComputedGoto, rolls-ArithIf, rolls-LogicalIf, rolls-BlockIf, rolls-ElseIf, rolls-Else, rolls-Loop}
-use Rattle.f77_tree.specs.declared.tree.Stmt.TheVariants.{rolls-Goto, rolls-EndIf, rolls-Continue, rolls-Return, rolls-Stop, rolls-Trap, rolls-End}
+use Rattle.f77_tree.specs.declared.tree.Stmt.TheVariants.{rolls-Subroutine, rolls-Declare, rolls-Dimension, rolls-Preset, rolls-Assign, rolls-ComputedGoto, rolls-ArithIf, rolls-LogicalIf, rolls-BlockIf, rolls-ElseIf, rolls-Else, rolls-Loop, rolls-Goto, rolls-EndIf, rolls-Continue, rolls-Return, rolls-Stop, rolls-Trap, rolls-End}
 use Rattle.f77_tree.specs.declared.tree.Stmt.TheVariants as forms
 use Rattle.f77_tree.specs.declared.tree.Stmt.TheViews as boxed
 use Rattle.f77_tree.specs.declared.tree.Stmt as inside
@@ -33,9 +31,6 @@ number_view n = ap tree_of (sym (rolls-Number n)) ∙ fold-roll-Expr Tree (List 
 
 pub truth_view : (b : Bool) → tree_of (Truth b) ≡ Tree.Truth b
 truth_view b = ap tree_of (sym (rolls-Truth b)) ∙ fold-roll-Expr Tree (List ℕ × List Tree) expr_step ref_step (Expr-F.Truth b)
-
-pub call_view : (f : Intrinsic) (items : Vec Expr Global) → tree_of (views.Call f items) ≡ Tree.Call f (trees (map tree_of items.items))
-call_view f items = ap tree_of (sym (rolls-Call f items)) ∙ fold-roll-Expr Tree (List ℕ × List Tree) expr_step ref_step (Expr-F.Call f items)
 
 pub signed_view : (sign : Sign) (a : Box Expr Global) → tree_of (views.Signed sign a) ≡ Tree.Signed sign (tree_of a.value)
 signed_view sign a = ap tree_of (sym (rolls-Signed sign a)) ∙ fold-roll-Expr Tree (List ℕ × List Tree) expr_step ref_step (Expr-F.Signed sign a)

@@ -1,9 +1,15 @@
 -- The letters and digits at the front of a text.
 use Rattle.std.proofs.Common.{cond, ◌≡◌, ℕ, List, [], ◌∷◌, ◌++◌, Bool, true, false, refl, ap}
 use Rattle.std.specs.List.{list_all}
-use Rattle.f77_tree.proofs.Steps.{and_true}
-use Rattle.f77_tree.specs.Grammar.{is_word}
-use Rattle.f77_tree.specs.Reading.{word, past_word}
+use Rattle.f77_tree.proofs.Tests.{and_true}
+use Rattle.f77_tree.specs.Grammar.{is_word, word, past_word, is_letter, is_name}
+
+pub letter_word : (c : ℕ) → is_letter c ≡ true → is_word c ≡ true
+letter_word c h = rw h refl
+
+pub name_words : (s : List ℕ) → is_name s ≡ true → list_all is_word s ≡ true
+name_words [] e = cc
+name_words (c ∷ s) e = let (first, others) = and_true (is_letter c) (list_all is_word s) e in rw (letter_word c first) others
 
 pub word_whole : (s : List ℕ) → s ≡ word s ++ past_word s
 word_whole [] = refl

@@ -1,6 +1,6 @@
 -- Which blank-free texts spell which expressions (ANSI X3.9-1978, sections 5 and 6). Names and constants are of any
 -- length here.
-use Rattle.std.specs.Prelude.{◌≡◌, ℕ, ◌≤◌, List, [], ◌∷◌, ◌++◌, Bool, true, false, ◌&&◌, ◌||◌, nat_le, is_some, codes}
+use Rattle.std.specs.Prelude.{◌≡◌, ℕ, ◌≤◌, List, [], ◌∷◌, ◌++◌, Bool, true, false, ◌&&◌, ◌||◌, nat_le, is_some, codes, if◌then◌else◌}
 use Rattle.std.specs.List.{list_all}
 use Rattle.std.specs.Str.Parse.{digits_value}
 use Rattle.f77_tree.specs.declared.intrinsic.Intrinsic.{Intrinsic}
@@ -28,6 +28,15 @@ is_name (c ∷ s) = is_letter c && list_all is_word s
 abbrev pub is_number : List ℕ → Bool
 is_number [] = false
 is_number (c ∷ s) = is_digit c && list_all is_digit s
+
+-- the letters and digits at the front, and what follows them
+abbrev pub word : List ℕ → List ℕ
+word [] = []
+word (c ∷ s) = if is_word c then c ∷ word s else []
+
+abbrev pub past_word : List ℕ → List ℕ
+past_word [] = []
+past_word (c ∷ s) = if is_word c then past_word s else c ∷ s
 
 abbrev pub truth_text : Bool → List ℕ
 truth_text true = codes ".TRUE."

@@ -2,7 +2,7 @@
 use Rattle.std.specs.Prelude.{◌≡◌, ℕ, ◌-◌, List, ◌++◌, length, replicate, true}
 use Rattle.f77_tree.specs.Grammar.{is_name}
 use Rattle.f77_tree.specs.Limits.{is_short}
-use Rattle.f77_tree.specs.Reading.{word}
+use Rattle.f77_tree.specs.Grammar.{word}
 
 abbrev pub padded : List ℕ → List ℕ
 padded name = name ++ replicate (6 - length name) 32

@@ -39,7 +39,7 @@ pub struct DataGroup {
     pub values: Vec<Value>,
 }
 
-#[tactic(auto, using(crate::proofs::JoinedTexts::some_here, crate::proofs::JoinedTexts::none_here))]
+#[tactic(auto, using(crate::proofs::JoinedForms::some_here, crate::proofs::JoinedForms::none_here))]
 fn are_names(names: &[Name]) -> bool
     ensures formed { result ≡ some_all grammar.is_name names.now }
     ensures short { list_all is_short names.now ≡ true }
@@ -75,7 +75,7 @@ fn are_groups(groups: &[DataGroup]) -> bool
 }
 
 /// Whether some text spells the groups, names, repeats and constants of any length and size allowed.
-#[tactic(auto, using(crate::proofs::JoinedTexts::some_seen, crate::proofs::JoinedTexts::none_seen))]
+#[tactic(auto, using(crate::proofs::JoinedForms::some_seen, crate::proofs::JoinedForms::none_seen))]
 pub(crate) fn data_formed(groups: &[DataGroup]) -> bool
     ensures formed { result ≡ initial.data_formed (map data_group_of groups.now) }
     ensures short { result ≡ true → initial.data_names (map data_group_of groups.now) ≡ true }

@@ -49,7 +49,7 @@ fn known(items: &[Decl])
 }
 
 /// Whether some text spells the declared names, names and bounds of any length and size allowed.
-#[tactic(auto, using(crate::proofs::JoinedTexts::some_seen, crate::proofs::JoinedTexts::none_seen))]
+#[tactic(auto, using(crate::proofs::JoinedForms::some_seen, crate::proofs::JoinedForms::none_seen))]
 pub(crate) fn declaration_formed(items: &[Decl]) -> bool
     ensures formed { result ≡ declared.declaration_formed (map decl_of items.now) }
     ensures short { declared.declaration_names (map decl_of items.now) ≡ true }

@@ -4,7 +4,6 @@
 
 mod canonical;
 pub mod characters;
-mod classification;
 mod comparing;
 mod copying;
 mod data;
@@ -24,7 +23,6 @@ mod program;
 mod tree;
 
 pub use canonical::print_stmt;
-pub use classification::Class;
 pub use data::{Constant, DataGroup, Value};
 pub use declaration::{Decl, all_bounded};
 pub use fault::{ReadError, SyntaxFault};

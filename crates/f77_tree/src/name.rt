@@ -32,7 +32,7 @@ pub struct Name {
 impl Model for Name {
     ghost use Rattle.std.specs.Prelude.{List, ℕ};
     ghost use Rattle.std.proofs.Common.{ap, sym};
-    ghost use Rattle.f77_tree.specs.Reading.{word};
+    ghost use Rattle.f77_tree.specs.Grammar.{word};
     ghost use Rattle.f77_tree.specs.Name.{padded, IsPadded};
 
     ghost Value = { List ℕ };

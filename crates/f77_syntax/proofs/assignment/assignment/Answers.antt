@@ -2,7 +2,7 @@ use Rattle.std.proofs.Common.{◌≡◌, true, false, sym, ◌∙◌, length}
 use Rattle.std.specs.Prelude.{◌==◌}
 use Rattle.std.proofs.lemmas.Result.{err_from_is_err_and}
 use Rattle.f77_tree.proofs.Views.{assign_view}
-use Rattle.f77_tree.proofs.StatementGives.{assign_fails_target, assign_no_equals, assign_fails_value, assign_more, assign_whole}
+use Rattle.f77_syntax.proofs.StatementGives.{assign_fails_target, assign_no_equals, assign_fails_value, assign_more, assign_whole}
 use Rattle.f77_syntax.proofs.assignment.assignment.Goals as goal
 
 pub returns-in_err-target : goal.returns-in_err-target

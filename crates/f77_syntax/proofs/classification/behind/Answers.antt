@@ -1,4 +1,4 @@
-use Rattle.f77_tree.proofs.BranchGives.{behind_here}
+use Rattle.f77_syntax.proofs.BranchGives.{behind_here}
 use Rattle.f77_syntax.proofs.classification.behind.Goals as goal
 
 pub returns-then-c-byte : goal.returns-then-c-byte

@@ -1,5 +1,5 @@
 use Rattle.std.proofs.Common.{◌≡◌, ◌≤◌, drop}
-use Rattle.f77_tree.specs.Classification.{behind}
+use Rattle.f77_syntax.specs.Classification.{behind}
 use Rattle.f77_syntax.proofs.classification.behind.Given as goal
 
 abbrev pub invariant-loop-index : goal.invariant-loop-index

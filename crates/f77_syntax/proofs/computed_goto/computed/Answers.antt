@@ -1,8 +1,8 @@
 use Rattle.std.proofs.Common.{sym, ◌∙◌, ap, Some}
 use Rattle.std.proofs.lemmas.Result.{err_from_is_err_and}
-use Rattle.f77_tree.specs.StatementView.{IsStatement}
-use Rattle.f77_tree.proofs.Gives.{gives_along}
-use Rattle.f77_tree.proofs.ComputedGotoGives.{computed_fails, computed_open, computed_given}
+use Rattle.f77_syntax.specs.StatementView.{IsStatement}
+use Rattle.f77_syntax.proofs.Gives.{gives_along}
+use Rattle.f77_syntax.proofs.ComputedGotoGives.{computed_fails, computed_open, computed_given}
 use Rattle.f77_syntax.proofs.computed_goto.computed.Goals as goal
 
 pub returns-in_err-labels : goal.returns-in_err-labels

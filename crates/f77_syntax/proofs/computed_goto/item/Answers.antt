@@ -1,5 +1,5 @@
 use Rattle.std.proofs.Common.{sym}
-use Rattle.f77_tree.proofs.ComputedGotoGives.{label_shorter}
+use Rattle.f77_syntax.proofs.ComputedGotoGives.{label_shorter}
 use Rattle.f77_syntax.proofs.computed_goto.item.Goals as goal
 
 pub returns-in-Some-clause-shorter : goal.returns-in-Some-clause-shorter

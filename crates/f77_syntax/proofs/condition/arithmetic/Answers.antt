@@ -1,4 +1,4 @@
-use Rattle.f77_tree.proofs.BranchGives.{arithmetic_whole}
+use Rattle.f77_syntax.proofs.BranchGives.{arithmetic_whole}
 use Rattle.f77_syntax.proofs.condition.arithmetic.Goals as goal
 
 pub returns : goal.returns

@@ -1,8 +1,8 @@
 use Rattle.std.proofs.Common.{sym, ◌∙◌, ap}
 use Rattle.std.specs.Prelude.{codes, Some}
 use Rattle.std.proofs.lemmas.Result.{err_from_is_err_and}
-use Rattle.f77_tree.proofs.Steps.{strip_same, strip_other}
-use Rattle.f77_tree.proofs.BranchGives.{condition_none, condition_fails, condition_open, condition_whole}
+use Rattle.f77_syntax.proofs.Steps.{strip_same, strip_other}
+use Rattle.f77_syntax.proofs.BranchGives.{condition_none, condition_fails, condition_open, condition_whole}
 use Rattle.f77_syntax.proofs.condition.condition.Goals as goal
 
 pub returns-in_default : goal.returns-in_default

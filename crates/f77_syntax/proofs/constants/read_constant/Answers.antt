@@ -1,8 +1,9 @@
 use Rattle.std.proofs.Common.{arith, ◌≡◌, ◌∷◌, false, ◌∙◌, ap}
 use Rattle.std.specs.Prelude.{◌==◌, pos}
 use Rattle.std.proofs.lemmas.Bool.Decides.{nat_tests}
-use Rattle.f77_tree.specs.Data.{constant_at, signed_at, truth_at, negative, clip_constant}
-use Rattle.f77_tree.proofs.DataGives.{finds_none, finds_along, constant_none, constant_plus, constant_minus, constant_dot, constant_other}
+use Rattle.f77_syntax.specs.Data.{constant_at, signed_at, truth_at, clip_constant}
+use Rattle.f77_tree.specs.Data.{negative}
+use Rattle.f77_syntax.proofs.DataGives.{finds_none, finds_along, constant_none, constant_plus, constant_minus, constant_dot, constant_other}
 use Rattle.f77_syntax.proofs.constants.read_constant.Goals as goal
 
 pub returns-in_err-first : goal.returns-in_err-first

@@ -1,7 +1,7 @@
 use Rattle.std.proofs.Common.{refl, sym, ◌∙◌, ap}
 use Rattle.std.specs.Prelude.{Some}
 use Rattle.std.proofs.lemmas.Result.{err_from_is_err_and}
-use Rattle.f77_tree.proofs.DataGives.{group_fails_names, group_fails_open, group_fails_values, group_fails_close, group_whole, group_shorter}
+use Rattle.f77_syntax.proofs.DataGives.{group_fails_names, group_fails_open, group_fails_values, group_fails_close, group_whole, group_shorter}
 use Rattle.f77_syntax.proofs.data.group.Goals as goal
 
 pub returns-in_err-names-clause-found : goal.returns-in_err-names-clause-found

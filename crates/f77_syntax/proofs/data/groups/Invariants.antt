@@ -1,5 +1,5 @@
 use Rattle.std.proofs.Common.{length}
-use Rattle.f77_tree.proofs.DataGives.{Grouping}
+use Rattle.f77_syntax.proofs.DataGives.{Grouping}
 use Rattle.f77_syntax.proofs.data.groups.Given as goal
 
 abbrev pub invariant-loop-groups : goal.invariant-loop-groups

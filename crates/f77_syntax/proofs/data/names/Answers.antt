@@ -1,11 +1,11 @@
 use Rattle.std.proofs.Common.{◌≤◌, ℕ, List, length, refl, sym, ◌∙◌, ap, subst}
 use Rattle.std.proofs.lemmas.List.{map-id}
 use Rattle.std.proofs.lemmas.Result.{err_from_is_err_and}
-use Rattle.f77_tree.specs.Reading.{after}
-use Rattle.f77_tree.specs.Declaration.{name_at}
+use Rattle.f77_syntax.specs.Reading.{after}
+use Rattle.f77_syntax.specs.Declaration.{name_at}
 use Rattle.f77_tree.specs.Limits.{cut}
-use Rattle.f77_tree.specs.Data.{data_names_at}
-use Rattle.f77_tree.proofs.JoinedTexts.{listing_starts, listing_fails, listing_goes_on, listing_ends}
+use Rattle.f77_syntax.specs.Data.{data_names_at}
+use Rattle.f77_syntax.proofs.JoinedTexts.{listing_starts, listing_fails, listing_goes_on, listing_ends}
 use Rattle.f77_syntax.proofs.data.names.Goals as goal
 
 abbrev itself : List ℕ → List ℕ

@@ -1,7 +1,7 @@
 use Rattle.std.proofs.Common.{ℕ, List, length}
-use Rattle.f77_tree.specs.Declaration.{name_at}
+use Rattle.f77_syntax.specs.Declaration.{name_at}
 use Rattle.f77_tree.specs.Limits.{cut}
-use Rattle.f77_tree.proofs.JoinedTexts.{Listing}
+use Rattle.f77_syntax.proofs.JoinedTexts.{Listing}
 use Rattle.f77_syntax.proofs.data.names.Given as goal
 
 abbrev pub invariant-loop-names : goal.invariant-loop-names

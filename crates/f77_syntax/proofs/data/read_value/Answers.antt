@@ -1,6 +1,6 @@
 use Rattle.std.proofs.Common.{◌∙◌, ap, sym}
-use Rattle.f77_tree.specs.Data.{constant_at, value_at, clip_constant, clip_value}
-use Rattle.f77_tree.proofs.DataGives.{nothing_read, something_read, finds_none, starts, value_none, value_whole}
+use Rattle.f77_syntax.specs.Data.{constant_at, value_at, clip_constant, clip_value}
+use Rattle.f77_syntax.proofs.DataGives.{nothing_read, something_read, finds_none, starts, value_none, value_whole}
 use Rattle.f77_syntax.proofs.data.read_value.Goals as goal
 
 pub returns-in_err-constant : goal.returns-in_err-constant

@@ -1,8 +1,8 @@
 use Rattle.std.proofs.Common.{sym}
-use Rattle.f77_tree.specs.View.{clipped}
-use Rattle.f77_tree.specs.Declaration.{number_at}
-use Rattle.f77_tree.specs.Data.{repeat_at}
-use Rattle.f77_tree.proofs.DataGives.{nothing_read, something_read, finds_none, repeat_no_number, repeat_no_star, repeat_whole}
+use Rattle.f77_syntax.specs.View.{clipped}
+use Rattle.f77_syntax.specs.Declaration.{number_at}
+use Rattle.f77_syntax.specs.Data.{repeat_at}
+use Rattle.f77_syntax.proofs.DataGives.{nothing_read, something_read, finds_none, repeat_no_number, repeat_no_star, repeat_whole}
 use Rattle.f77_syntax.proofs.data.repeat.Goals as goal
 
 pub returns-in_err-times : goal.returns-in_err-times

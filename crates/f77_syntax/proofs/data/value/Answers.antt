@@ -1,6 +1,6 @@
 use Rattle.std.proofs.Common.{◌≤◌, length, sym, subst}
-use Rattle.f77_tree.specs.Data.{clip_value, value_at}
-use Rattle.f77_tree.proofs.DataGives.{nothing_read, something_read, value_shorter}
+use Rattle.f77_syntax.specs.Data.{clip_value, value_at}
+use Rattle.f77_syntax.proofs.DataGives.{nothing_read, something_read, value_shorter}
 use Rattle.f77_syntax.proofs.data.value.Goals as goal
 
 pub returns-in-Some-clause-found : goal.returns-in-Some-clause-found

@@ -1,8 +1,8 @@
 use Rattle.std.proofs.Common.{◌≡◌, true, false, sym, ◌∙◌, ap}
 use Rattle.std.specs.Str.Parse.{digits_value}
 use Rattle.f77_tree.specs.Grammar.{is_number}
-use Rattle.f77_tree.specs.View.{clipped}
-use Rattle.f77_tree.proofs.DeclarationGives.{no_number, a_number}
+use Rattle.f77_syntax.specs.View.{clipped}
+use Rattle.f77_syntax.proofs.DeclarationGives.{no_number, a_number}
 use Rattle.f77_syntax.proofs.declaration.bound.Goals as goal
 
 pub returns-then-not-is_number-clause-found : goal.returns-then-not-is_number-clause-found

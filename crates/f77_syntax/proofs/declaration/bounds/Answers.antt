@@ -1,7 +1,7 @@
 use Rattle.std.proofs.Common.{of_calls, ℕ, sym, ◌∙◌}
 use Rattle.std.proofs.lemmas.List.{map-id}
-use Rattle.f77_tree.specs.View.{clipped}
-use Rattle.f77_tree.specs.Declaration.{number_at, bounds_at}
+use Rattle.f77_syntax.specs.View.{clipped}
+use Rattle.f77_syntax.specs.Declaration.{number_at, bounds_at}
 use Rattle.f77_syntax.proofs.JoinedItems.{gives_items, gives_as}
 use Rattle.f77_syntax.proofs.declaration.bounds.Goals as goal
 

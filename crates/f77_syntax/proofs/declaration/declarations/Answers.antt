@@ -1,10 +1,11 @@
 use Rattle.std.proofs.Common.{◌≡◌, length, true, false, refl, sym, ◌∙◌, ap}
 use Rattle.std.specs.Prelude.{◌==◌}
 use Rattle.std.proofs.lemmas.Result.{err_from_is_err_and}
-use Rattle.f77_tree.specs.Reading.{after}
-use Rattle.f77_tree.specs.Declaration.{decl_of, clip_decl, decl_at}
-use Rattle.f77_tree.proofs.JoinedTexts.{listing_starts, listing_goes_on}
-use Rattle.f77_tree.proofs.DeclarationGives.{declarations_fail, declarations_end, declarations_stop, decl_shorter}
+use Rattle.f77_syntax.specs.Reading.{after}
+use Rattle.f77_tree.specs.Declaration.{decl_of}
+use Rattle.f77_syntax.specs.Declaration.{clip_decl, decl_at}
+use Rattle.f77_syntax.proofs.JoinedTexts.{listing_starts, listing_goes_on}
+use Rattle.f77_syntax.proofs.DeclarationGives.{declarations_fail, declarations_end, declarations_stop, decl_shorter}
 use Rattle.f77_syntax.proofs.declaration.declarations.Goals as goal
 
 pub loop-items-init : goal.loop-items-init

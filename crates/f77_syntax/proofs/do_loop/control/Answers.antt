@@ -1,6 +1,6 @@
 use Rattle.std.proofs.Common.{◌≡◌, true, false, refl, sym}
 use Rattle.f77_tree.specs.Grammar.{is_name}
-use Rattle.f77_tree.proofs.BranchGives.{control_none, control_unnamed, control_no_equals, control_whole}
+use Rattle.f77_syntax.proofs.BranchGives.{control_none, control_unnamed, control_no_equals, control_whole}
 use Rattle.f77_syntax.proofs.do_loop.control.Goals as goal
 
 pub returns-in_default-clause-read : goal.returns-in_default-clause-read

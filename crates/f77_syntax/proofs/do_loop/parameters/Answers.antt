@@ -1,6 +1,6 @@
 use Rattle.std.proofs.Common.{sym}
 use Rattle.std.proofs.lemmas.Result.{err_from_is_err_and}
-use Rattle.f77_tree.proofs.BranchGives.{parameters_fail, parameters_one, parameters_fail_last, parameters_fail_step, parameters_whole}
+use Rattle.f77_syntax.proofs.BranchGives.{parameters_fail, parameters_one, parameters_fail_last, parameters_fail_step, parameters_whole}
 use Rattle.f77_syntax.proofs.do_loop.parameters.Goals as goal
 
 pub returns-in_err-first : goal.returns-in_err-first

@@ -1,6 +1,6 @@
 use Rattle.std.proofs.Common.{◌≡◌, true, sym, length}
 use Rattle.std.specs.Prelude.{◌==◌}
-use Rattle.f77_tree.proofs.BranchGives.{step_whole}
+use Rattle.f77_syntax.proofs.BranchGives.{step_whole}
 use Rattle.f77_syntax.proofs.do_loop.step.Goals as goal
 
 pub returns : goal.returns

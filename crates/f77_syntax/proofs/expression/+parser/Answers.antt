@@ -4,9 +4,9 @@ use Rattle.std.proofs.lemmas.Result.{err_from_is_err_and}
 use Rattle.std.proofs.lemmas.Bool.{le-leb}
 use Rattle.std.proofs.lemmas.Bool.Decides.{nat_tests}
 use Rattle.f77_tree.specs.Operator.{level, left_level}
-use Rattle.f77_tree.specs.Reading.{reading, start_at}
-use Rattle.f77_tree.proofs.Steps.{strip_same, strip_other}
-use Rattle.f77_tree.proofs.Gives.{start_none, start_along, after_is, alone_at, last_at, expr_fails, start_shorter, climbing_starts, climb_fails, climbing_goes_on, ends_alone, ends_before, start_group, start_plus, start_minus, start_dot, start_word, group_whole, signed_whole, negated_whole, true_whole, false_whole, number_whole, scalar_whole, listed_whole, list_fails, list_goes_on, list_ends}
+use Rattle.f77_syntax.specs.Reading.{reading, start_at}
+use Rattle.f77_syntax.proofs.Steps.{strip_same, strip_other}
+use Rattle.f77_syntax.proofs.Gives.{start_none, start_along, after_is, alone_at, last_at, expr_fails, start_shorter, climbing_starts, climb_fails, climbing_goes_on, ends_alone, ends_before, start_group, start_plus, start_minus, start_dot, start_word, group_whole, signed_whole, negated_whole, true_whole, false_whole, number_whole, scalar_whole, listed_whole, list_fails, list_goes_on, list_ends}
 use Rattle.f77_syntax.proofs.expression.+parser.Goals as goal
 
 pub expression-returns-in_err-left-clause-found : goal.expression-returns-in_err-left-clause-found

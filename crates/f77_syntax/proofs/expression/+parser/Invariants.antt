@@ -1,5 +1,5 @@
 use Rattle.std.proofs.Common.{◌+◌, ◌*◌, length}
-use Rattle.f77_tree.proofs.Loops.{Climbing, Listing}
+use Rattle.f77_syntax.proofs.Loops.{Climbing, Listing}
 use Rattle.f77_syntax.proofs.expression.+parser.Given as goal
 
 abbrev pub decreases-list : goal.decreases-list

@@ -1,4 +1,4 @@
-use Rattle.f77_tree.proofs.BranchGives.{short_label}
+use Rattle.f77_syntax.proofs.BranchGives.{short_label}
 use Rattle.f77_syntax.proofs.label.label_number.Goals as goal
 
 pub returns-then-row-le-MOST_DIGITS : goal.returns-then-row-le-MOST_DIGITS

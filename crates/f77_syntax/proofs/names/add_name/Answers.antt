@@ -1,8 +1,8 @@
 use Rattle.std.proofs.Common.{◌≡◌, ◌++◌, ◌∷◌, [], true, false, sym, ap, ◌∙◌}
 use Rattle.f77_tree.specs.Grammar.{is_name}
 use Rattle.f77_tree.specs.Limits.{cut}
-use Rattle.f77_tree.specs.Reading.{word, past_word}
-use Rattle.f77_tree.proofs.DataGives.{no_name, a_name}
+use Rattle.f77_tree.specs.Grammar.{word, past_word}
+use Rattle.f77_syntax.proofs.DataGives.{no_name, a_name}
 use Rattle.f77_syntax.proofs.names.add_name.Goals as goal
 
 pub returns-then-not-is_name-clause-read : goal.returns-then-not-is_name-clause-read

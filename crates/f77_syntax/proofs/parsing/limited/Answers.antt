@@ -2,7 +2,7 @@ use Rattle.std.proofs.Common.{inr}
 use Rattle.std.proofs.lemmas.Result.{err_from_is_err_and}
 use Rattle.f77_tree.specs.Parsing.{IsRefused}
 use Rattle.f77_tree.specs.StatementView.{statement_of}
-use Rattle.f77_tree.proofs.Admit.{Kept, bad_name, bad_constant, many_nodes, all_well, not_spelled}
+use Rattle.f77_syntax.proofs.Admit.{Kept, bad_name, bad_constant, many_nodes, all_well, not_spelled}
 use Rattle.f77_syntax.proofs.parsing.limited.Goals as goal
 
 pub returns-then-is_too_deep : goal.returns-then-is_too_deep

@@ -1,5 +1,5 @@
 use Rattle.std.proofs.Common.{sym, ◌∙◌}
-use Rattle.f77_tree.proofs.Operators.{found_at, missed_at}
+use Rattle.f77_syntax.proofs.Operators.{found_at, missed_at}
 use Rattle.f77_syntax.proofs.scan.first_operator.Goals as goal
 
 pub returns-in-Some : goal.returns-in-Some

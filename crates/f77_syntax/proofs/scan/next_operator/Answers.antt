@@ -4,8 +4,8 @@ use Rattle.std.specs.Borrow.{Bor}
 use Rattle.std.proofs.lemmas.Bool.Decides.{nat_tests}
 use Rattle.f77_tree.specs.declared.operator.Operator.{Operator}
 use Rattle.f77_tree.specs.declared.operator.Operator.TheVariants.{Equivalent, NotEquivalent, Or, And, Less, LessOrEqual, Equal, NotEqual, GreaterOrEqual, Greater, Add, Subtract, Multiply, Divide, Power}
-use Rattle.f77_tree.specs.Reading.{first_operator, operator_at}
-use Rattle.f77_tree.proofs.Operators.{next_shorter}
+use Rattle.f77_syntax.specs.Reading.{first_operator, operator_at}
+use Rattle.f77_syntax.proofs.Operators.{next_shorter}
 use Rattle.f77_syntax.proofs.scan.next_operator.Goals as goal
 
 -- the operator by the first character

@@ -1,4 +1,4 @@
-use Rattle.f77_tree.proofs.Numbers.{number_step}
+use Rattle.f77_syntax.proofs.Numbers.{number_step}
 use Rattle.f77_syntax.proofs.scan.number.Goals as goal
 
 pub loop-c-preserved : goal.loop-c-preserved

@@ -1,4 +1,4 @@
-use Rattle.f77_tree.proofs.BranchGives.{declared_whole}
+use Rattle.f77_syntax.proofs.BranchGives.{declared_whole}
 use Rattle.f77_syntax.proofs.specification.declared.Goals as goal
 
 pub returns : goal.returns

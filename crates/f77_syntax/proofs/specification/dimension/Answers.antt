@@ -1,7 +1,7 @@
 use Rattle.std.proofs.Common.{◌≡◌, true, false}
 use Rattle.std.specs.Prelude.{map}
 use Rattle.f77_tree.specs.Declaration.{decl_of, all_bounded}
-use Rattle.f77_tree.proofs.BranchGives.{dimension_none, dimension_whole}
+use Rattle.f77_syntax.proofs.BranchGives.{dimension_none, dimension_whole}
 use Rattle.f77_syntax.proofs.specification.dimension.Goals as goal
 
 pub returns-then-not-all_bounded : goal.returns-then-not-all_bounded

@@ -1,4 +1,4 @@
-use Rattle.f77_tree.proofs.BranchGives.{preset_whole}
+use Rattle.f77_syntax.proofs.BranchGives.{preset_whole}
 use Rattle.f77_syntax.proofs.specification.preset.Goals as goal
 
 pub returns : goal.returns

@@ -1,7 +1,7 @@
 use Rattle.std.proofs.Common.{sym, ◌∙◌}
-use Rattle.f77_tree.specs.StatementView.{IsStatement}
-use Rattle.f77_tree.proofs.Gives.{gives_along}
-use Rattle.f77_tree.proofs.BranchGives.{action_keyword}
+use Rattle.f77_syntax.specs.StatementView.{IsStatement}
+use Rattle.f77_syntax.proofs.Gives.{gives_along}
+use Rattle.f77_syntax.proofs.BranchGives.{action_keyword}
 use Rattle.f77_syntax.proofs.statement.action.Goals as goal
 
 pub returns-in-Keyword : goal.returns-in-Keyword

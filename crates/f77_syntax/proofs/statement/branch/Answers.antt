@@ -1,8 +1,8 @@
 use Rattle.std.proofs.Common.{◌≡◌, true, false, sym, ◌∙◌, ap}
 use Rattle.std.specs.Prelude.{codes}
 use Rattle.std.specs.Str.{bytes_eq}
-use Rattle.f77_tree.specs.Statement.{begins_digit}
-use Rattle.f77_tree.proofs.BranchGives.{branch_block, branch_logical}
+use Rattle.f77_syntax.specs.Statement.{begins_digit}
+use Rattle.f77_syntax.proofs.BranchGives.{branch_block, branch_logical}
 use Rattle.f77_syntax.proofs.statement.branch.Goals as goal
 
 pub returns-then-eq : goal.returns-then-eq

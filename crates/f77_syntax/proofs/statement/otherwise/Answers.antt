@@ -3,8 +3,8 @@ use Rattle.std.specs.Prelude.{◌==◌, codes, not}
 use Rattle.std.specs.Str.{bytes_eq}
 use Rattle.f77_tree.specs.Tree.{Statement}
 use Rattle.f77_tree.proofs.Views.{else_view}
-use Rattle.f77_tree.proofs.BranchGives.{else_alone, else_whole}
-use Rattle.f77_tree.proofs.Steps.{not_false}
+use Rattle.f77_syntax.proofs.BranchGives.{else_alone, else_whole}
+use Rattle.f77_tree.proofs.Tests.{not_false}
 use Rattle.f77_syntax.proofs.statement.otherwise.Goals as goal
 
 pub returns-then-is_empty : goal.returns-then-is_empty

@@ -1,9 +1,9 @@
 use Rattle.std.proofs.Common.{sym, ◌∙◌, ap}
 use Rattle.std.specs.Prelude.{codes, Some}
-use Rattle.f77_tree.specs.StatementView.{IsStatement}
-use Rattle.f77_tree.proofs.Steps.{strip_same, strip_other}
-use Rattle.f77_tree.proofs.Gives.{gives_along}
-use Rattle.f77_tree.proofs.BranchGives.{given, without_kept, simple_computed, simple_without}
+use Rattle.f77_syntax.specs.StatementView.{IsStatement}
+use Rattle.f77_syntax.proofs.Steps.{strip_same, strip_other}
+use Rattle.f77_syntax.proofs.Gives.{gives_along}
+use Rattle.f77_syntax.proofs.BranchGives.{given, without_kept, simple_computed, simple_without}
 use Rattle.f77_syntax.proofs.statement.simple.Goals as goal
 
 pub returns-in-Some : goal.returns-in-Some

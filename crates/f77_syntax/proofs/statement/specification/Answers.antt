@@ -1,9 +1,9 @@
 use Rattle.std.proofs.Common.{sym, ◌∙◌, ap}
 use Rattle.std.specs.Prelude.{codes, Some}
-use Rattle.f77_tree.specs.StatementView.{IsStatement}
-use Rattle.f77_tree.proofs.Steps.{strip_same, strip_other}
-use Rattle.f77_tree.proofs.Gives.{gives_along}
-use Rattle.f77_tree.proofs.BranchGives.{specification_dimension, specification_preset, specification_simple}
+use Rattle.f77_syntax.specs.StatementView.{IsStatement}
+use Rattle.f77_syntax.proofs.Steps.{strip_same, strip_other}
+use Rattle.f77_syntax.proofs.Gives.{gives_along}
+use Rattle.f77_syntax.proofs.BranchGives.{specification_dimension, specification_preset, specification_simple}
 use Rattle.f77_syntax.proofs.statement.specification.Goals as goal
 
 pub returns-in-Some-strip_prefix-2 : goal.returns-in-Some-strip_prefix-2

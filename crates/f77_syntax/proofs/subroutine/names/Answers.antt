@@ -3,9 +3,9 @@ use Rattle.std.specs.Prelude.{◌==◌}
 use Rattle.std.proofs.lemmas.List.{nil_from_length}
 use Rattle.std.proofs.lemmas.Bool.{eqb-true}
 use Rattle.std.proofs.lemmas.Result.{err_from_is_err_and}
-use Rattle.f77_tree.specs.Reading.{after}
-use Rattle.f77_tree.proofs.NameGives.{name_read}
-use Rattle.f77_tree.proofs.StatementGives.{names_empty, names_fails, names_no_comma, naming_goes_on, naming_ends}
+use Rattle.f77_syntax.specs.Reading.{after}
+use Rattle.f77_syntax.proofs.NameGives.{name_read}
+use Rattle.f77_syntax.proofs.StatementGives.{names_empty, names_fails, names_no_comma, naming_goes_on, naming_ends}
 use Rattle.f77_syntax.proofs.subroutine.names.Goals as goal
 
 pub returns-then-is_empty : goal.returns-then-is_empty

@@ -1,5 +1,5 @@
 use Rattle.std.proofs.Common.{length}
-use Rattle.f77_tree.proofs.StatementGives.{Naming}
+use Rattle.f77_syntax.proofs.StatementGives.{Naming}
 use Rattle.f77_syntax.proofs.subroutine.names.Given as goal
 
 abbrev pub invariant-loop-names : goal.invariant-loop-names

@@ -1,5 +1,5 @@
 use Rattle.std.proofs.Common.{◌≡◌, ◌++◌, take, drop}
-use Rattle.f77_tree.specs.Reading.{word, past_word}
+use Rattle.f77_tree.specs.Grammar.{word, past_word}
 use Rattle.f77_tree.proofs.characters.split_word.Given as goal
 
 abbrev pub invariant-loop-i : goal.invariant-loop-i

@@ -1,6 +1,6 @@
 use Rattle.std.proofs.Common.{refl, ◌∷◌, ◌++◌, [], ◌∙◌, ap, string_bytes}
 use Rattle.f77_tree.specs.Data.{data_group_of, group_text}
-use Rattle.f77_tree.proofs.JoinedTexts.{separated_seen}
+use Rattle.f77_tree.proofs.JoinedForms.{separated_seen}
 use Rattle.f77_tree.proofs.data.print_groups.Goals as goal
 
 pub loop-group-preserved : goal.loop-group-preserved

@@ -1,6 +1,6 @@
 use Rattle.std.proofs.Common.{refl, ◌∷◌, ◌++◌, [], ◌∙◌, ap, string_bytes}
 use Rattle.f77_tree.specs.Data.{name_text}
-use Rattle.f77_tree.proofs.JoinedTexts.{separated_next}
+use Rattle.f77_tree.proofs.JoinedForms.{separated_next}
 use Rattle.f77_tree.proofs.data.print_names.Goals as goal
 
 pub loop-name-preserved : goal.loop-name-preserved

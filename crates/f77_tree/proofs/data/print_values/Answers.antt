@@ -1,6 +1,6 @@
 use Rattle.std.proofs.Common.{refl, ◌∷◌, []}
 use Rattle.f77_tree.specs.Data.{value_text}
-use Rattle.f77_tree.proofs.JoinedTexts.{separated_next}
+use Rattle.f77_tree.proofs.JoinedForms.{separated_next}
 use Rattle.f77_tree.proofs.data.print_values.Goals as goal
 
 pub loop-value-preserved : goal.loop-value-preserved

@@ -1,6 +1,6 @@
 use Rattle.std.proofs.Common.{refl, ◌∷◌, []}
 use Rattle.std.specs.Fmt.{decimal}
-use Rattle.f77_tree.proofs.JoinedTexts.{separated_next}
+use Rattle.f77_tree.proofs.JoinedForms.{separated_next}
 use Rattle.f77_tree.proofs.declaration.print_bounds.Goals as goal
 
 pub loop-bound-preserved : goal.loop-bound-preserved

@@ -1,6 +1,6 @@
 use Rattle.std.proofs.Common.{refl, ◌∷◌, ◌++◌, [], ◌∙◌, ap, string_bytes}
 use Rattle.f77_tree.specs.Declaration.{decl_of, decl_text}
-use Rattle.f77_tree.proofs.JoinedTexts.{separated_seen}
+use Rattle.f77_tree.proofs.JoinedForms.{separated_seen}
 use Rattle.f77_tree.proofs.declaration.print_declarations.Goals as goal
 
 pub loop-item-preserved : goal.loop-item-preserved

@@ -1,0 +1,64 @@
+-- What the limits say of the text and of the statement that is kept, they say of the one that the text spells.
+use Rattle.std.proofs.Common.{arith, ◌≡◌, ◌⊎◌, inl, inr, ◌≤◌, ◌<◌, ℕ, List, Bool, true, false, ap, sym, ◌∙◌, subst}
+use Rattle.std.specs.Prelude.{min}
+use Rattle.f77_tree.specs.declared.fault.SyntaxFault.{SyntaxFault}
+use Rattle.f77_tree.specs.declared.fault.SyntaxFault.TheVariants.{Memory, Unknown, BadName, BadConstant, TooLong}
+use Rattle.f77_tree.specs.Tree.{Statement}
+use Rattle.f77_tree.specs.StatementGrammar.{SpellsStatement}
+use Rattle.f77_syntax.specs.StatementView.{clip_statement}
+use Rattle.f77_tree.specs.Limits.{character_count, most_characters, IsTooDeep}
+use Rattle.f77_tree.specs.StatementLimits.{statement_names, statement_constants, statement_nodes}
+use Rattle.f77_tree.specs.Parsing.{IsAdmitted, IsRefused}
+use Rattle.f77_syntax.proofs.StatementClip.{statement_constants_clip, statement_nodes_clip, statement_kept}
+
+-- a text within the limits on texts, and the statement that was kept of it
+pub record Kept (text : List ℕ) (got : Statement) : Type 0 where
+  pub characters : character_count text ≤ most_characters
+  pub flat : ¬ (IsTooDeep text)
+  pub spells : (s : Statement) × SpellsStatement text s × (got ≡ clip_statement s)
+
+-- whether the names of the statement that the text spells are short, where this one was kept of it
+abbrev pub SaysNames : List ℕ → Statement → Bool → Type 0
+SaysNames text got b = (s : Statement) → SpellsStatement text s → got ≡ clip_statement s → b ≡ statement_names s
+
+pub bad_name : (line : ℕ) (text : List ℕ) (got : Statement) (b : Bool) → Kept text got → SaysNames text got b → b ≡ false → IsRefused line text (BadName line)
+bad_name line text got b k e f =
+    let (s, p, same) = k.spells in
+    IsRefused.name k.characters k.flat p (sym (e s p same) ∙ f)
+
+pub bad_constant : (line : ℕ) (text : List ℕ) (got : Statement) (b d : Bool) → Kept text got → SaysNames text got b → b ≡ true
+    → d ≡ statement_constants got → d ≡ false → IsRefused line text (BadConstant line)
+bad_constant line text got b d k e f g h =
+    let (s, p, same) = k.spells in
+    IsRefused.constant k.characters k.flat p (sym (e s p same) ∙ f)
+    (sym (statement_constants_clip s) ∙ ap statement_constants (sym same) ∙ sym g ∙ h)
+
+pub many_nodes : (line : ℕ) (text : List ℕ) (got : Statement) (b d : Bool) (n : ℕ) → Kept text got → SaysNames text got b → b ≡ true
+    → d ≡ statement_constants got → d ≡ true → n ≡ min (statement_nodes got) 4294967295 → 200 < n → IsRefused line text (TooLong line)
+many_nodes line text got b d n k e f g h i j =
+    let (s, p, same) = k.spells in
+    let count : statement_nodes got ≡ statement_nodes s = ap statement_nodes same ∙ statement_nodes_clip s in
+    let more : 200 < statement_nodes got = omega arith in
+    IsRefused.nodes k.characters k.flat p (sym (e s p same) ∙ f)
+    (sym (statement_constants_clip s) ∙ ap statement_constants (sym same) ∙ sym g ∙ h) (rw (sym count) more)
+
+pub all_well : (text : List ℕ) (got : Statement) (b d : Bool) (n : ℕ) → Kept text got → SaysNames text got b → b ≡ true
+    → d ≡ statement_constants got → d ≡ true → n ≡ min (statement_nodes got) 4294967295 → n ≤ 200 → IsAdmitted text got
+all_well text got b d n k e f g h i j =
+    let (s, p, same) = k.spells in
+    let small : statement_constants s ≡ true = sym (statement_constants_clip s) ∙ ap statement_constants (sym same) ∙ sym g ∙ h in
+    let short : statement_names s ≡ true = sym (e s p same) ∙ f in
+    let is : s ≡ got = sym (statement_kept s short small) ∙ sym same in
+    record {
+      characters = k.characters;
+      flat = k.flat;
+      spells = subst (λ z. SpellsStatement text z) is p;
+      names = subst (λ z. statement_names z ≡ true) is short;
+      constants = sym g ∙ h;
+      nodes = omega arith;
+    }
+
+pub not_spelled : (line : ℕ) (text : List ℕ) (fault : SyntaxFault) → character_count text ≤ most_characters → ¬ (IsTooDeep text)
+    → (fault ≡ Memory) ⊎ ((fault ≡ Unknown line) × ((s : Statement) → ¬ (SpellsStatement text s))) → (fault ≡ Memory) ⊎ IsRefused line text fault
+not_spelled line text fault h flat (inl e) = inl e
+not_spelled line text fault h flat (inr p) = inr (subst (λ f. IsRefused line text f) (sym p.0) (IsRefused.unknown h flat p.1))

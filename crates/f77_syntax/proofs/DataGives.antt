@@ -1,0 +1,218 @@
+-- What the readers of initial values give, from what they call.
+use Rattle.std.proofs.Common.{arith, ◌≡◌, ◌<◌, ◌≤◌, ℕ, zero, suc, length, length-append, List, [], ◌∷◌, ◌++◌, true, false, refl, Option, Some, None, ap, sym, ◌∙◌, append_assoc, subst}
+use Rattle.std.specs.Prelude.{pos, ◌==◌, map, option_map, unwrap_or}
+use Rattle.std.specs.Borrow.{Bor}
+use Rattle.std.proofs.lemmas.Option.{same_Some, none-some}
+use Rattle.f77_tree.specs.declared.fault.ReadError.{ReadError}
+use Rattle.f77_tree.specs.declared.data.Constant.{Constant}
+use Rattle.f77_tree.specs.declared.data.Value.{Value}
+use Rattle.f77_tree.specs.declared.data.DataGroup.{DataGroup}
+use Rattle.f77_tree.specs.Grammar.{is_name, word, past_word}
+use Rattle.f77_syntax.specs.Reading.{◌>>=◌, after, past_comma}
+use Rattle.f77_tree.specs.Limits.{cut}
+use Rattle.f77_syntax.specs.View.{clipped, Fails}
+use Rattle.f77_syntax.specs.Declaration.{name_at, number_at}
+use Rattle.f77_tree.specs.Tree.{GroupFields}
+use Rattle.f77_tree.specs.Data.{data_group_of, negative}
+use Rattle.f77_syntax.specs.Data.{signed_at, truth_at, constant_at, repeat_at, value_at, data_names_at, data_values_at, with_values, group_at, with_groups, groups_within, groups_at, clip_constant, clip_value, clip_group, Finds}
+use Rattle.f77_syntax.proofs.Gives.{fails_bind}
+use Rattle.f77_syntax.proofs.JoinedTexts.{kept_more, fronts_short}
+use Rattle.f77_syntax.proofs.DataTexts.{value_is, group_is, group_long}
+
+-- what is found, and what is read
+module _ {A B : Type 0} (keep : A → B) where
+  pub nothing_read : (o : Option (A × List ℕ)) → None ≡ option_map {U = B × List ℕ} (λ x. (keep x.0, x.1)) o → o ≡ None
+  nothing_read None e = refl
+  nothing_read (Some x) e = absurd (none-some (keep x.0, x.1) e)
+
+  pub something_read : (o : Option (A × List ℕ)) (y : B) (r : List ℕ) → Some (y, r) ≡ option_map {U = B × List ℕ} (λ x. (keep x.0, x.1)) o
+      → (x : A × List ℕ) × (o ≡ Some x) × (y ≡ keep x.0) × (r ≡ x.1)
+  something_read None y r e = absurd (none-some (y, r) (sym e))
+  something_read (Some x) y r e = let p = same_Some (y, r) (keep x.0, x.1) e in (x, refl, ap (λ z. z.0) p, ap (λ z. z.1) p)
+
+  pub finds_none : (found : Option (B × Bor (List ℕ))) (o : Option (A × List ℕ)) → found ≡ None → o ≡ None → Finds keep found o
+  finds_none found o e f = rw (e, f) refl
+
+  pub finds_along : (found : Option (B × Bor (List ℕ))) (o p : Option (A × List ℕ)) → o ≡ p → Finds keep found p → Finds keep found o
+  finds_along found o p e h = subst (Finds keep found) (sym e) h
+
+-- constants
+pub constant_none : (s : List ℕ) → length s ≡ 0 → constant_at s ≡ None
+unfolding constant_at
+constant_none [] h = refl
+constant_none (c ∷ s) h = absurd (omega arith)
+
+pub constant_plus : (s : List ℕ) → constant_at (43 ∷ s) ≡ signed_at pos s
+unfolding constant_at
+constant_plus s = refl
+
+pub constant_minus : (s : List ℕ) → constant_at (45 ∷ s) ≡ signed_at negative s
+unfolding constant_at
+constant_minus s = refl
+
+pub constant_dot : (s : List ℕ) → constant_at (46 ∷ s) ≡ truth_at (46 ∷ s)
+unfolding constant_at
+constant_dot s = refl
+
+pub constant_other : (c : ℕ) (s : List ℕ) → (c == 43) ≡ false → (c == 45) ≡ false → (c == 46) ≡ false → constant_at (c ∷ s) ≡ signed_at pos (c ∷ s)
+unfolding constant_at
+constant_other c s plus minus dot = rw (plus, minus, dot) refl
+
+-- repeats
+pub repeat_no_number : (s : List ℕ) → number_at s ≡ None → repeat_at s ≡ None
+unfolding repeat_at
+repeat_no_number s e = ap (λ o. o >>= λ x. after 42 x.1 >>= λ r. Some (x.0, r)) e
+
+pub repeat_no_star : (s rest : List ℕ) (x : ℕ × List ℕ) → number_at s ≡ Some x → rest ≡ x.1 → after 42 rest ≡ None → repeat_at s ≡ None
+unfolding repeat_at
+repeat_no_star s rest x e end h = ap (λ o. o >>= λ x. after 42 x.1 >>= λ r. Some (x.0, r)) e ∙ rw (← end, h) refl
+
+pub repeat_whole : (s rest behind : List ℕ) (n : ℕ) (x : ℕ × List ℕ) → number_at s ≡ Some x → n ≡ clipped x.0 → rest ≡ x.1 → after 42 rest ≡ Some behind
+    → Some (n, behind) ≡ option_map {U = ℕ × List ℕ} (λ x. (clipped x.0, x.1)) (repeat_at s)
+unfolding repeat_at
+repeat_whole s rest behind n x e same end h =
+    let known : repeat_at s ≡ Some (x.0, behind) = ap (λ o. o >>= λ x. after 42 x.1 >>= λ r. Some (x.0, r)) e ∙ rw (← end, h) refl in
+    rw (known, same) refl
+
+-- values
+abbrev pub start : List ℕ → ℕ × List ℕ
+start s = unwrap_or (repeat_at s) (1, s)
+
+pub starts : (b : Bor (List ℕ)) (o : Option (ℕ × Bor (List ℕ))) (r : ℕ × Bor (List ℕ)) → Finds clipped o (repeat_at b.now) → r ≡ unwrap_or o (1, b)
+    → (r.0 ≡ clipped (start b.now).0) × (r.1.now ≡ (start b.now).1)
+starts b o r found is = by_both o (repeat_at b.now) found is
+  where
+    by_both : (o : Option (ℕ × Bor (List ℕ))) (p : Option (ℕ × List ℕ)) → Finds clipped o p → r ≡ unwrap_or o (1, b)
+        → (r.0 ≡ clipped (unwrap_or p (1, b.now)).0) × (r.1.now ≡ (unwrap_or p (1, b.now)).1)
+    by_both None None e is = (ap (λ z. z.0) is, ap (λ z. z.1.now) is)
+    by_both None (Some x) e is = absurd (none-some (clipped x.0, x.1) e)
+    by_both (Some y) None e is = absurd (none-some (y.0, y.1.now) (sym e))
+    by_both (Some y) (Some x) e is = let p = same_Some (y.0, y.1.now) (clipped x.0, x.1) e in (ap (λ z. z.0) is ∙ ap (λ z. z.0) p, ap (λ z. z.1.now) is ∙ ap (λ z. z.1) p)
+
+pub value_none : (s : List ℕ) → constant_at (start s).1 ≡ None → value_at s ≡ None
+unfolding value_at
+value_none s e = ap (λ o. o >>= λ y. Some (record { times = (start s).0; constant = y.0 }, y.1)) e
+
+pub value_whole : (s r : List ℕ) (n : ℕ) (k : Constant) (y : Constant × List ℕ) → constant_at (start s).1 ≡ Some y → n ≡ clipped (start s).0 → k ≡ clip_constant y.0 → r ≡ y.1
+    → Some (record { times = n; constant = k }, r) ≡ option_map {U = Value × List ℕ} (λ x. (clip_value x.0, x.1)) (value_at s)
+unfolding value_at
+value_whole s r n k y e times same end =
+    let known : value_at s ≡ Some (record { times = (start s).0; constant = y.0 }, y.1) = ap (λ o. o >>= λ y. Some (record { times = (start s).0; constant = y.0 }, y.1)) e in
+    rw (known, times, same, end) refl
+
+pub value_shorter : (s : List ℕ) (x : Value × List ℕ) → value_at s ≡ Some x → length x.1 ≤ length s
+value_shorter s x e = fronts_short (value_is s x e)
+
+-- names
+pub no_name : (s : List ℕ) → is_name (word s) ≡ false → name_at s ≡ None
+no_name s h = rw h refl
+
+pub a_name : (s : List ℕ) → is_name (word s) ≡ true → name_at s ≡ Some (word s, past_word s)
+a_name s h = rw h refl
+
+-- a group
+abbrev pub group_fields : List (List ℕ) → List Value → GroupFields
+group_fields names values = record { names = names; values = values }
+
+-- a group whose values have been read, before its last slash
+abbrev closing : List (List ℕ) → List Value × List ℕ → Option (GroupFields × List ℕ)
+closing names v = after 47 v.1 >>= λ z. Some (group_fields names v.0, z)
+
+group_opened : (s behind inner : List ℕ) (x : List (List ℕ) × List ℕ) → data_names_at s ≡ Some x → behind ≡ x.1 → after 47 behind ≡ Some inner
+    → group_at s ≡ (data_values_at inner >>= closing x.0)
+unfolding group_at
+group_opened s behind inner x e is slash = rw (e, ← is, slash) refl
+
+pub group_fails_names : (s : List ℕ) (e : ReadError) → Fails e (data_names_at s) → Fails e (group_at s)
+unfolding group_at
+group_fails_names s e f = fails_bind e (data_names_at s) (λ x. after 47 x.1 >>= λ r. with_values x.0 r) f
+
+opening : (s behind : List ℕ) (x : List (List ℕ) × List ℕ) → data_names_at s ≡ Some x → behind ≡ x.1 → group_at s ≡ (after 47 behind >>= λ r. with_values x.0 r)
+unfolding group_at
+opening s behind x found is = rw (found, is) refl
+
+pub group_fails_open : (s behind : List ℕ) (x : List (List ℕ) × List ℕ) (e : ReadError) → data_names_at s ≡ Some x → behind ≡ x.1 → Fails e (after 47 behind) → Fails e (group_at s)
+group_fails_open s behind x e found is f = subst (Fails e) (sym (opening s behind x found is)) (fails_bind e (after 47 behind) (λ r. with_values x.0 r) f)
+
+pub group_fails_values : (s behind inner : List ℕ) (x : List (List ℕ) × List ℕ) (e : ReadError) → data_names_at s ≡ Some x → behind ≡ x.1 → after 47 behind ≡ Some inner
+    → Fails e (data_values_at inner) → Fails e (group_at s)
+group_fails_values s behind inner x e found is slash f =
+    subst (Fails e) (sym (group_opened s behind inner x found is slash)) (fails_bind e (data_values_at inner) (closing x.0) f)
+
+pub group_fails_close : (s behind inner end : List ℕ) (x : List (List ℕ) × List ℕ) (v : List Value × List ℕ) (e : ReadError) → data_names_at s ≡ Some x → behind ≡ x.1
+    → after 47 behind ≡ Some inner → data_values_at inner ≡ Some v → end ≡ v.1 → Fails e (after 47 end) → Fails e (group_at s)
+group_fails_close s behind inner end x v e found is slash valued at f =
+    subst (Fails e) (sym (group_opened s behind inner x found is slash ∙ ap (λ o. o >>= closing x.0) valued))
+    (fails_bind e (after 47 v.1) (λ z. Some (group_fields x.0 v.0, z)) (rw at at f))
+
+pub group_whole : (s behind inner end rest z : List ℕ) (names : List (List ℕ)) (values : List Value) (x : List (List ℕ) × List ℕ) (v : List Value × List ℕ)
+    → data_names_at s ≡ Some x → behind ≡ x.1 → after 47 behind ≡ Some inner → data_values_at inner ≡ Some v → end ≡ v.1 → after 47 end ≡ Some z
+    → names ≡ map cut x.0 → values ≡ map clip_value v.0 → rest ≡ z
+    → (y : GroupFields × List ℕ) × (group_at s ≡ Some y) × ((group_fields names values ≡ clip_group y.0) × (rest ≡ y.1))
+group_whole s behind inner end rest z names values x v found is slash valued at close named same last =
+    ((group_fields x.0 v.0, z), group_opened s behind inner x found is slash ∙ ap (λ o. o >>= closing x.0) valued ∙ closes v.1 (sym at) close, (rw (named, same) refl, last))
+  where
+    closes : (r : List ℕ) → r ≡ end → after 47 end ≡ Some z → closing x.0 (v.0, r) ≡ Some (group_fields x.0 v.0, z)
+    closes r e h = rw (e, h) refl
+
+pub group_shorter : (s rest : List ℕ) (x : GroupFields × List ℕ) → group_at s ≡ Some x → rest ≡ x.1 → length rest < length s
+group_shorter s rest x e end = let f = group_is s x e in rw end (omega (arith, ap length f.is, length-append f.text x.1, group_long f.spells))
+
+-- The groups so far, and then those that are read behind them.
+pub record Grouping (groups : List DataGroup) (rest text : List ℕ) : Type 0 where
+  pub front : List GroupFields
+  pub same : map data_group_of groups ≡ map clip_group front
+  pub fuel : ℕ
+  pub enough : length rest < fuel
+  pub reads : (groups_within fuel rest >>= λ gs. Some (front ++ gs)) ≡ groups_at text
+
+pub grouping_starts : (text : List ℕ) → Grouping [] text text
+unfolding groups_at
+grouping_starts text = record { front = []; same = refl; fuel = suc (length text); enough = omega arith; reads = whole (groups_within (suc (length text)) text) }
+  where
+    whole : (o : Option (List GroupFields)) → (o >>= λ gs. Some ([] ++ gs)) ≡ o
+    whole None = refl
+    whole (Some gs) = refl
+
+first_fails : (n : ℕ) (s : List ℕ) (e : ReadError) → length s < n → Fails e (group_at s) → Fails e (groups_within n s)
+first_fails zero s e h f = absurd (omega arith)
+first_fails (suc n) s e h f = fails_bind e (group_at s) (λ x. with_groups (groups_within n) x.0 x.1) f
+
+pub grouping_fails : (groups : List DataGroup) (rest text : List ℕ) (e : ReadError) → Grouping groups rest text → Fails e (group_at rest) → Fails e (groups_at text)
+grouping_fails groups rest text e l f =
+    subst (Fails e) l.reads (fails_bind e (groups_within l.fuel rest) (λ gs. Some (l.front ++ gs)) (first_fails l.fuel rest e l.enough f))
+
+pub grouping_goes_on : (groups new : List DataGroup) (got : DataGroup) (rest behind next text : List ℕ) (x : GroupFields × List ℕ) → Grouping groups rest text
+    → group_at rest ≡ Some x → data_group_of got ≡ clip_group x.0 → behind ≡ x.1 → (length behind == 0) ≡ false → next ≡ past_comma behind → length next < length rest
+    → new ≡ groups ++ got ∷ [] → Grouping new next text
+grouping_goes_on groups new got rest behind next text x l e same is more comma short added = by_fuel l.fuel l.enough l.reads
+  where
+    step : (o : Option (List GroupFields)) → (o >>= λ gs. Some ((l.front ++ x.0 ∷ []) ++ gs)) ≡ ((o >>= λ gs. Some (x.0 ∷ gs)) >>= λ gs. Some (l.front ++ gs))
+    step None = refl
+    step (Some gs) = ap Some (append_assoc l.front (x.0 ∷ []) gs)
+
+    others : (n : ℕ) (r : List ℕ) → behind ≡ r → with_groups (groups_within n) x.0 r ≡ (groups_within n next >>= λ gs. Some (x.0 ∷ gs))
+    others n r e = rw (← e, more, comma) refl
+
+    by_fuel : (n : ℕ) → length rest < n → (groups_within n rest >>= λ gs. Some (l.front ++ gs)) ≡ groups_at text → Grouping new next text
+    by_fuel zero h reads = absurd (omega arith)
+    by_fuel (suc n) h reads = record {
+      front = l.front ++ x.0 ∷ [];
+      same = kept_more data_group_of clip_group groups new got l.front x.0 l.same same added;
+      fuel = n;
+      enough = omega arith;
+      reads = step (groups_within n next) ∙ ap (λ o. o >>= λ gs. Some (l.front ++ gs)) (sym (ap (λ o. o >>= λ y. with_groups (groups_within n) y.0 y.1) e ∙ others n x.1 is)) ∙ reads;
+    }
+
+pub grouping_ends : (groups new : List DataGroup) (got : DataGroup) (rest behind text : List ℕ) (x : GroupFields × List ℕ) → Grouping groups rest text
+    → group_at rest ≡ Some x → data_group_of got ≡ clip_group x.0 → behind ≡ x.1 → (length behind == 0) ≡ true → new ≡ groups ++ got ∷ []
+    → (gs : List GroupFields) × (groups_at text ≡ Some gs) × (map data_group_of new ≡ map clip_group gs)
+grouping_ends groups new got rest behind text x l e same is none added =
+    (l.front ++ x.0 ∷ [], by_fuel l.fuel l.enough l.reads, kept_more data_group_of clip_group groups new got l.front x.0 l.same same added)
+  where
+    alone : (n : ℕ) (r : List ℕ) → behind ≡ r → with_groups (groups_within n) x.0 r ≡ Some (x.0 ∷ [])
+    alone n r e = rw (← e, none) refl
+
+    by_fuel : (n : ℕ) → length rest < n → (groups_within n rest >>= λ gs. Some (l.front ++ gs)) ≡ groups_at text → groups_at text ≡ Some (l.front ++ x.0 ∷ [])
+    by_fuel zero h reads = absurd (omega arith)
+    by_fuel (suc n) h reads = sym reads ∙ ap (λ o. o >>= λ gs. Some (l.front ++ gs)) (ap (λ o. o >>= λ y. with_groups (groups_within n) y.0 y.1) e ∙ alone n x.1 is)

@@ -1,0 +1,129 @@
+-- Declared names: what is read is spelled so, and what is spelled is read so.
+use Rattle.std.proofs.Common.{arith, ◌≡◌, ℕ, List, [], ◌∷◌, ◌++◌, true, false, refl, Option, Some, None, ap, sym, ◌∙◌, append_assoc, append-nil, subst}
+use Rattle.std.specs.Prelude.{◌==◌}
+use Rattle.std.specs.List.{list_all, list_any}
+use Rattle.std.specs.Str.Parse.{digits_value}
+use Rattle.std.proofs.lemmas.Bool.Decides.{nat_tests}
+use Rattle.std.proofs.lemmas.Option.{same_Some}
+use Rattle.f77_tree.specs.Grammar.{is_word, is_digit, is_name, is_number, word, past_word}
+use Rattle.f77_syntax.specs.Reading.{◌>>=◌, after, close_at}
+use Rattle.f77_syntax.specs.Assignment.{ended}
+use Rattle.f77_tree.specs.Joined.{Joined}
+use Rattle.f77_syntax.specs.Joined.{items_at}
+use Rattle.f77_tree.specs.Tree.{DeclFields}
+use Rattle.f77_tree.specs.Declaration.{SpellsName, SpellsNumber, SpellsDecl, SpellsDecls}
+use Rattle.f77_syntax.specs.Declaration.{name_at, number_at, bounds_at, with_bounds, decl_at, declarations_at}
+use Rattle.f77_syntax.proofs.Steps.{along, bind_ok, guarded}
+use Rattle.f77_tree.proofs.Tests.{and_true}
+use Rattle.f77_tree.proofs.Words.{EndsWord, word_whole, word_front, past_word_front, name_words}
+use Rattle.f77_syntax.proofs.Sound.{close_is}
+use Rattle.f77_syntax.proofs.Gives.{after_is}
+use Rattle.f77_syntax.proofs.AssignmentSound.{ended_is}
+use Rattle.f77_syntax.proofs.JoinedTexts.{Fronts, IsSound, IsRead, Stops, items_is, items_read, joined_no_equals}
+use Rattle.std.proofs.lemmas.List.Folds.{list_any-append}
+use Rattle.f77_syntax.proofs.WordTexts.{is_equals, words_no_equals}
+
+-- What is read is spelled so.
+pub name_is : IsSound SpellsName name_at
+name_is s x e =
+    let (n, found) = guarded (is_name (word s)) (Some (word s, past_word s)) x e in
+    along (Fronts SpellsName s) (word s, past_word s) x found (record { text = word s; is = word_whole s; spells = SpellsName.named n })
+
+pub number_is : IsSound SpellsNumber number_at
+number_is s x e =
+    let (n, found) = guarded (is_number (word s)) (Some (digits_value 10 (word s), past_word s)) x e in
+    along (Fronts SpellsNumber s) (digits_value 10 (word s), past_word s) x found (record { text = word s; is = word_whole s; spells = SpellsNumber.numeral n })
+
+pub bounds_is : IsSound (Joined SpellsNumber) bounds_at
+unfolding bounds_at
+bounds_is = items_is number_is
+
+with_bounds_is : (name rest : List ℕ) (o : Option (List ℕ)) (x : DeclFields × List ℕ) → is_name name ≡ true → after 40 rest ≡ o → with_bounds name rest o ≡ Some x
+    → Fronts SpellsDecl (name ++ rest) x
+with_bounds_is name rest None x n at e =
+    along (Fronts SpellsDecl (name ++ rest)) (record { name = name; bounds = [] }, rest) x e (record { text = name; is = refl; spells = SpellsDecl.scalar n })
+with_bounds_is name rest (Some inner) x n at e =
+    let (y, read, more) = bind_ok (bounds_at inner) (λ y. close_at y.1 >>= λ z. Some (record { name = name; bounds = y.0 }, z)) x e in
+    let (z, close, end) = bind_ok (close_at y.1) (λ z. Some (record { name = name; bounds = y.0 }, z)) x more in
+    let f = bounds_is inner y read in
+    along (Fronts SpellsDecl (name ++ rest)) (record { name = name; bounds = y.0 }, z) x end (record {
+      text = name ++ (40 ∷ (f.text ++ 41 ∷ []));
+      is = ap (λ v. name ++ v) (after_is 40 rest inner at ∙ ap (λ v. 40 ∷ v) (f.is ∙ ap (λ v. f.text ++ v) (close_is y.1 z close) ∙ sym (append_assoc f.text (41 ∷ []) z)))
+          ∙ sym (append_assoc name (40 ∷ (f.text ++ 41 ∷ [])) z);
+      spells = SpellsDecl.array n f.spells;
+    })
+
+pub decl_is : IsSound SpellsDecl decl_at
+unfolding decl_at
+decl_is s x e =
+    let (y, named, rest) = bind_ok (name_at s) (λ y. with_bounds y.0 y.1 (after 40 y.1)) x e in
+    let (n, found) = guarded (is_name (word s)) (Some (word s, past_word s)) y named in
+    let read : with_bounds (word s) (past_word s) (after 40 (past_word s)) ≡ Some x = subst (λ v. with_bounds v.0 v.1 (after 40 v.1) ≡ Some x) (sym (same_Some (word s, past_word s) y found)) rest in
+    subst (λ v. Fronts SpellsDecl v x) (sym (word_whole s)) (with_bounds_is (word s) (past_word s) (after 40 (past_word s)) x n refl read)
+
+pub declarations_is : (s : List ℕ) (ds : List DeclFields) → declarations_at s ≡ Some ds → SpellsDecls s ds
+unfolding declarations_at
+declarations_is s ds e =
+    let (x, read, end) = bind_ok (items_at decl_at s) (λ x. ended x.0 x.1) ds e in
+    let f = items_is decl_is s x read in
+    let (same, none) = ended_is x.0 x.1 ds end in
+    let whole : s ≡ f.text = f.is ∙ ap (λ v. f.text ++ v) none ∙ append-nil f.text in
+    subst (λ v. SpellsDecls v ds) (sym whole) (subst (λ v. SpellsDecls f.text v) same f.spells)
+
+-- What is spelled is read so.
+pub stops_word : (rest : List ℕ) → Stops rest → EndsWord rest
+stops_word [] h = tt
+stops_word (c ∷ s) h = grind (arith, nat_tests)
+
+pub number_words : (text : List ℕ) → is_number text ≡ true → list_all is_word text ≡ true
+number_words [] h = cc
+number_words (c ∷ text) h = digits (c ∷ text) h
+  where
+    digits : (text : List ℕ) → list_all is_digit text ≡ true → list_all is_word text ≡ true
+    digits [] h = refl
+    digits (c ∷ text) h =
+        let (first, others) = and_true (is_digit c) (list_all is_digit text) h in
+        let w : is_word c ≡ true = grind (arith, nat_tests) in
+        rw w (digits text others)
+
+pub name_read : IsRead SpellsName name_at
+name_read text x (SpellsName.named n) rest stops =
+    rw (word_front text rest (name_words text n) (stops_word rest stops), past_word_front text rest (name_words text n) (stops_word rest stops), n) refl
+
+pub number_read : IsRead SpellsNumber number_at
+number_read text x (SpellsNumber.numeral n) rest stops =
+    rw (word_front text rest (number_words text n) (stops_word rest stops), past_word_front text rest (number_words text n) (stops_word rest stops), n) refl
+
+no_list : (rest : List ℕ) → Stops rest → after 40 rest ≡ None
+no_list [] h = refl
+no_list (c ∷ s) h = let other : (c == 40) ≡ false = grind (arith, nat_tests) in rw other refl
+
+pub decl_read : IsRead SpellsDecl decl_at
+unfolding decl_at bounds_at
+decl_read text x (SpellsDecl.scalar n) rest stops = rw (name_read text text (SpellsName.named n) rest stops, no_list rest stops) refl
+decl_read text x (SpellsDecl.array {name = name} {text = inner} n p) rest stops =
+    rw (
+      append_assoc name (40 ∷ (inner ++ 41 ∷ [])) rest,
+      append_assoc inner (41 ∷ []) rest,
+      word_front name (40 ∷ (inner ++ (41 ∷ rest))) (name_words name n) refl,
+      past_word_front name (40 ∷ (inner ++ (41 ∷ rest))) (name_words name n) refl,
+      n,
+      items_read number_at number_read p (41 ∷ rest) refl refl,
+    ) refl
+
+pub declarations_read : {s : List ℕ} {ds : List DeclFields} → SpellsDecls s ds → declarations_at s ≡ Some ds
+unfolding declarations_at
+declarations_read {s = s} p =
+    let e = items_read decl_at decl_read p [] tt refl in rw (sym (append-nil s)) (rw e refl)
+
+pub number_no_equals : (text : List ℕ) (n : ℕ) → SpellsNumber text n → list_any is_equals text ≡ false
+number_no_equals text n (SpellsNumber.numeral h) = words_no_equals text (number_words text h)
+
+decl_no_equals : (text : List ℕ) (d : DeclFields) → SpellsDecl text d → list_any is_equals text ≡ false
+decl_no_equals text d (SpellsDecl.scalar n) = words_no_equals text (name_words text n)
+decl_no_equals text d (SpellsDecl.array {name = name} {text = inner} n p) =
+    list_any-append is_equals name (40 ∷ (inner ++ 41 ∷ []))
+    ∙ rw (words_no_equals name (name_words name n), list_any-append is_equals inner (41 ∷ []), joined_no_equals number_no_equals p) refl
+
+pub declaration_no_equals : {text : List ℕ} {ds : List DeclFields} → SpellsDecls text ds → list_any is_equals text ≡ false
+declaration_no_equals p = joined_no_equals decl_no_equals p

@@ -1,0 +1,363 @@
+-- A statement that is spelled is read so, and a text spells one statement at most.
+use Rattle.std.proofs.Common.{arith, ◌≡◌, inl, inr, subst, ℕ, ◌-◌, length, List, [], ◌∷◌, ◌++◌, Bool, true, false, refl, Some, ap, sym, ◌∙◌, append_assoc, append-nil, length-append}
+use Rattle.std.specs.Prelude.{◌==◌, codes, None}
+use Rattle.std.specs.List.{list_all, list_any, slice_split, join_with_byte}
+use Rattle.std.proofs.lemmas.Option.{same_Some, none-some}
+use Rattle.std.specs.Str.{bytes_eq}
+use Rattle.std.proofs.lemmas.Slice.Eq.{bytes_eq-Decides}
+use Rattle.std.proofs.lemmas.Bool.Decides.{nat_tests}
+use Rattle.std.proofs.lemmas.List.{take_at, get_or_at}
+use Rattle.std.proofs.lemmas.List.Folds.{list_any-append}
+use Rattle.std.proofs.lemmas.List.Splits.{slice_split_at, slice_split_none}
+use Rattle.f77_tree.specs.Tree.{Tree, Trees, Statement, DeclFields, GroupFields}
+use Rattle.f77_tree.specs.Grammar.{Spells, SpellsReference, is_letter, is_digit, is_word, is_number, is_name, word, past_word}
+use Rattle.f77_tree.specs.StatementGrammar.{SpellsAction, SpellsStatement, optional_comma, label_number, kind_keyword}
+use Rattle.f77_syntax.specs.Reading.{strip, reading, past_comma}
+use Rattle.f77_syntax.specs.Assignment.{reference_at, assign_at}
+use Rattle.f77_syntax.specs.Subroutine.{is_comma, names_at, before_close, subroutine_at}
+use Rattle.f77_syntax.specs.Label.{labels_at}
+use Rattle.f77_syntax.specs.Condition.{arithmetic_at, condition_at}
+use Rattle.f77_syntax.specs.DoLoop.{control_at, parameters_at, loop_at}
+use Rattle.f77_syntax.specs.Classification.{behind, begins_with, begins_if, class_of, statement_class}
+use Rattle.f77_syntax.specs.Statement.{word_statement, without_expression, simple_at, simple_action_at, action_at, begins_digit, branch_at, else_at, specification_at, keyword_at, statement_at}
+use Rattle.f77_syntax.specs.declared.classification.Class.TheVariants.{Keyword}
+use Rattle.f77_tree.proofs.Tests.{and_true}
+use Rattle.f77_tree.proofs.Words.{word_front, past_word_front, name_words}
+use Rattle.f77_syntax.proofs.Shorter.{name_long}
+use Rattle.f77_syntax.proofs.Complete.{complete, complete_all, operand_read, ends_item, whole}
+use Rattle.f77_syntax.proofs.Outside.{pass}
+use Rattle.f77_syntax.proofs.Outside.{no_equals_sign, if_class, assign_class, loop_class, keyword_class, pass_quiet, quiet_number, equals_other}
+use Rattle.f77_syntax.proofs.WordTexts.{is_equals, words_no_comma, words_no_equals}
+use Rattle.f77_tree.specs.Declaration.{SpellsDecls, all_bounded}
+use Rattle.f77_tree.specs.Data.{SpellsGroups}
+use Rattle.f77_tree.specs.declared.tree.Kind.{Kind}
+use Rattle.f77_tree.specs.declared.tree.Kind.TheVariants.{Integer, Logical}
+use Rattle.f77_syntax.proofs.LabelTexts.{EndsDigits, label_read, last_label_read, label_comma_read}
+use Rattle.f77_syntax.proofs.ComputedGotoTexts.{computed_read, computed_class}
+use Rattle.f77_syntax.proofs.DeclarationTexts.{declarations_read, declaration_no_equals}
+use Rattle.f77_syntax.proofs.DataTexts.{groups_read, data_no_equals}
+
+-- names joined by commas
+joined_no_equals : (names : List (List ℕ)) → list_all is_name names ≡ true → list_any is_equals (join_with_byte 44 names) ≡ false
+joined_no_equals [] h = refl
+joined_no_equals (n ∷ []) h = words_no_equals n (name_words n (and_true (is_name n) true h).0)
+joined_no_equals (n ∷ m ∷ names) h =
+    let (first, others) = and_true (is_name n) (list_all is_name (m ∷ names)) h in
+    list_any-append is_equals n (44 ∷ join_with_byte 44 (m ∷ names)) ∙ rw (words_no_equals n (name_words n first)) (joined_no_equals (m ∷ names) others)
+
+joined_split : (n : List ℕ) (names : List (List ℕ)) → list_all is_name (n ∷ names) ≡ true → slice_split is_comma (join_with_byte 44 (n ∷ names)) ≡ n ∷ names
+joined_split n [] h = slice_split_none is_comma n (words_no_comma n (name_words n (and_true (is_name n) true h).0))
+joined_split n (m ∷ names) h =
+    let (first, others) = and_true (is_name n) (list_all is_name (m ∷ names)) h in
+    slice_split_at is_comma n 44 (join_with_byte 44 (m ∷ names)) (words_no_comma n (name_words n first)) refl ∙ ap (λ ns. n ∷ ns) (joined_split m names others)
+
+joined_long : (n : List ℕ) (names : List (List ℕ)) → is_name n ≡ true → (length (join_with_byte 44 (n ∷ names)) == 0) ≡ false
+joined_long n [] h = let l = name_long n h in grind (arith, nat_tests)
+joined_long n (m ∷ names) h = let l = length-append n (44 ∷ join_with_byte 44 (m ∷ names)) in grind (arith, nat_tests)
+
+pub names_read : (names : List (List ℕ)) → list_all is_name names ≡ true → names_at (join_with_byte 44 names) ≡ Some names
+unfolding names_at
+names_read [] h = refl
+names_read (n ∷ names) h =
+    rw (joined_long n names (and_true (is_name n) (list_all is_name names) h).0, joined_split n names h, h) refl
+
+before_close_found : (s : List ℕ) → before_close (s ++ 41 ∷ []) ≡ Some s
+before_close_found s =
+    let l : length (s ++ 41 ∷ []) - 1 ≡ length s = omega (arith, length-append s (41 ∷ [])) in
+    rw (l, get_or_at s 41 [] 0 (length s) refl, take_at s (41 ∷ []) (length s) refl) refl
+
+-- a name at the front
+subroutine_read : (name : List ℕ) → is_name name ≡ true → subroutine_at name ≡ Some (Statement.Subroutine name [])
+unfolding subroutine_at
+subroutine_read name n =
+    let w : word name ≡ name = ap word (sym (append-nil name)) ∙ word_front name [] (name_words name n) tt in
+    let p : past_word name ≡ [] = ap past_word (sym (append-nil name)) ∙ past_word_front name [] (name_words name n) tt in
+    rw (w, p, n) refl
+
+subroutine_of_read : (name : List ℕ) (names : List (List ℕ)) → is_name name ≡ true → list_all is_name names ≡ true
+    → subroutine_at (name ++ (40 ∷ (join_with_byte 44 names ++ 41 ∷ []))) ≡ Some (Statement.Subroutine name names)
+unfolding subroutine_at
+subroutine_of_read name names n all =
+    let rest : List ℕ = 40 ∷ (join_with_byte 44 names ++ 41 ∷ []) in
+    rw (word_front name (40 ∷ (join_with_byte 44 names ++ 41 ∷ [])) (name_words name n) refl, past_word_front name (40 ∷ (join_with_byte 44 names ++ 41 ∷ [])) (name_words name n) refl, n)
+    (rw (before_close_found (join_with_byte 44 names), names_read names all) refl)
+
+-- a reference before an equals sign
+reference_read : {x name : List ℕ} {items : Trees} → SpellsReference x name items → (y : List ℕ) → reference_at (x ++ (61 ∷ y)) ≡ Some (name, items, 61 ∷ y)
+unfolding reference_at
+reference_read (SpellsReference.scalar {name = name} n) y =
+    rw (word_front name (61 ∷ y) (name_words name n) refl, past_word_front name (61 ∷ y) (name_words name n) refl, n) refl
+reference_read (SpellsReference.element {name = name} {text = text} {items = items} n l) y =
+    let shape : (name ++ (40 ∷ (text ++ 41 ∷ []))) ++ (61 ∷ y) ≡ name ++ (40 ∷ (text ++ (41 ∷ (61 ∷ y)))) =
+    append_assoc name (40 ∷ (text ++ 41 ∷ [])) (61 ∷ y) ∙ ap (λ z. name ++ (40 ∷ z)) (append_assoc text (41 ∷ []) (61 ∷ y)) in
+    rw (shape, word_front name (40 ∷ (text ++ (41 ∷ (61 ∷ y)))) (name_words name n) refl, past_word_front name (40 ∷ (text ++ (41 ∷ (61 ∷ y)))) (name_words name n) refl, n)
+    (rw (complete_all l (61 ∷ y)) refl)
+
+assign_read : {x name : List ℕ} {items : Trees} → SpellsReference x name items → {y : List ℕ} {t : Tree} → Spells 1 y t → assign_at (x ++ (61 ∷ y)) ≡ Some (Statement.Assign name items t)
+unfolding assign_at
+assign_read r {y = y} p = rw (reference_read r y, whole p) refl
+
+-- labels
+arithmetic_read : (t : Tree) (l m n : List ℕ) → is_number l ≡ true → is_number m ≡ true → is_number n ≡ true
+    → arithmetic_at t (l ++ (44 ∷ (m ++ (44 ∷ n)))) ≡ Some (Statement.ArithIf t (label_number l) (label_number m) (label_number n))
+unfolding arithmetic_at labels_at
+arithmetic_read t l m n h i j = rw (label_comma_read l (m ++ (44 ∷ n)) h, label_comma_read m n i, last_label_read n j) refl
+
+-- conditions
+condition_read : {x : List ℕ} {t : Tree} → Spells 1 x t → (rest : List ℕ) → condition_at (codes "IF(" ++ (x ++ (41 ∷ rest))) ≡ Some (t, rest)
+unfolding condition_at
+condition_read p rest = rw (operand_read 1 (complete (omega arith) p) (41 ∷ rest) (ends_item 41 rest (inl refl))) refl
+
+-- a row of digits begins with no equals sign
+row_begins : (row rest : List ℕ) → is_number row ≡ true → (begins_with 61 (row ++ rest) ≡ false) × (begins_digit (row ++ rest) ≡ true)
+row_begins [] rest n = cc
+row_begins (c ∷ row) rest n =
+    let (first, others) = and_true (is_digit c) (list_all is_digit row) n in
+    let other : (c == 61) ≡ false = grind (arith, nat_tests) in
+    (other, first)
+
+-- a statement that may stand in a logical IF begins with a letter
+pub record BeginsLetter (s : List ℕ) : Type 0 where
+  pub first : ℕ
+  pub others : List ℕ
+  pub is : s ≡ first ∷ others
+  pub letter : is_letter first ≡ true
+
+name_begins : (name rest : List ℕ) → is_name name ≡ true → BeginsLetter (name ++ rest)
+name_begins [] rest n = cc
+name_begins (c ∷ name) rest n = record { first = c; others = name ++ rest; is = refl; letter = (and_true (is_letter c) (list_all is_word name) n).0 }
+
+reference_begins : {x name : List ℕ} {items : Trees} → SpellsReference x name items → (rest : List ℕ) → BeginsLetter (x ++ rest)
+reference_begins (SpellsReference.scalar {name = name} n) rest = name_begins name rest n
+reference_begins (SpellsReference.element {name = name} {text = text} n l) rest =
+    subst BeginsLetter (sym (append_assoc name (40 ∷ (text ++ 41 ∷ [])) rest)) (name_begins name ((40 ∷ (text ++ 41 ∷ [])) ++ rest) n)
+
+action_begins : {s : List ℕ} {u : Statement} → SpellsAction s u → BeginsLetter s
+action_begins (SpellsAction.assign {y = y} r p) = reference_begins r (61 ∷ y)
+action_begins (SpellsAction.go_to row n) = record { first = 71; others = codes "OTO" ++ row; is = refl; letter = refl }
+action_begins (SpellsAction.computed_go_to {x = x} {y = y} comma l p) =
+    record { first = 71; others = codes "OTO(" ++ (x ++ (41 ∷ (optional_comma comma ++ y))); is = refl; letter = refl }
+action_begins (SpellsAction.arithmetic_if {x = x} l m n p h i j) =
+    record { first = 73; others = codes "F(" ++ (x ++ (41 ∷ (l ++ (44 ∷ (m ++ (44 ∷ n)))))); is = refl; letter = refl }
+action_begins SpellsAction.go_on = record { first = 67; others = codes "ONTINUE"; is = refl; letter = refl }
+action_begins SpellsAction.return = record { first = 82; others = codes "ETURN"; is = refl; letter = refl }
+action_begins SpellsAction.stop = record { first = 83; others = codes "TOP"; is = refl; letter = refl }
+
+letter_begins : (s : List ℕ) → BeginsLetter s → (begins_with 61 s ≡ false) × (begins_digit s ≡ false)
+letter_begins s b =
+    let other : (b.first == 61) ≡ false = let l = b.letter in grind (arith, nat_tests) in
+    let digit : is_digit b.first ≡ false = let l = b.letter in grind (arith, nat_tests) in
+    rw b.is (other, digit)
+
+-- GO TO and the statements of one keyword alone
+not_open : (row : List ℕ) → is_number row ≡ true → strip (codes "GOTO(") (codes "GOTO" ++ row) ≡ None
+not_open [] n = cc
+not_open (c ∷ row) n =
+    let digit = (and_true (is_digit c) (list_all is_digit row) n).0 in
+    let other : (c == 40) ≡ false = grind (arith, nat_tests) in
+    rw other refl
+
+goto_class : (row : List ℕ) → is_number row ≡ true → class_of (codes "GOTO" ++ row) ≡ Keyword
+goto_class row n =
+    keyword_class (codes "GOTO" ++ row) refl (ap (behind 61 0) (sym (append-nil (codes "GOTO" ++ row))) ∙ pass_quiet 61 refl equals_other (codes "GOTO" ++ row) [] 0 (quiet_number row n))
+
+action_read : {s : List ℕ} {u : Statement} → SpellsAction s u → action_at s ≡ Some u
+unfolding action_at simple_action_at class_of begins_if simple_at without_expression word_statement
+action_read (SpellsAction.assign r p) = rw (assign_class r p) (assign_read r p)
+action_read (SpellsAction.go_to row n) = rw (goto_class row n, not_open row n, last_label_read row n) refl
+action_read (SpellsAction.computed_go_to comma l p) = rw (computed_class comma l p, computed_read comma l p) refl
+action_read (SpellsAction.arithmetic_if l m n p h i j) =
+    rw (if_class p (l ++ (44 ∷ (m ++ (44 ∷ n)))) (row_begins l (44 ∷ (m ++ (44 ∷ n))) h).0, condition_read p (l ++ (44 ∷ (m ++ (44 ∷ n))))) (arithmetic_read _ l m n h i j)
+action_read SpellsAction.go_on = refl
+action_read SpellsAction.return = refl
+action_read SpellsAction.stop = refl
+
+-- no such statement is the word THEN
+then_none : action_at (codes "THEN") ≡ None
+unfolding action_at simple_action_at class_of begins_if simple_at without_expression word_statement
+then_none = refl
+
+not_then : {s : List ℕ} {u : Statement} → SpellsAction s u → bytes_eq s (codes "THEN") ≡ false
+not_then {s = s} {u = u} p = step (bytes_eq s (codes "THEN")) refl
+  where
+    step : (b : Bool) → bytes_eq s (codes "THEN") ≡ b → b ≡ false
+    step false e = refl
+    step true e =
+        let same : s ≡ codes "THEN" = (bytes_eq-Decides s (codes "THEN")).0 e in
+        absurd (none-some u (sym then_none ∙ ap action_at (sym same) ∙ action_read p))
+
+logical_read : {s : List ℕ} {u : Statement} (t : Tree) → SpellsAction s u → branch_at t s ≡ Some (Statement.LogicalIf t u)
+unfolding branch_at
+logical_read {s = s} t p = rw (not_then p, (letter_begins s (action_begins p)).1, action_read p) refl
+
+arithmetic_branch : (t : Tree) (l m n : List ℕ) → is_number l ≡ true → is_number m ≡ true → is_number n ≡ true
+    → branch_at t (l ++ (44 ∷ (m ++ (44 ∷ n)))) ≡ Some (Statement.ArithIf t (label_number l) (label_number m) (label_number n))
+unfolding branch_at
+arithmetic_branch t l m n h i j =
+    let begins = (row_begins l (44 ∷ (m ++ (44 ∷ n))) h).1 in
+    rw (step (bytes_eq (l ++ (44 ∷ (m ++ (44 ∷ n)))) (codes "THEN")) refl, begins) (arithmetic_read t l m n h i j)
+  where
+    step : (b : Bool) → bytes_eq (l ++ (44 ∷ (m ++ (44 ∷ n)))) (codes "THEN") ≡ b → b ≡ false
+    step false e = refl
+    step true e =
+        let same : l ++ (44 ∷ (m ++ (44 ∷ n))) ≡ codes "THEN" = (bytes_eq-Decides (l ++ (44 ∷ (m ++ (44 ∷ n)))) (codes "THEN")).0 e in
+        let wrong : begins_digit (codes "THEN") ≡ true = ap begins_digit (sym same) ∙ (row_begins l (44 ∷ (m ++ (44 ∷ n))) h).1 in cc
+
+not_empty : (c : ℕ) (s : List ℕ) → (length (c ∷ s) == 0) ≡ false
+not_empty c s = grind (arith, nat_tests)
+
+-- ELSE IF
+else_if_read : {x : List ℕ} {t : Tree} → Spells 1 x t → statement_at (codes "ELSEIF(" ++ (x ++ codes ")THEN")) ≡ Some (Statement.ElseIf t)
+unfolding statement_at keyword_at else_at
+else_if_read {x = x} p =
+    let class : class_of (codes "ELSEIF(" ++ (x ++ codes ")THEN")) ≡ Keyword = keyword_class (codes "ELSEIF(" ++ (x ++ codes ")THEN")) refl (pass 61 refl equals_other p (codes ")THEN") 1) in
+    rw (class, not_empty 73 (codes "F(" ++ (x ++ codes ")THEN")), condition_read p (codes "THEN")) refl
+
+-- DO
+past_optional : (comma : Bool) (name rest : List ℕ) → is_name name ≡ true → past_comma (optional_comma comma ++ (name ++ rest)) ≡ name ++ rest
+past_optional true name rest n = refl
+past_optional false [] rest n = cc
+past_optional false (c ∷ name) rest n =
+    let l = (and_true (is_letter c) (list_all is_word name) n).0 in
+    let other : (c == 44) ≡ false = grind (arith, nat_tests) in
+    rw other refl
+
+ends_row : (comma : Bool) (name rest : List ℕ) → is_name name ≡ true → EndsDigits (optional_comma comma ++ (name ++ rest))
+ends_row true name rest n = refl
+ends_row false [] rest n = cc
+ends_row false (c ∷ name) rest n = let l = (and_true (is_letter c) (list_all is_word name) n).0 in grind (arith, nat_tests)
+
+control_read : (row name rest : List ℕ) (comma : Bool) → is_number row ≡ true → is_name name ≡ true
+    → control_at (row ++ (optional_comma comma ++ (name ++ (61 ∷ rest)))) ≡ Some (label_number row, name, rest)
+unfolding control_at
+control_read row name rest comma n m =
+    rw (label_read row (optional_comma comma ++ (name ++ (61 ∷ rest))) n (ends_row comma name (61 ∷ rest) m), past_optional comma name (61 ∷ rest) m)
+    (rw (word_front name (61 ∷ rest) (name_words name m) refl, past_word_front name (61 ∷ rest) (name_words name m) refl, m) refl)
+
+before_comma : {x : List ℕ} {t : Tree} → Spells 1 x t → (rest : List ℕ) → reading.expr 1 (x ++ (44 ∷ rest)) ≡ Some (t, 44 ∷ rest)
+before_comma p rest = operand_read 1 (complete (omega arith) p) (44 ∷ rest) (ends_item 44 rest (inr refl))
+
+parameters_read : {x y : List ℕ} {a b : Tree} (label : ℕ) (name : List ℕ) → Spells 1 x a → Spells 1 y b → parameters_at label name (x ++ (44 ∷ y)) ≡ Some (Statement.Loop label name a b None)
+unfolding parameters_at
+parameters_read {y = y} label name p q = rw (before_comma p y, whole q) refl
+
+parameters_by : {x y z : List ℕ} {a b c : Tree} (label : ℕ) (name : List ℕ) → Spells 1 x a → Spells 1 y b → Spells 1 z c
+    → parameters_at label name (x ++ (44 ∷ (y ++ (44 ∷ z)))) ≡ Some (Statement.Loop label name a b (Some c))
+unfolding parameters_at
+parameters_by {y = y} {z = z} label name p q r = rw (before_comma p (y ++ (44 ∷ z)), before_comma q z, whole r) refl
+
+loop_read : {x y : List ℕ} {a b : Tree} (row name : List ℕ) (comma : Bool) → is_number row ≡ true → is_name name ≡ true → Spells 1 x a → Spells 1 y b
+    → statement_at (codes "DO" ++ (row ++ (optional_comma comma ++ (name ++ (61 ∷ (x ++ (44 ∷ y))))))) ≡ Some (Statement.Loop (label_number row) name a b None)
+unfolding statement_at loop_at
+loop_read {x = x} {y = y} row name comma n m p q =
+    rw (loop_class row name y comma n m p, control_read row name (x ++ (44 ∷ y)) comma n m) (parameters_read (label_number row) name p q)
+
+loop_by_read : {x y z : List ℕ} {a b c : Tree} (row name : List ℕ) (comma : Bool) → is_number row ≡ true → is_name name ≡ true → Spells 1 x a → Spells 1 y b → Spells 1 z c
+    → statement_at (codes "DO" ++ (row ++ (optional_comma comma ++ (name ++ (61 ∷ (x ++ (44 ∷ (y ++ (44 ∷ z))))))))) ≡ Some (Statement.Loop (label_number row) name a b (Some c))
+unfolding statement_at loop_at
+loop_by_read {x = x} {y = y} {z = z} row name comma n m p q r =
+    rw (loop_class row name (y ++ (44 ∷ z)) comma n m p, control_read row name (x ++ (44 ∷ (y ++ (44 ∷ z)))) comma n m) (parameters_by (label_number row) name p q r)
+
+-- SUBROUTINE
+subroutine_whole_read : (s : List ℕ) (u : Statement) → list_any is_equals s ≡ false → subroutine_at s ≡ Some u → statement_at (codes "SUBROUTINE" ++ s) ≡ Some u
+unfolding statement_at keyword_at
+subroutine_whole_read s u h e =
+    let class : class_of (codes "SUBROUTINE" ++ s) ≡ Keyword = keyword_class (codes "SUBROUTINE" ++ s) refl (no_equals_sign (codes "SUBROUTINE" ++ s) 0 h) in
+    rw class e
+
+arguments_no_equals : (name : List ℕ) (names : List (List ℕ)) → is_name name ≡ true → list_all is_name names ≡ true
+    → list_any is_equals (name ++ (40 ∷ (join_with_byte 44 names ++ 41 ∷ []))) ≡ false
+arguments_no_equals name names n all =
+    list_any-append is_equals name (40 ∷ (join_with_byte 44 names ++ 41 ∷ []))
+    ∙ rw (words_no_equals name (name_words name n), list_any-append is_equals (join_with_byte 44 names) (41 ∷ []), joined_no_equals names all) refl
+
+-- declarations and DATA
+declare_class : (kind : Kind) {text : List ℕ} {ds : List DeclFields} → SpellsDecls text ds → class_of (kind_keyword kind ++ text) ≡ Keyword
+declare_class Integer {text = text} p = keyword_class (codes "INTEGER" ++ text) refl (no_equals_sign (codes "INTEGER" ++ text) 0 (declaration_no_equals p))
+declare_class Logical {text = text} p = keyword_class (codes "LOGICAL" ++ text) refl (no_equals_sign (codes "LOGICAL" ++ text) 0 (declaration_no_equals p))
+
+dimension_class : {text : List ℕ} {ds : List DeclFields} → SpellsDecls text ds → class_of (codes "DIMENSION" ++ text) ≡ Keyword
+dimension_class {text = text} p = keyword_class (codes "DIMENSION" ++ text) refl (no_equals_sign (codes "DIMENSION" ++ text) 0 (declaration_no_equals p))
+
+preset_class : {text : List ℕ} {gs : List GroupFields} → SpellsGroups text gs → class_of (codes "DATA" ++ text) ≡ Keyword
+preset_class {text = text} p = keyword_class (codes "DATA" ++ text) refl (no_equals_sign (codes "DATA" ++ text) 0 (data_no_equals p))
+
+declare_read : (kind : Kind) {text : List ℕ} {ds : List DeclFields} → SpellsDecls text ds → statement_at (kind_keyword kind ++ text) ≡ Some (Statement.Declare kind ds)
+unfolding statement_at keyword_at specification_at
+declare_read Integer p = rw (declare_class Integer p, declarations_read p) refl
+declare_read Logical p = rw (declare_class Logical p, declarations_read p) refl
+
+dimension_read : {text : List ℕ} {ds : List DeclFields} → SpellsDecls text ds → all_bounded ds ≡ true → statement_at (codes "DIMENSION" ++ text) ≡ Some (Statement.Dimension ds)
+unfolding statement_at keyword_at specification_at
+dimension_read p h = rw (dimension_class p, declarations_read p, h) refl
+
+preset_read : {text : List ℕ} {gs : List GroupFields} → SpellsGroups text gs → statement_at (codes "DATA" ++ text) ≡ Some (Statement.Preset gs)
+unfolding statement_at keyword_at specification_at
+preset_read p = rw (preset_class p, groups_read p) refl
+
+-- a statement that may stand in a logical IF, by itself
+alone_read : {s : List ℕ} {u : Statement} → SpellsAction s u → statement_at s ≡ Some u
+unfolding statement_at keyword_at specification_at class_of begins_if simple_at without_expression word_statement
+alone_read (SpellsAction.assign r p) = rw (assign_class r p) (assign_read r p)
+alone_read (SpellsAction.go_to row n) = rw (goto_class row n, not_open row n, last_label_read row n) refl
+alone_read (SpellsAction.computed_go_to comma l p) = rw (computed_class comma l p, computed_read comma l p) refl
+alone_read (SpellsAction.arithmetic_if l m n p h i j) =
+    rw (if_class p (l ++ (44 ∷ (m ++ (44 ∷ n)))) (row_begins l (44 ∷ (m ++ (44 ∷ n))) h).0, condition_read p (l ++ (44 ∷ (m ++ (44 ∷ n))))) (arithmetic_branch _ l m n h i j)
+alone_read SpellsAction.go_on = refl
+alone_read SpellsAction.return = refl
+alone_read SpellsAction.stop = refl
+
+-- what is spelled is read
+pub statement_read : {s : List ℕ} {u : Statement} → SpellsStatement s u → statement_at s ≡ Some u
+unfolding statement_at keyword_at specification_at else_at class_of begins_if simple_at without_expression word_statement branch_at
+statement_read (SpellsStatement.action p) = alone_read p
+statement_read (SpellsStatement.subroutine {name = name} n) =
+    subroutine_whole_read name (Statement.Subroutine name []) (words_no_equals name (name_words name n)) (subroutine_read name n)
+statement_read (SpellsStatement.subroutine_of {name = name} names n all) =
+    subroutine_whole_read (name ++ (40 ∷ (join_with_byte 44 names ++ 41 ∷ []))) (Statement.Subroutine name names) (arguments_no_equals name names n all) (subroutine_of_read name names n all)
+statement_read (SpellsStatement.declare kind p) = declare_read kind p
+statement_read (SpellsStatement.dimension p h) = dimension_read p h
+statement_read (SpellsStatement.preset p) = preset_read p
+statement_read (SpellsStatement.logical_if {y = y} {t = t} p q) = rw (if_class p y (letter_begins y (action_begins q)).0, condition_read p y) (logical_read t q)
+statement_read (SpellsStatement.block_if p) = rw (if_class p (codes "THEN") refl, condition_read p (codes "THEN")) refl
+statement_read (SpellsStatement.else_if p) = else_if_read p
+statement_read SpellsStatement.otherwise = refl
+statement_read SpellsStatement.end_if = refl
+statement_read (SpellsStatement.loop {name = name} row comma n m p q) = loop_read row name comma n m p q
+statement_read (SpellsStatement.loop_by {name = name} row comma n m p q r) = loop_by_read row name comma n m p q r
+statement_read SpellsStatement.end = refl
+
+-- a text spells one statement at most
+pub one_statement : {s : List ℕ} {t u : Statement} → SpellsStatement s t → SpellsStatement s u → t ≡ u
+one_statement {t = t} {u = u} p q = same_Some t u (sym (statement_read p) ∙ statement_read q)
+
+-- the class of a text is that of the statement that it spells
+action_class : {s : List ℕ} {u : Statement} → SpellsAction s u → class_of s ≡ statement_class u
+unfolding class_of begins_if
+action_class (SpellsAction.assign r p) = assign_class r p
+action_class (SpellsAction.go_to row n) = goto_class row n
+action_class (SpellsAction.computed_go_to comma l p) = computed_class comma l p
+action_class (SpellsAction.arithmetic_if l m n p h i j) = if_class p (l ++ (44 ∷ (m ++ (44 ∷ n)))) (row_begins l (44 ∷ (m ++ (44 ∷ n))) h).0
+action_class SpellsAction.go_on = refl
+action_class SpellsAction.return = refl
+action_class SpellsAction.stop = refl
+
+pub class_agrees : {s : List ℕ} {u : Statement} → SpellsStatement s u → class_of s ≡ statement_class u
+unfolding class_of begins_if
+class_agrees (SpellsStatement.action p) = action_class p
+class_agrees (SpellsStatement.subroutine {name = name} n) =
+    keyword_class (codes "SUBROUTINE" ++ name) refl (no_equals_sign (codes "SUBROUTINE" ++ name) 0 (words_no_equals name (name_words name n)))
+class_agrees (SpellsStatement.subroutine_of {name = name} names n all) =
+    keyword_class (codes "SUBROUTINE" ++ (name ++ (40 ∷ (join_with_byte 44 names ++ 41 ∷ [])))) refl
+    (no_equals_sign (codes "SUBROUTINE" ++ (name ++ (40 ∷ (join_with_byte 44 names ++ 41 ∷ [])))) 0 (arguments_no_equals name names n all))
+class_agrees (SpellsStatement.declare kind p) = declare_class kind p
+class_agrees (SpellsStatement.dimension p h) = dimension_class p
+class_agrees (SpellsStatement.preset p) = preset_class p
+class_agrees (SpellsStatement.logical_if {y = y} p q) = if_class p y (letter_begins y (action_begins q)).0
+class_agrees (SpellsStatement.block_if p) = if_class p (codes "THEN") refl
+class_agrees (SpellsStatement.else_if {x = x} p) = keyword_class (codes "ELSEIF(" ++ (x ++ codes ")THEN")) refl (pass 61 refl equals_other p (codes ")THEN") 1)
+class_agrees SpellsStatement.otherwise = refl
+class_agrees SpellsStatement.end_if = refl
+class_agrees (SpellsStatement.loop {name = name} {y = y} row comma n m p q) = loop_class row name y comma n m p
+class_agrees (SpellsStatement.loop_by {name = name} {y = y} {z = z} row comma n m p q r) = loop_class row name (y ++ (44 ∷ z)) comma n m p
+class_agrees SpellsStatement.end = refl

@@ -1,0 +1,333 @@
+-- A statement that is read is spelled so.
+use Rattle.std.proofs.Common.{arith, ◌≡◌, ◌⊎◌, inl, inr, Bool, ℕ, ◌+◌, ◌-◌, ◌<◌, length, List, [], ◌∷◌, ◌++◌, true, cond, subst, refl, Option, Some, None, ap, sym, ◌∙◌, append-nil, take, get_or}
+use Rattle.std.specs.Prelude.{◌==◌, codes}
+use Rattle.std.specs.Str.{bytes_eq}
+use Rattle.std.specs.List.{list_all, slice_split, join_with_byte}
+use Rattle.std.proofs.lemmas.Option.{same_Some, none-some}
+use Rattle.std.proofs.lemmas.Bool.{eqb-true}
+use Rattle.std.proofs.lemmas.Slice.Eq.{bytes_eq-Decides}
+use Rattle.std.proofs.lemmas.List.{take-append-drop, drop_more, drop_all, nil_from_length}
+use Rattle.std.proofs.lemmas.List.Splits.{join_with_byte-slice_split}
+use Rattle.f77_tree.specs.Tree.{Tree, Statement}
+use Rattle.f77_tree.specs.Grammar.{Spells, is_number, is_name, word, past_word}
+use Rattle.f77_tree.specs.StatementGrammar.{SpellsAction, SpellsStatement, optional_comma, label_number, kind_keyword}
+use Rattle.f77_syntax.specs.Reading.{◌>>=◌, strip, after, close_at, reading, past_comma}
+use Rattle.f77_syntax.specs.Assignment.{ended}
+use Rattle.f77_syntax.specs.Subroutine.{is_comma, names_at, before_close, arguments_at, subroutine_at}
+use Rattle.f77_syntax.specs.Label.{label_at, last_label, label_comma, labels_at}
+use Rattle.f77_syntax.specs.Condition.{arithmetic_at, condition_at}
+use Rattle.f77_syntax.specs.DoLoop.{control_at, step_at, parameters_at, loop_at}
+use Rattle.f77_tree.specs.Formed.{is_action}
+use Rattle.f77_syntax.specs.Classification.{class_of}
+use Rattle.f77_syntax.specs.Statement.{word_statement, goto_by, without_expression, computed_by, simple_at, actions_only, simple_action_at, action_by, action_at, begins_digit, branch_at, else_at, declared_at, dimension_at, preset_at, specification_by, specification_at, keyword_by, keyword_at, statement_by, statement_at}
+use Rattle.f77_syntax.specs.declared.classification.Class.{Class}
+use Rattle.f77_syntax.specs.declared.classification.Class.TheVariants.{If, Loop, Assignment, Keyword}
+use Rattle.f77_syntax.proofs.Steps.{along, bind_ok, chosen, guarded, strip_is}
+use Rattle.f77_tree.proofs.Words.{word_whole}
+use Rattle.f77_syntax.proofs.Sound.{sound_reading, close_is}
+use Rattle.f77_tree.specs.Declaration.{all_bounded}
+use Rattle.f77_syntax.specs.Declaration.{declarations_at}
+use Rattle.f77_syntax.specs.Data.{groups_at}
+use Rattle.f77_tree.specs.declared.tree.Kind.{Kind}
+use Rattle.f77_tree.specs.declared.tree.Kind.TheVariants.{Integer, Logical}
+use Rattle.f77_syntax.proofs.LabelTexts.{label_is, last_label_is, label_comma_is, past_comma_is}
+use Rattle.f77_syntax.proofs.ComputedGotoTexts.{computed_is}
+use Rattle.f77_syntax.proofs.DeclarationTexts.{declarations_is}
+use Rattle.f77_syntax.proofs.DataTexts.{groups_is}
+use Rattle.f77_syntax.proofs.AssignmentSound.{after_is, assign_is, ended_is}
+
+pub before_close_is : (s r : List ℕ) → before_close s ≡ Some r → s ≡ r ++ 41 ∷ []
+before_close_is s r e =
+    let (last, found) = guarded (get_or s (length s - 1) 0 == 41) (Some (take (length s - 1) s)) r e in
+    by_length s r last (same_Some (take (length s - 1) s) r found)
+  where
+    by_length : (s r : List ℕ) → (get_or s (length s - 1) 0 == 41) ≡ true → take (length s - 1) s ≡ r → s ≡ r ++ 41 ∷ []
+    by_length [] r last found = cc
+    by_length (c ∷ s) r last found =
+        let n : length (c ∷ s) - 1 < length (c ∷ s) = omega arith in
+        let one = drop_more (c ∷ s) (length (c ∷ s) - 1) 0 n in
+        let none = drop_all (length (c ∷ s) - 1 + 1) (c ∷ s) (omega arith) in
+        let at = eqb-true (get_or (c ∷ s) (length (c ∷ s) - 1) 0) 41 last in
+        sym (take-append-drop (length (c ∷ s) - 1) (c ∷ s)) ∙ ap (λ z. take (length (c ∷ s) - 1) (c ∷ s) ++ z) (one ∙ rw (at, none) refl) ∙ ap (λ z. z ++ 41 ∷ []) found
+
+pub names_is : (s : List ℕ) (names : List (List ℕ)) → names_at s ≡ Some names → (s ≡ join_with_byte 44 names) × (list_all is_name names ≡ true)
+unfolding names_at
+names_is s names e =
+    elim (chosen (length s == 0) (Some []) (cond (list_all is_name (slice_split is_comma s)) (Some (slice_split is_comma s)) None) (Some names) e) [
+      | inl p ↦ let none : s ≡ [] = nil_from_length s (eqb-true (length s) 0 p.0) in along (λ ns. (s ≡ join_with_byte 44 ns) × (list_all is_name ns ≡ true)) [] names p.1 (none, refl)
+      | inr p ↦
+          let (all, found) = guarded (list_all is_name (slice_split is_comma s)) (Some (slice_split is_comma s)) names p.1 in
+          along (λ ns. (s ≡ join_with_byte 44 ns) × (list_all is_name ns ≡ true)) (slice_split is_comma s) names found (sym (join_with_byte-slice_split 44 s), all)
+    ]
+
+arguments_is : (name r : List ℕ) (t : Statement) → is_name name ≡ true → arguments_at name r ≡ Some t → SpellsStatement (codes "SUBROUTINE" ++ (name ++ r)) t
+arguments_is name [] t n e = along (SpellsStatement (codes "SUBROUTINE" ++ (name ++ []))) (Statement.Subroutine name []) t e (rw (append-nil name) (SpellsStatement.subroutine n))
+arguments_is name (c ∷ r) t n e =
+    let (open_at, rest) = guarded (c == 40) (before_close r >>= λ s. names_at s >>= λ names. Some (Statement.Subroutine name names)) t e in
+    let (s, close, more) = bind_ok (before_close r) (λ s. names_at s >>= λ names. Some (Statement.Subroutine name names)) t rest in
+    let (names, found, end) = bind_ok (names_at s) (λ names. Some (Statement.Subroutine name names)) t more in
+    let open_is : c ≡ 40 = eqb-true c 40 open_at in
+    let (is, all) = names_is s names found in
+    let whole : c ∷ r ≡ 40 ∷ (join_with_byte 44 names ++ 41 ∷ []) = ap (λ v. v ∷ r) open_is ∙ ap (λ v. 40 ∷ v) (before_close_is r s close ∙ ap (λ v. v ++ 41 ∷ []) is) in
+    along (SpellsStatement (codes "SUBROUTINE" ++ (name ++ (c ∷ r)))) (Statement.Subroutine name names) t end (rw whole (SpellsStatement.subroutine_of names n all))
+
+-- what an arithmetic IF has behind its parentheses
+arithmetic_is : (x s : List ℕ) (t : Tree) (u : Statement) → Spells 1 x t → arithmetic_at t s ≡ Some u → SpellsAction (codes "IF(" ++ (x ++ (41 ∷ s))) u
+unfolding arithmetic_at labels_at
+arithmetic_is x s t u p e =
+    let (l, three, end) = bind_ok (labels_at s) (λ l. Some (Statement.ArithIf t l.0 l.1 l.2)) u e in
+    let (a, first, more) = bind_ok (label_comma s) (λ a. label_comma a.1 >>= λ b. last_label b.1 >>= λ n. Some (a.0, b.0, n)) l three in
+    let (b, second, rest) = bind_ok (label_comma a.1) (λ b. last_label b.1 >>= λ n. Some (a.0, b.0, n)) l more in
+    let (n, third, all) = bind_ok (last_label b.1) (λ n. Some (a.0, b.0, n)) l rest in
+    let f = label_comma_is s a first in
+    let g = label_comma_is a.1 b second in
+    let h = last_label_is b.1 n third in
+    let last : b.1 ≡ h.row = h.is ∙ append-nil h.row in
+    let is : s ≡ f.row ++ (44 ∷ (g.row ++ (44 ∷ h.row))) = f.is ∙ ap (λ z. f.row ++ (44 ∷ z)) (g.is ∙ ap (λ z. g.row ++ (44 ∷ z)) last) in
+    let made = SpellsAction.arithmetic_if f.row g.row h.row p f.number g.number h.number in
+    along (SpellsAction (codes "IF(" ++ (x ++ (41 ∷ s)))) (Statement.ArithIf t l.0 l.1 l.2) u end
+    (along (λ k. SpellsAction (codes "IF(" ++ (x ++ (41 ∷ s))) (Statement.ArithIf t k.0 k.1 k.2)) (a.0, b.0, n) l all
+    (subst (λ z. SpellsAction (codes "IF(" ++ (x ++ (41 ∷ z))) (Statement.ArithIf t a.0 b.0 n)) (sym is) (rw (f.value, g.value, h.value) at made)))
+
+-- the condition of an IF
+pub record FrontsCondition (s : List ℕ) (t : Tree) (rest : List ℕ) : Type 0 where
+  pub text : List ℕ
+  pub is : s ≡ codes "IF(" ++ (text ++ (41 ∷ rest))
+  pub spells : Spells 1 text t
+
+condition_is : (s : List ℕ) (x : Tree × List ℕ) → condition_at s ≡ Some x → FrontsCondition s x.0 x.1
+unfolding condition_at
+condition_is s x e =
+    let (r, front, more) = bind_ok (strip (codes "IF(") s) (λ r. reading.expr 1 r >>= λ y. close_at y.1 >>= λ z. Some (y.0, z)) x e in
+    let (y, read, rest) = bind_ok (reading.expr 1 r) (λ y. close_at y.1 >>= λ z. Some (y.0, z)) x more in
+    let (z, close, end) = bind_ok (close_at y.1) (λ z. Some (y.0, z)) x rest in
+    let f = sound_reading.expr 1 r y read in
+    along (λ w. FrontsCondition s w.0 w.1) (y.0, z) x end (record {
+      text = f.text;
+      is = strip_is (codes "IF(") s r front ∙ ap (λ v. codes "IF(" ++ v) (f.is ∙ ap (λ v. f.text ++ v) (close_is y.1 z close));
+      spells = f.spells;
+    })
+
+-- statements of one keyword alone
+words_are : (s : List ℕ) (word : List ℕ) (t : Statement) (other : Option Statement) (u : Statement) → SpellsStatement word t
+    → (other ≡ Some u → SpellsStatement s u) → cond (bytes_eq s word) (Some t) other ≡ Some u → SpellsStatement s u
+words_are s word t other u p more e = elim (chosen (bytes_eq s word) (Some t) other (Some u) e) [
+  | inl q ↦ along (SpellsStatement s) t u q.1 (subst (λ z. SpellsStatement z t) (sym ((bytes_eq-Decides s word).0 q.0)) p)
+  | inr q ↦ more q.1
+]
+
+word_statement_is : (s : List ℕ) (u : Statement) → word_statement s ≡ Some u → SpellsStatement s u
+unfolding word_statement
+word_statement_is s u =
+    words_are s (codes "CONTINUE") Statement.Continue _ u (SpellsStatement.action SpellsAction.go_on)
+    (words_are s (codes "RETURN") Statement.Return _ u (SpellsStatement.action SpellsAction.return)
+    (words_are s (codes "STOP") Statement.Stop _ u (SpellsStatement.action SpellsAction.stop)
+    (words_are s (codes "ENDIF") Statement.EndIf _ u SpellsStatement.end_if
+    (words_are s (codes "END") Statement.End None u SpellsStatement.end (λ e. absurd (none-some u e))))))
+
+without_is : (s : List ℕ) (u : Statement) → without_expression s ≡ Some u → SpellsStatement s u
+unfolding without_expression
+without_is s u e = by_goto (strip (codes "GOTO") s) refl e
+  where
+    by_goto : (o : Option (List ℕ)) → strip (codes "GOTO") s ≡ o → goto_by s o ≡ Some u → SpellsStatement s u
+    by_goto None is e = word_statement_is s u e
+    by_goto (Some r) is e =
+        let (l, found, end) = bind_ok (last_label r) (λ l. Some (Statement.Goto l)) u e in
+        let f = last_label_is r l found in
+        let whole : s ≡ codes "GOTO" ++ f.row = strip_is (codes "GOTO") s r is ∙ ap (λ z. codes "GOTO" ++ z) (f.is ∙ append-nil f.row) in
+        along (SpellsStatement s) (Statement.Goto l) u end (subst (λ z. SpellsStatement z (Statement.Goto l)) (sym whole)
+        (SpellsStatement.action (subst (λ z. SpellsAction (codes "GOTO" ++ f.row) (Statement.Goto z)) f.value (SpellsAction.go_to f.row f.number))))
+
+simple_is : (s : List ℕ) (u : Statement) → simple_at s ≡ Some u → SpellsStatement s u
+unfolding simple_at
+simple_is s u e = by_open (strip (codes "GOTO(") s) refl e
+  where
+    by_open : (o : Option (List ℕ)) → strip (codes "GOTO(") s ≡ o → computed_by s o ≡ Some u → SpellsStatement s u
+    by_open None is e = without_is s u e
+    by_open (Some r) is e = subst (λ z. SpellsStatement z u) (sym (strip_is (codes "GOTO(") s r is)) (SpellsStatement.action (computed_is r u e))
+
+-- a statement that may stand in a logical IF
+action_from : {s : List ℕ} {u : Statement} → SpellsStatement s u → is_action u ≡ true → SpellsAction s u
+action_from (SpellsStatement.action p) h = p
+action_from (SpellsStatement.subroutine n) h = cc
+action_from (SpellsStatement.subroutine_of names n all) h = cc
+action_from (SpellsStatement.declare kind p) h = cc
+action_from (SpellsStatement.dimension p b) h = cc
+action_from (SpellsStatement.preset p) h = cc
+action_from (SpellsStatement.logical_if p q) h = cc
+action_from (SpellsStatement.block_if p) h = cc
+action_from (SpellsStatement.else_if p) h = cc
+action_from SpellsStatement.otherwise h = cc
+action_from SpellsStatement.end_if h = cc
+action_from (SpellsStatement.loop row comma n m p q) h = cc
+action_from (SpellsStatement.loop_by row comma n m p q r) h = cc
+action_from SpellsStatement.end h = cc
+
+action_is : (s : List ℕ) (u : Statement) → action_at s ≡ Some u → SpellsAction s u
+unfolding action_at simple_action_at
+action_is s u e = by_class (class_of s) e
+  where
+    by_class : (c : Class) → action_by c s ≡ Some u → SpellsAction s u
+    by_class If e =
+        let (x, found, rest) = bind_ok (condition_at s) (λ x. arithmetic_at x.0 x.1) u e in
+        let f = condition_is s x found in
+        subst (λ z. SpellsAction z u) (sym f.is) (arithmetic_is f.text x.1 x.0 u f.spells rest)
+    by_class Loop e = absurd (none-some u e)
+    by_class Assignment e = assign_is s u e
+    by_class Keyword e =
+        let (v, found, rest) = bind_ok (simple_at s) actions_only u e in
+        let (is, same) = guarded (is_action v) (Some v) u rest in
+        along (SpellsAction s) v u same (action_from (simple_is s v found) is)
+
+branch_is : (x s : List ℕ) (t : Tree) (u : Statement) → Spells 1 x t → branch_at t s ≡ Some u → SpellsStatement (codes "IF(" ++ (x ++ (41 ∷ s))) u
+unfolding branch_at
+branch_is x s t u p e = elim (chosen (bytes_eq s (codes "THEN")) (Some (Statement.BlockIf t)) _ (Some u) e) [
+  | inl q ↦
+      along (SpellsStatement (codes "IF(" ++ (x ++ (41 ∷ s)))) (Statement.BlockIf t) u q.1
+      (subst (λ z. SpellsStatement (codes "IF(" ++ (x ++ (41 ∷ z))) (Statement.BlockIf t)) (sym ((bytes_eq-Decides s (codes "THEN")).0 q.0)) (SpellsStatement.block_if p))
+  | inr q ↦ elim (chosen (begins_digit s) (arithmetic_at t s) (action_at s >>= λ a. Some (Statement.LogicalIf t a)) (Some u) q.1) [
+    | inl r ↦ SpellsStatement.action (arithmetic_is x s t u p r.1)
+    | inr r ↦
+        let (a, found, end) = bind_ok (action_at s) (λ a. Some (Statement.LogicalIf t a)) u r.1 in
+        along (SpellsStatement (codes "IF(" ++ (x ++ (41 ∷ s)))) (Statement.LogicalIf t a) u end (SpellsStatement.logical_if p (action_is s a found))
+  ]
+]
+
+else_is : (s : List ℕ) (u : Statement) → else_at s ≡ Some u → SpellsStatement (codes "ELSE" ++ s) u
+unfolding else_at
+else_is s u e = elim (chosen (length s == 0) (Some Statement.Else) _ (Some u) e) [
+  | inl q ↦
+      let none : s ≡ [] = nil_from_length s (eqb-true (length s) 0 q.0) in
+      along (SpellsStatement (codes "ELSE" ++ s)) Statement.Else u q.1 (subst (λ z. SpellsStatement (codes "ELSE" ++ z) Statement.Else) (sym none) SpellsStatement.otherwise)
+  | inr q ↦
+      let (x, found, rest) = bind_ok (condition_at s) (λ x. cond (bytes_eq x.1 (codes "THEN")) (Some (Statement.ElseIf x.0)) None) u q.1 in
+      let (is, same) = guarded (bytes_eq x.1 (codes "THEN")) (Some (Statement.ElseIf x.0)) u rest in
+      let f = condition_is s x found in
+      let whole : s ≡ codes "IF(" ++ (f.text ++ codes ")THEN") = f.is ∙ ap (λ z. codes "IF(" ++ (f.text ++ (41 ∷ z))) ((bytes_eq-Decides x.1 (codes "THEN")).0 is) in
+      along (SpellsStatement (codes "ELSE" ++ s)) (Statement.ElseIf x.0) u same
+      (subst (λ z. SpellsStatement (codes "ELSE" ++ z) (Statement.ElseIf x.0)) (sym whole) (SpellsStatement.else_if f.spells))
+]
+
+-- declarations and DATA
+declared_is : (kind : Kind) (s : List ℕ) (u : Statement) → declared_at kind s ≡ Some u → SpellsStatement (kind_keyword kind ++ s) u
+declared_is kind s u e =
+    let (ds, found, end) = bind_ok (declarations_at s) (λ ds. Some (Statement.Declare kind ds)) u e in
+    along (SpellsStatement (kind_keyword kind ++ s)) (Statement.Declare kind ds) u end (SpellsStatement.declare kind (declarations_is s ds found))
+
+dimension_is : (s : List ℕ) (u : Statement) → dimension_at s ≡ Some u → SpellsStatement (codes "DIMENSION" ++ s) u
+dimension_is s u e =
+    let (ds, found, rest) = bind_ok (declarations_at s) (λ ds. cond (all_bounded ds) (Some (Statement.Dimension ds)) None) u e in
+    let (bounded, end) = guarded (all_bounded ds) (Some (Statement.Dimension ds)) u rest in
+    along (SpellsStatement (codes "DIMENSION" ++ s)) (Statement.Dimension ds) u end (SpellsStatement.dimension (declarations_is s ds found) bounded)
+
+preset_is : (s : List ℕ) (u : Statement) → preset_at s ≡ Some u → SpellsStatement (codes "DATA" ++ s) u
+preset_is s u e =
+    let (gs, found, end) = bind_ok (groups_at s) (λ gs. Some (Statement.Preset gs)) u e in
+    along (SpellsStatement (codes "DATA" ++ s)) (Statement.Preset gs) u end (SpellsStatement.preset (groups_is s gs found))
+
+specification_is : (s : List ℕ) (u : Statement) → specification_at s ≡ Some u → SpellsStatement s u
+unfolding specification_at
+specification_is s u e = by_word (strip (codes "INTEGER") s) (strip (codes "LOGICAL") s) (strip (codes "DIMENSION") s) (strip (codes "DATA") s) refl refl refl refl e
+  where
+    by_word : (a b c d : Option (List ℕ)) → strip (codes "INTEGER") s ≡ a → strip (codes "LOGICAL") s ≡ b → strip (codes "DIMENSION") s ≡ c → strip (codes "DATA") s ≡ d
+        → specification_by s a b c d ≡ Some u → SpellsStatement s u
+    by_word (Some r) b c d is f g h e = subst (λ z. SpellsStatement z u) (sym (strip_is (codes "INTEGER") s r is)) (declared_is Integer r u e)
+    by_word None (Some r) c d is f g h e = subst (λ z. SpellsStatement z u) (sym (strip_is (codes "LOGICAL") s r f)) (declared_is Logical r u e)
+    by_word None None (Some r) d is f g h e = subst (λ z. SpellsStatement z u) (sym (strip_is (codes "DIMENSION") s r g)) (dimension_is r u e)
+    by_word None None None (Some r) is f g h e = subst (λ z. SpellsStatement z u) (sym (strip_is (codes "DATA") s r h)) (preset_is r u e)
+    by_word None None None None is f g h e = simple_is s u e
+
+keyword_is : (s : List ℕ) (u : Statement) → keyword_at s ≡ Some u → SpellsStatement s u
+unfolding keyword_at subroutine_at
+keyword_is s u e = by_keyword (strip (codes "SUBROUTINE") s) (strip (codes "ELSE") s) refl refl e
+  where
+    by_keyword : (o p : Option (List ℕ)) → strip (codes "SUBROUTINE") s ≡ o → strip (codes "ELSE") s ≡ p → keyword_by s o p ≡ Some u → SpellsStatement s u
+    by_keyword (Some r) p is other e =
+        let (n, found) = guarded (is_name (word r)) (arguments_at (word r) (past_word r)) u e in
+        subst (λ z. SpellsStatement z u) (sym (strip_is (codes "SUBROUTINE") s r is ∙ ap (λ z. codes "SUBROUTINE" ++ z) (word_whole r))) (arguments_is (word r) (past_word r) u n found)
+    by_keyword None (Some r) is other e = subst (λ z. SpellsStatement z u) (sym (strip_is (codes "ELSE") s r other)) (else_is r u e)
+    by_keyword None None is other e = specification_is s u e
+
+-- the label and the DO variable of a DO
+pub record FrontsControl (s : List ℕ) (label : ℕ) (name rest : List ℕ) : Type 0 where
+  pub row : List ℕ
+  pub comma : Bool
+  pub is : s ≡ row ++ (optional_comma comma ++ (name ++ (61 ∷ rest)))
+  pub number : is_number row ≡ true
+  pub value : label_number row ≡ label
+  pub named : is_name name ≡ true
+
+control_is : (s : List ℕ) (x : ℕ × List ℕ × List ℕ) → control_at s ≡ Some x → FrontsControl s x.0 x.1 x.2
+unfolding control_at
+control_is s x e =
+    let (y, found, more) = bind_ok (label_at s) (λ y. cond (is_name (word (past_comma y.1))) (after 61 (past_word (past_comma y.1)) >>= λ r. Some (y.0, word (past_comma y.1), r)) None) x e in
+    let (n, rest) = guarded (is_name (word (past_comma y.1))) (after 61 (past_word (past_comma y.1)) >>= λ r. Some (y.0, word (past_comma y.1), r)) x more in
+    let (r, equals, end) = bind_ok (after 61 (past_word (past_comma y.1))) (λ r. Some (y.0, word (past_comma y.1), r)) x rest in
+    let f = label_is s y found in
+    let (comma, behind) = past_comma_is y.1 in
+    along (λ w. FrontsControl s w.0 w.1 w.2) (y.0, word (past_comma y.1), r) x end (record {
+      row = f.row;
+      comma = comma;
+      is = f.is ∙ ap (λ z. f.row ++ z) (behind ∙ ap (λ z. optional_comma comma ++ z) (word_whole (past_comma y.1) ∙ ap (λ z. word (past_comma y.1) ++ z) (after_is 61 (past_word (past_comma y.1)) r equals)));
+      number = f.number;
+      value = f.value;
+      named = n;
+    })
+
+-- the parameters of a DO
+step_is : (s : List ℕ) (c : Option Tree) → step_at s ≡ Some c → ((s ≡ []) × (c ≡ None)) ⊎ ((z : List ℕ) × (t : Tree) × (s ≡ 44 ∷ z) × (c ≡ Some t) × Spells 1 z t)
+step_is [] c e = inl (refl, sym (same_Some None c e))
+step_is (d ∷ s) c e =
+    let (comma, rest) = guarded (d == 44) (reading.expr 1 s >>= λ x. ended (Some x.0) x.1) c e in
+    let (x, read, end) = bind_ok (reading.expr 1 s) (λ x. ended (Some x.0) x.1) c rest in
+    let (same, none) = ended_is (Some x.0) x.1 c end in
+    let f = sound_reading.expr 1 s x read in
+    let whole : s ≡ f.text = f.is ∙ ap (λ z. f.text ++ z) none ∙ append-nil f.text in
+    inr (s, x.0, ap (λ z. z ∷ s) (eqb-true d 44 comma), sym same, subst (λ z. Spells 1 z x.0) (sym whole) f.spells)
+
+loop_whole : (s name rest : List ℕ) (label : ℕ) (u : Statement) → FrontsControl s label name rest → parameters_at label name rest ≡ Some u → SpellsStatement (codes "DO" ++ s) u
+unfolding parameters_at
+loop_whole s name rest label u f e =
+    let (a, first, more) = bind_ok (reading.expr 1 rest) (λ a. after 44 a.1 >>= λ r. reading.expr 1 r >>= λ b. step_at b.1 >>= λ c. Some (Statement.Loop label name a.0 b.0 c)) u e in
+    let (r, comma, others) = bind_ok (after 44 a.1) (λ r. reading.expr 1 r >>= λ b. step_at b.1 >>= λ c. Some (Statement.Loop label name a.0 b.0 c)) u more in
+    let (b, second, last) = bind_ok (reading.expr 1 r) (λ b. step_at b.1 >>= λ c. Some (Statement.Loop label name a.0 b.0 c)) u others in
+    let (c, third, end) = bind_ok (step_at b.1) (λ c. Some (Statement.Loop label name a.0 b.0 c)) u last in
+    let p = sound_reading.expr 1 rest a first in
+    let q = sound_reading.expr 1 r b second in
+    let front : rest ≡ p.text ++ (44 ∷ r) = p.is ∙ ap (λ z. p.text ++ z) (after_is 44 a.1 r comma) in
+    along (SpellsStatement (codes "DO" ++ s)) (Statement.Loop label name a.0 b.0 c) u end (
+    elim (step_is b.1 c third) [
+      | inl k ↦
+          let whole : rest ≡ p.text ++ (44 ∷ q.text) = front ∙ ap (λ z. p.text ++ (44 ∷ z)) (q.is ∙ ap (λ z. q.text ++ z) k.0 ∙ append-nil q.text) in
+          let is : s ≡ f.row ++ (optional_comma f.comma ++ (name ++ (61 ∷ (p.text ++ (44 ∷ q.text))))) = f.is ∙ ap (λ z. f.row ++ (optional_comma f.comma ++ (name ++ (61 ∷ z)))) whole in
+          let made = SpellsStatement.loop {name = name} f.row f.comma f.number f.named p.spells q.spells in
+          subst (λ z. SpellsStatement (codes "DO" ++ s) (Statement.Loop label name a.0 b.0 z)) (sym k.1)
+          (subst (λ z. SpellsStatement (codes "DO" ++ z) (Statement.Loop label name a.0 b.0 None)) (sym is) (rw f.value at made))
+      | inr k ↦
+          let whole : rest ≡ p.text ++ (44 ∷ (q.text ++ (44 ∷ k.0))) = front ∙ ap (λ z. p.text ++ (44 ∷ z)) (q.is ∙ ap (λ z. q.text ++ z) k.2) in
+          let is : s ≡ f.row ++ (optional_comma f.comma ++ (name ++ (61 ∷ (p.text ++ (44 ∷ (q.text ++ (44 ∷ k.0))))))) = f.is ∙ ap (λ z. f.row ++ (optional_comma f.comma ++ (name ++ (61 ∷ z)))) whole in
+          let made = SpellsStatement.loop_by {name = name} f.row f.comma f.number f.named p.spells q.spells k.4 in
+          subst (λ z. SpellsStatement (codes "DO" ++ s) (Statement.Loop label name a.0 b.0 z)) (sym k.3)
+          (subst (λ z. SpellsStatement (codes "DO" ++ z) (Statement.Loop label name a.0 b.0 (Some k.1))) (sym is) (rw f.value at made))
+    ]
+    )
+
+loop_is : (s : List ℕ) (u : Statement) → loop_at s ≡ Some u → SpellsStatement s u
+unfolding loop_at
+loop_is s u e =
+    let (r, front, more) = bind_ok (strip (codes "DO") s) (λ r. control_at r >>= λ x. parameters_at x.0 x.1 x.2) u e in
+    let (x, found, rest) = bind_ok (control_at r) (λ x. parameters_at x.0 x.1 x.2) u more in
+    subst (λ z. SpellsStatement z u) (sym (strip_is (codes "DO") s r front)) (loop_whole r x.1 x.2 x.0 u (control_is r x found) rest)
+
+pub statement_is : (s : List ℕ) (u : Statement) → statement_at s ≡ Some u → SpellsStatement s u
+unfolding statement_at
+statement_is s u e = by_class (class_of s) e
+  where
+    by_class : (c : Class) → statement_by c s ≡ Some u → SpellsStatement s u
+    by_class If e =
+        let (x, found, rest) = bind_ok (condition_at s) (λ x. branch_at x.0 x.1) u e in
+        let f = condition_is s x found in
+        subst (λ z. SpellsStatement z u) (sym f.is) (branch_is f.text x.1 x.0 u f.spells rest)
+    by_class Loop e = loop_is s u e
+    by_class Assignment e = SpellsStatement.action (assign_is s u e)
+    by_class Keyword e = keyword_is s u e

@@ -1,0 +1,58 @@
+-- What a statement is, from its text as a whole, since no word is reserved (ANSI X3.9-1978, 2.3 and 3.3).
+use Rattle.std.specs.Prelude.{ℕ, suc, ◌-◌, ◌==◌, List, [], ◌∷◌, Option, Some, None, Bool, false, ◌&&◌, not, is_some, if◌then◌else◌, codes}
+use Rattle.f77_syntax.specs.Reading.{◌>>=◌, strip}
+use Rattle.f77_tree.specs.Tree.{Statement}
+use Rattle.f77_syntax.specs.declared.classification.Class.{Class}
+use Rattle.f77_syntax.specs.declared.classification.Class.TheVariants.{If, Loop, Assignment, Keyword}
+
+-- how many parentheses are open behind this character
+abbrev pub deeper : ℕ → ℕ → ℕ
+deeper depth c = if c == 40 then suc depth else (if c == 41 then depth - 1 else depth)
+
+-- what follows the first such character that stands outside parentheses, of which so many are open before
+abbrev pub behind : ℕ → ℕ → List ℕ → Option (List ℕ)
+behind b depth [] = None
+behind b depth (c ∷ s) = if (depth == 0) && (c == b) then Some s else behind b (deeper depth c) s
+
+abbrev pub begins_with : ℕ → List ℕ → Bool
+begins_with b [] = false
+begins_with b (c ∷ s) = c == b
+
+abbrev pub no_equals : Option (List ℕ) → Bool
+no_equals None = false
+no_equals (Some rest) = not (begins_with 61 rest)
+
+-- It begins IF( and the character after the matching parenthesis is no equals sign.
+unfoldable pub begins_if : List ℕ → Bool
+begins_if text = no_equals (strip (codes "IF(") text >>= behind 41 0)
+
+-- by what stands outside parentheses behind the equals sign that stands outside parentheses
+abbrev pub class_behind : Option (List ℕ) → Class
+class_behind None = Keyword
+class_behind (Some rest) = if is_some (behind 44 0 rest) then Loop else Assignment
+
+-- an IF statement, else a DO where a comma follows the equals sign, else an assignment where there is one, else by its keyword
+unfoldable pub class_of : List ℕ → Class
+class_of text = if begins_if text then If else class_behind (behind 61 0 text)
+
+-- the class of each statement
+abbrev pub statement_class : Statement → Class
+statement_class (Statement.Subroutine name names) = Keyword
+statement_class (Statement.Declare kind ds) = Keyword
+statement_class (Statement.Dimension ds) = Keyword
+statement_class (Statement.Preset gs) = Keyword
+statement_class (Statement.Assign name items t) = Assignment
+statement_class (Statement.Goto label) = Keyword
+statement_class (Statement.ComputedGoto labels t) = Keyword
+statement_class (Statement.ArithIf t l m n) = If
+statement_class (Statement.LogicalIf t s) = If
+statement_class (Statement.BlockIf t) = If
+statement_class (Statement.ElseIf t) = Keyword
+statement_class Statement.Else = Keyword
+statement_class Statement.EndIf = Keyword
+statement_class (Statement.Loop label name a b c) = Loop
+statement_class Statement.Continue = Keyword
+statement_class Statement.Return = Keyword
+statement_class Statement.Stop = Keyword
+statement_class Statement.Trap = Keyword
+statement_class Statement.End = Keyword
