@@ -11,10 +11,11 @@ use Rattle.f77_tree.specs.Grammar.{is_name, word, past_word}
 use Rattle.f77_syntax.specs.Reading.{◌>>=◌, after, past_comma}
 use Rattle.f77_tree.specs.Limits.{cut}
 use Rattle.f77_syntax.specs.View.{clipped, Fails}
-use Rattle.f77_syntax.specs.Declaration.{name_at, number_at}
+use Rattle.f77_syntax.specs.Names.{name_at, names_at}
+use Rattle.f77_syntax.specs.Declaration.{number_at}
 use Rattle.f77_tree.specs.Tree.{GroupFields}
 use Rattle.f77_tree.specs.Data.{data_group_of, negative}
-use Rattle.f77_syntax.specs.Data.{signed_at, truth_at, constant_at, repeat_at, value_at, data_names_at, data_values_at, with_values, group_at, with_groups, groups_within, groups_at, clip_constant, clip_value, clip_group, Finds}
+use Rattle.f77_syntax.specs.Data.{signed_at, truth_at, constant_at, repeat_at, value_at, data_values_at, with_values, group_at, with_groups, groups_within, groups_at, clip_constant, clip_value, clip_group, Finds}
 use Rattle.f77_syntax.proofs.Gives.{fails_bind}
 use Rattle.f77_syntax.proofs.JoinedTexts.{kept_more, fronts_short}
 use Rattle.f77_syntax.proofs.DataTexts.{value_is, group_is, group_long}
@@ -118,35 +119,35 @@ group_fields names values = record { names = names; values = values }
 abbrev closing : List (List ℕ) → List Value × List ℕ → Option (GroupFields × List ℕ)
 closing names v = after 47 v.1 >>= λ z. Some (group_fields names v.0, z)
 
-group_opened : (s behind inner : List ℕ) (x : List (List ℕ) × List ℕ) → data_names_at s ≡ Some x → behind ≡ x.1 → after 47 behind ≡ Some inner
+group_opened : (s behind inner : List ℕ) (x : List (List ℕ) × List ℕ) → names_at s ≡ Some x → behind ≡ x.1 → after 47 behind ≡ Some inner
     → group_at s ≡ (data_values_at inner >>= closing x.0)
 unfolding group_at
 group_opened s behind inner x e is slash = rw (e, ← is, slash) refl
 
-pub group_fails_names : (s : List ℕ) (e : ReadError) → Fails e (data_names_at s) → Fails e (group_at s)
+pub group_fails_names : (s : List ℕ) (e : ReadError) → Fails e (names_at s) → Fails e (group_at s)
 unfolding group_at
-group_fails_names s e f = fails_bind e (data_names_at s) (λ x. after 47 x.1 >>= λ r. with_values x.0 r) f
+group_fails_names s e f = fails_bind e (names_at s) (λ x. after 47 x.1 >>= λ r. with_values x.0 r) f
 
-opening : (s behind : List ℕ) (x : List (List ℕ) × List ℕ) → data_names_at s ≡ Some x → behind ≡ x.1 → group_at s ≡ (after 47 behind >>= λ r. with_values x.0 r)
+opening : (s behind : List ℕ) (x : List (List ℕ) × List ℕ) → names_at s ≡ Some x → behind ≡ x.1 → group_at s ≡ (after 47 behind >>= λ r. with_values x.0 r)
 unfolding group_at
 opening s behind x found is = rw (found, is) refl
 
-pub group_fails_open : (s behind : List ℕ) (x : List (List ℕ) × List ℕ) (e : ReadError) → data_names_at s ≡ Some x → behind ≡ x.1 → Fails e (after 47 behind) → Fails e (group_at s)
+pub group_fails_open : (s behind : List ℕ) (x : List (List ℕ) × List ℕ) (e : ReadError) → names_at s ≡ Some x → behind ≡ x.1 → Fails e (after 47 behind) → Fails e (group_at s)
 group_fails_open s behind x e found is f = subst (Fails e) (sym (opening s behind x found is)) (fails_bind e (after 47 behind) (λ r. with_values x.0 r) f)
 
-pub group_fails_values : (s behind inner : List ℕ) (x : List (List ℕ) × List ℕ) (e : ReadError) → data_names_at s ≡ Some x → behind ≡ x.1 → after 47 behind ≡ Some inner
+pub group_fails_values : (s behind inner : List ℕ) (x : List (List ℕ) × List ℕ) (e : ReadError) → names_at s ≡ Some x → behind ≡ x.1 → after 47 behind ≡ Some inner
     → Fails e (data_values_at inner) → Fails e (group_at s)
 group_fails_values s behind inner x e found is slash f =
     subst (Fails e) (sym (group_opened s behind inner x found is slash)) (fails_bind e (data_values_at inner) (closing x.0) f)
 
-pub group_fails_close : (s behind inner end : List ℕ) (x : List (List ℕ) × List ℕ) (v : List Value × List ℕ) (e : ReadError) → data_names_at s ≡ Some x → behind ≡ x.1
+pub group_fails_close : (s behind inner end : List ℕ) (x : List (List ℕ) × List ℕ) (v : List Value × List ℕ) (e : ReadError) → names_at s ≡ Some x → behind ≡ x.1
     → after 47 behind ≡ Some inner → data_values_at inner ≡ Some v → end ≡ v.1 → Fails e (after 47 end) → Fails e (group_at s)
 group_fails_close s behind inner end x v e found is slash valued at f =
     subst (Fails e) (sym (group_opened s behind inner x found is slash ∙ ap (λ o. o >>= closing x.0) valued))
     (fails_bind e (after 47 v.1) (λ z. Some (group_fields x.0 v.0, z)) (rw at at f))
 
 pub group_whole : (s behind inner end rest z : List ℕ) (names : List (List ℕ)) (values : List Value) (x : List (List ℕ) × List ℕ) (v : List Value × List ℕ)
-    → data_names_at s ≡ Some x → behind ≡ x.1 → after 47 behind ≡ Some inner → data_values_at inner ≡ Some v → end ≡ v.1 → after 47 end ≡ Some z
+    → names_at s ≡ Some x → behind ≡ x.1 → after 47 behind ≡ Some inner → data_values_at inner ≡ Some v → end ≡ v.1 → after 47 end ≡ Some z
     → names ≡ map cut x.0 → values ≡ map clip_value v.0 → rest ≡ z
     → (y : GroupFields × List ℕ) × (group_at s ≡ Some y) × ((group_fields names values ≡ clip_group y.0) × (rest ≡ y.1))
 group_whole s behind inner end rest z names values x v found is slash valued at close named same last =

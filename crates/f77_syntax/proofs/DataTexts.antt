@@ -13,16 +13,17 @@ use Rattle.f77_tree.specs.Grammar.{is_word, is_digit, is_letter, is_name, is_num
 use Rattle.f77_syntax.specs.Reading.{◌>>=◌, strip, after, past_comma}
 use Rattle.f77_tree.specs.Joined.{Joined}
 use Rattle.f77_tree.specs.Declaration.{SpellsName, SpellsNumber}
-use Rattle.f77_syntax.specs.Declaration.{name_at, number_at}
+use Rattle.f77_syntax.specs.Names.{name_at, names_at}
+use Rattle.f77_syntax.specs.Declaration.{number_at}
 use Rattle.f77_tree.specs.Tree.{GroupFields}
 use Rattle.f77_tree.specs.Data.{negative, SpellsConstant, SpellsValue, SpellsGroup, SpellsGroups}
-use Rattle.f77_syntax.specs.Data.{signed_at, truth_by, truth_at, constant_at, repeat_at, times_at, value_at, data_names_at, data_values_at, with_values, group_at, with_groups, groups_within, groups_at}
+use Rattle.f77_syntax.specs.Data.{signed_at, truth_by, truth_at, constant_at, repeat_at, times_at, value_at, data_values_at, with_values, group_at, with_groups, groups_within, groups_at}
 use Rattle.f77_syntax.proofs.Steps.{along, bind_ok, chosen, strip_is}
 use Rattle.f77_tree.proofs.Tests.{and_true}
 use Rattle.f77_tree.proofs.Words.{word_front, past_word_front, name_words}
 use Rattle.f77_syntax.proofs.Gives.{after_is}
 use Rattle.f77_syntax.proofs.JoinedTexts.{Fronts, IsSound, IsRead, Stops, items_is, items_read, joined_no_equals}
-use Rattle.f77_syntax.proofs.DeclarationTexts.{name_is, name_read, number_is, number_read, number_words}
+use Rattle.f77_syntax.proofs.DeclarationTexts.{names_is, name_read, number_is, number_read, number_words}
 use Rattle.f77_tree.proofs.DataForms.{unsigned_spelled, minus_spelled, repeated_spelled}
 use Rattle.std.proofs.lemmas.List.Folds.{list_any-append}
 use Rattle.f77_tree.specs.declared.data.Value.{Value}
@@ -103,10 +104,6 @@ value_is s x e = by_repeat (repeat_at s) refl e
           spells = repeated_spelled r.spells f.spells;
         })
 
-pub data_names_is : IsSound (Joined SpellsName) data_names_at
-unfolding data_names_at
-data_names_is = items_is name_is
-
 pub data_values_is : IsSound (Joined SpellsValue) data_values_at
 unfolding data_values_at
 data_values_is = items_is value_is
@@ -114,11 +111,11 @@ data_values_is = items_is value_is
 pub group_is : IsSound SpellsGroup group_at
 unfolding group_at
 group_is s x e =
-    let (y, named, more) = bind_ok (data_names_at s) (λ y. after 47 y.1 >>= λ r. with_values y.0 r) x e in
+    let (y, named, more) = bind_ok (names_at s) (λ y. after 47 y.1 >>= λ r. with_values y.0 r) x e in
     let (r, slash, rest) = bind_ok (after 47 y.1) (λ r. with_values y.0 r) x more in
     let (v, valued, others) = bind_ok (data_values_at r) (λ v. after 47 v.1 >>= λ z. Some (record { names = y.0; values = v.0 }, z)) x rest in
     let (z, close, end) = bind_ok (after 47 v.1) (λ z. Some (record { names = y.0; values = v.0 }, z)) x others in
-    let f = data_names_is s y named in
+    let f = names_is s y named in
     let g = data_values_is r v valued in
     along (Fronts SpellsGroup s) (record { names = y.0; values = v.0 }, z) x end (record {
       text = f.text ++ (47 ∷ (g.text ++ 47 ∷ []));
@@ -197,7 +194,7 @@ value_read text x (SpellsValue.repeated digits {text = t} {c = c} h p) rest stop
     rw (append_assoc digits (42 ∷ t) rest, a_repeat digits (t ++ rest) h, constant_read t c p rest stops) refl
 
 pub group_read : {text : List ℕ} {g : GroupFields} → SpellsGroup text g → (rest : List ℕ) → group_at (text ++ rest) ≡ Some (g, rest)
-unfolding group_at data_names_at data_values_at
+unfolding group_at names_at data_values_at
 group_read (SpellsGroup.group {x = x} {y = y} p q) rest =
     rw (
       append_assoc x (47 ∷ (y ++ 47 ∷ [])) rest,

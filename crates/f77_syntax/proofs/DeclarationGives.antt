@@ -1,11 +1,8 @@
 -- What the readers of declared names give, from what they call.
-use Rattle.std.proofs.Common.{◌≡◌, ◌≤◌, ℕ, length, List, [], ◌∷◌, ◌++◌, true, false, refl, Option, Some, None, ap, sym, ◌∙◌, subst}
+use Rattle.std.proofs.Common.{◌≡◌, ◌≤◌, ℕ, length, List, [], true, false, refl, Option, Some, None, sym, ◌∙◌, subst}
 use Rattle.std.specs.Prelude.{◌==◌, map}
 use Rattle.std.specs.Str.Parse.{digits_value}
-use Rattle.std.proofs.lemmas.List.{nil_from_length}
-use Rattle.std.proofs.lemmas.Bool.{eqb-true}
 use Rattle.f77_tree.specs.declared.fault.ReadError.{ReadError}
-use Rattle.f77_tree.specs.declared.declaration.Decl.{Decl}
 use Rattle.f77_tree.specs.Grammar.{is_name, is_number, word, past_word}
 use Rattle.f77_syntax.specs.Reading.{◌>>=◌, after, close_at}
 use Rattle.f77_syntax.specs.Assignment.{ended}
@@ -13,10 +10,9 @@ use Rattle.f77_tree.specs.Limits.{cut}
 use Rattle.f77_syntax.specs.View.{clipped, Fails}
 use Rattle.f77_syntax.specs.Joined.{items_at}
 use Rattle.f77_tree.specs.Tree.{DeclFields}
-use Rattle.f77_tree.specs.Declaration.{decl_of}
 use Rattle.f77_syntax.specs.Declaration.{clip_decl, number_at, bounds_at, with_bounds, decl_at, declarations_at}
 use Rattle.f77_syntax.proofs.Gives.{fails_bind}
-use Rattle.f77_syntax.proofs.JoinedTexts.{Listing, listing_fails, listing_ends, fronts_short}
+use Rattle.f77_syntax.proofs.JoinedTexts.{fronts_short}
 use Rattle.f77_syntax.proofs.DeclarationTexts.{decl_is}
 
 -- words
@@ -65,29 +61,15 @@ pub decl_shorter : (s rest : List ℕ) (x : DeclFields × List ℕ) → decl_at 
 decl_shorter s rest x e end = rw end (fronts_short (decl_is s x e))
 
 -- the list of them
-pub declarations_fail : (items : List Decl) (rest text : List ℕ) (e : ReadError) → Listing decl_of clip_decl decl_at items rest text → Fails e (decl_at rest) → Fails e (declarations_at text)
-unfolding declarations_at
-declarations_fail items rest text e l f = fails_bind e (items_at decl_at text) (λ x. ended x.0 x.1) (listing_fails decl_of clip_decl decl_at items rest text e l f)
+module _ (text : List ℕ) where
+  pub declarations_fail : (e : ReadError) → Fails e (items_at decl_at text) → Fails e (declarations_at text)
+  unfolding declarations_at
+  declarations_fail e f = fails_bind e (items_at decl_at text) (λ x. ended x.0 x.1) f
 
-whole_read : (text rest : List ℕ) (ds : List DeclFields) → items_at decl_at text ≡ Some (ds, rest) → rest ≡ [] → declarations_at text ≡ Some ds
-unfolding declarations_at
-whole_read text rest ds e none = rw (e, none) refl
+  pub declarations_more : (end : List ℕ) (x : List DeclFields × List ℕ) → items_at decl_at text ≡ Some x → end ≡ x.1 → (length end == 0) ≡ false → declarations_at text ≡ None
+  unfolding declarations_at
+  declarations_more end x read at more = rw (read, ← at, more) refl
 
-part_read : (text rest : List ℕ) (ds : List DeclFields) → items_at decl_at text ≡ Some (ds, rest) → (length rest == 0) ≡ false → declarations_at text ≡ None
-unfolding declarations_at
-part_read text rest ds e more = rw (e, more) refl
-
-pub declarations_end : (items new : List Decl) (got : Decl) (rest behind text : List ℕ) (x : DeclFields × List ℕ) → Listing decl_of clip_decl decl_at items rest text
-    → decl_at rest ≡ Some x → decl_of got ≡ clip_decl x.0 → behind ≡ x.1 → (length behind == 0) ≡ true → new ≡ items ++ got ∷ []
-    → (ds : List DeclFields) × (declarations_at text ≡ Some ds) × (map decl_of new ≡ map clip_decl ds)
-declarations_end items new got rest behind text x l e same is empty added =
-    let none : x.1 ≡ [] = sym is ∙ nil_from_length behind (eqb-true (length behind) 0 empty) in
-    let (ds, read, all) = listing_ends decl_of clip_decl decl_at items new got rest text x l e same (ap (after 44) none) added in
-    (ds, whole_read text x.1 ds read none, all)
-
-pub declarations_stop : (items new : List Decl) (got : Decl) (rest behind text : List ℕ) (x : DeclFields × List ℕ) → Listing decl_of clip_decl decl_at items rest text
-    → decl_at rest ≡ Some x → decl_of got ≡ clip_decl x.0 → behind ≡ x.1 → (length behind == 0) ≡ false → after 44 behind ≡ None → new ≡ items ++ got ∷ []
-    → declarations_at text ≡ None
-declarations_stop items new got rest behind text x l e same is more alone added =
-    let (ds, read, all) = listing_ends decl_of clip_decl decl_at items new got rest text x l e same (ap (after 44) (sym is) ∙ alone) added in
-    part_read text x.1 ds read (ap (λ r. length r == 0) (sym is) ∙ more)
+  pub declarations_whole : (end : List ℕ) (x : List DeclFields × List ℕ) → items_at decl_at text ≡ Some x → end ≡ x.1 → (length end == 0) ≡ true → declarations_at text ≡ Some x.0
+  unfolding declarations_at
+  declarations_whole end x read at none = rw (read, ← at, none) refl

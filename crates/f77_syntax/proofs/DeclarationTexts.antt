@@ -12,7 +12,8 @@ use Rattle.f77_tree.specs.Joined.{Joined}
 use Rattle.f77_syntax.specs.Joined.{items_at}
 use Rattle.f77_tree.specs.Tree.{DeclFields}
 use Rattle.f77_tree.specs.Declaration.{SpellsName, SpellsNumber, SpellsDecl, SpellsDecls}
-use Rattle.f77_syntax.specs.Declaration.{name_at, number_at, bounds_at, with_bounds, decl_at, declarations_at}
+use Rattle.f77_syntax.specs.Names.{name_at, names_at}
+use Rattle.f77_syntax.specs.Declaration.{number_at, bounds_at, with_bounds, decl_at, declarations_at}
 use Rattle.f77_syntax.proofs.Steps.{along, bind_ok, guarded}
 use Rattle.f77_tree.proofs.Tests.{and_true}
 use Rattle.f77_tree.proofs.Words.{EndsWord, word_whole, word_front, past_word_front, name_words}
@@ -28,6 +29,10 @@ pub name_is : IsSound SpellsName name_at
 name_is s x e =
     let (n, found) = guarded (is_name (word s)) (Some (word s, past_word s)) x e in
     along (Fronts SpellsName s) (word s, past_word s) x found (record { text = word s; is = word_whole s; spells = SpellsName.named n })
+
+pub names_is : IsSound (Joined SpellsName) names_at
+unfolding names_at
+names_is = items_is name_is
 
 pub number_is : IsSound SpellsNumber number_at
 number_is s x e =

@@ -16,7 +16,6 @@ pub mod Complete
 pub mod Gives
 pub mod Loops
 pub mod Numbers
-pub mod NameGives
 pub mod Operators
 pub mod Outside
 pub mod AssignmentSound

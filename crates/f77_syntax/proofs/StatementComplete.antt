@@ -1,20 +1,23 @@
 -- A statement that is spelled is read so, and a text spells one statement at most.
 use Rattle.std.proofs.Common.{arith, ◌≡◌, inl, inr, subst, ℕ, ◌-◌, length, List, [], ◌∷◌, ◌++◌, Bool, true, false, refl, Some, ap, sym, ◌∙◌, append_assoc, append-nil, length-append}
 use Rattle.std.specs.Prelude.{◌==◌, codes, None}
-use Rattle.std.specs.List.{list_all, list_any, slice_split, join_with_byte}
+use Rattle.std.specs.List.{list_all, list_any, join_with_byte}
 use Rattle.std.proofs.lemmas.Option.{same_Some, none-some}
 use Rattle.std.specs.Str.{bytes_eq}
 use Rattle.std.proofs.lemmas.Slice.Eq.{bytes_eq-Decides}
 use Rattle.std.proofs.lemmas.Bool.Decides.{nat_tests}
 use Rattle.std.proofs.lemmas.List.{take_at, get_or_at}
 use Rattle.std.proofs.lemmas.List.Folds.{list_any-append}
-use Rattle.std.proofs.lemmas.List.Splits.{slice_split_at, slice_split_none}
 use Rattle.f77_tree.specs.Tree.{Tree, Trees, Statement, DeclFields, GroupFields}
 use Rattle.f77_tree.specs.Grammar.{Spells, SpellsReference, is_letter, is_digit, is_word, is_number, is_name, word, past_word}
 use Rattle.f77_tree.specs.StatementGrammar.{SpellsAction, SpellsStatement, optional_comma, label_number, kind_keyword}
 use Rattle.f77_syntax.specs.Reading.{strip, reading, past_comma}
 use Rattle.f77_syntax.specs.Assignment.{reference_at, assign_at}
-use Rattle.f77_syntax.specs.Subroutine.{is_comma, names_at, before_close, subroutine_at}
+use Rattle.f77_syntax.specs.Names.{name_at, names_at}
+use Rattle.f77_tree.specs.Joined.{Joined}
+use Rattle.f77_syntax.specs.Joined.{items_at}
+use Rattle.f77_syntax.proofs.JoinedTexts.{items_read}
+use Rattle.f77_syntax.specs.Subroutine.{dummies_at, before_close, subroutine_at}
 use Rattle.f77_syntax.specs.Label.{labels_at}
 use Rattle.f77_syntax.specs.Condition.{arithmetic_at, condition_at}
 use Rattle.f77_syntax.specs.DoLoop.{control_at, parameters_at, loop_at}
@@ -27,14 +30,14 @@ use Rattle.f77_syntax.proofs.Shorter.{name_long}
 use Rattle.f77_syntax.proofs.Complete.{complete, complete_all, operand_read, ends_item, whole}
 use Rattle.f77_syntax.proofs.Outside.{pass}
 use Rattle.f77_syntax.proofs.Outside.{no_equals_sign, if_class, assign_class, loop_class, keyword_class, pass_quiet, quiet_number, equals_other}
-use Rattle.f77_syntax.proofs.WordTexts.{is_equals, words_no_comma, words_no_equals}
-use Rattle.f77_tree.specs.Declaration.{SpellsDecls, all_bounded}
+use Rattle.f77_syntax.proofs.WordTexts.{is_equals, words_no_equals}
+use Rattle.f77_tree.specs.Declaration.{SpellsName, SpellsDecls, all_bounded}
 use Rattle.f77_tree.specs.Data.{SpellsGroups}
 use Rattle.f77_tree.specs.declared.tree.Kind.{Kind}
 use Rattle.f77_tree.specs.declared.tree.Kind.TheVariants.{Integer, Logical}
 use Rattle.f77_syntax.proofs.LabelTexts.{EndsDigits, label_read, last_label_read, label_comma_read}
 use Rattle.f77_syntax.proofs.ComputedGotoTexts.{computed_read, computed_class}
-use Rattle.f77_syntax.proofs.DeclarationTexts.{declarations_read, declaration_no_equals}
+use Rattle.f77_syntax.proofs.DeclarationTexts.{name_read, declarations_read, declaration_no_equals}
 use Rattle.f77_syntax.proofs.DataTexts.{groups_read, data_no_equals}
 
 -- names joined by commas
@@ -45,21 +48,22 @@ joined_no_equals (n ∷ m ∷ names) h =
     let (first, others) = and_true (is_name n) (list_all is_name (m ∷ names)) h in
     list_any-append is_equals n (44 ∷ join_with_byte 44 (m ∷ names)) ∙ rw (words_no_equals n (name_words n first)) (joined_no_equals (m ∷ names) others)
 
-joined_split : (n : List ℕ) (names : List (List ℕ)) → list_all is_name (n ∷ names) ≡ true → slice_split is_comma (join_with_byte 44 (n ∷ names)) ≡ n ∷ names
-joined_split n [] h = slice_split_none is_comma n (words_no_comma n (name_words n (and_true (is_name n) true h).0))
-joined_split n (m ∷ names) h =
-    let (first, others) = and_true (is_name n) (list_all is_name (m ∷ names)) h in
-    slice_split_at is_comma n 44 (join_with_byte 44 (m ∷ names)) (words_no_comma n (name_words n first)) refl ∙ ap (λ ns. n ∷ ns) (joined_split m names others)
+names_spelled : (n : List ℕ) (names : List (List ℕ)) → list_all is_name (n ∷ names) ≡ true → Joined SpellsName (join_with_byte 44 (n ∷ names)) (n ∷ names)
+names_spelled n [] h = Joined.last (SpellsName.named (and_true (is_name n) true h).0)
+names_spelled n (m ∷ names) h =
+    let (first, others) = and_true (is_name n) (list_all is_name (m ∷ names)) h in Joined.more (SpellsName.named first) (names_spelled m names others)
 
 joined_long : (n : List ℕ) (names : List (List ℕ)) → is_name n ≡ true → (length (join_with_byte 44 (n ∷ names)) == 0) ≡ false
 joined_long n [] h = let l = name_long n h in grind (arith, nat_tests)
 joined_long n (m ∷ names) h = let l = length-append n (44 ∷ join_with_byte 44 (m ∷ names)) in grind (arith, nat_tests)
 
-pub names_read : (names : List (List ℕ)) → list_all is_name names ≡ true → names_at (join_with_byte 44 names) ≡ Some names
-unfolding names_at
-names_read [] h = refl
-names_read (n ∷ names) h =
-    rw (joined_long n names (and_true (is_name n) (list_all is_name names) h).0, joined_split n names h, h) refl
+pub dummies_read : (names : List (List ℕ)) → list_all is_name names ≡ true → dummies_at (join_with_byte 44 names) ≡ Some names
+unfolding dummies_at names_at
+dummies_read [] h = refl
+dummies_read (n ∷ names) h =
+    let all : List ℕ = join_with_byte 44 (n ∷ names) in
+    let read : items_at name_at all ≡ Some (n ∷ names, []) = ap (items_at name_at) (sym (append-nil all)) ∙ items_read name_at name_read (names_spelled n names h) [] tt refl in
+    rw (joined_long n names (and_true (is_name n) (list_all is_name names) h).0, read) refl
 
 before_close_found : (s : List ℕ) → before_close (s ++ 41 ∷ []) ≡ Some s
 before_close_found s =
@@ -80,7 +84,7 @@ unfolding subroutine_at
 subroutine_of_read name names n all =
     let rest : List ℕ = 40 ∷ (join_with_byte 44 names ++ 41 ∷ []) in
     rw (word_front name (40 ∷ (join_with_byte 44 names ++ 41 ∷ [])) (name_words name n) refl, past_word_front name (40 ∷ (join_with_byte 44 names ++ 41 ∷ [])) (name_words name n) refl, n)
-    (rw (before_close_found (join_with_byte 44 names), names_read names all) refl)
+    (rw (before_close_found (join_with_byte 44 names), dummies_read names all) refl)
 
 -- a reference before an equals sign
 reference_read : {x name : List ℕ} {items : Trees} → SpellsReference x name items → (y : List ℕ) → reference_at (x ++ (61 ∷ y)) ≡ Some (name, items, 61 ∷ y)

@@ -2,18 +2,20 @@
 use Rattle.std.proofs.Common.{arith, ◌≡◌, ◌⊎◌, inl, inr, Bool, ℕ, ◌+◌, ◌-◌, ◌<◌, length, List, [], ◌∷◌, ◌++◌, true, cond, subst, refl, Option, Some, None, ap, sym, ◌∙◌, append-nil, take, get_or}
 use Rattle.std.specs.Prelude.{◌==◌, codes}
 use Rattle.std.specs.Str.{bytes_eq}
-use Rattle.std.specs.List.{list_all, slice_split, join_with_byte}
+use Rattle.std.specs.List.{list_all, join_with_byte}
 use Rattle.std.proofs.lemmas.Option.{same_Some, none-some}
 use Rattle.std.proofs.lemmas.Bool.{eqb-true}
 use Rattle.std.proofs.lemmas.Slice.Eq.{bytes_eq-Decides}
 use Rattle.std.proofs.lemmas.List.{take-append-drop, drop_more, drop_all, nil_from_length}
-use Rattle.std.proofs.lemmas.List.Splits.{join_with_byte-slice_split}
 use Rattle.f77_tree.specs.Tree.{Tree, Statement}
 use Rattle.f77_tree.specs.Grammar.{Spells, is_number, is_name, word, past_word}
 use Rattle.f77_tree.specs.StatementGrammar.{SpellsAction, SpellsStatement, optional_comma, label_number, kind_keyword}
 use Rattle.f77_syntax.specs.Reading.{◌>>=◌, strip, after, close_at, reading, past_comma}
 use Rattle.f77_syntax.specs.Assignment.{ended}
-use Rattle.f77_syntax.specs.Subroutine.{is_comma, names_at, before_close, arguments_at, subroutine_at}
+use Rattle.f77_syntax.specs.Names.{names_at}
+use Rattle.f77_tree.specs.Joined.{Joined, some_all}
+use Rattle.f77_tree.proofs.JoinedForms.{joined_all}
+use Rattle.f77_syntax.specs.Subroutine.{dummies_at, before_close, arguments_at, subroutine_at}
 use Rattle.f77_syntax.specs.Label.{label_at, last_label, label_comma, labels_at}
 use Rattle.f77_syntax.specs.Condition.{arithmetic_at, condition_at}
 use Rattle.f77_syntax.specs.DoLoop.{control_at, step_at, parameters_at, loop_at}
@@ -25,14 +27,14 @@ use Rattle.f77_syntax.specs.declared.classification.Class.TheVariants.{If, Loop,
 use Rattle.f77_syntax.proofs.Steps.{along, bind_ok, chosen, guarded, strip_is}
 use Rattle.f77_tree.proofs.Words.{word_whole}
 use Rattle.f77_syntax.proofs.Sound.{sound_reading, close_is}
-use Rattle.f77_tree.specs.Declaration.{all_bounded}
+use Rattle.f77_tree.specs.Declaration.{SpellsName, all_bounded}
 use Rattle.f77_syntax.specs.Declaration.{declarations_at}
 use Rattle.f77_syntax.specs.Data.{groups_at}
 use Rattle.f77_tree.specs.declared.tree.Kind.{Kind}
 use Rattle.f77_tree.specs.declared.tree.Kind.TheVariants.{Integer, Logical}
 use Rattle.f77_syntax.proofs.LabelTexts.{label_is, last_label_is, label_comma_is, past_comma_is}
 use Rattle.f77_syntax.proofs.ComputedGotoTexts.{computed_is}
-use Rattle.f77_syntax.proofs.DeclarationTexts.{declarations_is}
+use Rattle.f77_syntax.proofs.DeclarationTexts.{names_is, declarations_is}
 use Rattle.f77_syntax.proofs.DataTexts.{groups_is}
 use Rattle.f77_syntax.proofs.AssignmentSound.{after_is, assign_is, ended_is}
 
@@ -50,24 +52,40 @@ before_close_is s r e =
         let at = eqb-true (get_or (c ∷ s) (length (c ∷ s) - 1) 0) 41 last in
         sym (take-append-drop (length (c ∷ s) - 1) (c ∷ s)) ∙ ap (λ z. take (length (c ∷ s) - 1) (c ∷ s) ++ z) (one ∙ rw (at, none) refl) ∙ ap (λ z. z ++ 41 ∷ []) found
 
-pub names_is : (s : List ℕ) (names : List (List ℕ)) → names_at s ≡ Some names → (s ≡ join_with_byte 44 names) × (list_all is_name names ≡ true)
-unfolding names_at
-names_is s names e =
-    elim (chosen (length s == 0) (Some []) (cond (list_all is_name (slice_split is_comma s)) (Some (slice_split is_comma s)) None) (Some names) e) [
+-- names joined by commas
+named : (text name : List ℕ) → SpellsName text name → is_name name ≡ true
+named text name (SpellsName.named h) = h
+
+comma_before : (n : List ℕ) (names : List (List ℕ)) → some_all is_name names ≡ true → n ++ (44 ∷ join_with_byte 44 names) ≡ join_with_byte 44 (n ∷ names)
+comma_before n [] h = cc
+comma_before n (m ∷ names) h = refl
+
+joined_names : {text : List ℕ} {names : List (List ℕ)} → Joined SpellsName text names → (text ≡ join_with_byte 44 names) × (list_all is_name names ≡ true)
+joined_names (Joined.last (SpellsName.named h)) = (refl, rw h refl)
+joined_names (Joined.more {xs = names} (SpellsName.named {text = n} h) p) =
+    let (is, all) = joined_names p in (ap (λ z. n ++ (44 ∷ z)) is ∙ comma_before n names (joined_all is_name named p), rw h all)
+
+pub dummies_is : (s : List ℕ) (names : List (List ℕ)) → dummies_at s ≡ Some names → (s ≡ join_with_byte 44 names) × (list_all is_name names ≡ true)
+unfolding dummies_at
+dummies_is s names e =
+    elim (chosen (length s == 0) (Some []) (names_at s >>= λ x. ended x.0 x.1) (Some names) e) [
       | inl p ↦ let none : s ≡ [] = nil_from_length s (eqb-true (length s) 0 p.0) in along (λ ns. (s ≡ join_with_byte 44 ns) × (list_all is_name ns ≡ true)) [] names p.1 (none, refl)
       | inr p ↦
-          let (all, found) = guarded (list_all is_name (slice_split is_comma s)) (Some (slice_split is_comma s)) names p.1 in
-          along (λ ns. (s ≡ join_with_byte 44 ns) × (list_all is_name ns ≡ true)) (slice_split is_comma s) names found (sym (join_with_byte-slice_split 44 s), all)
+          let (x, read, end) = bind_ok (names_at s) (λ x. ended x.0 x.1) names p.1 in
+          let f = names_is s x read in
+          let (same, none) = ended_is x.0 x.1 names end in
+          let (is, all) = joined_names f.spells in
+          (f.is ∙ ap (λ v. f.text ++ v) none ∙ append-nil f.text ∙ is ∙ ap (join_with_byte 44) same, subst (λ ns. list_all is_name ns ≡ true) same all)
     ]
 
 arguments_is : (name r : List ℕ) (t : Statement) → is_name name ≡ true → arguments_at name r ≡ Some t → SpellsStatement (codes "SUBROUTINE" ++ (name ++ r)) t
 arguments_is name [] t n e = along (SpellsStatement (codes "SUBROUTINE" ++ (name ++ []))) (Statement.Subroutine name []) t e (rw (append-nil name) (SpellsStatement.subroutine n))
 arguments_is name (c ∷ r) t n e =
-    let (open_at, rest) = guarded (c == 40) (before_close r >>= λ s. names_at s >>= λ names. Some (Statement.Subroutine name names)) t e in
-    let (s, close, more) = bind_ok (before_close r) (λ s. names_at s >>= λ names. Some (Statement.Subroutine name names)) t rest in
-    let (names, found, end) = bind_ok (names_at s) (λ names. Some (Statement.Subroutine name names)) t more in
+    let (open_at, rest) = guarded (c == 40) (before_close r >>= λ s. dummies_at s >>= λ names. Some (Statement.Subroutine name names)) t e in
+    let (s, close, more) = bind_ok (before_close r) (λ s. dummies_at s >>= λ names. Some (Statement.Subroutine name names)) t rest in
+    let (names, found, end) = bind_ok (dummies_at s) (λ names. Some (Statement.Subroutine name names)) t more in
     let open_is : c ≡ 40 = eqb-true c 40 open_at in
-    let (is, all) = names_is s names found in
+    let (is, all) = dummies_is s names found in
     let whole : c ∷ r ≡ 40 ∷ (join_with_byte 44 names ++ 41 ∷ []) = ap (λ v. v ∷ r) open_is ∙ ap (λ v. 40 ∷ v) (before_close_is r s close ∙ ap (λ v. v ++ 41 ∷ []) is) in
     along (SpellsStatement (codes "SUBROUTINE" ++ (name ++ (c ∷ r)))) (Statement.Subroutine name names) t end (rw whole (SpellsStatement.subroutine_of names n all))
 

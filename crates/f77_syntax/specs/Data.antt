@@ -7,7 +7,8 @@ use Rattle.f77_tree.specs.declared.data.Constant.{Constant}
 use Rattle.f77_tree.specs.declared.data.Constant.TheVariants.{Number, Truth}
 use Rattle.f77_tree.specs.declared.data.Value.{Value}
 use Rattle.f77_tree.specs.declared.data.DataGroup.{DataGroup}
-use Rattle.f77_syntax.specs.Declaration.{name_at, number_at}
+use Rattle.f77_syntax.specs.Names.{names_at}
+use Rattle.f77_syntax.specs.Declaration.{number_at}
 use Rattle.f77_syntax.specs.Joined.{items_at}
 use Rattle.f77_tree.specs.Limits.{cut, largest}
 use Rattle.f77_syntax.specs.Reading.{◌>>=◌, strip, after, past_comma}
@@ -48,9 +49,6 @@ times_at x = constant_at x.1 >>= λ y. Some (record { times = x.0; constant = y.
 unfoldable pub value_at : List ℕ → Option (Value × List ℕ)
 value_at s = times_at (unwrap_or (repeat_at s) (1, s))
 
-unfoldable pub data_names_at : List ℕ → Option (List (List ℕ) × List ℕ)
-data_names_at s = items_at name_at s
-
 unfoldable pub data_values_at : List ℕ → Option (List Value × List ℕ)
 data_values_at s = items_at value_at s
 
@@ -59,7 +57,7 @@ abbrev pub with_values : List (List ℕ) → List ℕ → Option (GroupFields ×
 with_values names s = data_values_at s >>= λ x. after 47 x.1 >>= λ r. Some (record { names = names; values = x.0 }, r)
 
 unfoldable pub group_at : List ℕ → Option (GroupFields × List ℕ)
-group_at s = data_names_at s >>= λ x. after 47 x.1 >>= λ r. with_values x.0 r
+group_at s = names_at s >>= λ x. after 47 x.1 >>= λ r. with_values x.0 r
 
 -- a group has been read: behind it the text ends, or other groups stand
 abbrev pub with_groups : (List ℕ → Option (List GroupFields)) → GroupFields → List ℕ → Option (List GroupFields)
@@ -92,9 +90,6 @@ clip_group g = record { names = map cut g.names; values = map clip_value g.value
 abbrev pub Finds : {A B : Type 0} → (A → B) → Option (B × Bor (List ℕ)) → Option (A × List ℕ) → Type 0
 Finds {A = A} {B = B} keep found read =
     option_map {U = B × List ℕ} (λ x. (x.0, x.1.now)) found ≡ option_map {U = B × List ℕ} (λ x. (keep x.0, x.1)) read
-
-abbrev pub AreDataNames : Vec (List ℕ) Global × Bor (List ℕ) → List (List ℕ) × List ℕ → Type 0
-AreDataNames x a = (x.0.items ≡ map cut a.0) × (x.1.now ≡ a.1)
 
 abbrev pub AreDataValues : Vec Value Global × Bor (List ℕ) → List Value × List ℕ → Type 0
 AreDataValues x a = (x.0.items ≡ map clip_value a.0) × (x.1.now ≡ a.1)

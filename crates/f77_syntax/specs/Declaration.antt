@@ -4,19 +4,17 @@ use Rattle.std.specs.Borrow.{Bor}
 use Rattle.std.specs.declared.alloc.Global.{Global}
 use Rattle.std.specs.Str.Parse.{digits_value}
 use Rattle.f77_tree.specs.declared.declaration.Decl.{Decl}
-use Rattle.f77_tree.specs.Grammar.{is_name, is_number, word, past_word}
+use Rattle.f77_tree.specs.Grammar.{is_number, word, past_word}
 use Rattle.f77_syntax.specs.Joined.{items_at}
 use Rattle.f77_tree.specs.Limits.{cut}
 use Rattle.f77_syntax.specs.Reading.{◌>>=◌, after, close_at}
 use Rattle.f77_syntax.specs.Assignment.{ended}
+use Rattle.f77_syntax.specs.Names.{name_at}
 use Rattle.f77_tree.specs.Tree.{DeclFields}
 use Rattle.f77_syntax.specs.View.{clipped}
 use Rattle.f77_tree.specs.Declaration.{decl_of}
 
 -- How they are read: each with what follows it.
-abbrev pub name_at : List ℕ → Option (List ℕ × List ℕ)
-name_at s = if is_name (word s) then Some (word s, past_word s) else None
-
 abbrev pub number_at : List ℕ → Option (ℕ × List ℕ)
 number_at s = if is_number (word s) then Some (digits_value 10 (word s), past_word s) else None
 

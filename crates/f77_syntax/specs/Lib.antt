@@ -1,6 +1,7 @@
 pub mod Reading
 pub mod View
 pub mod Joined
+pub mod Names
 pub mod Declaration
 pub mod Data
 pub mod StatementView

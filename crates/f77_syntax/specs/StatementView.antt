@@ -4,7 +4,6 @@ use Rattle.std.specs.Borrow.{Bor}
 use Rattle.std.specs.declared.alloc.Global.{Global}
 use Rattle.f77_tree.specs.declared.tree.Expr.{Expr}
 use Rattle.f77_tree.specs.declared.tree.Ref.{Ref}
-use Rattle.f77_tree.specs.declared.name.Name.{Name}
 use Rattle.f77_tree.specs.declared.tree.Stmt.{Stmt}
 use Rattle.f77_tree.specs.Limits.{cut}
 use Rattle.f77_tree.specs.Tree.{Tree, Trees, Statement}
@@ -42,9 +41,6 @@ IsStatement x a = statement_of x ≡ clip_statement a
 -- a reference and the text behind it
 abbrev pub IsReference : Ref × Bor (List ℕ) → List ℕ × Trees × List ℕ → Type 0
 IsReference x a = ((place_of x.0).0 ≡ cut a.0) × (trees (place_of x.0).1 ≡ clip_all a.1) × (x.1.now ≡ a.2)
-
-abbrev pub AreNames : Vec Name Global → List (List ℕ) → Type 0
-AreNames x a = x.items ≡ map cut a
 
 -- labels and the text behind
 abbrev pub AreLabels : Vec ℕ Global × Bor (List ℕ) → List ℕ × List ℕ → Type 0

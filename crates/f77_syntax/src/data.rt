@@ -1,16 +1,16 @@
 //! Names with their initial values, read from texts.
 
 ghost use Rattle.std.specs.Prelude.{◌≡◌, ◌<◌, ◌≤◌, length, IfOk};
-ghost use Rattle.f77_syntax.specs.Data.{repeat_at, value_at, data_names_at, data_values_at, group_at, groups_at};
-ghost use Rattle.f77_syntax.specs.Data.{clip_value, Finds, AreDataNames, AreDataValues, IsGroup, AreGroups};
+ghost use Rattle.f77_syntax.specs.Data.{repeat_at, value_at, data_values_at, group_at, groups_at};
+ghost use Rattle.f77_syntax.specs.Data.{clip_value, Finds, AreDataValues, IsGroup, AreGroups};
 ghost use Rattle.f77_syntax.specs.Reading.{after};
 ghost use Rattle.f77_syntax.specs.View.{clipped, Gives};
 
 use crate::constants::{digits, read_constant};
 use crate::expression::{after_byte, past_comma};
 use crate::joined::joined;
-use crate::names::add_name;
-use f77_tree::{DataGroup, Name, ReadError, Value};
+use crate::names::names;
+use f77_tree::{DataGroup, ReadError, Value};
 use std::alloc::Global;
 
 /// Reads a repeat with its asterisk, and what follows.
@@ -29,21 +29,6 @@ fn read_value(text: &[u8]) -> Option<(Value, &[u8])>
     let (times, behind) = repeat(text).unwrap_or((1, text));
     let (constant, rest) = read_constant(behind)?;
     Some((Value { times, constant }, rest))
-}
-
-/// Reads names joined by commas, and what follows them.
-fn names(alloc: Global, text: &[u8]) -> Result<(Vec<Name>, &[u8]), ReadError>
-    ensures { Gives AreDataNames result (data_names_at text.now) }
-{
-    let mut names = Vec::new(alloc);
-    let mut rest = text;
-    loop {
-        let behind = add_name(&mut names, rest)?;
-        let Some(next) = after_byte(behind, b',') else {
-            return Ok((names, behind));
-        };
-        rest = next;
-    }
 }
 
 /// Reads a value with its repeat, or tells that there is none.

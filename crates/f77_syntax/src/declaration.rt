@@ -33,7 +33,7 @@ fn bounds(alloc: Global, text: &[u8]) -> Result<(Vec<u32>, &[u8]), ReadError>
 /// Reads a declared name with its bounds, and what follows.
 fn declaration(alloc: Global, text: &[u8]) -> Result<(Decl, &[u8]), ReadError>
     ensures found { Gives IsDecl result (decl_at text.now) }
-    ensures short { IfOk result (λ x. length x.1.now ≤ length text.now) }
+    ensures shorter { IfOk result (λ x. length x.1.now ≤ length text.now) }
 {
     let (front, rest) = split_word(text);
     if !is_name(front) {
@@ -53,17 +53,9 @@ fn declaration(alloc: Global, text: &[u8]) -> Result<(Decl, &[u8]), ReadError>
 pub(crate) fn declarations(alloc: Global, text: &[u8]) -> Result<Vec<Decl>, ReadError>
     ensures { Gives AreDecls result (declarations_at text.now) }
 {
-    let mut items = Vec::new(alloc);
-    let mut rest = text;
-    loop {
-        let (item, behind) = declaration(alloc, rest)?;
-        items.push(item)?;
-        if behind.is_empty() {
-            return Ok(items);
-        }
-        let Some(next) = after_byte(behind, b',') else {
-            return Err(ReadError::Unknown);
-        };
-        rest = next;
+    let (items, end) = joined(alloc, text, |item| declaration(alloc, item))?;
+    if !end.is_empty() {
+        return Err(ReadError::Unknown);
     }
+    Ok(items)
 }

@@ -1,35 +1,28 @@
 //! SUBROUTINE statements read from texts.
 
 ghost use Rattle.std.specs.Prelude.{◌≡◌, length, option_map};
-ghost use Rattle.f77_syntax.specs.Subroutine.{names_at, before_close, subroutine_at};
+ghost use Rattle.f77_syntax.specs.Subroutine.{dummies_at, before_close, subroutine_at, AreDummies};
 ghost use Rattle.f77_syntax.specs.View.{Gives};
-ghost use Rattle.f77_syntax.specs.StatementView.{IsStatement, AreNames};
+ghost use Rattle.f77_syntax.specs.StatementView.{IsStatement};
 
 use crate::expression::after_byte;
-use crate::names::add_name;
+use crate::names::names;
 use f77_tree::characters::{is_name, split_word};
 use f77_tree::{Name, ReadError, Stmt};
 use std::alloc::Global;
 
-/// Reads names joined by commas, or nothing.
-fn names(alloc: Global, text: &[u8]) -> Result<Vec<Name>, ReadError>
-    ensures { Gives AreNames result (names_at text.now) }
+/// Reads names joined by commas up to the end, or nothing.
+fn dummies(alloc: Global, text: &[u8]) -> Result<Vec<Name>, ReadError>
+    ensures { Gives AreDummies result (dummies_at text.now) }
 {
-    let mut names = Vec::new(alloc);
     if text.is_empty() {
-        return Ok(names);
+        return Ok(Vec::new(alloc));
     }
-    let mut rest = text;
-    loop {
-        let behind = add_name(&mut names, rest)?;
-        if behind.is_empty() {
-            return Ok(names);
-        }
-        let Some(next) = after_byte(behind, b',') else {
-            return Err(ReadError::Unknown);
-        };
-        rest = next;
+    let (names, end) = names(alloc, text)?;
+    if !end.is_empty() {
+        return Err(ReadError::Unknown);
     }
+    Ok(names)
 }
 
 /// What stands before the closing parenthesis that ends the text.
@@ -61,6 +54,6 @@ pub(crate) fn subroutine(alloc: Global, text: &[u8]) -> Result<Stmt, ReadError>
     let Some(inner) = without_close(behind) else {
         return Err(ReadError::Unknown);
     };
-    let arguments = names(alloc, inner)?;
+    let arguments = dummies(alloc, inner)?;
     Ok(Stmt::Subroutine { name, arguments })
 }

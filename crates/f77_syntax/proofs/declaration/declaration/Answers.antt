@@ -40,8 +40,8 @@ returns-clause-found c =
     decl_array c.args.text.now c.in-Some.inner.now c.in_ok-bounds.behind.now _ _ _ h.0 g.0 (ap is_name (sym c.split_word.ensures.front) ∙ n)
     (ap (after 40) (sym c.split_word.ensures.back) ∙ sym c.in-Some.ensures) g.1 g.2.1 h.1 (c.beginning-name.ensures ∙ ap cut c.split_word.ensures.front) g.2.0 h.2
 
-pub returns-clause-short : goal.returns-clause-short
-returns-clause-short c =
+pub returns-clause-shorter : goal.returns-clause-shorter
+returns-clause-shorter c =
     let n : is_name c.split_word.result.0.now ≡ true = cc in
     let g = c.in_ok-bounds.ensures in
     let h = c.in_ok-rest.ensures in
