@@ -29,14 +29,14 @@ use Rattle.f77_syntax.specs.DoLoop.{control_at, step_at, parameters_at, loop_at}
 use Rattle.f77_syntax.specs.Classification.{behind, class_of}
 use Rattle.f77_tree.specs.Formed.{is_action}
 use Rattle.f77_syntax.specs.declared.classification.Class.TheVariants.{Keyword}
-use Rattle.f77_syntax.specs.Statement.{word_statement, goto_by, without_expression, simple_at, actions_only, simple_action_at, action_at, begins_digit, branch_at, else_at, declared_at, dimension_at, preset_at, specification_at}
+use Rattle.f77_syntax.specs.Statement.{word_statement, without_expression, simple_at, actions_only, simple_action_at, action_at, begins_digit, branch_at, else_at, declared_at, dimension_at, preset_at, specification_at}
 use Rattle.f77_tree.specs.Limits.{cut}
 use Rattle.f77_tree.specs.View.{tree_of}
 use Rattle.f77_syntax.specs.View.{clip, clipped, Fails, Gives}
 use Rattle.f77_tree.specs.StatementView.{statement_of}
 use Rattle.f77_syntax.specs.StatementView.{clip_statement, IsStatement}
 use Rattle.f77_tree.proofs.Tests.{and_true}
-use Rattle.f77_syntax.proofs.Steps.{along, bind_ok}
+use Rattle.f77_syntax.proofs.Steps.{along}
 use Rattle.f77_tree.proofs.Views.{declare_view, dimension_view, preset_view, arithmetic_view, logical_view, block_view, else_if_view, loop_view}
 use Rattle.f77_syntax.proofs.Gives.{fails_bind, after_is}
 use Rattle.f77_tree.specs.declared.tree.Kind.{Kind}
@@ -58,7 +58,7 @@ words_kept : (b : Bool) (t : Statement) (other : Option Statement) (u : Statemen
 words_kept true t other u same more e = along (λ z. clip_statement z ≡ z) t u e same
 words_kept false t other u same more e = more e
 
-word_kept : (s : List ℕ) (u : Statement) → word_statement s ≡ Some u → clip_statement u ≡ u
+pub word_kept : (s : List ℕ) (u : Statement) → word_statement s ≡ Some u → clip_statement u ≡ u
 unfolding word_statement
 word_kept s u =
     words_kept (bytes_eq s (codes "CONTINUE")) Statement.Continue _ u refl
@@ -67,13 +67,19 @@ word_kept s u =
     (words_kept (bytes_eq s (codes "ENDIF")) Statement.EndIf _ u refl
     (words_kept (bytes_eq s (codes "END")) Statement.End None u refl (λ e. absurd (none-some u e))))))
 
-pub without_kept : (s : List ℕ) (u : Statement) → without_expression s ≡ Some u → clip_statement u ≡ u
-unfolding without_expression
-without_kept s u e = by_goto (strip (codes "GOTO") s) e
-  where
-    by_goto : (o : Option (List ℕ)) → goto_by s o ≡ Some u → clip_statement u ≡ u
-    by_goto None e = word_kept s u e
-    by_goto (Some r) e = let (l, found, end) = bind_ok (last_label r) (λ l. Some (Statement.Goto l)) u e in along (λ z. clip_statement z ≡ z) (Statement.Goto l) u end refl
+-- an unconditional GO TO, or a statement of one keyword alone
+module _ (s : List ℕ) where
+  pub without_goto : strip (codes "GOTO") s ≡ None → without_expression s ≡ word_statement s
+  unfolding without_expression
+  without_goto h = rw h refl
+
+  pub goto_fails : (r : List ℕ) (e : ReadError) → strip (codes "GOTO") s ≡ Some r → Fails e (last_label r) → Fails e (without_expression s)
+  unfolding without_expression
+  goto_fails r e h f = rw h (fails_bind e (last_label r) (λ l. Some (Statement.Goto l)) f)
+
+  pub goto_whole : (r : List ℕ) (l : ℕ) → strip (codes "GOTO") s ≡ Some r → last_label r ≡ Some l → without_expression s ≡ Some (Statement.Goto l)
+  unfolding without_expression
+  goto_whole r l h read = rw (h, read) refl
 
 pub simple_computed : (s r : List ℕ) → strip (codes "GOTO(") s ≡ Some r → simple_at s ≡ computed_at r
 unfolding simple_at
@@ -210,10 +216,14 @@ module _ (s : List ℕ) where
   condition_whole r rest got behind x z c h read same end close is = ((x.0, z), rw (h, read, ← end, close) refl, (same, is))
 
 -- arithmetic IF
-pub arithmetic_whole : (s : List ℕ) (value : Expr) (l m n : ℕ) → Some (l, m, n) ≡ labels_at s → (t : Tree) → tree_of value ≡ clip t
+pub arithmetic_fails : (s : List ℕ) (t : Tree) (e : ReadError) → Fails e (labels_at s) → Fails e (arithmetic_at t s)
+unfolding arithmetic_at
+arithmetic_fails s t e f = fails_bind e (labels_at s) (λ l. Some (Statement.ArithIf t l.0 l.1 l.2)) f
+
+pub arithmetic_whole : (s : List ℕ) (value : Expr) (l m n : ℕ) (x : ℕ × ℕ × ℕ) → labels_at s ≡ Some x → (l, m, n) ≡ x → (t : Tree) → tree_of value ≡ clip t
     → (u : Statement) × (arithmetic_at t s ≡ Some u) × (statement_of (forms.ArithIf value l m n) ≡ clip_statement u)
 unfolding arithmetic_at
-arithmetic_whole s value l m n e t same = (Statement.ArithIf t l m n, rw (sym e) refl, arithmetic_view value l m n ∙ rw same refl)
+arithmetic_whole s value l m n x read is t same = (Statement.ArithIf t l m n, rw (read, ← is) refl, arithmetic_view value l m n ∙ rw same refl)
 
 -- what stands behind the condition of an IF
 pub branch_block : (s : List ℕ) (c : Expr) → bytes_eq s (codes "THEN") ≡ true → (t : Tree) → tree_of c ≡ clip t
@@ -240,9 +250,9 @@ else_whole s rest x c some found same end is = (Statement.ElseIf x.0, rw (some, 
 
 -- the label and the DO variable
 module _ (s : List ℕ) where
-  pub control_none : label_at s ≡ None → control_at s ≡ None
+  pub control_fails : (e : ReadError) → Fails e (label_at s) → Fails e (control_at s)
   unfolding control_at
-  control_none e = rw e refl
+  control_fails e f = fails_bind e (label_at s) _ f
 
   pub control_unnamed : (x : ℕ × List ℕ) (r front : List ℕ) → label_at s ≡ Some x → r ≡ past_comma x.1 → front ≡ word r → is_name front ≡ false → control_at s ≡ None
   unfolding control_at

@@ -1,5 +1,5 @@
 -- What the readers of a computed GO TO give, from what they call.
-use Rattle.std.proofs.Common.{◌≡◌, ◌≤◌, ℕ, length, List, true, false, refl, Some, None, ◌∙◌}
+use Rattle.std.proofs.Common.{◌≡◌, ℕ, length, List, true, false, refl, Some, None, ◌∙◌}
 use Rattle.std.specs.Prelude.{◌==◌, Vec}
 use Rattle.std.specs.declared.alloc.Global.{Global}
 use Rattle.f77_tree.specs.declared.fault.ReadError.{ReadError}
@@ -17,11 +17,6 @@ use Rattle.f77_tree.specs.StatementView.{statement_of}
 use Rattle.f77_syntax.specs.StatementView.{clip_statement}
 use Rattle.f77_tree.proofs.Views.{computed_view}
 use Rattle.f77_syntax.proofs.Gives.{fails_bind}
-use Rattle.f77_syntax.proofs.JoinedTexts.{fronts_short}
-use Rattle.f77_syntax.proofs.LabelTexts.{label_spelled}
-
-pub label_shorter : (s : List ℕ) (x : ℕ × List ℕ) → label_at s ≡ Some x → length x.1 ≤ length s
-label_shorter s x e = fronts_short (label_spelled s x e)
 
 -- the expression behind the labels
 module _ (labels s : List ℕ) where

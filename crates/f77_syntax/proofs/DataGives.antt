@@ -90,16 +90,18 @@ starts b o r found is = by_both o (repeat_at b.now) found is
     by_both (Some y) None e is = absurd (none-some (y.0, y.1.now) (sym e))
     by_both (Some y) (Some x) e is = let p = same_Some (y.0, y.1.now) (clipped x.0, x.1) e in (ap (λ z. z.0) is ∙ ap (λ z. z.0) p, ap (λ z. z.1.now) is ∙ ap (λ z. z.1) p)
 
+abbrev pub times_of : ℕ → Constant → Value
+times_of n k = record { times = n; constant = k }
+
 pub value_none : (s : List ℕ) → constant_at (start s).1 ≡ None → value_at s ≡ None
 unfolding value_at
 value_none s e = ap (λ o. o >>= λ y. Some (record { times = (start s).0; constant = y.0 }, y.1)) e
 
 pub value_whole : (s r : List ℕ) (n : ℕ) (k : Constant) (y : Constant × List ℕ) → constant_at (start s).1 ≡ Some y → n ≡ clipped (start s).0 → k ≡ clip_constant y.0 → r ≡ y.1
-    → Some (record { times = n; constant = k }, r) ≡ option_map {U = Value × List ℕ} (λ x. (clip_value x.0, x.1)) (value_at s)
+    → (x : Value × List ℕ) × (value_at s ≡ Some x) × ((times_of n k ≡ clip_value x.0) × (r ≡ x.1))
 unfolding value_at
 value_whole s r n k y e times same end =
-    let known : value_at s ≡ Some (record { times = (start s).0; constant = y.0 }, y.1) = ap (λ o. o >>= λ y. Some (record { times = (start s).0; constant = y.0 }, y.1)) e in
-    rw (known, times, same, end) refl
+    ((times_of (start s).0 y.0, y.1), ap (λ o. o >>= λ y. Some (times_of (start s).0 y.0, y.1)) e, (rw (times, same) refl, end))
 
 pub value_shorter : (s : List ℕ) (x : Value × List ℕ) → value_at s ≡ Some x → length x.1 ≤ length s
 value_shorter s x e = fronts_short (value_is s x e)

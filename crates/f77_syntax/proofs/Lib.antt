@@ -20,6 +20,7 @@ pub mod Operators
 pub mod Outside
 pub mod AssignmentSound
 pub mod LabelTexts
+pub mod LabelGives
 pub mod ComputedGotoTexts
 pub mod ComputedGotoGives
 pub mod StatementSound

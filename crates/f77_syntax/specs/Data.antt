@@ -91,6 +91,9 @@ abbrev pub Finds : {A B : Type 0} → (A → B) → Option (B × Bor (List ℕ))
 Finds {A = A} {B = B} keep found read =
     option_map {U = B × List ℕ} (λ x. (x.0, x.1.now)) found ≡ option_map {U = B × List ℕ} (λ x. (keep x.0, x.1)) read
 
+abbrev pub IsValue : Value × Bor (List ℕ) → Value × List ℕ → Type 0
+IsValue x a = (x.0 ≡ clip_value a.0) × (x.1.now ≡ a.1)
+
 abbrev pub AreDataValues : Vec Value Global × Bor (List ℕ) → List Value × List ℕ → Type 0
 AreDataValues x a = (x.0.items ≡ map clip_value a.0) × (x.1.now ≡ a.1)
 

@@ -1,5 +1,6 @@
 -- Reading labels.
-use Rattle.std.specs.Prelude.{ℕ, List, Option, Some, None, if◌then◌else◌}
+use Rattle.std.specs.Prelude.{◌≡◌, ℕ, List, Option, Some, None, if◌then◌else◌}
+use Rattle.std.specs.Borrow.{Bor}
 use Rattle.f77_tree.specs.Grammar.{is_number}
 use Rattle.f77_tree.specs.StatementGrammar.{label_number}
 use Rattle.f77_syntax.specs.Reading.{◌>>=◌, digits, past_digits, after}
@@ -20,3 +21,7 @@ label_comma s = label_at s >>= λ x. after 44 x.1 >>= λ r. Some (x.0, r)
 -- three labels joined by commas
 unfoldable pub labels_at : List ℕ → Option (ℕ × ℕ × ℕ)
 labels_at s = label_comma s >>= λ x. label_comma x.1 >>= λ y. last_label y.1 >>= λ n. Some (x.0, y.0, n)
+
+-- a label and the text behind it
+abbrev pub IsLabel : ℕ × Bor (List ℕ) → ℕ × List ℕ → Type 0
+IsLabel x a = (x.0 ≡ a.0) × (x.1.now ≡ a.1)

@@ -1,6 +1,5 @@
 //! Computed GO TO statements read from texts.
 
-ghost use Rattle.std.specs.Prelude.{◌≡◌, ◌≤◌, List, ℕ, length, IfOk};
 ghost use Rattle.f77_syntax.specs.ComputedGoto.{selector_at, computed_at};
 ghost use Rattle.f77_syntax.specs.Joined.{items_at};
 ghost use Rattle.f77_syntax.specs.Label.{label_at};
@@ -13,22 +12,11 @@ use crate::label::label;
 use f77_tree::{ReadError, Stmt};
 use std::alloc::Global;
 
-/// Reads a label, and what follows.
-fn item(text: &[u8]) -> Result<(u32, &[u8]), ReadError>
-    ensures found { Gives (λ x a. (x.0 ≡ a.0) × (x.1.now ≡ a.1)) result (label_at text.now) }
-    ensures shorter { IfOk result (λ x. length x.1.now ≤ length text.now) }
-{
-    match label(text) {
-        Some((number, rest)) => Ok((number, rest)),
-        None => Err(ReadError::Unknown),
-    }
-}
-
 /// Reads labels joined by commas, and what follows.
 fn labels(alloc: Global, text: &[u8]) -> Result<(Vec<u32>, &[u8]), ReadError>
     ensures { Gives AreLabels result (items_at label_at text.now) }
 {
-    joined(alloc, text, item)
+    joined(alloc, text, label)
 }
 
 /// Reads the expression behind the labels.

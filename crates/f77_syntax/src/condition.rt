@@ -25,13 +25,10 @@ pub(crate) fn condition(alloc: Global, text: &[u8]) -> Result<(Expr, &[u8]), Rea
 }
 
 /// Reads the labels of an arithmetic IF.
-#[tactic(auto, unfolding(crate::specs::Condition::arithmetic_at))]
 pub(crate) fn arithmetic(value: Expr, text: &[u8]) -> Result<Stmt, ReadError>
     ensures { (t : Tree) → tree_of value ≡ clip t → Gives IsStatement result (arithmetic_at t text.now) }
 {
-    let Some((negative, zero, positive)) = labels(text) else {
-        return Err(ReadError::Unknown);
-    };
+    let (negative, zero, positive) = labels(text)?;
     Ok(Stmt::ArithIf {
         value,
         negative,

@@ -2,7 +2,7 @@
 
 ghost use Rattle.std.specs.Prelude.{◌≡◌, ◌<◌, ◌≤◌, length, IfOk};
 ghost use Rattle.f77_syntax.specs.Data.{repeat_at, value_at, data_values_at, group_at, groups_at};
-ghost use Rattle.f77_syntax.specs.Data.{clip_value, Finds, AreDataValues, IsGroup, AreGroups};
+ghost use Rattle.f77_syntax.specs.Data.{Finds, IsValue, AreDataValues, IsGroup, AreGroups};
 ghost use Rattle.f77_syntax.specs.Reading.{after};
 ghost use Rattle.f77_syntax.specs.View.{clipped, Gives};
 
@@ -23,23 +23,15 @@ fn repeat(text: &[u8]) -> Option<(u32, &[u8])>
 }
 
 /// Reads a constant with its repeat, and what follows.
-fn read_value(text: &[u8]) -> Option<(Value, &[u8])>
-    ensures { Finds clip_value result (value_at text.now) }
-{
-    let (times, behind) = repeat(text).unwrap_or((1, text));
-    let (constant, rest) = read_constant(behind)?;
-    Some((Value { times, constant }, rest))
-}
-
-/// Reads a value with its repeat, or tells that there is none.
 fn value(text: &[u8]) -> Result<(Value, &[u8]), ReadError>
-    ensures found { Gives (λ x a. (x.0 ≡ clip_value a.0) × (x.1.now ≡ a.1)) result (value_at text.now) }
+    ensures found { Gives IsValue result (value_at text.now) }
     ensures shorter { IfOk result (λ x. length x.1.now ≤ length text.now) }
 {
-    match read_value(text) {
-        Some((value, rest)) => Ok((value, rest)),
-        None => Err(ReadError::Unknown),
-    }
+    let (times, behind) = repeat(text).unwrap_or((1, text));
+    let Some((constant, rest)) = read_constant(behind) else {
+        return Err(ReadError::Unknown);
+    };
+    Ok((Value { times, constant }, rest))
 }
 
 /// Reads values joined by commas, and what follows them.

@@ -17,9 +17,7 @@ fn control(text: &[u8]) -> Result<(u32, &[u8], &[u8]), ReadError>
     ensures read { Gives IsControl result (control_at text.now) }
     ensures named { IfOk result (λ x. is_name x.1.now ≡ true) }
 {
-    let Some((label, behind)) = label(text) else {
-        return Err(ReadError::Unknown);
-    };
+    let (label, behind) = label(text)?;
     let (front, rest) = split_word(past_comma(behind));
     if !is_name(front) {
         return Err(ReadError::Unknown);

@@ -1,12 +1,15 @@
 //! Labels read from texts.
 
-ghost use Rattle.std.specs.Prelude.{◌≡◌, true, option_map};
+ghost use Rattle.std.specs.Prelude.{◌≡◌, ◌≤◌, true, length, IfOk};
 ghost use Rattle.f77_tree.specs.Grammar as grammar;
 ghost use Rattle.f77_syntax.specs.Label as labels;
+ghost use Rattle.f77_syntax.specs.Label.{label_at, IsLabel};
 ghost use Rattle.f77_tree.specs.StatementGrammar.{label_number};
+ghost use Rattle.f77_syntax.specs.View.{Gives};
 
 use crate::expression::after_byte;
 use crate::scan::{number, split_digits};
+use f77_tree::ReadError;
 use f77_tree::characters::is_number;
 
 const MOST_DIGITS: usize = 5;
@@ -26,42 +29,46 @@ fn label_number(row: &[u8]) -> u32
     }
 }
 
-/// A label, and what follows it.
-#[tactic(auto, unfolding(crate::specs::Label::label_at))]
-pub(crate) fn label(text: &[u8]) -> Option<(u32, &[u8])>
-    ensures { option_map (λ x. (x.0, x.1.now)) result ≡ labels.label_at text.now }
+/// Reads a label, and what follows it.
+pub(crate) fn label(text: &[u8]) -> Result<(u32, &[u8]), ReadError>
+    ensures found { Gives IsLabel result (label_at text.now) }
+    ensures shorter { IfOk result (λ x. length x.1.now ≤ length text.now) }
 {
     let (row, rest) = split_digits(text);
     if !is_number(row) {
-        return None;
+        return Err(ReadError::Unknown);
     }
-    Some((label_number(row), rest))
+    Ok((label_number(row), rest))
 }
 
-/// The label that is the whole text.
-#[tactic(auto, unfolding(crate::specs::Label::last_label))]
-pub(crate) fn last_label(text: &[u8]) -> Option<u32>
-    ensures { result ≡ labels.last_label text.now }
+/// Reads a label that is the whole text.
+pub(crate) fn last_label(text: &[u8]) -> Result<u32, ReadError>
+    ensures { Gives (λ x a. x ≡ a) result (labels.last_label text.now) }
 {
-    let (label, rest) = label(text)?;
-    rest.is_empty().then_some(label)
+    let (label, end) = label(text)?;
+    if !end.is_empty() {
+        return Err(ReadError::Unknown);
+    }
+    Ok(label)
 }
 
-/// A label with a comma behind it, and what follows.
-#[tactic(auto, unfolding(crate::specs::Label::label_comma))]
-fn label_comma(text: &[u8]) -> Option<(u32, &[u8])>
-    ensures { option_map (λ x. (x.0, x.1.now)) result ≡ labels.label_comma text.now }
+/// Reads a label with a comma behind it, and what follows.
+fn label_comma(text: &[u8]) -> Result<(u32, &[u8]), ReadError>
+    ensures { Gives IsLabel result (labels.label_comma text.now) }
 {
-    let (label, rest) = label(text)?;
-    Some((label, after_byte(rest, b',')?))
+    let (label, behind) = label(text)?;
+    let Some(rest) = after_byte(behind, b',') else {
+        return Err(ReadError::Unknown);
+    };
+    Ok((label, rest))
 }
 
-/// Three labels joined by commas.
-#[tactic(auto, unfolding(crate::specs::Label::labels_at))]
-pub(crate) fn labels(text: &[u8]) -> Option<(u32, u32, u32)>
-    ensures { result ≡ labels.labels_at text.now }
+/// Reads three labels joined by commas.
+pub(crate) fn labels(text: &[u8]) -> Result<(u32, u32, u32), ReadError>
+    ensures { Gives (λ x a. x ≡ a) result (labels.labels_at text.now) }
 {
-    let (negative, rest) = label_comma(text)?;
-    let (zero, rest) = label_comma(rest)?;
-    Some((negative, zero, last_label(rest)?))
+    let (negative, behind) = label_comma(text)?;
+    let (zero, rest) = label_comma(behind)?;
+    let positive = last_label(rest)?;
+    Ok((negative, zero, positive))
 }

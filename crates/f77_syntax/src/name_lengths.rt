@@ -3,7 +3,7 @@
 ghost use Rattle.std.specs.Prelude.{◌≡◌};
 ghost use Rattle.std.specs.List.{before_last};
 ghost use Rattle.f77_tree.specs.Tree.{Statement};
-ghost use Rattle.f77_tree.specs.StatementGrammar.{SpellsStatement, kind_keyword};
+ghost use Rattle.f77_tree.specs.StatementGrammar.{SpellsStatement};
 ghost use Rattle.f77_tree.specs.StatementLimits.{statement_names};
 ghost use Rattle.f77_tree.specs.StatementView.{statement_of};
 ghost use Rattle.f77_syntax.specs.StatementView.{clip_statement};
@@ -11,10 +11,9 @@ ghost use Rattle.f77_syntax.specs.NameLengths as lengths;
 ghost use Rattle.f77_syntax.specs.NameLengths.{is_between, names_part};
 
 use crate::scan::split_digits;
+use f77_tree::Stmt;
 use f77_tree::characters::is_word;
-use f77_tree::{Kind, Stmt};
-
-const LONGEST_NAME: usize = 6;
+use f77_tree::limits::LONGEST_NAME;
 
 /// Whether the word has six characters at most, the digits at its front aside.
 fn is_short_word(word: &[u8]) -> bool
@@ -31,22 +30,13 @@ fn has_short_words(text: &[u8]) -> bool
     text.split(|c| !is_word(*c)).all(|word| is_short_word(word))
 }
 
-fn kind_keyword(kind: Kind) -> &'static str
-    ensures { result.now ≡ kind_keyword kind }
-{
-    match kind {
-        Kind::Integer => "INTEGER",
-        Kind::Logical => "LOGICAL",
-    }
-}
-
 /// The keyword that stands before a name with no other character between them.
 fn keyword_of(stmt: &Stmt) -> &'static str
     ensures { result.now ≡ lengths.keyword_of (statement_of stmt.now) }
 {
     match stmt {
         Stmt::Subroutine { .. } => "SUBROUTINE",
-        Stmt::Declare { kind, .. } => kind_keyword(*kind),
+        Stmt::Declare { kind, .. } => kind.keyword(),
         Stmt::Dimension { .. } => "DIMENSION",
         Stmt::Preset { .. } => "DATA",
         Stmt::Loop { .. } => "DO",

@@ -50,16 +50,15 @@ fn word_statement(text: &[u8]) -> Option<Stmt>
     None
 }
 
-/// An unconditional GO TO, or a statement of one keyword alone.
-#[tactic(auto, unfolding(crate::specs::Statement::without_expression))]
-fn without_expression(text: &[u8]) -> Option<Stmt>
-    ensures { option_map statement_of result ≡ reading.without_expression text.now }
+/// Reads an unconditional GO TO, or a statement of one keyword alone.
+fn without_expression(text: &[u8]) -> Result<Stmt, ReadError>
+    ensures { Gives IsStatement result (reading.without_expression text.now) }
 {
     let Some(rest) = text.strip_prefix(b"GOTO") else {
-        return word_statement(text);
+        return word_statement(text).ok_or(ReadError::Unknown);
     };
     let label = last_label(rest)?;
-    Some(Stmt::Goto { label })
+    Ok(Stmt::Goto { label })
 }
 
 /// Reads a GO TO, or a statement of one keyword alone.
@@ -70,7 +69,7 @@ fn simple(alloc: Global, text: &[u8]) -> Result<Stmt, ReadError>
     if let Some(rest) = text.strip_prefix(b"GOTO(") {
         return computed(alloc, rest);
     }
-    without_expression(text).ok_or(ReadError::Unknown)
+    without_expression(text)
 }
 
 /// Reads the same, where it may stand in a logical IF.

@@ -18,7 +18,6 @@ use Rattle.f77_tree.specs.StatementLimits.{statement_constants}
 use Rattle.f77_tree.proofs.StatementBack.{bare_text, back_statement}
 use Rattle.f77_tree.proofs.Plain.{is_plain, IsPlain, both, plain_letter, plain_name, plain_decimal, plain_text, plain_list, not_blank, squeezed_plain, printable_plain, behind_plain, printable_both}
 use Rattle.f77_tree.specs.StatementGrammar.{kind_keyword}
-use Rattle.f77_tree.specs.Canonical.{kind_text}
 use Rattle.f77_tree.specs.Declaration.{declarations_text, declaration_formed, all_bounded}
 use Rattle.f77_tree.specs.Data.{groups_text}
 use Rattle.f77_tree.specs.declared.tree.Kind.{Kind}
@@ -79,15 +78,15 @@ plain_range name a b c f =
     (both (text_of a) (44 ∷ (text_of b ++ step_text c)) (plain_text a first) (both (text_of b) (step_text c) (plain_text b second) (plain_step c third)))
 
 -- type statements
-squeezed_kind : (kind : Kind) (text : List ℕ) → IsPlain text → squeezed (kind_text kind ++ text) ≡ kind_keyword kind ++ text
+squeezed_kind : (kind : Kind) (text : List ℕ) → IsPlain text → squeezed (kind_keyword kind ++ (32 ∷ text)) ≡ kind_keyword kind ++ text
 squeezed_kind Integer text h = ap (λ z. codes "INTEGER" ++ z) (squeezed_plain text h)
 squeezed_kind Logical text h = ap (λ z. codes "LOGICAL" ++ z) (squeezed_plain text h)
 
-printable_kind : (kind : Kind) (text : List ℕ) → IsPlain text → list_all is_printable (kind_text kind ++ text) ≡ true
+printable_kind : (kind : Kind) (text : List ℕ) → IsPlain text → list_all is_printable (kind_keyword kind ++ (32 ∷ text)) ≡ true
 printable_kind Integer text h = printable_plain text h
 printable_kind Logical text h = printable_plain text h
 
-kind_starts : (kind : Kind) (text : List ℕ) → not (list_all is_blank (piece (kind_text kind ++ text) 0)) ≡ true
+kind_starts : (kind : Kind) (text : List ℕ) → not (list_all is_blank (piece (kind_keyword kind ++ (32 ∷ text)) 0)) ≡ true
 kind_starts Integer text = refl
 kind_starts Logical text = refl
 

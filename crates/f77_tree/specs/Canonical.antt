@@ -7,8 +7,7 @@ use Rattle.f77_tree.specs.Grammar.{truth_text}
 use Rattle.f77_tree.specs.Joined.{separated}
 use Rattle.f77_tree.specs.Declaration.{declarations_text}
 use Rattle.f77_tree.specs.Data.{groups_text}
-use Rattle.f77_tree.specs.declared.tree.Kind.{Kind}
-use Rattle.f77_tree.specs.declared.tree.Kind.TheVariants.{Integer, Logical}
+use Rattle.f77_tree.specs.StatementGrammar.{kind_keyword}
 use Rattle.f77_tree.specs.Tree.{Tree, Trees, Statement}
 
 -- the level of a tree's own form
@@ -58,16 +57,11 @@ abbrev pub step_text : Option Tree → List ℕ
 step_text None = []
 step_text (Some t) = 44 ∷ text_of t
 
--- the keyword of a type statement, and a blank
-abbrev pub kind_text : Kind → List ℕ
-kind_text Integer = codes "INTEGER "
-kind_text Logical = codes "LOGICAL "
-
 -- The canonical text of a statement, with one blank behind a keyword that something follows.
 abbrev pub statement_text : Statement → List ℕ
 statement_text (Statement.Subroutine name []) = codes "SUBROUTINE " ++ name
 statement_text (Statement.Subroutine name (n ∷ names)) = codes "SUBROUTINE " ++ (name ++ (names_text 40 (n ∷ names) ++ 41 ∷ []))
-statement_text (Statement.Declare kind ds) = kind_text kind ++ declarations_text ds
+statement_text (Statement.Declare kind ds) = kind_keyword kind ++ (32 ∷ declarations_text ds)
 statement_text (Statement.Dimension ds) = codes "DIMENSION " ++ declarations_text ds
 statement_text (Statement.Preset gs) = codes "DATA " ++ groups_text gs
 statement_text (Statement.Assign name items t) = (name ++ list_text items) ++ (61 ∷ text_of t)

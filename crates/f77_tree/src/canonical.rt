@@ -15,7 +15,7 @@ use crate::data::print_groups;
 use crate::declaration::print_declarations;
 use crate::fault::SyntaxFault;
 use crate::name::Name;
-use crate::tree::{Expr, Kind, Stmt};
+use crate::tree::{Expr, Stmt};
 use std::alloc::{AllocError, Global};
 
 /// The level of an expression's own form.
@@ -142,16 +142,6 @@ fn subroutine(out: &mut String, name: &Name, arguments: &[Name]) -> Result<(), A
     Ok(())
 }
 
-/// The keyword of a type statement, and a blank.
-fn kind_text(kind: Kind) -> &'static str
-    ensures { result.now ≡ canonical.kind_text kind }
-{
-    match kind {
-        Kind::Integer => "INTEGER ",
-        Kind::Logical => "LOGICAL ",
-    }
-}
-
 /// Writes the third parameter of a DO, where there is one.
 fn third(out: &mut String, step: &Option<Expr>) -> Result<(), AllocError>
     ensures { OnOk result (string_bytes out.new ≡ string_bytes out.old ++ canonical.step_text (option_map tree_of step.now)) }
@@ -231,7 +221,8 @@ fn statement(out: &mut String, stmt: &Stmt) -> Result<(), AllocError>
     match stmt {
         Stmt::Subroutine { name, arguments } => subroutine(out, name, arguments),
         Stmt::Declare { kind, items } => {
-            out.push_str(kind_text(*kind))?;
+            out.push_str(kind.keyword())?;
+            out.push(' ')?;
             print_declarations(out, items)
         }
         Stmt::Dimension { items } => {

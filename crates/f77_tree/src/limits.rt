@@ -1,4 +1,4 @@
-//! The limits of a statement, that on names aside: a `Name` keeps it.
+//! The limits of a statement. That on names a `Name` keeps.
 
 ghost use Rattle.std.specs.Prelude.{◌≡◌, true, false, map, min, if◌then◌else◌, option_map};
 ghost use Rattle.std.specs.List.{list_all};
@@ -11,6 +11,9 @@ ghost use Rattle.f77_tree.specs.StatementView.{statement_of};
 use crate::data::{data_constants, data_nodes};
 use crate::declaration::{declaration_constants, declaration_nodes};
 use crate::tree::{Expr, Stmt};
+
+/// The most characters of a name (ANSI X3.9-1978, 2.2).
+pub const LONGEST_NAME: usize = 6;
 
 const MOST_OPEN: usize = 40;
 

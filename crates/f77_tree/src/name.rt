@@ -13,12 +13,11 @@ ghost use Rattle.f77_tree.specs.Limits as limits;
 ghost use Rattle.f77_tree.specs.Limits.{cut};
 
 use crate::characters::{is_name, split_word};
+use crate::limits::LONGEST_NAME;
 use std::fmt::{self, Debug, Display, Formatter};
 use std::hash::{Hash, Hasher};
 use std::marker::Model;
 use std::str;
-
-const LONGEST_NAME: usize = 6;
 
 /// A symbolic name (ANSI X3.9-1978, 2.2): 1 to 6 letters and digits, the first of them a letter.
 ///

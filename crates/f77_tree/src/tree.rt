@@ -1,5 +1,8 @@
 //! Expressions and statements as trees: parentheses leave no trace.
 
+ghost use Rattle.std.specs.Prelude.{◌≡◌};
+ghost use Rattle.f77_tree.specs.StatementGrammar.{kind_keyword};
+
 use crate::data::DataGroup;
 use crate::declaration::Decl;
 use crate::intrinsic::Intrinsic;
@@ -14,6 +17,18 @@ pub enum Kind {
     Integer,
     /// LOGICAL (4.7).
     Logical,
+}
+
+impl Kind {
+    /// The keyword of its type statement.
+    pub fn keyword(self) -> &'static str
+        ensures { result.now ≡ kind_keyword self }
+    {
+        match self {
+            Kind::Integer => "INTEGER",
+            Kind::Logical => "LOGICAL",
+        }
+    }
 }
 
 /// An expression (ANSI X3.9-1978, section 6).

@@ -3,7 +3,7 @@ use Rattle.std.specs.Prelude.{codes, Some}
 use Rattle.f77_syntax.specs.StatementView.{IsStatement}
 use Rattle.f77_syntax.proofs.Steps.{strip_same, strip_other}
 use Rattle.f77_syntax.proofs.Gives.{gives_along}
-use Rattle.f77_syntax.proofs.BranchGives.{given, without_kept, simple_computed, simple_without}
+use Rattle.f77_syntax.proofs.BranchGives.{simple_computed, simple_without}
 use Rattle.f77_syntax.proofs.statement.simple.Goals as goal
 
 pub returns-in-Some : goal.returns-in-Some
@@ -13,5 +13,5 @@ returns-in-Some c =
 
 pub returns : goal.returns
 returns c =
-    rw c.ok_or.ensures.value (gives_along IsStatement _ _ _ (simple_without c.args.text.now (strip_other (codes "GOTO(") c.args.text.now c.in_default.ensures.cases))
-    (given c.without_expression.result _ c.without_expression.ensures (without_kept c.args.text.now)))
+    gives_along IsStatement c.without_expression.result _ _ (simple_without c.args.text.now (strip_other (codes "GOTO(") c.args.text.now c.in_default.ensures.cases))
+    c.without_expression.ensures
