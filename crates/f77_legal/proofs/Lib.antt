@@ -29,3 +29,4 @@ pub mod Branches
 pub mod LegalGives
 pub mod Flow
 pub mod Rules
+pub mod Among
