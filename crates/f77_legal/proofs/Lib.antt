@@ -30,3 +30,4 @@ pub mod LegalGives
 pub mod Flow
 pub mod Rules
 pub mod Among
+pub mod Stocks
