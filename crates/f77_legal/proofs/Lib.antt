@@ -31,3 +31,4 @@ pub mod Flow
 pub mod Rules
 pub mod Among
 pub mod Stocks
+pub mod PatchNames

@@ -1,9 +1,9 @@
 -- What a changed statement owes by itself, where the rest of a legal program stays.
-use Rattle.std.specs.Prelude.{◌≡◌, ◌≤◌, ℕ, Bool, true, false, List, [], ◌∷◌, length, map, filter, Option, Some}
+use Rattle.std.specs.Prelude.{◌≡◌, ◌≤◌, ◌&&◌, ℕ, Bool, true, false, List, [], ◌∷◌, length, map, filter, Option, Some, None}
 use Rattle.std.specs.List.{All, list_any, list_all, sum, slice_get}
 use Rattle.std.specs.Str.{bytes_eq}
 use Rattle.f77_tree.specs.Parsing.{LineFields}
-use Rattle.f77_tree.specs.Tree.{Statement}
+use Rattle.f77_tree.specs.Tree.{Tree, Trees, Statement}
 use Rattle.f77_legal.specs.declared.clause.Clause.{Clause}
 use Rattle.f77_legal.specs.declared.clause.Clause.TheVariants.{Kinds, Bounds, NamedLabels, Targets, Jumps, Variables}
 use Rattle.f77_legal.specs.declared.fault.CheckFault.{CheckFault}
@@ -44,3 +44,46 @@ pub record IsStock (names : List Symbol) (program : List LineFields) : Type 0 wh
 -- each name of the statement is among these
 abbrev pub NamesAmong : List Symbol → Statement → Type 0
 NamesAmong names statement = list_all (λ mention. is_among names (name_in mention)) (mentions_of statement) ≡ true
+
+-- each name of an expression passes the test
+abbrev mutual
+  pub tree_passes : (Symbol → Bool) → Tree → Bool
+  tree_passes test (Tree.Number number) = true
+  tree_passes test (Tree.Truth truth) = true
+  tree_passes test (Tree.Reference name items) = test name && items_pass test items
+  tree_passes test (Tree.Call function items) = items_pass test items
+  tree_passes test (Tree.Signed sign tree) = tree_passes test tree
+  tree_passes test (Tree.Not tree) = tree_passes test tree
+  tree_passes test (Tree.Binary operator left right) = tree_passes test left && tree_passes test right
+  tree_passes test (Tree.ZeroPush tree) = tree_passes test tree
+
+  pub items_pass : (Symbol → Bool) → Trees → Bool
+  items_pass test Trees.None = true
+  items_pass test (Trees.Then tree trees) = tree_passes test tree && items_pass test trees
+
+abbrev pub step_passes : (Symbol → Bool) → Option Tree → Bool
+step_passes test None = true
+step_passes test (Some tree) = tree_passes test tree
+
+-- each name of a statement that can be executed passes the test
+abbrev pub names_pass : (Symbol → Bool) → Statement → Bool
+names_pass test (Statement.Subroutine name dummies) = true
+names_pass test (Statement.Declare kind declarations) = true
+names_pass test (Statement.Dimension declarations) = true
+names_pass test (Statement.Preset groups) = true
+names_pass test (Statement.Assign name items tree) = test name && (items_pass test items && tree_passes test tree)
+names_pass test (Statement.Goto label) = true
+names_pass test (Statement.ComputedGoto labels tree) = tree_passes test tree
+names_pass test (Statement.ArithIf tree first second third) = tree_passes test tree
+names_pass test (Statement.LogicalIf tree statement) = tree_passes test tree && names_pass test statement
+names_pass test (Statement.BlockIf tree) = tree_passes test tree
+names_pass test (Statement.ElseIf tree) = tree_passes test tree
+names_pass test Statement.Else = true
+names_pass test Statement.EndIf = true
+names_pass test (Statement.Loop label name first last step) =
+    test name && (tree_passes test first && (tree_passes test last && step_passes test step))
+names_pass test Statement.Continue = true
+names_pass test Statement.Return = true
+names_pass test Statement.Stop = true
+names_pass test Statement.Trap = true
+names_pass test Statement.End = true
