@@ -1,5 +1,6 @@
 -- Names among the names of a list: what holds of them, and how many and how large they are where none stands twice.
 use Rattle.std.proofs.Common.{arith, ◌≡◌, ◌≤◌, ◌+◌, ◌||◌, ℕ, Bool, true, false, cond, not, List, [], ◌∷◌, length, map, filter, refl, sym, ◌∙◌, ap, subst}
+use Rattle.std.proofs.Math.Bool.{or-true}
 use Rattle.std.specs.List.{All, sum, sum_by}
 use Rattle.std.specs.Str.{bytes_eq}
 use Rattle.std.proofs.lemmas.List.Elements.{All-nil, All-cons, All-head, All-tail, All-filter}
@@ -8,10 +9,6 @@ use Rattle.std.proofs.lemmas.Map.Views.{any-filter_same}
 use Rattle.f77_legal.specs.Names.{Symbol, each_once}
 use Rattle.f77_legal.specs.Patches.{is_among}
 use Rattle.f77_legal.proofs.Symbols.{or_false, same_symbol, symbol_refl, without, Apart, any_once, once_apart}
-
-or_true : (a : Bool) → (a || true) ≡ true
-or_true true = refl
-or_true false = refl
 
 -- what holds of each name of a list holds of those among them
 module _ (P : Symbol → Type 0) where
@@ -27,7 +24,7 @@ module _ (P : Symbol → Type 0) where
   all_by_among [] each = All-nil P
   all_by_among (x ∷ names) each =
       All-cons P x names (each x (ap (λ b. b || is_among names x) (symbol_refl x)))
-      (all_by_among names (λ name h. each name (ap (λ b. bytes_eq name x || b) h ∙ or_true (bytes_eq name x))))
+      (all_by_among names (λ name h. each name (ap (λ b. bytes_eq name x || b) h ∙ or-true (bytes_eq name x))))
 
   -- of each name, and of each once
   pub all_once : (names : List Symbol) → All P names → All P (each_once names)

@@ -1,8 +1,8 @@
 -- The names of a program with one statement changed, and a walk over the trees of a statement that tests each of its names.
 use Rattle.std.proofs.Common.{◌≡◌, ℕ, zero, suc, Bool, true, false, ◌&&◌, List, [], ◌∷◌, ◌++◌, Option, Some, None, map, refl, sym, ◌∙◌, ap}
+use Rattle.std.proofs.Math.Bool.{and-true}
 use Rattle.std.specs.Prelude.{is_some, filter_map}
 use Rattle.std.specs.List.{All, list_all}
-use Rattle.std.specs.Map.{keys_of}
 use Rattle.std.specs.Str.{bytes_eq}
 use Rattle.std.proofs.lemmas.List.{map-append}
 use Rattle.std.proofs.lemmas.List.Concat.{flat_map-cons}
@@ -25,10 +25,6 @@ use Rattle.f77_legal.specs.declared.names.Names.{Names}
 use Rattle.f77_legal.specs.Names.{Symbol, Mention, name_in, mentions_of, mentions, symbols}
 use Rattle.f77_legal.specs.Patches.{is_among, NamesAmong, tree_passes, items_pass, step_passes, names_pass}
 use Rattle.f77_legal.proofs.Among.{all_once, once_all}
-
-and_end : (a : Bool) → (a && true) ≡ a
-and_end true = refl
-and_end false = refl
 
 -- each mention of the changed program is one of another line or of the statement
 module _ (test : Mention → Bool) where
@@ -143,7 +139,7 @@ module _ (test : Symbol → Bool) where
   statement_is (Statement.Assign name items t) h =
       ap (λ b. test name && b) (pass_append (map NodeOf.Part (all_parts items)) (tree_nodes t) ∙ (λ i. items_are items i && tree_is t i))
   statement_is (Statement.ComputedGoto labels t) h = labels_pass labels (tree_nodes t) ∙ tree_is t
-  statement_is (Statement.ArithIf t l m n) h = pass_append (tree_nodes t) _ ∙ and_end (nodes_pass (tree_nodes t)) ∙ tree_is t
+  statement_is (Statement.ArithIf t l m n) h = pass_append (tree_nodes t) _ ∙ and-true (nodes_pass (tree_nodes t)) ∙ tree_is t
   statement_is (Statement.LogicalIf t s) h = pass_append (tree_nodes t) (nodes_of s) ∙ (λ i. tree_is t i && statement_is s h i)
   statement_is (Statement.BlockIf t) h = tree_is t
   statement_is (Statement.ElseIf t) h = tree_is t
