@@ -32,3 +32,4 @@ pub mod Rules
 pub mod Among
 pub mod Stocks
 pub mod PatchNames
+pub mod Frames
