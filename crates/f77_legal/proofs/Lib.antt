@@ -33,3 +33,6 @@ pub mod Among
 pub mod Stocks
 pub mod PatchNames
 pub mod Frames
+pub mod FrameNames
+pub mod Replaced
+pub mod SameFrame
