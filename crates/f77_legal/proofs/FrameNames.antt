@@ -1,5 +1,5 @@
 -- What a program says of its names is told from its frame: no statement that can be executed says anything of a name.
-use Rattle.std.proofs.Common.{◌≡◌, ◌∙◌, ◌==◌, ◌&&◌, ◌||◌, ℕ, suc, List, [], ◌∷◌, ◌++◌, Bool, true, false, cond, not, Option, None, refl, sym, ap, map, filter, length, take}
+use Rattle.std.proofs.Common.{◌≡◌, ◌∙◌, ◌==◌, ◌&&◌, ◌||◌, ℕ, suc, List, [], ◌∷◌, ◌++◌, Bool, true, false, not, Option, None, refl, sym, ap, filter, length, take}
 use Rattle.std.specs.Prelude.{is_some, nat_le}
 use Rattle.std.specs.List.{flat_map, cons_option, filter_map}
 use Rattle.std.specs.Option.{option_map_or}
@@ -16,7 +16,7 @@ use Rattle.f77_legal.specs.Legal.{is_array}
 use Rattle.f77_legal.specs.Names.{Symbol, Mention, Dummy, Typed, Dimensioned, Plain, name_in, mentions_of, mentions, is_dummy, kind_in, some_items, bounds_in}
 use Rattle.f77_legal.specs.Names.{dummies_given, kinds_given, bounds_given, first_or, kind_of, bounds_of, is_integer_name, is_real}
 use Rattle.f77_legal.specs.Names.{unit_name, is_twice}
-use Rattle.f77_legal.specs.Presets.{product, elements, groups_of, is_dummy_name, names_preset, is_preset_twice}
+use Rattle.f77_legal.specs.Presets.{product, elements, is_dummy_name, names_preset, is_preset_twice}
 use Rattle.f77_legal.proofs.Frames.{declares, declared_in-framed, groups_of-framed, dummies_of-framed, unit_name_of-framed}
 
 -- what the frame gives is alike for programs of one frame

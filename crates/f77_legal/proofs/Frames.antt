@@ -1,5 +1,5 @@
 -- What the frame keeps of one statement: what it is to blocks, DOs, jumps, declarations and DATA.
-use Rattle.std.proofs.Common.{◌≡◌, List, [], ◌∷◌, Bool, true, false, not, Option, refl, sym, map, filter}
+use Rattle.std.proofs.Common.{◌≡◌, List, [], ◌∷◌, Bool, true, false, refl, sym, map, filter}
 use Rattle.f77_tree.specs.Group.{group_of}
 use Rattle.f77_tree.specs.Node.{names_of}
 use Rattle.f77_tree.specs.Tree.{Statement}

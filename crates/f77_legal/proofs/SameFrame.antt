@@ -1,6 +1,6 @@
 -- Programs of one frame have the same labels, blocks and DOs, and a statement breaks the same clauses in each, but for what its DO may end at.
-use Rattle.std.proofs.Common.{◌≡◌, ◌≢◌, ◌∙◌, ◌+◌, ◌==◌, ◌&&◌, ◌||◌, ℕ, zero, suc, List, [], ◌∷◌, Bool, true, false, cond, not, Option, Some, None, refl, sym, ap, map, reverse, length, filter, take, drop, ◌-◌}
-use Rattle.std.specs.Prelude.{nat_lt, nat_le, is_some, if◌then◌else◌, position, option_map}
+use Rattle.std.proofs.Common.{◌≡◌, ◌≢◌, ◌∙◌, ◌+◌, ◌==◌, ◌&&◌, ◌||◌, ℕ, zero, suc, List, [], ◌∷◌, Bool, true, false, cond, not, Option, Some, None, refl, sym, ap, reverse, length, filter, take, drop, ◌-◌}
+use Rattle.std.specs.Prelude.{nat_lt, nat_le, is_some, if◌then◌else◌, option_map}
 use Rattle.std.specs.List.{find, list_any, list_all, starts_with, prefix_len, cons_option}
 use Rattle.std.specs.Option.{option_and_then, option_map_or}
 use Rattle.std.specs.Str.{bytes_eq}
@@ -15,9 +15,9 @@ use Rattle.f77_legal.specs.Clause.{breaks}
 use Rattle.f77_legal.specs.Dimensions.{dimensions_fit}
 use Rattle.f77_legal.specs.Frames.{framed, framed_line, frame, HaveOneFrame}
 use Rattle.f77_legal.specs.Kinds.{kinds_agree}
-use Rattle.f77_legal.specs.Labels.{labels, bears, is_double, place_of, statement_at, statement_with, jumps_of, terminal_label, names_no_label, is_target, jumps_badly}
-use Rattle.f77_legal.specs.Loops.{terminal, range_holds, is_left, left_by, ends_at, loops_ending, branches, enclosing, same_numbers, ends_outside, breaks_range}
-use Rattle.f77_legal.specs.Loops.{AreNested, breaks_nesting, goes_in, jumps_in, set_by, variable_of, holds_with, sets_variable}
+use Rattle.f77_legal.specs.Labels.{labels, bears, is_double, place_of, statement_at, statement_with, jumps_of, terminal_label, is_target}
+use Rattle.f77_legal.specs.Loops.{terminal, range_holds, left_by, loops_ending, branches, enclosing, same_numbers, ends_outside, breaks_range}
+use Rattle.f77_legal.specs.Loops.{AreNested, breaks_nesting, goes_in, set_by, variable_of, holds_with}
 use Rattle.f77_legal.specs.Names.{Symbol}
 use Rattle.f77_legal.proofs.FrameNames.{by_frame, kind_of_same, bounds_of_same}
 use Rattle.f77_legal.proofs.Frames.{is_block_if-framed, is_end_if-framed, is_else-framed, is_alternative-framed, is_target-framed, terminal_label-framed, variable_of-framed}
