@@ -1,22 +1,24 @@
 -- What a program says of its names is told from its frame: no statement that can be executed says anything of a name.
-use Rattle.std.proofs.Common.{◌≡◌, ◌∙◌, ◌==◌, ◌&&◌, ◌||◌, ℕ, suc, List, [], ◌∷◌, ◌++◌, Bool, true, false, not, Option, None, refl, sym, ap, filter, length, take}
+use Rattle.std.proofs.Common.{◌≡◌, ◌∙◌, ◌==◌, ◌&&◌, ◌||◌, ℕ, suc, List, [], ◌∷◌, ◌++◌, Bool, true, false, not, Option, None, refl, sym, ap, filter, length, take, replicate}
 use Rattle.std.specs.Prelude.{is_some, nat_le}
-use Rattle.std.specs.List.{flat_map, cons_option, filter_map}
+use Rattle.std.specs.List.{flat_map, cons_option, filter_map, list_any}
 use Rattle.std.specs.Option.{option_map_or}
+use Rattle.std.specs.Cmp.Lexicographic.{pointwise}
 use Rattle.std.specs.Str.{bytes_eq}
 use Rattle.std.proofs.lemmas.List.{take-map}
 use Rattle.std.proofs.lemmas.List.Elements.{filter-append}
 use Rattle.f77_tree.specs.Intrinsic.{function_named}
 use Rattle.f77_tree.specs.Parsing.{LineFields}
-use Rattle.f77_tree.specs.Tree.{GroupFields}
+use Rattle.f77_tree.specs.Tree.{GroupFields, Statement}
 use Rattle.f77_tree.specs.declared.tree.Kind.TheVariants.{Integer}
 use Rattle.f77_legal.specs.Frames.{framed, framed_line, frame, HaveOneFrame}
 use Rattle.f77_legal.specs.Heading.{dummies}
+use Rattle.f77_legal.specs.Kinds.{same_kind}
 use Rattle.f77_legal.specs.Legal.{is_array}
 use Rattle.f77_legal.specs.Names.{Symbol, Mention, Dummy, Typed, Dimensioned, Plain, name_in, mentions_of, mentions, is_dummy, kind_in, some_items, bounds_in}
 use Rattle.f77_legal.specs.Names.{dummies_given, kinds_given, bounds_given, first_or, kind_of, bounds_of, is_integer_name, is_real}
 use Rattle.f77_legal.specs.Names.{unit_name, is_twice}
-use Rattle.f77_legal.specs.Presets.{product, elements, is_dummy_name, names_preset, is_preset_twice}
+use Rattle.f77_legal.specs.Presets.{product, elements, is_dummy_name, names_preset, is_preset_twice, groups_of, given_kinds, wanted_kinds, presets_badly}
 use Rattle.f77_legal.proofs.Frames.{declares, declared_in-framed, groups_of-framed, dummies_of-framed, unit_name_of-framed}
 
 -- what the frame gives is alike for programs of one frame
@@ -176,3 +178,12 @@ module _ (p q : List LineFields) (same : HaveOneFrame p q) where
 
   pub dummies_same : dummies p ≡ dummies q
   dummies_same = by_frame dummies dummies-frame p q same
+
+  -- DATA with the same groups
+  pub presets_badly_same : (i : ℕ) (s t : Statement) → groups_of s ≡ groups_of t → presets_badly p i s ≡ presets_badly q i t
+  presets_badly_same i s t groups = λ k.
+      list_any (λ name. is_dummy_name_same name k || is_preset_twice_same i name k) (flat_map (λ (group : GroupFields). group.names) (groups k))
+      || list_any (λ group. not (pointwise same_kind (wanted group k) (given_kinds group))) (groups k)
+    where
+      wanted : (group : GroupFields) → wanted_kinds p group ≡ wanted_kinds q group
+      wanted group = λ k. flat_map (λ name. replicate (elements_same name k) (kind_of_same name k)) group.names

@@ -36,3 +36,4 @@ pub mod Frames
 pub mod FrameNames
 pub mod Replaced
 pub mod SameFrame
+pub mod Changed

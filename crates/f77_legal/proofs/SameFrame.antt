@@ -148,11 +148,12 @@ module _ (p q : List LineFields) (same : HaveOneFrame p q) where
       || (alternative_same i k && (not (is_in_block_same i k) || ends_else_same i k)))
 
   -- DOs
+  pub terminal_label_same : (d : ℕ) → option_and_then terminal_label (statement_at p d) ≡ option_and_then terminal_label (statement_at q d)
+  terminal_label_same d =
+      by_frame (λ r. option_and_then terminal_label (statement_at r d)) (λ r. at-frame (option_and_then terminal_label) terminal_label-framed r d) p q same
+
   pub terminal_same : (d : ℕ) → terminal p d ≡ terminal q d
-  terminal_same d = λ k. option_and_then (λ label. place_of_same label k) (named d k)
-    where
-      named : (d : ℕ) → option_and_then terminal_label (statement_at p d) ≡ option_and_then terminal_label (statement_at q d)
-      named d = by_frame (λ r. option_and_then terminal_label (statement_at r d)) (λ r. at-frame (option_and_then terminal_label) terminal_label-framed r d) p q same
+  terminal_same d = λ k. option_and_then (λ label. place_of_same label k) (terminal_label_same d k)
 
   pub range_holds_same : (d i : ℕ) → range_holds p d i ≡ range_holds q d i
   range_holds_same d i = λ k. nat_lt d i && option_map_or (nat_le i) (terminal_same d k) false

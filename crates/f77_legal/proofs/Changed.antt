@@ -1,0 +1,195 @@
+-- What is told of a legal program with one statement changed: what that statement owes by itself.
+use Rattle.std.proofs.Common.{◌≡◌, ◌≢◌, ◌⊎◌, inl, inr, ◌∙◌, ◌+◌, ℕ, zero, suc, List, [], ◌∷◌, ◌++◌, Bool, true, false, cond, not, Option, Some, None, refl, sym, ap, subst, arith, map, filter, length, append_assoc, append-nil}
+use Rattle.std.specs.Prelude.{◌≤◌, option_map}
+use Rattle.std.specs.List.{All, flat_map, enumerate_from, slice_get}
+use Rattle.std.specs.Option.{option_and_then, option_map_or}
+use Rattle.std.proofs.lemmas.Bool.{cases_eq}
+use Rattle.std.proofs.lemmas.Option.{slice_get_past, slice_get_within, get_or_from_slice_get, option_and_then_some, same_Some}
+use Rattle.f77_tree.specs.Parsing.{LineFields}
+use Rattle.f77_tree.specs.Patching.{replaced}
+use Rattle.f77_tree.specs.Tree.{Statement}
+use Rattle.f77_legal.specs.declared.clause.Clause.{Clause}
+use Rattle.f77_legal.specs.declared.clause.Clause.TheVariants.{Kinds, Bounds, NamedLabels, Targets, Terminals, Nests, Jumps, Variables}
+use Rattle.f77_legal.specs.declared.fault.CheckFault.{CheckFault}
+use Rattle.f77_legal.specs.declared.fault.CheckFault.TheVariants.{RealName, Twice, DoubleLabel, BadData, TooMany}
+use Rattle.f77_legal.specs.Clause.{breaks, fault_at, faults_of, lines_where}
+use Rattle.f77_legal.specs.Frames.{framed, HaveOneFrame}
+use Rattle.f77_legal.specs.Labels.{statement_at, statement_with, place_of, terminal_label, is_terminal, ends_badly}
+use Rattle.f77_legal.specs.Legal.{IsLegal, faults, first_fault, name_faults, label_faults, data_faults, size_faults, is_too_large}
+use Rattle.f77_legal.specs.Loops.{terminal}
+use Rattle.f77_legal.specs.Names.{Symbol, symbols, is_real, is_twice}
+use Rattle.f77_legal.specs.Patches.{own_clauses, own_fault, MayStandAt, IsStock}
+use Rattle.f77_legal.specs.Presets.{groups_of, presets_badly}
+use Rattle.f77_legal.proofs.FrameNames.{presets_badly_same}
+use Rattle.f77_legal.proofs.Frames.{groups_of-framed}
+use Rattle.f77_legal.proofs.LegalGives.{kept_by}
+use Rattle.f77_legal.proofs.Replaced.{length-replaced, other_line, changed_line, replaced_frame}
+use Rattle.f77_legal.proofs.Rules.{keeps_every_rule}
+use Rattle.f77_legal.proofs.SameFrame.{labels_same, is_double_same, place_of_same, terminal_label_same, terminal_same, same_breaks}
+
+-- where each other element fails, at most this one passes
+only_one : {X : Type 0} (test : X → Bool) (xs : List X) (i : ℕ) → ((j : ℕ) (x : X) → i ≢ j → slice_get xs j ≡ Some x → test x ≡ false)
+    → filter test xs ≡ option_map_or (λ x. cond (test x) (x ∷ []) []) (slice_get xs i) []
+only_one test [] i fail = refl
+only_one test (x ∷ xs) zero fail =
+    ap (λ rest. cond (test x) (x ∷ rest) rest)
+    (only_one test xs (length xs) (λ j y apart at. fail (suc j) y (omega arith) at)
+    ∙ ap (λ o. option_map_or (λ y. cond (test y) (y ∷ []) []) o []) (slice_get_past xs (length xs) (omega arith)))
+only_one test (x ∷ xs) (suc i) fail =
+    ap (λ b. cond b (x ∷ filter test xs) (filter test xs)) (fail zero x (omega arith) refl)
+    ∙ only_one test xs i (λ j y apart at. fail (suc j) y (omega arith) at)
+
+none_passes : {X : Type 0} (test : X → Bool) (xs : List X) → All (λ x. test x ≡ false) xs → filter test xs ≡ []
+none_passes test xs all =
+    only_one test xs (length xs) (λ j x apart at. subst (λ y. test y ≡ false) (get_or_from_slice_get xs j x x at) (all j x (slice_get_within xs j x at)))
+    ∙ ap (λ o. option_map_or (λ y. cond (test y) (y ∷ []) []) o []) (slice_get_past xs (length xs) (omega arith))
+
+numbered_at : {X : Type 0} (k : ℕ) (xs : List X) (i : ℕ) → slice_get (enumerate_from k xs) i ≡ option_map (λ x. (k + i, x)) (slice_get xs i)
+numbered_at k [] i = refl
+numbered_at k (x ∷ xs) zero = let e : k ≡ k + 0 = omega arith in λ j. Some (e j, x)
+numbered_at k (x ∷ xs) (suc i) =
+    let e : k + 1 + i ≡ k + suc i = omega arith in
+    numbered_at (k + 1) xs i ∙ ap (λ n. option_map (λ x. (n, x)) (slice_get xs i)) e
+
+told_if : {X Y : Type 0} (f : X → Y) (b : Bool) (x : X) → map f (cond b (x ∷ []) []) ≡ cond b (f x ∷ []) []
+told_if f true x = refl
+told_if f false x = refl
+
+-- where the statement of each other line fails, at most this line is told
+one_line : (test : ℕ → Statement → Bool) (p : List LineFields) (i : ℕ) (line : LineFields) → slice_get p i ≡ Some line
+    → ((j : ℕ) (t : Statement) → i ≢ j → statement_at p j ≡ Some t → test j t ≡ false)
+    → lines_where test p ≡ cond (test i line.stmt) (line.line ∷ []) []
+one_line test p i line at fail =
+    ap (map (λ n. n.1.line)) (only_one passes (enumerate_from 0 p) i others)
+    ∙ ap (λ o. map (λ n. n.1.line) (option_map_or (λ n. cond (passes n) (n ∷ []) []) o [])) (here i line at)
+    ∙ told_if (λ (n : ℕ × LineFields). n.1.line) (test i line.stmt) (i, line)
+  where
+    passes : ℕ × LineFields → Bool
+    passes n = test n.0 n.1.stmt
+
+    here : (j : ℕ) (l : LineFields) → slice_get p j ≡ Some l → slice_get (enumerate_from 0 p) j ≡ Some (j, l)
+    here j l is =
+        let e : 0 + j ≡ j = omega arith in
+        numbered_at 0 p j ∙ (λ k. option_map (λ x. (e k, x)) (is k))
+
+    others : (j : ℕ) (n : ℕ × LineFields) → i ≢ j → slice_get (enumerate_from 0 p) j ≡ Some n → passes n ≡ false
+    others j n apart is = by (slice_get p j) refl
+      where
+        by : (o : Option LineFields) → slice_get p j ≡ o → passes n ≡ false
+        by None none =
+            let nothing : None ≡ Some n = sym (numbered_at 0 p j ∙ ap (option_map (λ l. (0 + j, l))) none) ∙ is in
+            absurd (cc (nothing))
+        by (Some l) some =
+            let same : (j, l) ≡ n = same_Some (j, l) n (sym (here j l some) ∙ is) in
+            sym (ap passes same) ∙ fail j l.stmt apart (ap (option_map (λ x. x.stmt)) some)
+
+-- the first of what each clause tells of one line is the first of the clauses that tell of it
+one_each : (tells : Clause → Bool) (fault : Clause → CheckFault) (cs : List Clause)
+    → flat_map (λ c. cond (tells c) (fault c ∷ []) []) cs ≡ map fault (filter tells cs)
+one_each tells fault [] = refl
+one_each tells fault (c ∷ cs) = by (tells c) (one_each tells fault cs)
+  where
+    by : (b : Bool) → flat_map (λ c. cond (tells c) (fault c ∷ []) []) cs ≡ map fault (filter tells cs)
+        → cond b (fault c ∷ []) [] ++ flat_map (λ c. cond (tells c) (fault c ∷ []) []) cs ≡ map fault (cond b (c ∷ filter tells cs) (filter tells cs))
+    by true rest = ap (λ more. fault c ∷ more) rest
+    by false rest = rest
+
+regrouped : {X : Type 0} (a b c d e f : List X) → (a ++ (b ++ [])) ++ ((c ++ (d ++ (e ++ (f ++ [])))) ++ []) ≡ a ++ (b ++ (c ++ (d ++ (e ++ (f ++ [])))))
+regrouped a b c d e f = simp (append_assoc, append-nil)
+
+-- the program q is the legal program p with this statement at i, of the same frame
+module _ (p q : List LineFields) (i : ℕ) (line : LineFields) (s : Statement) (legal : IsLegal p) (at : slice_get p i ≡ Some line)
+    (here : slice_get q i ≡ Some (record (line) { stmt = s })) (elsewhere : (j : ℕ) → i ≢ j → slice_get q j ≡ slice_get p j)
+    (same : HaveOneFrame q p) (kept : framed s ≡ framed line.stmt) (ends : MayStandAt p i s) where
+
+  elsewhere_in_p : (j : ℕ) (t : Statement) → i ≢ j → statement_at q j ≡ Some t → statement_at p j ≡ Some t
+  elsewhere_in_p j t apart is = ap (option_map (λ l. l.stmt)) (sym (elsewhere j apart)) ∙ is
+
+  line_in_p : statement_at p i ≡ Some line.stmt
+  line_in_p = ap (option_map (λ l. l.stmt)) at
+
+  -- a clause tells of the changed statement alone
+  told : (c : Clause) → c ≢ Terminals → faults_of c q ≡ cond (breaks c q i s) (fault_at c line.line ∷ []) []
+  told c apart =
+      ap (map (fault_at c)) (one_line (breaks c q) q i (record (line) { stmt = s }) here
+      (λ j t other is. same_breaks q p same c apart j t ∙ (keeps_every_rule p legal).statements c j t (elsewhere_in_p j t other is)))
+      ∙ told_if (fault_at c) (breaks c q i s) line.line
+
+  nests_kept : faults_of Nests q ≡ []
+  nests_kept =
+      told Nests (λ e. absurd (cc (e)))
+      ∙ ap (λ b. cond b (fault_at Nests line.line ∷ []) []) (same_breaks q p same Nests (λ e. absurd (cc (e))) i s ∙ (keeps_every_rule p legal).statements Nests i line.stmt line_in_p)
+
+  -- no DO ends at a statement that may not end one: the DOs and their labels are those of p, and the changed statement may end those at it
+  ends_there : (j label k : ℕ) → option_and_then terminal_label (statement_at p j) ≡ Some label → place_of p label ≡ Some k → (k ≡ i) ⊎ (k ≢ i)
+      → option_map_or (λ last. not (is_terminal last)) (statement_at q k) false ≡ false
+  ends_there j label k names place (inl e) =
+      let end : terminal p j ≡ Some i = ap (option_and_then (place_of p)) names ∙ place ∙ ap {B = Option ℕ} Some e in
+      ap (λ n. option_map_or (λ last. not (is_terminal last)) (statement_at q n) false) e
+      ∙ ap (λ o. option_map_or (λ last. not (is_terminal last)) (option_map (λ l. l.stmt) o) false) here
+      ∙ ap not (ends j end)
+  ends_there j label k names place (inr apart) =
+      ap (λ o. option_map_or (λ last. not (is_terminal last)) (option_map (λ l. l.stmt) o) false) (elsewhere k (λ e. apart (sym e)))
+      ∙ ap (λ o. option_map_or (λ last. not (is_terminal last)) (option_and_then (statement_at p) o) false) (sym place)
+      ∙ option_and_then_some terminal_label (statement_at p j) label names (λ t is own. well t is own)
+    where
+      well : (t : Statement) → statement_at p j ≡ Some t → terminal_label t ≡ Some label
+          → option_map_or (λ last. not (is_terminal last)) (statement_with p label) false ≡ false
+      well t is own =
+          sym (ap (λ o. option_map_or (λ label. option_map_or (λ last. not (is_terminal last)) (statement_with p label) false) o false) own)
+          ∙ (keeps_every_rule p legal).statements Terminals j t is
+
+  ends_kept : (j : ℕ) (t : Statement) → statement_at q j ≡ Some t → ends_badly q t ≡ false
+  ends_kept j t is = by (terminal_label t) refl
+    where
+      at_place : (label : ℕ) → terminal_label t ≡ Some label → (o : Option ℕ) → place_of q label ≡ o
+          → option_map_or (λ last. not (is_terminal last)) (option_and_then (statement_at q) o) false ≡ false
+      at_place label own None place = refl
+      at_place label own (Some k) place =
+          ends_there j label k (sym (terminal_label_same q p same j) ∙ ap (option_and_then terminal_label) is ∙ own)
+          (sym (place_of_same q p same label) ∙ place) (cases_eq k i)
+
+      by : (o : Option ℕ) → terminal_label t ≡ o
+          → option_map_or (λ label. option_map_or (λ last. not (is_terminal last)) (statement_with q label) false) o false ≡ false
+      by None own = refl
+      by (Some label) own = at_place label own (place_of q label) refl
+
+  terminals_kept : faults_of Terminals q ≡ []
+  terminals_kept =
+      ap (map (fault_at Terminals)) (one_line (breaks Terminals q) q i (record (line) { stmt = s }) here (λ j t other is. ends_kept j t is)
+      ∙ ap (λ b. cond b (line.line ∷ []) []) (ends_kept i s (ap (option_map (λ l. l.stmt)) here)))
+
+  labels_kept : label_faults q ≡ []
+  labels_kept = (λ k. map DoubleLabel (filter (λ label. is_double_same q p same label k) (labels_same q p same k))) ∙ (kept_by p legal).doubles
+
+  presets_kept : data_faults q ≡ []
+  presets_kept =
+      ap (map BadData) (one_line (presets_badly q) q i (record (line) { stmt = s }) here
+      (λ j t other is. presets_badly_same q p same j t t refl ∙ (keeps_every_rule p legal).presets j t (elsewhere_in_p j t other is))
+      ∙ ap (λ b. cond b (line.line ∷ []) []) (presets_badly_same q p same i s line.stmt groups ∙ (keeps_every_rule p legal).presets i line.stmt line_in_p))
+    where
+      groups : groups_of s ≡ groups_of line.stmt
+      groups = sym (groups_of-framed s) ∙ ap groups_of kept ∙ groups_of-framed line.stmt
+
+  -- the names and the sizes kept, too, what is told is what the statement owes by itself
+  told_by_itself : name_faults q ≡ [] → size_faults q ≡ [] → first_fault q ≡ own_fault q i line.line s
+  told_by_itself names sizes =
+      ap (λ all. slice_get all 0)
+      (whole ∙ regrouped (told_of Kinds) (told_of Bounds) (told_of NamedLabels) (told_of Targets) (told_of Jumps) (told_of Variables)
+      ∙ one_each (λ c. breaks c q i s) (λ c. fault_at c line.line) own_clauses)
+    where
+      told_of : Clause → List CheckFault
+      told_of c = cond (breaks c q i s) (fault_at c line.line ∷ []) []
+
+      whole : faults q ≡ (told_of Kinds ++ (told_of Bounds ++ [])) ++ ((told_of NamedLabels ++ (told_of Targets ++ (told_of Jumps ++ (told_of Variables ++ [])))) ++ [])
+      whole = λ k.
+          names k
+          ++ ((told Kinds (λ e. absurd (cc (e))) k ++ (told Bounds (λ e. absurd (cc (e))) k ++ []))
+          ++ (labels_kept k
+          ++ ((told NamedLabels (λ e. absurd (cc (e))) k
+          ++ (told Targets (λ e. absurd (cc (e))) k
+          ++ (terminals_kept k
+          ++ (nests_kept k
+          ++ (told Jumps (λ e. absurd (cc (e))) k
+          ++ (told Variables (λ e. absurd (cc (e))) k ++ []))))))
+          ++ (presets_kept k ++ sizes k))))
