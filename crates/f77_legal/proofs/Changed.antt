@@ -1,9 +1,10 @@
 -- What is told of a legal program with one statement changed: what that statement owes by itself.
 use Rattle.std.proofs.Common.{◌≡◌, ◌≢◌, ◌⊎◌, inl, inr, ◌∙◌, ◌+◌, ℕ, zero, suc, List, [], ◌∷◌, ◌++◌, Bool, true, false, cond, not, Option, Some, None, refl, sym, ap, subst, arith, map, filter, length, append_assoc, append-nil}
-use Rattle.std.specs.Prelude.{◌≤◌, option_map}
+use Rattle.std.specs.Prelude.{◌≤◌, nat_lt, option_map}
 use Rattle.std.specs.List.{All, flat_map, enumerate_from, slice_get}
 use Rattle.std.specs.Option.{option_and_then, option_map_or}
-use Rattle.std.proofs.lemmas.Bool.{cases_eq}
+use Rattle.std.proofs.lemmas.Bool.{cases_eq, or_parts}
+use Rattle.std.proofs.lemmas.Bool.Decides.{nat_tests}
 use Rattle.std.proofs.lemmas.Option.{slice_get_past, slice_get_within, get_or_from_slice_get, option_and_then_some, same_Some}
 use Rattle.f77_tree.specs.Parsing.{LineFields}
 use Rattle.f77_tree.specs.Patching.{replaced}
@@ -15,7 +16,7 @@ use Rattle.f77_legal.specs.declared.fault.CheckFault.TheVariants.{RealName, Twic
 use Rattle.f77_legal.specs.Clause.{breaks, fault_at, faults_of, lines_where}
 use Rattle.f77_legal.specs.Frames.{framed, HaveOneFrame}
 use Rattle.f77_legal.specs.Labels.{statement_at, statement_with, place_of, terminal_label, is_terminal, ends_badly}
-use Rattle.f77_legal.specs.Legal.{IsLegal, faults, first_fault, name_faults, label_faults, data_faults, size_faults, is_too_large}
+use Rattle.f77_legal.specs.Legal.{IsLegal, faults, first_fault, name_faults, label_faults, data_faults, size_faults}
 use Rattle.f77_legal.specs.Loops.{terminal}
 use Rattle.f77_legal.specs.Names.{Symbol, symbols, is_real, is_twice}
 use Rattle.f77_legal.specs.Patches.{own_clauses, own_fault, MayStandAt, IsStock}
@@ -23,9 +24,11 @@ use Rattle.f77_legal.specs.Presets.{groups_of, presets_badly}
 use Rattle.f77_legal.proofs.FrameNames.{presets_badly_same}
 use Rattle.f77_legal.proofs.Frames.{groups_of-framed}
 use Rattle.f77_legal.proofs.LegalGives.{kept_by}
+use Rattle.f77_legal.proofs.NoFaults.{not_large}
 use Rattle.f77_legal.proofs.Replaced.{length-replaced, other_line, changed_line, replaced_frame}
 use Rattle.f77_legal.proofs.Rules.{keeps_every_rule}
-use Rattle.f77_legal.proofs.SameFrame.{labels_same, is_double_same, place_of_same, terminal_label_same, terminal_same, same_breaks}
+use Rattle.f77_legal.proofs.SameFrame.{labels_same, is_double_same, place_of_same, terminal_label_same, same_breaks}
+use Rattle.f77_legal.proofs.Stocks.{stock_typed, stock_declared, stock_sizes}
 
 -- where each other element fails, at most this one passes
 only_one : {X : Type 0} (test : X → Bool) (xs : List X) (i : ℕ) → ((j : ℕ) (x : X) → i ≢ j → slice_get xs j ≡ Some x → test x ≡ false)
@@ -101,7 +104,6 @@ regrouped a b c d e f = simp (append_assoc, append-nil)
 module _ (p q : List LineFields) (i : ℕ) (line : LineFields) (s : Statement) (legal : IsLegal p) (at : slice_get p i ≡ Some line)
     (here : slice_get q i ≡ Some (record (line) { stmt = s })) (elsewhere : (j : ℕ) → i ≢ j → slice_get q j ≡ slice_get p j)
     (same : HaveOneFrame q p) (kept : framed s ≡ framed line.stmt) (ends : MayStandAt p i s) where
-
   elsewhere_in_p : (j : ℕ) (t : Statement) → i ≢ j → statement_at q j ≡ Some t → statement_at p j ≡ Some t
   elsewhere_in_p j t apart is = ap (option_map (λ l. l.stmt)) (sym (elsewhere j apart)) ∙ is
 
@@ -193,3 +195,27 @@ module _ (p q : List LineFields) (i : ℕ) (line : LineFields) (s : Statement) (
           ++ (told Jumps (λ e. absurd (cc (e))) k
           ++ (told Variables (λ e. absurd (cc (e))) k ++ []))))))
           ++ (presets_kept k ++ sizes k))))
+
+few_lines : (p : List LineFields) → IsLegal p → length p ≤ 500
+few_lines p legal = within (length p) (or_parts (nat_lt 500 (length p)) _ (not_large p legal)).0
+  where
+    within : (n : ℕ) → nat_lt 500 n ≡ false → n ≤ 500
+    within n few = grind (arith, nat_tests)
+
+-- A statement of the same frame, where it may end the DOs that end there and all names may be the program's: the first fault is its own.
+pub changed_fault : (p : List LineFields) (i : ℕ) (line : LineFields) (s : Statement) (names : List Symbol) → slice_get p i ≡ Some line → IsLegal p
+    → framed s ≡ framed line.stmt → MayStandAt p i s → IsStock names (replaced p i s) → first_fault (replaced p i s) ≡ own_fault (replaced p i s) i line.line s
+changed_fault p i line s names at legal kept ends stock =
+    told_by_itself p q i line s legal at (changed_line p i line s at) (λ j apart. other_line p i j s apart) (replaced_frame p i line s at kept) kept ends
+    no_name (ap (λ b. cond b (TooMany ∷ []) []) (stock_sizes names q stock short))
+  where
+    q : List LineFields
+    q = replaced p i s
+
+    no_name : name_faults q ≡ []
+    no_name = λ k.
+        map RealName (none_passes (is_real q) (symbols q) (stock_typed names q stock) k)
+        ++ map Twice (none_passes (is_twice q) (symbols q) (stock_declared names q stock) k)
+
+    short : length q ≤ 500
+    short = let long = length-replaced p i s in let few = few_lines p legal in omega arith
