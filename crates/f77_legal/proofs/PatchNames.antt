@@ -20,7 +20,7 @@ use Rattle.f77_tree.specs.StatementGrammar.{IsFormed}
 use Rattle.f77_tree.specs.Tree.{Tree, Trees, Statement}
 use Rattle.f77_tree.specs.declared.group.Group.TheVariants.{Executable}
 use Rattle.f77_tree.proofs.StatementForming.{is_formed}
-use Rattle.f77_tree.proofs.Steps.{and_true}
+use Rattle.f77_tree.proofs.Tests.{and_true}
 use Rattle.f77_legal.specs.declared.names.Names.{Names}
 use Rattle.f77_legal.specs.Names.{Symbol, Mention, name_in, mentions_of, mentions, symbols}
 use Rattle.f77_legal.specs.Patches.{is_among, NamesAmong, tree_passes, items_pass, step_passes, names_pass}
