@@ -5,13 +5,13 @@ use Rattle.std.proofs.lemmas.Bool.{and_parts}
 use Rattle.f77_tree.specs.Tree.{Tree, Trees}
 use Rattle.f77_tree.specs.View.{tree_of, trees}
 use Rattle.f77_tree.specs.declared.tree.Expr.{Expr}
-use Rattle.f77_tree.specs.declared.tree.Kind.{Kind}
 use Rattle.f77_tree.specs.declared.tree.Kind.TheVariants.{Integer}
 use Rattle.f77_legal.specs.Dimensions.{fits, all_fit}
 use Rattle.f77_check.specs.Kept.{tree_kept, items_kept}
 use Rattle.f77_legal.specs.Kinds.{is_of, are_integer}
-use Rattle.f77_legal.specs.Names.{Symbol}
-use Rattle.f77_legal.specs.declared.names.Names.{Names}
+use Rattle.f77_check.specs.Lookup.{IsReadyNumber, AreReady}
+use Rattle.f77_legal.specs.NameTable.{kind_at, bounds_at}
+use Rattle.f77_check.specs.declared.resolve.Resolver.{Resolver}
 
 -- a list of one item, and of two
 pub only_one : {X : Type 0} (d : X) (xs : List X) → 1 ≤ length xs → length xs < 2 → xs ≡ get_or xs 0 d ∷ []
@@ -32,7 +32,7 @@ pub two_items : (xs : List Expr) (x y : Expr) → 2 ≤ length xs → length xs 
 two_items xs x y some few e f = only_two x y xs some few ∙ (λ i. sym e i ∷ (sym f i ∷ []))
 
 -- what holds of every item holds of each
-pub at_all : (good : Tree → Bool) (every : Trees → Bool) → ((t : Tree) (ts : Trees) → every (Trees.Then t ts) ≡ (good t && every ts))
+at_all : (good : Tree → Bool) (every : Trees → Bool) → ((t : Tree) (ts : Trees) → every (Trees.Then t ts) ≡ (good t && every ts))
     → (xs : List Expr) (i : ℕ) (x : Expr) → i < length xs → x ≡ get_or xs i x → every (trees (map tree_of xs)) ≡ true → good (tree_of x) ≡ true
 at_all good every cons [] i x below is h = absurd (omega (arith, below))
 at_all good every cons (y ∷ ys) zero x below is h =
@@ -40,14 +40,15 @@ at_all good every cons (y ∷ ys) zero x below is h =
 at_all good every cons (y ∷ ys) (suc i) x below is h =
     at_all good every cons ys i x (omega (arith, below)) is (and_parts (good (tree_of y)) (every (trees (map tree_of ys))) (sym (cons (tree_of y) (trees (map tree_of ys))) ∙ h)).1
 
-pub integer_at : (kinds : Symbol → Kind) (xs : List Expr) (i : ℕ) (x : Expr) → i < length xs → x ≡ get_or xs i x
-    → are_integer kinds (trees (map tree_of xs)) ≡ true → is_of kinds Integer (tree_of x) ≡ true
-integer_at kinds = at_all (is_of kinds Integer) (are_integer kinds) (λ t ts. refl)
-
-pub fit_at : (bounds : Symbol → List ℕ) (xs : List Expr) (i : ℕ) (x : Expr) → i < length xs → x ≡ get_or xs i x
-    → all_fit bounds (trees (map tree_of xs)) ≡ true → fits bounds (tree_of x) ≡ true
-fit_at bounds = at_all (fits bounds) (all_fit bounds) (λ t ts. refl)
-
-pub kept_at : (names : Names) (xs : List Expr) (i : ℕ) (x : Expr) → i < length xs → x ≡ get_or xs i x
-    → items_kept names (trees (map tree_of xs)) ≡ true → tree_kept names (tree_of x) ≡ true
-kept_at names = at_all (tree_kept names) (items_kept names) (λ t ts. refl)
+-- each of the items of a list whose names can be looked up
+pub item_ready : (r : Resolver) (xs : List Expr) (i : ℕ) (x : Expr) → i < length xs → x ≡ get_or xs i x
+    → AreReady r (trees (map tree_of xs)) → IsReadyNumber r (tree_of x)
+item_ready r xs i x below is h =
+    let kinds = kind_at r.tables.names in
+    let bounds = bounds_at r.tables.names in
+    record {
+      names = h.names;
+      kinds = at_all (is_of kinds Integer) (are_integer kinds) (λ t ts. refl) xs i x below is h.kinds;
+      bounds = at_all (fits bounds) (all_fit bounds) (λ t ts. refl) xs i x below is h.bounds;
+      kept = at_all (tree_kept r.tables.names) (items_kept r.tables.names) (λ t ts. refl) xs i x below is h.kept;
+    }

@@ -14,9 +14,10 @@ use Rattle.f77_tree.specs.Parsing.{LineFields}
 use Rattle.f77_tree.specs.Tree.{Tree, Trees, DeclFields, Statement}
 use Rattle.f77_legal.specs.declared.names.Names.{Names}
 use Rattle.f77_legal.specs.Dimensions.{is_shape, dimensions_fit}
-use Rattle.f77_check.specs.Kept.{is_kept, tree_kept, items_kept, step_kept, names_kept, AreFlat}
+use Rattle.f77_check.specs.Kept.{is_kept, tree_kept, items_kept, step_kept, names_kept}
 use Rattle.f77_legal.specs.Labels.{statement_at}
 use Rattle.f77_legal.specs.Legal.{IsLegal}
+use Rattle.f77_check.specs.Lookup.{AreFlat}
 use Rattle.f77_legal.specs.Names.{Symbol, Mention, name_in, mentions_of, mentions, bounds_given, bounds_in, some_items, first_or, bounds_of}
 use Rattle.f77_legal.specs.NameTable.{IsNameTable}
 use Rattle.f77_legal.proofs.Lookups.{same_bounds_at}

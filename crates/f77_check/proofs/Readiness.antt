@@ -1,5 +1,5 @@
--- What a statement whose names can be looked up gives its parts.
-use Rattle.std.proofs.Common.{◌≡◌, ◌∙◌, ℕ, List, true, Option, ap, sym, subst}
+-- What a statement, or a relation, whose names can be looked up gives its parts.
+use Rattle.std.proofs.Common.{rules, ◌≡◌, ◌∙◌, ℕ, List, true, Option, Some, ap, sym, subst}
 use Rattle.std.specs.Prelude.{Box, Vec}
 use Rattle.std.specs.declared.alloc.Global.{Global}
 use Rattle.std.proofs.lemmas.Bool.{and_parts}
@@ -9,60 +9,69 @@ use Rattle.f77_tree.specs.StatementView.{statement_of}
 use Rattle.f77_tree.specs.Tree.{Tree, Statement}
 use Rattle.f77_tree.specs.View.{tree_of}
 use Rattle.f77_tree.specs.declared.tree.Expr.{Expr}
-use Rattle.f77_tree.specs.declared.tree.Kind.TheVariants.{Integer}
 use Rattle.f77_tree.specs.declared.tree.Stmt.{Stmt}
 use Rattle.f77_tree.specs.declared.tree.Stmt.TheVariants as forms
 use Rattle.f77_tree.specs.declared.tree.Stmt.TheViews as boxed
 use Rattle.f77_tree.proofs.Views.{computed_view, logical_view}
-use Rattle.f77_legal.specs.Dimensions.{fits, step_fits}
-use Rattle.f77_check.specs.Kept.{is_kept, tree_kept, step_kept}
-use Rattle.f77_legal.specs.Kinds.{is_of, is_step}
 use Rattle.f77_legal.specs.Labels.{jumps_of}
-use Rattle.f77_legal.specs.NameTable.{kind_at, bounds_at}
+use Rattle.f77_check.specs.Expression.{relation_of}
+use Rattle.f77_legal.specs.Kinds.{same_kind, result_kind, is_of}
+use Rattle.f77_check.specs.Lookup.{IsReadyNumber, IsReadyCondition, IsReadyStep}
+use Rattle.f77_legal.specs.NameTable.{kind_at}
+use Rattle.f77_tree.specs.declared.operator.Operator.{Operator}
+use Rattle.f77_tree.specs.declared.tree.Kind.TheVariants.{Logical}
+use Rattle.f77_check.specs.declared.expression.Relation.{Relation}
+use Rattle.f77_check.proofs.Operands.{relation_takes}
 use Rattle.f77_legal.specs.Names.{Symbol}
 use Rattle.f77_check.specs.Ready.{IsReady, AreFound, HasEnd}
 use Rattle.f77_check.specs.declared.resolve.Resolver.{Resolver}
 
+-- the operands of a relation
+pub related_ready : (r : Resolver) (op : Operator) (o : Relation) (a b : Tree) → relation_of op ≡ Some o → IsReadyCondition r (Tree.Binary op a b)
+    → IsReadyNumber r a × IsReadyNumber r b
+related_ready r op o a b relation h =
+    let takes = relation_takes op o relation in
+    let kinds = and_parts _ _ (and_parts (same_kind (result_kind op) Logical) _ h.kinds).1 in
+    let bounds = and_parts _ _ h.bounds in
+    let kept = and_parts _ _ h.kept in (
+      record { names = h.names; kinds = subst (λ k. is_of (kind_at r.tables.names) k a ≡ true) takes kinds.0; bounds = bounds.0; kept = kept.0 },
+      record { names = h.names; kinds = subst (λ k. is_of (kind_at r.tables.names) k b ≡ true) takes kinds.1; bounds = bounds.1; kept = kept.1 },
+    )
+
 -- the statement in a logical IF
 pub inner_ready : (r : Resolver) (t : Tree) (s : Statement) → IsReady r (Statement.LogicalIf t s) → IsReady r s
 inner_ready r t s h = record {
-  table = h.table;
-  flat = h.flat;
+  names = h.names;
   kinds = (and_parts _ _ h.kinds).1;
   bounds = (and_parts _ _ h.bounds).1;
   kept = (and_parts _ _ h.kept).1;
 }
 
 -- the parameters of a DO
-pub record LoopParts (r : Resolver) (name : Symbol) (a b : Tree) (c : Option Tree) : Type 0 where
-  pub variable : is_kept r.tables.names name ≡ true
-  pub first_kinds : is_of (kind_at r.tables.names) Integer a ≡ true
-  pub first_fits : fits (bounds_at r.tables.names) a ≡ true
-  pub first_kept : tree_kept r.tables.names a ≡ true
-  pub last_kinds : is_of (kind_at r.tables.names) Integer b ≡ true
-  pub last_fits : fits (bounds_at r.tables.names) b ≡ true
-  pub last_kept : tree_kept r.tables.names b ≡ true
-  pub step_kinds : is_step (kind_at r.tables.names) c ≡ true
-  pub step_fits : step_fits (bounds_at r.tables.names) c ≡ true
-  pub step_kept : step_kept r.tables.names c ≡ true
+module _ (r : Resolver) (label : ℕ) (name : Symbol) (a b : Tree) (c : Option Tree) (h : IsReady r (Statement.Loop label name a b c)) where
+  pub first_ready : IsReadyNumber r a
+  first_ready = record {
+    names = h.names;
+    kinds = search (rules, h.kinds);
+    bounds = search (rules, h.bounds);
+    kept = search (rules, h.kept);
+  }
 
-pub loop_parts : (r : Resolver) (label : ℕ) (name : Symbol) (a b : Tree) (c : Option Tree) → IsReady r (Statement.Loop label name a b c) → LoopParts r name a b c
-loop_parts r label name a b c h =
-    let kinds = and_parts _ _ (and_parts _ _ h.kinds).1 in
-    let bounds = and_parts _ _ (and_parts _ _ h.bounds).1 in
-    let kept = and_parts _ _ h.kept in
-    record {
-      variable = kept.0;
-      first_kinds = kinds.0;
-      first_fits = bounds.0;
-      first_kept = (and_parts _ _ kept.1).0;
-      last_kinds = (and_parts _ _ kinds.1).0;
-      last_fits = (and_parts _ _ bounds.1).0;
-      last_kept = (and_parts _ _ (and_parts _ _ kept.1).1).0;
-      step_kinds = (and_parts _ _ kinds.1).1;
-      step_fits = (and_parts _ _ bounds.1).1;
-      step_kept = (and_parts _ _ (and_parts _ _ kept.1).1).1;
-    }
+  pub last_ready : IsReadyNumber r b
+  last_ready = record {
+    names = h.names;
+    kinds = search (rules, h.kinds);
+    bounds = search (rules, h.bounds);
+    kept = search (rules, h.kept);
+  }
+
+  pub step_ready : IsReadyStep r c
+  step_ready = record {
+    names = h.names;
+    kinds = search (rules, h.kinds);
+    bounds = search (rules, h.bounds);
+    kept = search (rules, h.kept);
+  }
 
 -- what is known of a statement of the program, of its form
 module _ (r : Resolver) (p : List LineFields) (x : Stmt) (ready : IsReady r (statement_of x)) (found : AreFound p (jumps_of (statement_of x))) where

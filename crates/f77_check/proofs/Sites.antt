@@ -31,8 +31,7 @@ use Rattle.f77_legal.proofs.Lookups.{same_kinds, same_bounds}
 module _ (r : Resolver) (p : List LineFields) (can : CanResolve r p) (i : ℕ) where
   pub ready_at : (s : Statement) → statement_at p i ≡ Some s → IsReady r s
   ready_at s at = record {
-    table = can.slots;
-    flat = dimensions_two r.tables.names p can.tables.names can.legal;
+    names = record { table = can.slots; flat = dimensions_two r.tables.names p can.tables.names can.legal };
     kinds = subst (λ kinds. kinds_agree kinds s ≡ true) (sym (same_kinds r.tables.names p can.tables.names))
         (not_false _ (clause_kept Kinds p (kept_by p can.legal).kinds i s at));
     bounds = subst (λ bounds. dimensions_fit bounds s ≡ true) (sym (same_bounds r.tables.names p can.tables.names))

@@ -1,9 +1,8 @@
--- Expressions and statements whose names are all in a table, and what the table says of them.
-use Rattle.std.specs.Prelude.{◌≤◌, ◌&&◌, Bool, true, length, is_some, Option, Some, None}
+-- Expressions and statements whose names are all in a table.
+use Rattle.std.specs.Prelude.{◌&&◌, Bool, true, is_some, Option, Some, None}
 use Rattle.std.specs.Str.{bytes_eq}
 use Rattle.indexmap.specs.IndexMap.{get}
 use Rattle.f77_tree.specs.Tree.{Tree, Trees, Statement}
-use Rattle.f77_legal.specs.NameTable.{bounds_at}
 use Rattle.f77_legal.specs.Names.{Symbol}
 use Rattle.f77_legal.specs.declared.names.Names.{Names}
 
@@ -53,7 +52,3 @@ names_kept names Statement.Return = true
 names_kept names Statement.Stop = true
 names_kept names Statement.Trap = true
 names_kept names Statement.End = true
-
--- no name has more than two dimensions
-abbrev pub AreFlat : Names → Type 0
-AreFlat names = (name : Symbol) → length (bounds_at names name) ≤ 2

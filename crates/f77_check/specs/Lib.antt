@@ -1,10 +1,11 @@
 pub mod Slots
 pub mod SlotTable
 pub mod Kept
-pub mod Ready
 pub mod Expression
 pub mod Boxed
 pub mod Action
+pub mod Lookup
+pub mod Ready
 pub mod Resolved
 pub mod Start
 pub mod Initial

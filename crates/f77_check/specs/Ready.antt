@@ -8,11 +8,12 @@ use Rattle.f77_check.specs.Action.{IsAction, IsAssignment}
 use Rattle.f77_legal.specs.Blocks.{branch_end}
 use Rattle.f77_legal.specs.BlockTable.{branch_end_at}
 use Rattle.f77_legal.specs.Dimensions.{dimensions_fit}
-use Rattle.f77_check.specs.Kept.{names_kept, AreFlat}
+use Rattle.f77_check.specs.Kept.{names_kept}
 use Rattle.f77_legal.specs.Kinds.{kinds_agree}
 use Rattle.f77_legal.specs.Labels.{place_of}
 use Rattle.f77_legal.specs.Legal.{IsLegal}
 use Rattle.f77_legal.specs.Loops.{terminal}
+use Rattle.f77_check.specs.Lookup.{ServesNames}
 use Rattle.f77_legal.specs.NameTable.{bounds_at, kind_at}
 use Rattle.f77_check.specs.SlotTable.{IsSlotTable}
 use Rattle.f77_legal.specs.Names.{Symbol}
@@ -29,8 +30,7 @@ pub record CanResolve (resolver : Resolver) (program : List LineFields) : Type 0
 
 -- the names of the statement can be looked up
 pub record IsReady (resolver : Resolver) (statement : Statement) : Type 0 where
-  pub table : IsSlotTable resolver.slots resolver.tables.names
-  pub flat : AreFlat resolver.tables.names
+  pub names : ServesNames resolver
   pub kinds : kinds_agree (kind_at resolver.tables.names) statement ≡ true
   pub bounds : dimensions_fit (bounds_at resolver.tables.names) statement ≡ true
   pub kept : names_kept resolver.tables.names statement ≡ true

@@ -17,7 +17,6 @@ ghost use Rattle.f77_legal.specs.Tables.{AreTables};
 ghost use Rattle.f77_legal.specs.declared.fault.CheckFault.TheVariants.{Memory};
 
 use crate::action::{Action, Jump};
-use crate::lookup::{condition, element, number, step};
 use crate::resolved::Resolved;
 use crate::slots::Slots;
 use f77_legal::blocks::{next, statement};
@@ -69,16 +68,11 @@ impl Resolver {
         ensures action { IfOk result (λ action. Assigns self.now (place_of target.now).0 (trees (place_of target.now).1) (tree_of value.now) action) }
         ensures memory { IfErr result (λ fault. fault ≡ Memory) }
     {
-        let names = &self.tables.names;
         let name = &target.name;
-        let place = element(alloc, names, &self.slots, name, &target.subscripts)?;
-        match names.kind(name) {
-            Kind::Integer => {
-                Ok(Action::AssignNumber(place, number(alloc, names, &self.slots, value)?))
-            }
-            Kind::Logical => {
-                Ok(Action::AssignTruth(place, condition(alloc, names, &self.slots, value)?))
-            }
+        let place = self.element(alloc, name, &target.subscripts)?;
+        match self.tables.names.kind(name) {
+            Kind::Integer => Ok(Action::AssignNumber(place, self.number(alloc, value)?)),
+            Kind::Logical => Ok(Action::AssignTruth(place, self.condition(alloc, value)?)),
         }
     }
 
@@ -98,7 +92,7 @@ impl Resolver {
         ensures memory { IfErr result (λ fault. fault ≡ Memory) }
     {
         Ok(Action::ComputedGoto {
-            value: number(alloc, &self.tables.names, &self.slots, value)?,
+            value: self.number(alloc, value)?,
             jumps: self.jumps(alloc, i, labels)?,
         })
     }
@@ -123,7 +117,7 @@ impl Resolver {
         ensures memory { IfErr result (λ fault. fault ≡ Memory) }
     {
         Ok(Action::ArithmeticIf {
-            value: number(alloc, &self.tables.names, &self.slots, value)?,
+            value: self.number(alloc, value)?,
             negative: self.jump(alloc, i, negative)?,
             zero: self.jump(alloc, i, zero)?,
             positive: self.jump(alloc, i, positive)?,
@@ -186,7 +180,7 @@ impl Resolver {
             (λ action. Does self.now program i (Statement.LogicalIf (tree_of test.now) (statement_of statement.now)) action) }
         ensures memory { IfErr result (λ fault. fault ≡ Memory) }
     {
-        let condition = condition(alloc, &self.tables.names, &self.slots, test)?;
+        let condition = self.condition(alloc, test)?;
         let action = Box::new(alloc, self.inner_action(alloc, i, statement)?)?;
         Ok(Action::LogicalIf { condition, action })
     }
@@ -201,7 +195,7 @@ impl Resolver {
         ensures further { IfOk result (λ action. Does self.now program i (Statement.ElseIf (tree_of test.now)) action) }
         ensures memory { IfErr result (λ fault. fault ≡ Memory) }
     {
-        let condition = condition(alloc, &self.tables.names, &self.slots, test)?;
+        let condition = self.condition(alloc, test)?;
         let Some(otherwise) = self.tables.blocks.branch_end(i) else {
             unreachable!()
         };
@@ -212,7 +206,6 @@ impl Resolver {
     }
 
     /// A DO (11.10).
-    #[tactic(auto, using(crate::proofs::Readiness::loop_parts))]
     fn do_loop(
         &self,
         alloc: Global,
@@ -233,15 +226,14 @@ impl Resolver {
             (Statement.Loop label variable.now (tree_of first.now) (tree_of last.now) (option_map tree_of increment.now)) action) }
         ensures memory { IfErr result (λ fault. fault ≡ Memory) }
     {
-        let names = &self.tables.names;
         let Some(terminal) = self.tables.ranges.terminal(i) else {
             unreachable!()
         };
         Ok(Action::Loop {
-            variable: self.slots.first(names, variable),
-            first: number(alloc, names, &self.slots, first)?,
-            last: number(alloc, names, &self.slots, last)?,
-            step: step(alloc, names, &self.slots, increment)?,
+            variable: self.slots.first(&self.tables.names, variable),
+            first: self.number(alloc, first)?,
+            last: self.number(alloc, last)?,
+            step: self.step(alloc, increment)?,
             terminal,
         })
     }

@@ -1,5 +1,5 @@
 use Rattle.f77_check.proofs.Resolving.{negated_condition, connected_condition}
-use Rattle.f77_check.proofs.lookup.+conditions.Goals as goal
+use Rattle.f77_check.proofs.resolve.Resolver.+conditions.Goals as goal
 
 pub condition-returns-in_ok-boxed_condition-in-Not-clause-condition : goal.condition-returns-in_ok-boxed_condition-in-Not-clause-condition
 condition-returns-in_ok-boxed_condition-in-Not-clause-condition t c =

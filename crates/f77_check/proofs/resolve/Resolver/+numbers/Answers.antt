@@ -5,10 +5,10 @@ use Rattle.f77_legal.specs.NameTable.{bounds_at}
 use Rattle.indexmap.specs.IndexMap.{keys}
 use Rattle.f77_legal.proofs.Counts.{count_trees}
 use Rattle.f77_check.proofs.Deepest.{most_at}
-use Rattle.f77_check.proofs.Items.{only_one, only_two, one_item, two_items, integer_at, fit_at, kept_at}
+use Rattle.f77_check.proofs.Items.{only_one, only_two, one_item, two_items, item_ready}
 use Rattle.f77_check.proofs.Chosen.{chosen_last, chosen_more}
 use Rattle.f77_check.proofs.Resolving.{constant_number, negated_number, pushed_number, binary_number}
-use Rattle.f77_check.proofs.lookup.+numbers.Goals as goal
+use Rattle.f77_check.proofs.resolve.Resolver.+numbers.Goals as goal
 
 pub absolute-returns-clause-number : goal.absolute-returns-clause-number
 unfolding HoldsNumber
@@ -23,7 +23,7 @@ modulus-returns-clause-number t c =
 
 pub number-returns-in-Number-clause-number : goal.number-returns-in-Number-clause-number
 number-returns-in-Number-clause-number t c =
-    constant_number _ _ _ _ _ c.in-Number.is (c.constant.ensures (bounds_at c.args.names.now) (keys c.args.names.now.facts))
+    constant_number _ _ _ _ _ c.in-Number.is (c.constant.ensures (bounds_at c.args.self.now.tables.names) (keys c.args.self.now.tables.names.facts))
 
 pub number-returns-in_ok-boxed-in-Binary-2-clause-number : goal.number-returns-in_ok-boxed-in-Binary-2-clause-number
 number-returns-in_ok-boxed-in-Binary-2-clause-number t c =
@@ -74,27 +74,9 @@ pub chosen-number-requires : goal.chosen-number-requires
 chosen-number-requires t c =
     let some : 0 < length c.args.items.now = rw (count_trees c.args.items.now) at c.requires.some in
     let below : length c.args.items.now - 1 < length c.args.items.now = omega (arith, some) in
-    let is = c.index-items-last.is in (
-      grind (arith, common_steps, most_at),
-      (
-        c.requires.table,
-        (
-          c.requires.flat,
-          (integer_at _ _ _ _ below is c.requires.kinds, (fit_at _ _ _ _ below is c.requires.fits, kept_at _ _ _ _ below is c.requires.kept)),
-        ),
-      ),
-    )
+    (grind (arith, common_steps, most_at), item_ready _ _ _ _ below c.index-items-last.is c.requires.ready)
 
 pub chosen-boxed-requires : goal.chosen-boxed-requires
 chosen-boxed-requires t c =
     let below : c.loop-i.i - 1 < length c.args.items.now = search rules in
-    let is = c.index-items-i.is in (
-      grind (arith, common_steps, most_at),
-      (
-        c.requires.table,
-        (
-          c.requires.flat,
-          (integer_at _ _ _ _ below is c.requires.kinds, (fit_at _ _ _ _ below is c.requires.fits, kept_at _ _ _ _ below is c.requires.kept)),
-        ),
-      ),
-    )
+    (grind (arith, common_steps, most_at), item_ready _ _ _ _ below c.index-items-i.is c.requires.ready)
