@@ -6,6 +6,7 @@ mod checked;
 mod checking;
 mod expression;
 mod lookup;
+mod patching;
 mod resolve;
 mod resolved;
 mod shapes;

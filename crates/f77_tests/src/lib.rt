@@ -24,6 +24,8 @@ mod fault_texts;
 #[cfg(test)]
 mod outcomes;
 #[cfg(test)]
+mod patches;
+#[cfg(test)]
 mod programs;
 #[cfg(test)]
 mod resolved;

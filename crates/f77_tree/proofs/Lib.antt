@@ -21,3 +21,4 @@ pub mod NodeStatements
 pub mod Copies
 pub mod Names
 pub mod Comparisons
+pub mod Patches

@@ -18,6 +18,7 @@ pub mod limits;
 mod name;
 mod node;
 mod operator;
+mod patching;
 mod printing;
 mod program;
 mod tree;

@@ -14,7 +14,7 @@ ghost use Rattle.f77_tree.specs.declared.program.Line.{Line};
 use crate::fault::SyntaxFault;
 use crate::group::{Group, is_end};
 use crate::tree::Stmt;
-use std::alloc::AllocError;
+use std::alloc::{AllocError, Global};
 use std::marker::Model;
 
 /// A statement with its label, where it has one, and the number of its initial line.
@@ -139,5 +139,10 @@ impl Program {
             return None;
         }
         self.lines.get(number - 1)
+    }
+
+    /// What its lists take memory from.
+    pub fn allocator(&self) -> Global {
+        *Vec::allocator(&self.lines)
     }
 }
