@@ -11,12 +11,13 @@ use Rattle.f77_tree.specs.StatementView.{statement_of}
 use Rattle.f77_tree.specs.declared.program.Line.{Line}
 use Rattle.f77_legal.specs.Blocks.{first_numbers, begins_branch, branch_end}
 use Rattle.f77_legal.specs.Labels.{place_of, statement_at, terminal_label}
-use Rattle.f77_legal.proofs.LoopLists.{count_numbers, get_number}
-use Rattle.f77_legal.specs.LoopTable.{end_of, IsTerminals, IsBranches}
+use Rattle.f77_legal.specs.Holders.{entry}
+use Rattle.f77_legal.specs.LoopTable.{IsTerminals, IsBranches}
+use Rattle.f77_legal.proofs.Nesting.{entry_number, entry_past}
 use Rattle.f77_legal.specs.Tables.{terminal_of, closed_branch_end}
 
 entry_terminal : (program : List LineFields) (lines : List Line) (d : ℕ)
-    → end_of (map (λ line. terminal_of program (statement_of line.stmt)) lines) d
+    → entry (map (λ line. terminal_of program (statement_of line.stmt)) lines) d
     ≡ option_and_then (place_of program) (option_and_then terminal_label (statement_at (map line_of lines) d))
 entry_terminal program [] d = refl
 entry_terminal program (x ∷ lines) zero = refl
@@ -25,12 +26,6 @@ entry_terminal program (x ∷ lines) (suc d) = entry_terminal program lines d
 pub are_terminals : (lines : List Line) (ends : List (Option ℕ)) → ends ≡ map (λ line. terminal_of (map line_of lines) (statement_of line.stmt)) lines
     → IsTerminals ends (map line_of lines)
 are_terminals lines ends e d = rw e (entry_terminal (map line_of lines) lines d)
-
-entry_number : (f : ℕ → Option ℕ) (n i : ℕ) → i < n → end_of (map f (first_numbers n)) i ≡ f i
-entry_number f n i lt = rw (slice_get-map f (first_numbers n) i, get_number n i lt) refl
-
-entry_past : (f : ℕ → Option ℕ) (n i : ℕ) → n ≤ i → end_of (map f (first_numbers n)) i ≡ None
-entry_past f n i le = rw (slice_get-map f (first_numbers n) i, slice_get_past (first_numbers n) i (omega (arith, le, count_numbers n))) refl
 
 -- no branch begins behind the program
 no_branch : (program : List LineFields) (i : ℕ) → length program ≤ i → begins_branch program i ≡ false

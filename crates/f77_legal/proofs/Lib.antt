@@ -14,7 +14,9 @@ pub mod Jumps
 pub mod BlockScan
 pub mod BlockTables
 pub mod LoopLists
-pub mod LoopRows
+pub mod Walks
+pub mod Nesting
+pub mod Prefixes
 pub mod LoopTables
 pub mod Counts
 pub mod Products

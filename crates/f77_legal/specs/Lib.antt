@@ -8,6 +8,7 @@ pub mod Heading
 pub mod Blocks
 pub mod BlockTable
 pub mod Loops
+pub mod Holders
 pub mod LoopTable
 pub mod Presets
 pub mod Runs

@@ -19,11 +19,12 @@ use crate::blocks::Blocks;
 use crate::clause::Clause;
 use crate::dimensions::dimensions_fit;
 use crate::fault::CheckFault;
+use crate::holders::Ranges;
 use crate::kinds::kinds_agree;
 use crate::labels::{
     Labels, ends_badly, jump_count, jump_label, jumps_badly, names_no_label, terminal_label,
 };
-use crate::loops::{Ranges, sets_variable};
+use crate::loops::sets_variable;
 use crate::names::Names;
 use f77_tree::{Line, Stmt};
 use std::alloc::Global;

@@ -1,6 +1,6 @@
 use Rattle.std.proofs.Common.{sym, ◌∙◌}
 use Rattle.f77_legal.proofs.LoopTables.{no_loop, one_loop}
-use Rattle.f77_legal.proofs.loops.Ranges.breaks_range.Goals as goal
+use Rattle.f77_legal.proofs.holders.Ranges.breaks_range.Goals as goal
 
 pub returns-in-Some : goal.returns-in-Some
 returns-in-Some c program is =
