@@ -1,6 +1,6 @@
 -- What a table of loops and branches says of its program.
 use Rattle.std.proofs.Common.{◌≡◌, ℕ, zero, suc, ◌<◌, ◌≤◌, length, slice_get, List, [], ◌∷◌, ◌++◌, Option, Some, None, Bool, true, false, cond, refl, sym, ◌∙◌, ap, inl, inr, arith}
-use Rattle.std.specs.Prelude.{filter, reverse, is_some, ◌&&◌, ◌||◌, ◌==◌, not, nat_lt, nat_le}
+use Rattle.std.specs.Prelude.{filter, reverse, ◌&&◌, ◌||◌, ◌==◌, not, nat_lt, nat_le}
 use Rattle.std.specs.List.{list_any, list_all}
 use Rattle.std.specs.Option.{option_and_then, option_map_or}
 use Rattle.std.specs.Str.{bytes_eq}
@@ -23,7 +23,7 @@ use Rattle.f77_legal.specs.Names.{Symbol}
 use Rattle.f77_legal.specs.declared.holders.Ranges.{Ranges}
 use Rattle.f77_legal.proofs.LoopLists.{left_out, all_kept, same_filters, any_agree, filter_none, found_within}
 use Rattle.f77_legal.proofs.Nesting.{entry_number, entry_past, holders_kept, find_kept}
-use Rattle.f77_legal.proofs.Prefixes.{last_of, begins_is}
+use Rattle.f77_legal.proofs.Prefixes.{last_of, is_behind, begins_is}
 
 -- nothing holds what stands behind the last statement
 placed_within : (program : List LineFields) (label : Option ℕ) (t : ℕ) → option_and_then (place_of program) label ≡ Some t → t < length program
@@ -146,14 +146,6 @@ kept_of ranges program is k p q same held =
     ∙ kept_backwards q (enclosing program k)
     ∙ ap reverse (kept_twice (held_by program k) q (numbers program) held)
 
-any_kept : (p : ℕ → Bool) (xs : List ℕ) → list_any p xs ≡ is_some (slice_get (filter p xs) zero)
-any_kept p [] = refl
-any_kept p (x ∷ xs) = go (p x) (any_kept p xs)
-  where
-    go : (b : Bool) → list_any p xs ≡ is_some (slice_get (filter p xs) zero) → (b || list_any p xs) ≡ is_some (slice_get (cond b (x ∷ filter p xs) (filter p xs)) zero)
-    go true rest = refl
-    go false rest = rest
-
 any_backwards : (p : ℕ → Bool) (xs : List ℕ) → list_any p (reverse xs) ≡ list_any p xs
 any_backwards p [] = refl
 any_backwards p (x ∷ xs) =
@@ -230,14 +222,11 @@ pub one_loop : (ranges : Ranges) (program : List LineFields) → IsRangeTable ra
 one_loop ranges program is d t r e same =
     same ∙ sym (outside_is ranges program is d t) ∙ ap (λ end. option_map_or (ends_outside program d) end false) (sym e)
 
-either_or : (a b : Bool) → (a || b) ≡ not (not (a || b))
-either_or a b = sym (not_not (a || b))
-
 pub goes_is : (ranges : Ranges) (program : List LineFields) → IsRangeTable ranges program → (i j : ℕ) → (enters ranges i j || crosses ranges i j) ≡ goes_in program i j
 goes_is ranges program is i j =
     let p : ℕ → Bool = held_by program i in
     let q : ℕ → Bool = held_by program j in
-    let before : ℕ → Bool = λ d. p d && (not (q d) && precedes d (last_of (enclosing program j))) in
+    let before : ℕ → Bool = is_behind p q (last_of (enclosing program j)) in
     let entered : enters ranges i j ≡ left_out q p (numbers program) =
     any_of ranges program is j (λ d. holds_by ranges j d && not (holds_by ranges i d)) (λ d. q d && not (p d))
     (λ d. both_same _ _ _ _ (holds_is ranges program is j d) (holds_is ranges program is i d)) (λ d h. (and_parts (q d) (not (p d)) h).0) in

@@ -1,4 +1,4 @@
-use Rattle.std.proofs.Common.{sym, ap, ◌∙◌, false, true}
+use Rattle.std.proofs.Common.{sym, ap, ◌∙◌}
 use Rattle.std.specs.Prelude.{◌||◌}
 use Rattle.f77_legal.specs.LoopTable.{crosses}
 use Rattle.f77_legal.proofs.LoopTables.{goes_is}
