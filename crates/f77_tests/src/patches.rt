@@ -10,7 +10,8 @@ use test_programs::{parts, program};
 
 const ADD: &str = "SUBROUTINE ADD(I,J,K); K=I+J; END";
 
-const LOOP: &str = "SUBROUTINE LOOP(N,K); K=0; IF (N.LT.0) GO TO 20; DO 10 I=1,N; 10 K=K+I; 20 K=K+1; 30 RETURN; END";
+const LOOP: &str =
+    "SUBROUTINE LOOP(N,K); K=0; IF (N.LT.0) GO TO 20; DO 10 I=1,N; 10 K=K+I; 20 K=K+1; 30 RETURN; END";
 
 const PRESET: &str = "SUBROUTINE S(K); LOGICAL P; DATA P/.TRUE./; IF (P) K=1; END";
 
@@ -149,7 +150,10 @@ fn keeps_the_changed_statement(rt: HostRuntime) -> Result<(), Fail> {
     if old.fits(2, &line.stmt) {
         let patched = old.patched(2, &line.stmt)?;
         let text = print(rt.alloc(), patched.program())?;
-        let want = print(rt.alloc(), &program(&rt, "SUBROUTINE ADD(I,J,K); K=I; END")?)?;
+        let want = print(
+            rt.alloc(),
+            &program(&rt, "SUBROUTINE ADD(I,J,K); K=I; END")?,
+        )?;
         assert_eq!(rt; text.as_str(), want.as_str());
         let kept = print(rt.alloc(), old.program())?;
         let given = print(rt.alloc(), &program(&rt, ADD)?)?;
