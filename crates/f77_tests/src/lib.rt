@@ -24,8 +24,6 @@ mod fault_texts;
 #[cfg(test)]
 mod outcomes;
 #[cfg(test)]
-mod patches;
-#[cfg(test)]
 mod programs;
 #[cfg(test)]
 mod resolved;

@@ -16,7 +16,7 @@ fn named(rt: &impl AllocGlobal, code: &str, name: &Name) -> Result<String, Fail>
 }
 
 /// The code of a fault and its detail.
-pub(crate) fn told(rt: &impl AllocGlobal, fault: &CheckFault) -> Result<String, Fail> {
+fn told(rt: &impl AllocGlobal, fault: &CheckFault) -> Result<String, Fail> {
     match fault {
         CheckFault::Memory => Ok(String::from_str(rt.alloc(), "C1")?),
         CheckFault::RealName(name) => named(rt, "C2", name),
