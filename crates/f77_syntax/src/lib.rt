@@ -23,6 +23,6 @@ mod subroutine;
 
 pub use f77_tree::{
     Constant, DataGroup, Decl, Expr, Group, Intrinsic, Kind, Line, Name, Node, Operator, Program,
-    Ref, Sign, Stmt, SyntaxFault, Value, print, print_stmt,
+    Ref, Shared, Sign, Stmt, SyntaxFault, Value, print, print_stmt,
 };
 pub use parsing::parse;

@@ -15,7 +15,7 @@ use crate::name_lengths::has_short_names;
 use crate::statement::statement;
 use f77_source::Card;
 use f77_tree::limits::{is_too_deep, statement_constants, statement_nodes};
-use f77_tree::{Group, Line, Program, ReadError, Stmt, SyntaxFault, is_end};
+use f77_tree::{Group, Line, Program, ReadError, Shared, Stmt, SyntaxFault, is_end};
 use std::alloc::Global;
 
 const MOST_CHARACTERS: usize = 1320;
@@ -103,7 +103,7 @@ fn in_place(alloc: Global, before: Option<Group>, card: &Card) -> Result<Stmt, S
 }
 
 /// The program of these cards, where the last statement is of this group.
-fn finished(lines: Vec<Line>, last: Option<Group>) -> Result<Program, SyntaxFault>
+fn finished(lines: Vec<Shared<Line>>, last: Option<Group>) -> Result<Program, SyntaxFault>
     requires { last ≡ Some End → IsProgram None (map line_of lines.items) }
     ensures { MatchResult result
         (λ program. (program ≡ lines.items) × (last ≡ Some End))
@@ -136,11 +136,12 @@ pub fn parse(alloc: Global, cards: &[Card]) -> Result<Program, SyntaxFault>
     for card in cards {
         let stmt = in_place(alloc, last, card)?;
         last = Some(stmt.group());
-        lines.push(Line {
+        let line = Line {
             label: card.label(),
             stmt,
             line: card.line(),
-        })?;
+        };
+        lines.push(Shared::new(alloc, line)?)?;
     }
     finished(lines, last)
 }

@@ -49,8 +49,14 @@ pub same_computed_goto : (stmt : Stmt) (labels copies : Vec ℕ Global) (value c
 same_computed_goto stmt labels copies value copy is same kept =
     rw is (computed_view copies copy ∙ rw (same, kept) refl ∙ sym (computed_view labels value))
 
-pub same_lines : (lines copies : List Line) → AllZip (λ x y. line_of y ≡ line_of x) lines copies → map line_of copies ≡ map line_of lines
-same_lines lines copies all = same_views line_of lines copies all
+same_items : {X : Type 0} (xs ys : List X) → AllZip (λ x y. y ≡ x) xs ys → ys ≡ xs
+same_items [] [] all = refl
+same_items [] (y ∷ ys) all = absurd all
+same_items (x ∷ xs) [] all = absurd all
+same_items (x ∷ xs) (y ∷ ys) all = rw (all.0, same_items xs ys all.1) refl
 
-pub same_program : (lines copies : List Line) → AllZip (λ x y. line_of y ≡ line_of x) lines copies → IsProgram None (map line_of lines) → IsProgram None (map line_of copies)
+pub same_lines : (lines copies : List Line) → AllZip (λ x y. y ≡ x) lines copies → map line_of copies ≡ map line_of lines
+same_lines lines copies all = ap (map line_of) (same_items lines copies all)
+
+pub same_program : (lines copies : List Line) → AllZip (λ x y. y ≡ x) lines copies → IsProgram None (map line_of lines) → IsProgram None (map line_of copies)
 same_program lines copies all is = subst (IsProgram None) (sym (same_lines lines copies all)) is

@@ -21,6 +21,7 @@ mod operator;
 mod patching;
 mod printing;
 mod program;
+mod shared;
 mod tree;
 
 pub use canonical::print_stmt;
@@ -35,4 +36,5 @@ pub use node::Node;
 pub use operator::{Operator, Sign};
 pub use printing::print;
 pub use program::{Line, Program};
+pub use shared::Shared;
 pub use tree::{Expr, Kind, Ref, Stmt};

@@ -6,6 +6,7 @@ ghost use Rattle.f77_tree.specs.Patching.{Fits, patched};
 ghost use Rattle.f77_tree.specs.StatementView.{statement_of};
 
 use crate::program::{Line, Program};
+use crate::shared::Shared;
 use crate::tree::Stmt;
 use std::alloc::AllocError;
 
@@ -41,7 +42,7 @@ impl Program {
         let _formed = stmt.is_formed();
         let mut lines = self.lines().to_vec(self.allocator())?;
         let changed = with_stmt(&lines[number - 1], stmt)?;
-        lines[number - 1] = changed;
+        lines[number - 1] = Shared::new(self.allocator(), changed)?;
         Ok(Program::from_lines(lines))
     }
 }

@@ -9,6 +9,7 @@ ghost use Rattle.f77_tree.specs.Printing.{printed, print_faults, told, KeepsLimi
 use crate::canonical::print_stmt;
 use crate::fault::SyntaxFault;
 use crate::program::{Line, Program};
+use crate::shared::Shared;
 use f77_source::law::written_cards_are_read;
 use f77_source::{Card, FormFault, write_form};
 use std::alloc::Global;
@@ -34,7 +35,7 @@ fn card_of(alloc: Global, line: &Line) -> Result<Card, SyntaxFault>
     Ok(Card::new(line.label, text, line.line))
 }
 
-fn cards_of(alloc: Global, lines: &[Line]) -> Result<Vec<Card>, SyntaxFault>
+fn cards_of(alloc: Global, lines: &[Shared<Line>]) -> Result<Vec<Card>, SyntaxFault>
     ensures cards { IfOk result (λ cards. cards.items ≡ map printing.card_of (map line_of lines.now)) }
     ensures refused { IfErr result (λ fault. fault ≡ SyntaxFault.Memory) }
 {

@@ -1,6 +1,6 @@
 //! Programs.
 
-ghost use Rattle.std.specs.Prelude.{◌≡◌, List, None, true, false, map, option_map, IfOk, IfSome, IsOk, IsSome, IsNone};
+ghost use Rattle.std.specs.Prelude.{◌≡◌, List, None, true, false, map, option_map, IfOk, IfErr, IfSome, IsSome, IsNone};
 ghost use Rattle.std.specs.Coded.{codes};
 ghost use Rattle.std.specs.Cmp.{on_equiv, partial_equiv_from_equiv};
 ghost use Rattle.std.specs.Ordering.{on};
@@ -13,6 +13,7 @@ ghost use Rattle.f77_tree.specs.declared.program.Line.{Line};
 
 use crate::fault::SyntaxFault;
 use crate::group::{Group, is_end};
+use crate::shared::Shared;
 use crate::tree::Stmt;
 use std::alloc::{AllocError, Global};
 use std::marker::Model;
@@ -29,7 +30,7 @@ pub struct Line {
 /// X3.9-1978, 3.5), each a statement that some text spells.
 #[derive(Debug, Drop)]
 pub struct Program {
-    lines: Vec<Line>,
+    lines: Vec<Shared<Line>>,
 }
 
 impl Model for Program {
@@ -76,7 +77,7 @@ fn follows(before: Option<Group>, line: &Line) -> bool
     line.stmt.group().may_stand(before) && line.stmt.is_formed()
 }
 
-fn are_program(lines: &[Line]) -> bool
+fn are_program(lines: &[Shared<Line>]) -> bool
     ensures yes { result ≡ true → IsProgram None (map line_of lines.now) }
     ensures no { result ≡ false → ¬ (IsProgram None (map line_of lines.now)) }
 {
@@ -90,9 +91,20 @@ fn are_program(lines: &[Line]) -> bool
     is_end(last)
 }
 
+/// These lines, each to be shared.
+fn shared_lines(alloc: Global, lines: Vec<Line>) -> Result<Vec<Shared<Line>>, AllocError>
+    ensures { IfOk result (λ shared. shared.items ≡ lines.items) }
+{
+    let mut shared = Vec::with_capacity(alloc, lines.len())?;
+    for line in lines {
+        shared.push(Shared::new(alloc, line)?)?;
+    }
+    Ok(shared)
+}
+
 impl Program {
     /// The program of lines that are one. It takes no memory.
-    pub fn from_lines(lines: Vec<Line>) -> Program
+    pub fn from_lines(lines: Vec<Shared<Line>>) -> Program
         requires { IsProgram None (map line_of lines.items) }
         ensures { result ≡ lines.items }
     {
@@ -100,35 +112,26 @@ impl Program {
     }
 
     /// The program of these lines, None where they are none: each statement in its place, and one that some text spells.
-    ///
-    /// It takes no memory.
-    pub fn of(lines: Vec<Line>) -> Result<Option<Program>, SyntaxFault>
+    pub fn of(alloc: Global, lines: Vec<Line>) -> Result<Option<Program>, SyntaxFault>
         ensures given { IfOk result (λ answer. IfSome answer (λ program. program ≡ lines.items)) }
         ensures program { IfOk result (λ answer. IsSome answer → IsProgram None (map line_of lines.items)) }
         ensures no_program { IfOk result (λ answer. IsNone answer → ¬ (IsProgram None (map line_of lines.items))) }
-        ensures answers { IsOk result }
+        ensures memory { IfErr result (λ fault. fault ≡ SyntaxFault.Memory) }
     {
-        if are_program(&lines) {
-            Ok(Some(Program { lines }))
+        let shared = shared_lines(alloc, lines)?;
+        if are_program(&shared) {
+            Ok(Some(Program { lines: shared }))
         } else {
             Ok(None)
         }
     }
 
     /// The lines in order. It takes no memory.
-    pub fn lines(&self) -> &[Line]
+    pub fn lines(&self) -> &[Shared<Line>]
         ensures lines { result.now ≡ self.now }
         ensures program { IsProgram None (map line_of self.now) }
     {
         &self.lines
-    }
-
-    /// The lines in order, given back. It takes no memory.
-    pub fn into_lines(self) -> Vec<Line>
-        ensures lines { result.items ≡ self }
-        ensures program { IsProgram None (map line_of result.items) }
-    {
-        self.lines
     }
 
     /// The line of this number, where there is one. SUBROUTINE is number 1. It takes no memory.
@@ -138,7 +141,10 @@ impl Program {
         if number == 0 {
             return None;
         }
-        self.lines.get(number - 1)
+        match self.lines.get(number - 1) {
+            Some(line) => Some(line),
+            None => None,
+        }
     }
 
     /// What its lists take memory from.

@@ -4,7 +4,7 @@ ghost use Rattle.std.specs.Prelude.{◌≡◌, IfOk, IfErr, map};
 ghost use Rattle.f77_tree.specs.Parsing.{line_of};
 ghost use Rattle.f77_tree.specs.StatementView.{statement_of};
 
-use crate::lines::{assign, lines, printed};
+use crate::lines::{assign, lines, lines_of, printed};
 use f77_syntax::{Expr, Program, Stmt, SyntaxFault};
 use std::process::Abort;
 use std::test::Fail;
@@ -36,7 +36,7 @@ fn copied(rt: &impl AllocGlobal, lines: &str) -> Result<String, Fail> {
     let program = read(rt, lines)?;
     let copy = copy_program(&program)?;
     drop(program);
-    printed(rt, copy.into_lines())
+    printed(rt, lines_of(rt, &copy)?)
 }
 
 #[test]
@@ -72,7 +72,7 @@ fn copies_statements_of_mutants(rt: HostRuntime) -> Result<(), Fail> {
 
 /// A copy of the program whose second statement is a trap, printed.
 fn trapped(rt: &impl AllocGlobal, program: &Program) -> Result<String, Fail> {
-    let mut changed = program.clone()?.into_lines();
+    let mut changed = lines_of(rt, &program.clone()?)?;
     if let Some(line) = changed.get_mut(1) {
         line.stmt = Stmt::Trap;
     }
@@ -88,7 +88,7 @@ fn keeps_what_a_changed_copy_was_made_from(rt: HostRuntime) -> Result<(), Fail> 
         changed.as_str(),
         "      SUBROUTINE A(I)\n   10 TRAP\n      END\n"
     );
-    let kept = printed(&rt, program.into_lines())?;
+    let kept = printed(&rt, lines_of(&rt, &program)?)?;
     assert_eq!(rt; kept.as_str(), lines);
     Ok(())
 }

@@ -51,6 +51,15 @@ pub(crate) fn lines(
     Ok(lines)
 }
 
+/// Copies of the lines of a program.
+pub(crate) fn lines_of(rt: &impl AllocGlobal, program: &Program) -> Result<Vec<Line>, Fail> {
+    let mut lines = Vec::new(rt.alloc());
+    for line in program.lines() {
+        lines.push(Line::clone(line)?)?;
+    }
+    Ok(lines)
+}
+
 /// A program in fixed form, or the fault.
 fn program_text(rt: &impl AllocGlobal, program: &Program) -> Result<String, Fail> {
     match print(rt.alloc(), program) {
@@ -61,7 +70,7 @@ fn program_text(rt: &impl AllocGlobal, program: &Program) -> Result<String, Fail
 
 /// The program of the lines in fixed form, or the fault, or `None`.
 pub(crate) fn printed(rt: &impl AllocGlobal, lines: Vec<Line>) -> Result<String, Fail> {
-    match Program::of(lines) {
+    match Program::of(rt.alloc(), lines) {
         Ok(Some(program)) => program_text(rt, &program),
         Ok(None) => Ok(String::from_str(rt.alloc(), "None")?),
         Err(fault) => fault_text(rt, fault),

@@ -1,13 +1,13 @@
 //! Programs in fixed form.
 
-use crate::lines::printed;
+use crate::lines::{lines_of, printed};
 use std::process::Abort;
 use std::test::Fail;
 use test_programs::{parts, read};
 
 /// The program of a source, printed.
 fn reprinted(rt: &impl AllocGlobal, source: &str) -> Result<String, Fail> {
-    printed(rt, read(rt, source)?.into_lines())
+    printed(rt, lines_of(rt, &read(rt, source)?)?)
 }
 
 fn assert_printed(rt: &(impl AllocGlobal + Abort), rows: &[&str]) -> Result<(), Fail> {

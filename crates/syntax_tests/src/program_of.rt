@@ -1,6 +1,6 @@
 //! Programs made of lines and of trees, mutants among them.
 
-use crate::lines::{assign, lines, name, printed};
+use crate::lines::{assign, lines, lines_of, name, printed};
 use f77_syntax::{Expr, Intrinsic, Line, Ref, Stmt};
 use std::process::Abort;
 use std::test::Fail;
@@ -10,7 +10,7 @@ const ADD: &str = "      SUBROUTINE ADD(I,J,K)\n      K=I+J\n      END\n";
 
 /// The lines of the program ADD.
 fn add(rt: &impl AllocGlobal) -> Result<Vec<Line>, Fail> {
-    Ok(read(rt, ADD)?.into_lines())
+    lines_of(rt, &read(rt, ADD)?)
 }
 
 #[test]
