@@ -8,6 +8,7 @@ use Rattle.f77_tree.specs.Parsing.{LineFields, line_of}
 use Rattle.f77_tree.specs.declared.program.Line.{Line}
 use Rattle.f77_tree.specs.Tree.{Statement}
 use Rattle.f77_legal.specs.declared.clause.Clause.{Clause}
+use Rattle.f77_legal.specs.declared.fault.CheckFault.{CheckFault}
 use Rattle.f77_legal.specs.Clause.{breaks, fault_at, lines_where}
 use Rattle.f77_legal.specs.Legal.{clause_faults}
 
@@ -68,6 +69,20 @@ clause_broken_at cs i c p line at h = rw (drop_at cs i c at) (clause_broken c (d
 
 pub no_clause_left : (cs : List Clause) (i : ℕ) (p : List LineFields) → length cs ≤ i → slice_get (clause_faults (drop i cs) p) 0 ≡ None
 no_clause_left cs i p le = rw (drop_past cs i le) refl
+
+-- the first clause of these that is broken, searched from the one with this number on
+module _ (broken : Clause → Bool) (fault : Clause → CheckFault) where
+  abbrev pub first_broken : List Clause → Option CheckFault
+  first_broken cs = slice_get (map fault (filter broken cs)) 0
+
+  pub broken_not : (cs : List Clause) (i : ℕ) (c : Clause) → slice_get cs i ≡ Some c → broken c ≡ false → first_broken (drop i cs) ≡ first_broken (drop (i + 1) cs)
+  broken_not cs i c at h = rw (drop_at cs i c at, h) refl
+
+  pub broken_here : (cs : List Clause) (i : ℕ) (c : Clause) → slice_get cs i ≡ Some c → broken c ≡ true → first_broken (drop i cs) ≡ Some (fault c)
+  broken_here cs i c at h = rw (drop_at cs i c at, h) refl
+
+  pub broken_none : (cs : List Clause) (i : ℕ) → length cs ≤ i → first_broken (drop i cs) ≡ None
+  broken_none cs i le = rw (drop_past cs i le) refl
 
 -- the line that is read at a place
 pub line_here : (lines : List Line) (i : ℕ) (x : Line) → x ≡ get_or lines i x → i < length lines → slice_get (map line_of lines) i ≡ Some (line_of x)

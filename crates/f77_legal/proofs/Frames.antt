@@ -1,10 +1,12 @@
 -- What the frame keeps of one statement: what it is to blocks, DOs, jumps, declarations and DATA.
 use Rattle.std.proofs.Common.{◌≡◌, List, [], ◌∷◌, Bool, true, false, refl, sym, map, filter}
+use Rattle.std.proofs.Common.{true≢false}
+use Rattle.f77_tree.specs.Form.{form_of}
 use Rattle.f77_tree.specs.Group.{group_of}
 use Rattle.f77_tree.specs.Node.{names_of}
 use Rattle.f77_tree.specs.Tree.{Statement}
 use Rattle.f77_legal.specs.Blocks.{is_block_if, is_end_if, is_else, is_alternative}
-use Rattle.f77_legal.specs.Frames.{framed}
+use Rattle.f77_legal.specs.Frames.{framed, is_framed_out}
 use Rattle.f77_legal.specs.Heading.{dummies_of}
 use Rattle.f77_legal.specs.Labels.{terminal_label, is_target}
 use Rattle.f77_legal.specs.Loops.{variable_of}
@@ -14,6 +16,18 @@ use Rattle.f77_legal.specs.Presets.{groups_of}
 pub group_of-framed : (s : Statement) → group_of (framed s) ≡ group_of s
 group_of-framed (Statement.BlockIf tree) = refl
 group_of-framed _ = refl
+
+pub framed_out : (s : Statement) → is_framed_out (form_of s) ≡ true → framed s ≡ Statement.Continue
+framed_out (Statement.Assign name items tree) out = refl
+framed_out (Statement.Goto label) out = refl
+framed_out (Statement.ComputedGoto labels tree) out = refl
+framed_out (Statement.ArithIf tree first second third) out = refl
+framed_out (Statement.LogicalIf tree statement) out = refl
+framed_out Statement.Continue out = refl
+framed_out Statement.Return out = refl
+framed_out Statement.Stop out = refl
+framed_out Statement.Trap out = refl
+framed_out _ out = absurd (true≢false (sym out))
 
 pub is_block_if-framed : (s : Statement) → is_block_if (framed s) ≡ is_block_if s
 is_block_if-framed (Statement.BlockIf tree) = refl

@@ -1,4 +1,5 @@
 mod Rows
+pub mod Forms
 pub mod FirstNumbers
 pub mod Symbols
 pub mod Digests
@@ -39,3 +40,5 @@ pub mod FrameNames
 pub mod Replaced
 pub mod SameFrame
 pub mod Changed
+pub mod Served
+pub mod Alone

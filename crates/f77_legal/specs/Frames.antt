@@ -1,8 +1,9 @@
 -- What a change of one statement leaves as it was: the frame of a program, in which every statement that can be executed has lost its
 -- expressions, references and jumps. Declarations and DATA, labels, blocks and the ranges of DOs are told from the frame alone.
-use Rattle.std.specs.Prelude.{◌≡◌, false, List, map, None}
+use Rattle.std.specs.Prelude.{◌≡◌, Bool, true, false, List, map, None}
 use Rattle.f77_tree.specs.Parsing.{LineFields}
 use Rattle.f77_tree.specs.Tree.{Tree, Statement}
+use Rattle.f77_tree.specs.declared.form.Form.{Form}
 
 -- a statement with no expression, reference or jump: an action is CONTINUE, and a DO keeps its label and its variable
 abbrev pub framed : Statement → Statement
@@ -25,6 +26,19 @@ framed Statement.Return = Statement.Continue
 framed Statement.Stop = Statement.Continue
 framed Statement.Trap = Statement.Continue
 framed Statement.End = Statement.End
+
+-- the frame has CONTINUE in the place of a statement of this form
+abbrev pub is_framed_out : Form → Bool
+is_framed_out Form.Assign = true
+is_framed_out Form.Goto = true
+is_framed_out Form.ComputedGoto = true
+is_framed_out Form.ArithIf = true
+is_framed_out Form.LogicalIf = true
+is_framed_out Form.Continue = true
+is_framed_out Form.Return = true
+is_framed_out Form.Stop = true
+is_framed_out Form.Trap = true
+is_framed_out _ = false
 
 abbrev pub framed_line : LineFields → LineFields
 framed_line line = record (line) { stmt = framed line.stmt }

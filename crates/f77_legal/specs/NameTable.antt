@@ -18,6 +18,10 @@ use Rattle.f77_legal.specs.Names.{Symbol, Mention, name_in, mentions, each_once,
 use Rattle.f77_legal.specs.Names.{kinds_given, bounds_given, first_or, some_items, is_integer_name}
 use Rattle.f77_legal.specs.Presets.{product}
 
+-- the name is in the table
+abbrev pub has_name : Names → Symbol → Bool
+has_name names name = is_some (get bytes_eq names.facts name)
+
 abbrev pub kind_at : Names → Symbol → Kind
 kind_at names name = option_map_or (λ facts. facts.kind) (get bytes_eq names.facts name) Integer
 

@@ -8,6 +8,7 @@ use Rattle.f77_legal.specs.declared.clause.Clause.{Clause}
 use Rattle.f77_legal.specs.declared.clause.Clause.TheVariants.{Kinds, Bounds, NamedLabels, Targets, Jumps, Variables}
 use Rattle.f77_legal.specs.declared.fault.CheckFault.{CheckFault}
 use Rattle.f77_legal.specs.Clause.{breaks, fault_at}
+use Rattle.f77_legal.specs.Frames.{framed}
 use Rattle.f77_legal.specs.Labels.{is_terminal}
 use Rattle.f77_legal.specs.Legal.{is_array}
 use Rattle.f77_legal.specs.Loops.{terminal}
@@ -44,6 +45,15 @@ pub record IsStock (names : List Symbol) (program : List LineFields) : Type 0 wh
 -- each name of the statement is among these
 abbrev pub NamesAmong : List Symbol → Statement → Type 0
 NamesAmong names statement = list_all (λ mention. is_among names (name_in mention)) (mentions_of statement) ≡ true
+
+-- The change of the statement i is judged by that statement alone: the frame stays, the new one may end the DOs that end there, and its names
+-- are among these.
+pub record StandsAlone (names : List Symbol) (program : List LineFields) (i : ℕ) (statement : Statement) : Type 0 where
+  pub line : LineFields
+  pub at : slice_get program i ≡ Some line
+  pub frame : framed statement ≡ framed line.stmt
+  pub ends : MayStandAt program i statement
+  pub among : NamesAmong names statement
 
 -- each name of an expression passes the test
 abbrev mutual

@@ -13,7 +13,7 @@ ghost use Rattle.f77_legal.specs.Labels.{statement_at};
 ghost use Rattle.f77_legal.specs.declared.fault.CheckFault.TheVariants.{Memory};
 
 use crate::fault::CheckFault;
-use f77_tree::{Line, Stmt};
+use f77_tree::{Form, Line, Shared, Stmt};
 use std::alloc::Global;
 
 /// What a statement begins whose end is looked for: a whole block, or a branch of one.
@@ -41,27 +41,7 @@ pub struct Blocks {
 fn is_block_if(stmt: &Stmt) -> bool
     ensures { result ≡ words.is_block_if (statement_of stmt.now) }
 {
-    match stmt {
-        Stmt::BlockIf { .. } => true,
-        Stmt::Subroutine { .. }
-        | Stmt::Declare { .. }
-        | Stmt::Dimension { .. }
-        | Stmt::Preset { .. }
-        | Stmt::Assign { .. }
-        | Stmt::Goto { .. }
-        | Stmt::ComputedGoto { .. }
-        | Stmt::ArithIf { .. }
-        | Stmt::LogicalIf { .. }
-        | Stmt::ElseIf { .. }
-        | Stmt::Else
-        | Stmt::EndIf
-        | Stmt::Loop { .. }
-        | Stmt::Continue
-        | Stmt::Return
-        | Stmt::Stop
-        | Stmt::Trap
-        | Stmt::End => false,
-    }
+    matches!(stmt.form(), Form::BlockIf)
 }
 
 fn is_end_if(stmt: &Stmt) -> bool
@@ -79,26 +59,7 @@ fn is_else(stmt: &Stmt) -> bool
 fn is_alternative(stmt: &Stmt) -> bool
     ensures { result ≡ words.is_alternative (statement_of stmt.now) }
 {
-    match stmt {
-        Stmt::ElseIf { .. } | Stmt::Else => true,
-        Stmt::Subroutine { .. }
-        | Stmt::Declare { .. }
-        | Stmt::Dimension { .. }
-        | Stmt::Preset { .. }
-        | Stmt::Assign { .. }
-        | Stmt::Goto { .. }
-        | Stmt::ComputedGoto { .. }
-        | Stmt::ArithIf { .. }
-        | Stmt::LogicalIf { .. }
-        | Stmt::BlockIf { .. }
-        | Stmt::EndIf
-        | Stmt::Loop { .. }
-        | Stmt::Continue
-        | Stmt::Return
-        | Stmt::Stop
-        | Stmt::Trap
-        | Stmt::End => false,
-    }
+    matches!(stmt.form(), Form::ElseIf | Form::Else)
 }
 
 impl Extent {
@@ -134,7 +95,7 @@ fn depth_behind(stmt: &Stmt, depth: usize) -> usize
 }
 
 /// The statement of this number.
-pub fn statement(lines: &[Line], i: usize) -> &Stmt
+pub fn statement(lines: &[Shared<Line>], i: usize) -> &Stmt
     requires { i < length lines.now }
     ensures { statement_at (map line_of lines.now) i ≡ Some (statement_of result.now) }
 {
@@ -143,7 +104,7 @@ pub fn statement(lines: &[Line], i: usize) -> &Stmt
 
 /// Where the block or the branch ends that this statement begins.
 #[tactic(auto, using(crate::proofs::BlockScan::scan_start))]
-fn end_of(lines: &[Line], extent: Extent, start: usize) -> Option<usize>
+fn end_of(lines: &[Shared<Line>], extent: Extent, start: usize) -> Option<usize>
     requires { start < length lines.now }
     ensures { result ≡ table.end_of (map line_of lines.now) extent start }
 {
@@ -160,7 +121,7 @@ fn end_of(lines: &[Line], extent: Extent, start: usize) -> Option<usize>
 
 /// The END IF of a block IF.
 #[tactic(auto, using(crate::proofs::BlockScan::block_end_is))]
-fn block_end_at(lines: &[Line], i: usize) -> Option<usize>
+fn block_end_at(lines: &[Shared<Line>], i: usize) -> Option<usize>
     requires { i < length lines.now }
     ensures { result ≡ table.block_end_at (map line_of lines.now) i }
 {
@@ -172,7 +133,7 @@ fn block_end_at(lines: &[Line], i: usize) -> Option<usize>
 
 /// The end of a branch that an ELSE begins.
 #[tactic(auto, using(crate::proofs::BlockScan::branch_end_is))]
-fn else_end_at(lines: &[Line], i: usize) -> Option<usize>
+fn else_end_at(lines: &[Shared<Line>], i: usize) -> Option<usize>
     requires { i < length lines.now }
     ensures { result ≡ table.else_end_at (map line_of lines.now) i }
 {
@@ -184,7 +145,12 @@ fn else_end_at(lines: &[Line], i: usize) -> Option<usize>
 
 /// The end of the branch that a statement begins, which has this END IF or stands in a block.
 #[tactic(auto, using(crate::proofs::BlockScan::branch_end_is))]
-fn branch_end_at(lines: &[Line], i: usize, end: Option<usize>, inside: bool) -> Option<usize>
+fn branch_end_at(
+    lines: &[Shared<Line>],
+    i: usize,
+    end: Option<usize>,
+    inside: bool,
+) -> Option<usize>
     requires { i < length lines.now }
     ensures { end ≡ table.block_end_at (map line_of lines.now) i → inside ≡ is_in_block (map line_of lines.now) i
         → result ≡ table.branch_end_at (map line_of lines.now) i }
@@ -198,7 +164,7 @@ fn branch_end_at(lines: &[Line], i: usize, end: Option<usize>, inside: bool) -> 
 
 /// The statement behind this one: the next, or the END IF of the block where the next begins another branch (11.6 to 11.9).
 #[tactic(auto, using(crate::proofs::BlockScan::block_end_is))]
-pub fn next(lines: &[Line], i: usize) -> Option<usize>
+pub fn next(lines: &[Shared<Line>], i: usize) -> Option<usize>
     requires { i < length lines.now }
     ensures { result ≡ behind (map line_of lines.now) i }
 {
@@ -209,7 +175,7 @@ pub fn next(lines: &[Line], i: usize) -> Option<usize>
 }
 
 #[tactic(auto, using(crate::proofs::FirstNumbers::table_more))]
-fn block_ends(alloc: Global, lines: &[Line]) -> Result<Vec<Option<usize>>, CheckFault>
+fn block_ends(alloc: Global, lines: &[Shared<Line>]) -> Result<Vec<Option<usize>>, CheckFault>
     ensures made { IfOk result (λ ends. ends.items ≡ tabled table.block_end_at (map line_of lines.now)) }
     ensures memory { IfErr result (λ fault. fault ≡ Memory) }
 {
@@ -221,7 +187,7 @@ fn block_ends(alloc: Global, lines: &[Line]) -> Result<Vec<Option<usize>>, Check
 }
 
 #[tactic(auto, using(crate::proofs::FirstNumbers::table_more))]
-fn else_ends(alloc: Global, lines: &[Line]) -> Result<Vec<Option<usize>>, CheckFault>
+fn else_ends(alloc: Global, lines: &[Shared<Line>]) -> Result<Vec<Option<usize>>, CheckFault>
     ensures made { IfOk result (λ ends. ends.items ≡ tabled table.else_end_at (map line_of lines.now)) }
     ensures memory { IfErr result (λ fault. fault ≡ Memory) }
 {
@@ -299,7 +265,7 @@ fn insides(alloc: Global, ends: &[Option<usize>]) -> Result<Vec<bool>, CheckFaul
 
 fn branch_ends(
     alloc: Global,
-    lines: &[Line],
+    lines: &[Shared<Line>],
     ends: &[Option<usize>],
     inside: &[bool],
 ) -> Result<Vec<Option<usize>>, CheckFault>
@@ -316,7 +282,7 @@ fn branch_ends(
 
 impl Blocks {
     /// The table of these lines. Its time grows with the lines, and with those of each block and branch.
-    pub(crate) fn of(alloc: Global, lines: &[Line]) -> Result<Blocks, CheckFault>
+    pub(crate) fn of(alloc: Global, lines: &[Shared<Line>]) -> Result<Blocks, CheckFault>
         ensures made { IfOk result (λ blocks. IsBlockTable blocks (map line_of lines.now)) }
         ensures memory { IfErr result (λ fault. fault ≡ Memory) }
     {
@@ -347,7 +313,7 @@ impl Blocks {
     }
 
     /// Whether the statement of this number is a block IF, ELSE IF, ELSE or END IF out of its place (11.6 to 11.9).
-    pub(crate) fn breaks(&self, lines: &[Line], i: usize) -> bool
+    pub(crate) fn breaks(&self, lines: &[Shared<Line>], i: usize) -> bool
         ensures { IsBlockTable self.now (map line_of lines.now) → result ≡ breaks_block (map line_of lines.now) i }
     {
         if i >= lines.len() {

@@ -7,38 +7,22 @@ ghost use Rattle.f77_tree.specs.StatementView.{statement_of};
 ghost use Rattle.f77_legal.specs.Names.{unit_name, unit_name_of};
 ghost use Rattle.f77_legal.specs.Heading.{dummies, dummies_of};
 
-use f77_tree::{Line, Name, Stmt};
+use f77_tree::{Line, Name, Shared, Stmt};
 
 /// The names of the unit and of its dummy arguments, where this is a SUBROUTINE statement.
+#[tactic(auto, using(crate::proofs::Forms::no_unit_name, crate::proofs::Forms::no_dummies))]
 fn heading(stmt: &Stmt) -> Option<(&Name, &[Name])>
     ensures unit { option_map (λ x. x.0.now) result ≡ unit_name_of (statement_of stmt.now) }
     ensures dummies { option_map_or (λ x. x.1.now) result [] ≡ dummies_of (statement_of stmt.now) }
 {
     match stmt {
         Stmt::Subroutine { name, arguments } => Some((name, arguments)),
-        Stmt::Declare { .. }
-        | Stmt::Dimension { .. }
-        | Stmt::Preset { .. }
-        | Stmt::Assign { .. }
-        | Stmt::Goto { .. }
-        | Stmt::ComputedGoto { .. }
-        | Stmt::ArithIf { .. }
-        | Stmt::LogicalIf { .. }
-        | Stmt::BlockIf { .. }
-        | Stmt::ElseIf { .. }
-        | Stmt::Else
-        | Stmt::EndIf
-        | Stmt::Loop { .. }
-        | Stmt::Continue
-        | Stmt::Return
-        | Stmt::Stop
-        | Stmt::Trap
-        | Stmt::End => None,
+        _ => None,
     }
 }
 
 /// The name of the unit (15.6).
-pub(crate) fn unit(lines: &[Line]) -> Option<&Name>
+pub(crate) fn unit(lines: &[Shared<Line>]) -> Option<&Name>
     ensures { option_map (λ name. name.now) result ≡ unit_name (map line_of lines.now) }
 {
     let (name, _) = heading(&lines.first()?.stmt)?;
@@ -46,7 +30,7 @@ pub(crate) fn unit(lines: &[Line]) -> Option<&Name>
 }
 
 /// The dummy arguments, in order.
-pub fn arguments(lines: &[Line]) -> &[Name]
+pub fn arguments(lines: &[Shared<Line>]) -> &[Name]
     ensures { result.now ≡ dummies (map line_of lines.now) }
 {
     match lines.first() {

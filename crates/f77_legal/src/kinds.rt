@@ -19,7 +19,7 @@ pub(crate) fn same_kind(left: Kind, right: Kind) -> bool
 }
 
 /// The kind that an operator gives (ANSI X3.9-1978, 6.1, 6.3 and 6.4).
-fn result_kind(operator: Operator) -> Kind
+pub fn result_kind(operator: Operator) -> Kind
     ensures { result ≡ kinds.result_kind operator }
 {
     match operator {

@@ -14,7 +14,7 @@ ghost use Rattle.f77_legal.specs.Labels.{is_double, place_of};
 ghost use Rattle.f77_legal.specs.declared.fault.CheckFault.TheVariants as fault;
 
 use crate::fault::CheckFault;
-use f77_tree::{Line, Stmt};
+use f77_tree::{Form, Line, Shared, Stmt};
 use indexmap::IndexMap;
 use std::alloc::Global;
 
@@ -35,7 +35,7 @@ pub struct Labels {
 
 impl Labels {
     /// The labels of these lines.
-    pub(crate) fn of(alloc: Global, lines: &[Line]) -> Result<Labels, CheckFault>
+    pub(crate) fn of(alloc: Global, lines: &[Shared<Line>]) -> Result<Labels, CheckFault>
         ensures table { IfOk result (λ table. IsLabelTable table (map line_of lines.now)) }
         ensures memory { IfErr result (λ e. e ≡ fault.Memory) }
     {
@@ -116,7 +116,7 @@ impl Labels {
     }
 
     /// The statement that bears the label, where there is one.
-    fn statement_with<'a>(&self, lines: &'a [Line], label: Option<u32>) -> Option<&'a Stmt>
+    fn statement_with<'a>(&self, lines: &'a [Shared<Line>], label: Option<u32>) -> Option<&'a Stmt>
         ensures { IsLabelTable self.now (map line_of lines.now)
             → option_map (λ stmt. statement_of stmt.now) result ≡ option_and_then (clause.statement_with (map line_of lines.now)) label }
     {
@@ -135,21 +135,7 @@ pub(crate) fn jump_count(stmt: &Stmt) -> usize
         Stmt::ComputedGoto { labels, .. } => labels.len(),
         Stmt::ArithIf { .. } => 3,
         Stmt::LogicalIf { statement, .. } => jump_count(statement),
-        Stmt::Subroutine { .. }
-        | Stmt::Declare { .. }
-        | Stmt::Dimension { .. }
-        | Stmt::Preset { .. }
-        | Stmt::Assign { .. }
-        | Stmt::BlockIf { .. }
-        | Stmt::ElseIf { .. }
-        | Stmt::Else
-        | Stmt::EndIf
-        | Stmt::Loop { .. }
-        | Stmt::Continue
-        | Stmt::Return
-        | Stmt::Stop
-        | Stmt::Trap
-        | Stmt::End => 0,
+        _ => 0,
     }
 }
 
@@ -173,48 +159,18 @@ pub(crate) fn jump_label(stmt: &Stmt, k: usize) -> Option<u32>
             ..
         } => label_at(&[*negative, *zero, *positive], k),
         Stmt::LogicalIf { statement, .. } => jump_label(statement, k),
-        Stmt::Subroutine { .. }
-        | Stmt::Declare { .. }
-        | Stmt::Dimension { .. }
-        | Stmt::Preset { .. }
-        | Stmt::Assign { .. }
-        | Stmt::BlockIf { .. }
-        | Stmt::ElseIf { .. }
-        | Stmt::Else
-        | Stmt::EndIf
-        | Stmt::Loop { .. }
-        | Stmt::Continue
-        | Stmt::Return
-        | Stmt::Stop
-        | Stmt::Trap
-        | Stmt::End => None,
+        _ => None,
     }
 }
 
 /// The label of the terminal statement that a DO names (11.10).
+#[tactic(auto, using(crate::proofs::Forms::no_terminal))]
 pub(crate) fn terminal_label(stmt: &Stmt) -> Option<u32>
     ensures { result ≡ clause.terminal_label (statement_of stmt.now) }
 {
     match stmt {
         Stmt::Loop { label, .. } => Some(*label),
-        Stmt::Subroutine { .. }
-        | Stmt::Declare { .. }
-        | Stmt::Dimension { .. }
-        | Stmt::Preset { .. }
-        | Stmt::Assign { .. }
-        | Stmt::Goto { .. }
-        | Stmt::ComputedGoto { .. }
-        | Stmt::ArithIf { .. }
-        | Stmt::LogicalIf { .. }
-        | Stmt::BlockIf { .. }
-        | Stmt::ElseIf { .. }
-        | Stmt::Else
-        | Stmt::EndIf
-        | Stmt::Continue
-        | Stmt::Return
-        | Stmt::Stop
-        | Stmt::Trap
-        | Stmt::End => None,
+        _ => None,
     }
 }
 
@@ -242,31 +198,19 @@ pub(crate) fn names_no_label(labels: &Labels, stmt: &Stmt) -> bool
 pub(crate) fn is_target(stmt: &Stmt) -> bool
     ensures { result ≡ clause.is_target (statement_of stmt.now) }
 {
-    match stmt {
-        Stmt::Subroutine { .. }
-        | Stmt::Declare { .. }
-        | Stmt::Dimension { .. }
-        | Stmt::Preset { .. }
-        | Stmt::ElseIf { .. }
-        | Stmt::Else => false,
-        Stmt::Assign { .. }
-        | Stmt::Goto { .. }
-        | Stmt::ComputedGoto { .. }
-        | Stmt::ArithIf { .. }
-        | Stmt::LogicalIf { .. }
-        | Stmt::BlockIf { .. }
-        | Stmt::EndIf
-        | Stmt::Loop { .. }
-        | Stmt::Continue
-        | Stmt::Return
-        | Stmt::Stop
-        | Stmt::Trap
-        | Stmt::End => true,
-    }
+    !matches!(
+        stmt.form(),
+        Form::Subroutine
+            | Form::Declare
+            | Form::Dimension
+            | Form::Preset
+            | Form::ElseIf
+            | Form::Else
+    )
 }
 
 /// Whether the label, if any, stands on a statement where control may not go.
-fn leads_badly(labels: &Labels, lines: &[Line], label: Option<u32>) -> bool
+fn leads_badly(labels: &Labels, lines: &[Shared<Line>], label: Option<u32>) -> bool
     ensures { IsLabelTable labels.now (map line_of lines.now)
         → result ≡ option_map_or
         (λ label. option_map_or (λ target. not (clause.is_target target)) (clause.statement_with (map line_of lines.now) label) false) label false }
@@ -278,7 +222,7 @@ fn leads_badly(labels: &Labels, lines: &[Line], label: Option<u32>) -> bool
 }
 
 /// Whether a jump of the statement leads to one where control may not go.
-pub(crate) fn jumps_badly(labels: &Labels, lines: &[Line], stmt: &Stmt) -> bool
+pub(crate) fn jumps_badly(labels: &Labels, lines: &[Shared<Line>], stmt: &Stmt) -> bool
     ensures { IsLabelTable labels.now (map line_of lines.now) → result ≡ clause.jumps_badly (map line_of lines.now) (statement_of stmt.now) }
 {
     for k in 0..jump_count(stmt) {
@@ -290,34 +234,17 @@ pub(crate) fn jumps_badly(labels: &Labels, lines: &[Line], stmt: &Stmt) -> bool
 }
 
 /// Whether the statement may be the terminal statement of a DO (11.10).
-pub(crate) fn is_terminal(stmt: &Stmt) -> bool
+pub fn is_terminal(stmt: &Stmt) -> bool
     ensures { result ≡ clause.is_terminal (statement_of stmt.now) }
 {
-    match stmt {
-        Stmt::Assign { .. }
-        | Stmt::ComputedGoto { .. }
-        | Stmt::LogicalIf { .. }
-        | Stmt::Continue
-        | Stmt::Trap => true,
-        Stmt::Subroutine { .. }
-        | Stmt::Declare { .. }
-        | Stmt::Dimension { .. }
-        | Stmt::Preset { .. }
-        | Stmt::Goto { .. }
-        | Stmt::ArithIf { .. }
-        | Stmt::BlockIf { .. }
-        | Stmt::ElseIf { .. }
-        | Stmt::Else
-        | Stmt::EndIf
-        | Stmt::Loop { .. }
-        | Stmt::Return
-        | Stmt::Stop
-        | Stmt::End => false,
-    }
+    matches!(
+        stmt.form(),
+        Form::Assign | Form::ComputedGoto | Form::LogicalIf | Form::Continue | Form::Trap
+    )
 }
 
 /// Whether the statement is a DO that names one which may be no terminal statement.
-pub(crate) fn ends_badly(labels: &Labels, lines: &[Line], stmt: &Stmt) -> bool
+pub(crate) fn ends_badly(labels: &Labels, lines: &[Shared<Line>], stmt: &Stmt) -> bool
     ensures { IsLabelTable labels.now (map line_of lines.now) → result ≡ clause.ends_badly (map line_of lines.now) (statement_of stmt.now) }
 {
     match labels.statement_with(lines, terminal_label(stmt)) {

@@ -15,7 +15,7 @@ use crate::labels::Labels;
 use crate::names::Names;
 use crate::presets::first_bad_data;
 use crate::tables::Tables;
-use f77_tree::Line;
+use f77_tree::{Line, Shared};
 use std::alloc::Global;
 
 const MOST_STATEMENTS: usize = 500;
@@ -24,7 +24,7 @@ const MOST_NAMES: usize = 100;
 
 const MOST_ELEMENTS: u32 = 10_000;
 
-fn check_names(names: &Names, lines: &[Line]) -> Result<(), CheckFault>
+fn check_names(names: &Names, lines: &[Shared<Line>]) -> Result<(), CheckFault>
     ensures { IsNameTable names.now (map line_of lines.now) → TellsFirst result (name_faults (map line_of lines.now)) }
 {
     if let Some(name) = names.first_real() {
@@ -36,7 +36,8 @@ fn check_names(names: &Names, lines: &[Line]) -> Result<(), CheckFault>
     Ok(())
 }
 
-fn check_clauses(tables: &Tables, list: &[Clause], lines: &[Line]) -> Result<(), CheckFault>
+#[tactic(auto, using(crate::proofs::Served::own_tables_serve))]
+fn check_clauses(tables: &Tables, list: &[Clause], lines: &[Shared<Line>]) -> Result<(), CheckFault>
     ensures { AreTables tables.now (map line_of lines.now) → TellsFirst result (clause_faults list.now (map line_of lines.now)) }
 {
     match tables.first_fault(list, lines) {
@@ -54,7 +55,7 @@ fn check_labels(labels: &Labels) -> Result<(), CheckFault>
     }
 }
 
-fn check_data(alloc: Global, names: &Names, lines: &[Line]) -> Result<(), CheckFault>
+fn check_data(alloc: Global, names: &Names, lines: &[Shared<Line>]) -> Result<(), CheckFault>
     ensures { IsNameTable names.now (map line_of lines.now) → Tells result (data_faults (map line_of lines.now)) }
 {
     match first_bad_data(alloc, names, lines)? {
@@ -63,7 +64,7 @@ fn check_data(alloc: Global, names: &Names, lines: &[Line]) -> Result<(), CheckF
     }
 }
 
-fn check_size(names: &Names, lines: &[Line]) -> Result<(), CheckFault>
+fn check_size(names: &Names, lines: &[Shared<Line>]) -> Result<(), CheckFault>
     ensures { IsNameTable names.now (map line_of lines.now) → TellsFirst result (size_faults (map line_of lines.now)) }
 {
     if lines.len() > MOST_STATEMENTS || names.len() > MOST_NAMES || names.has_over(MOST_ELEMENTS) {
@@ -75,7 +76,7 @@ fn check_size(names: &Names, lines: &[Line]) -> Result<(), CheckFault>
 /// The first fault of a program, given its tables, clause by clause, in the order of test; or want of memory.
 ///
 /// The first fault of a name, a statement or a label is told whatever memory there is.
-pub fn judge(alloc: Global, tables: &Tables, lines: &[Line]) -> Result<(), CheckFault>
+pub fn judge(alloc: Global, tables: &Tables, lines: &[Shared<Line>]) -> Result<(), CheckFault>
     ensures tells { AreTables tables.now (map line_of lines.now) → Tells result (faults (map line_of lines.now)) }
     ensures told { let program = map line_of lines.now in (fault : CheckFault) → AreTables tables.now program
         → slice_get (name_faults program ++ statement_faults program) 0 ≡ Some fault → result ≡ Err fault }

@@ -14,6 +14,7 @@ mod legal;
 mod loops;
 mod mentions;
 pub mod names;
+mod patches;
 mod presets;
 mod tables;
 
@@ -21,7 +22,9 @@ pub use blocks::Blocks;
 pub use clause::Clause;
 pub use fault::CheckFault;
 pub use holders::Ranges;
-pub use labels::Labels;
+pub use kinds::result_kind;
+pub use labels::{Labels, is_terminal};
 pub use legal::judge;
 pub use names::Names;
+pub use patches::keeps_frame;
 pub use tables::Tables;

@@ -11,7 +11,7 @@ ghost use Rattle.f77_legal.specs.LoopTable as table;
 ghost use Rattle.f77_legal.specs.LoopTable.{IsRangeTable};
 
 use crate::holders::Ranges;
-use f77_tree::{Line, Name, Stmt};
+use f77_tree::{Line, Name, Shared, Stmt};
 
 /// The variable that a statement sets by its own rule: the target of an assignment, a DO variable.
 pub(crate) fn set_by(stmt: &Stmt) -> Option<&Name>
@@ -21,53 +21,22 @@ pub(crate) fn set_by(stmt: &Stmt) -> Option<&Name>
         Stmt::Assign { target, .. } => Some(&target.name),
         Stmt::LogicalIf { statement, .. } => set_by(statement),
         Stmt::Loop { variable, .. } => Some(variable),
-        Stmt::Subroutine { .. }
-        | Stmt::Declare { .. }
-        | Stmt::Dimension { .. }
-        | Stmt::Preset { .. }
-        | Stmt::Goto { .. }
-        | Stmt::ComputedGoto { .. }
-        | Stmt::ArithIf { .. }
-        | Stmt::BlockIf { .. }
-        | Stmt::ElseIf { .. }
-        | Stmt::Else
-        | Stmt::EndIf
-        | Stmt::Continue
-        | Stmt::Return
-        | Stmt::Stop
-        | Stmt::Trap
-        | Stmt::End => None,
+        _ => None,
     }
 }
 
 /// The DO variable of a DO.
+#[tactic(auto, using(crate::proofs::Forms::no_variable))]
 pub(crate) fn variable_of(stmt: &Stmt) -> Option<&Name>
     ensures { option_map (λ name. name.now) result ≡ loops.variable_of (statement_of stmt.now) }
 {
     match stmt {
         Stmt::Loop { variable, .. } => Some(variable),
-        Stmt::Subroutine { .. }
-        | Stmt::Declare { .. }
-        | Stmt::Dimension { .. }
-        | Stmt::Preset { .. }
-        | Stmt::Assign { .. }
-        | Stmt::Goto { .. }
-        | Stmt::ComputedGoto { .. }
-        | Stmt::ArithIf { .. }
-        | Stmt::LogicalIf { .. }
-        | Stmt::BlockIf { .. }
-        | Stmt::ElseIf { .. }
-        | Stmt::Else
-        | Stmt::EndIf
-        | Stmt::Continue
-        | Stmt::Return
-        | Stmt::Stop
-        | Stmt::Trap
-        | Stmt::End => None,
+        _ => None,
     }
 }
 
-fn variable_at(lines: &[Line], d: usize) -> Option<&Name>
+fn variable_at(lines: &[Shared<Line>], d: usize) -> Option<&Name>
     ensures { option_map (λ name. name.now) result ≡ option_and_then loops.variable_of (statement_at (map line_of lines.now) d) }
 {
     match lines.get(d) {
@@ -76,7 +45,7 @@ fn variable_at(lines: &[Line], d: usize) -> Option<&Name>
     }
 }
 
-fn is_variable_at(lines: &[Line], name: &Name, d: usize) -> bool
+fn is_variable_at(lines: &[Shared<Line>], name: &Name, d: usize) -> bool
     ensures { result ≡ option_map_or (bytes_eq name.now) (option_and_then loops.variable_of (statement_at (map line_of lines.now) d)) false }
 {
     match variable_at(lines, d) {
@@ -85,7 +54,7 @@ fn is_variable_at(lines: &[Line], name: &Name, d: usize) -> bool
     }
 }
 
-fn is_held_with(ranges: &Ranges, lines: &[Line], i: usize, name: &Name) -> bool
+fn is_held_with(ranges: &Ranges, lines: &[Shared<Line>], i: usize, name: &Name) -> bool
     ensures { result ≡ table.is_held_with ranges.now (map line_of lines.now) i name.now }
 {
     ranges.ancestors(i).any(|d| ranges.in_range(d, i) && is_variable_at(lines, name, d))
@@ -93,7 +62,7 @@ fn is_held_with(ranges: &Ranges, lines: &[Line], i: usize, name: &Name) -> bool
 
 /// Whether the statement `stmt`, of the number `i`, sets the variable of a DO whose range holds it (11.10.5).
 #[tactic(auto, using(crate::proofs::LoopTables::held_with_is))]
-pub(crate) fn sets_variable(ranges: &Ranges, lines: &[Line], i: usize, stmt: &Stmt) -> bool
+pub(crate) fn sets_variable(ranges: &Ranges, lines: &[Shared<Line>], i: usize, stmt: &Stmt) -> bool
     ensures { IsRangeTable ranges.now (map line_of lines.now) → result ≡ loops.sets_variable (map line_of lines.now) i (statement_of stmt.now) }
 {
     match set_by(stmt) {

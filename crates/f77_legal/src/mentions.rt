@@ -317,14 +317,7 @@ impl Names {
                 step,
                 ..
             } => self.note_loop(alloc, variable, first, last, step),
-            Stmt::Goto { .. }
-            | Stmt::Else
-            | Stmt::EndIf
-            | Stmt::Continue
-            | Stmt::Return
-            | Stmt::Stop
-            | Stmt::Trap
-            | Stmt::End => Ok(()),
+            _ => Ok(()),
         }
     }
 
@@ -359,6 +352,7 @@ impl Names {
     }
 
     /// Notes what a statement says of the names that it mentions.
+    #[tactic(auto, using(crate::proofs::Forms::plain_mentions))]
     pub(crate) fn note_statement(&mut self, alloc: Global, stmt: &Stmt) -> Result<(), CheckFault>
         ensures noted { OnOk result (entries_of self.new ≡ with_mentions (entries_of self.old) (mentions_of (statement_of stmt.now))) }
         ensures memory { IfErr result (λ f. f ≡ fault.Memory) }
@@ -367,22 +361,7 @@ impl Names {
             Stmt::Subroutine { arguments, .. } => self.note_dummies(alloc, arguments),
             Stmt::Declare { kind, items } => self.note_typed(alloc, *kind, items),
             Stmt::Dimension { items } => self.note_dimensioned(alloc, items),
-            Stmt::Preset { .. }
-            | Stmt::Assign { .. }
-            | Stmt::Goto { .. }
-            | Stmt::ComputedGoto { .. }
-            | Stmt::ArithIf { .. }
-            | Stmt::LogicalIf { .. }
-            | Stmt::BlockIf { .. }
-            | Stmt::ElseIf { .. }
-            | Stmt::Else
-            | Stmt::EndIf
-            | Stmt::Loop { .. }
-            | Stmt::Continue
-            | Stmt::Return
-            | Stmt::Stop
-            | Stmt::Trap
-            | Stmt::End => self.note_nodes(alloc, stmt),
+            _ => self.note_nodes(alloc, stmt),
         }
     }
 }

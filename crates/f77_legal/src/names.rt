@@ -19,7 +19,7 @@ ghost use Rattle.f77_legal.specs.Presets as presets;
 ghost use Rattle.f77_legal.specs.Presets.{product};
 
 use crate::fault::CheckFault;
-use f77_tree::{Intrinsic, Kind, Line, Name};
+use f77_tree::{Intrinsic, Kind, Line, Name, Shared};
 use indexmap::IndexMap;
 use std::alloc::Global;
 
@@ -123,7 +123,7 @@ fn array_size(facts: &Facts) -> u64
 
 impl Names {
     /// The table of the names of these lines.
-    pub(crate) fn of(alloc: Global, lines: &[Line]) -> Result<Names, CheckFault>
+    pub fn of(alloc: Global, lines: &[Shared<Line>]) -> Result<Names, CheckFault>
         ensures table { IfOk result (λ names. IsNameTable names (map line_of lines.now)) }
         ensures memory { IfErr result (λ f. f ≡ fault.Memory) }
     {
@@ -134,6 +134,13 @@ impl Names {
             names.note_statement(alloc, &line.stmt)?;
         }
         Ok(names)
+    }
+
+    /// Whether the table has the name.
+    pub(crate) fn has(&self, name: &Name) -> bool
+        ensures { result ≡ table.has_name self.now name.now }
+    {
+        self.facts.get(name).is_some()
     }
 
     /// The kind of a name, INTEGER where no type statement gives one.

@@ -17,7 +17,7 @@ ghost use Rattle.f77_legal.specs.Runs.{kinds_in, kinds_left, behind, fills, misp
 use crate::fault::CheckFault;
 use crate::kinds::same_kind;
 use crate::names::Names;
-use f77_tree::{Constant, DataGroup, Kind, Line, Name, Stmt, Value};
+use f77_tree::{Constant, DataGroup, Kind, Line, Name, Shared, Stmt, Value};
 use indexmap::IndexSet;
 use std::alloc::Global;
 
@@ -223,7 +223,7 @@ fn groups_break<'a>(
 }
 
 /// Whether the statement presets badly, behind statements whose names of DATA are noted; notes its own where it does not.
-#[tactic(auto, using(crate::proofs::Misplaced::none_noted))]
+#[tactic(auto, using(crate::proofs::Misplaced::none_noted, crate::proofs::Forms::no_groups))]
 fn breaks_data<'a>(
     names: &Names,
     seen: &mut IndexSet<&'a Name>,
@@ -237,24 +237,7 @@ fn breaks_data<'a>(
 {
     match stmt {
         Stmt::Preset { groups } => groups_break(names, seen, groups),
-        Stmt::Subroutine { .. }
-        | Stmt::Declare { .. }
-        | Stmt::Dimension { .. }
-        | Stmt::Assign { .. }
-        | Stmt::Goto { .. }
-        | Stmt::ComputedGoto { .. }
-        | Stmt::ArithIf { .. }
-        | Stmt::LogicalIf { .. }
-        | Stmt::BlockIf { .. }
-        | Stmt::ElseIf { .. }
-        | Stmt::Else
-        | Stmt::EndIf
-        | Stmt::Loop { .. }
-        | Stmt::Continue
-        | Stmt::Return
-        | Stmt::Stop
-        | Stmt::Trap
-        | Stmt::End => Ok(false),
+        _ => Ok(false),
     }
 }
 
@@ -262,7 +245,7 @@ fn breaks_data<'a>(
 pub(crate) fn first_bad_data(
     alloc: Global,
     names: &Names,
-    lines: &[Line],
+    lines: &[Shared<Line>],
 ) -> Result<Option<u32>, CheckFault>
     ensures line { IsNameTable names.now (map line_of lines.now)
         → IfOk result (λ line. line ≡ slice_get (lines_where (presets_badly (map line_of lines.now)) (map line_of lines.now)) 0) }

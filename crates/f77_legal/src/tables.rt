@@ -12,7 +12,7 @@ ghost use Rattle.f77_legal.specs.Loops as loops;
 ghost use Rattle.f77_legal.specs.LoopTable.{IsRangeTable};
 ghost use Rattle.f77_legal.specs.LabelTable.{IsLabelTable};
 ghost use Rattle.f77_legal.specs.BlockTable.{IsBlockTable};
-ghost use Rattle.f77_legal.specs.Tables.{AreTables, terminal_of, closed_branch_end};
+ghost use Rattle.f77_legal.specs.Tables.{AreTables, Serve, terminal_of, closed_branch_end};
 ghost use Rattle.f77_legal.specs.declared.fault.CheckFault.TheVariants.{Memory};
 
 use crate::blocks::Blocks;
@@ -26,7 +26,7 @@ use crate::labels::{
 };
 use crate::loops::sets_variable;
 use crate::names::Names;
-use f77_tree::{Line, Stmt};
+use f77_tree::{Line, Shared, Stmt};
 use std::alloc::Global;
 
 /// What is looked up in a program: its names, its labels, its blocks and its ranges.
@@ -48,7 +48,7 @@ fn terminal(labels: &Labels, stmt: &Stmt) -> Option<usize>
 fn terminals(
     alloc: Global,
     labels: &Labels,
-    lines: &[Line],
+    lines: &[Shared<Line>],
 ) -> Result<Vec<Option<usize>>, CheckFault>
     ensures terminals { IfOk result (λ ends. (program : List LineFields) → IsLabelTable labels.now program
         → ends.items ≡ map (λ line. terminal_of program (statement_of line.stmt)) lines.now) }
@@ -80,7 +80,7 @@ fn branch_ends(
 
 impl Tables {
     /// The tables of a program, by its lines.
-    pub fn of(alloc: Global, lines: &[Line]) -> Result<Tables, CheckFault>
+    pub fn of(alloc: Global, lines: &[Shared<Line>]) -> Result<Tables, CheckFault>
         ensures tables { IfOk result (λ tables. AreTables tables (map line_of lines.now)) }
         ensures memory { IfErr result (λ fault. fault ≡ Memory) }
     {
@@ -100,7 +100,7 @@ impl Tables {
 
     /// Whether control goes into a range or a branch where it goes from the statement `i` to this label, if any.
     fn leads_in(&self, i: usize, label: Option<u32>) -> bool
-        ensures { (program : List LineFields) → AreTables self.now program
+        ensures { (program : List LineFields) → Serve self.now program
             → result ≡ option_map_or (λ label. option_map_or (loops.goes_in program i) (place_of program label) false) label false }
     {
         let Some(label) = label else {
@@ -114,7 +114,7 @@ impl Tables {
 
     /// Whether a jump of the statement `stmt`, of the number `i`, leads into a range or a branch.
     fn jumps_in(&self, i: usize, stmt: &Stmt) -> bool
-        ensures { (program : List LineFields) → AreTables self.now program → result ≡ loops.jumps_in program i (statement_of stmt.now) }
+        ensures { (program : List LineFields) → Serve self.now program → result ≡ loops.jumps_in program i (statement_of stmt.now) }
     {
         for k in 0..jump_count(stmt) {
             if self.leads_in(i, jump_label(stmt, k)) {
@@ -125,9 +125,8 @@ impl Tables {
     }
 
     /// Whether the statement, which has this number from 0, breaks the clause.
-    #[tactic(auto, using(crate::proofs::Lookups::same_kinds, crate::proofs::Lookups::same_bounds))]
-    pub fn breaks(&self, clause: Clause, lines: &[Line], i: usize, stmt: &Stmt) -> bool
-        ensures { AreTables self.now (map line_of lines.now) → result ≡ clauses.breaks clause (map line_of lines.now) i (statement_of stmt.now) }
+    pub fn breaks(&self, clause: Clause, lines: &[Shared<Line>], i: usize, stmt: &Stmt) -> bool
+        ensures { Serve self.now (map line_of lines.now) → result ≡ clauses.breaks clause (map line_of lines.now) i (statement_of stmt.now) }
     {
         match clause {
             Clause::Kinds => !kinds_agree(&self.names, stmt),
@@ -142,8 +141,8 @@ impl Tables {
     }
 
     /// The line of the first statement that breaks the clause.
-    fn first_line(&self, clause: Clause, lines: &[Line]) -> Option<u32>
-        ensures { AreTables self.now (map line_of lines.now)
+    fn first_line(&self, clause: Clause, lines: &[Shared<Line>]) -> Option<u32>
+        ensures { Serve self.now (map line_of lines.now)
             → result ≡ slice_get (clauses.lines_where (clauses.breaks clause (map line_of lines.now)) (map line_of lines.now)) 0 }
     {
         for i in 0..lines.len() {
@@ -156,8 +155,8 @@ impl Tables {
     }
 
     /// The first fault of the clauses, one after another.
-    pub(crate) fn first_fault(&self, list: &[Clause], lines: &[Line]) -> Option<CheckFault>
-        ensures { AreTables self.now (map line_of lines.now) → result ≡ slice_get (clause_faults list.now (map line_of lines.now)) 0 }
+    pub(crate) fn first_fault(&self, list: &[Clause], lines: &[Shared<Line>]) -> Option<CheckFault>
+        ensures { Serve self.now (map line_of lines.now) → result ≡ slice_get (clause_faults list.now (map line_of lines.now)) 0 }
     {
         for clause in list {
             if let Some(line) = self.first_line(*clause, lines) {

@@ -9,7 +9,7 @@ use Rattle.f77_legal.proofs.names.Names.of.Goals as goal
 pub loop-line-preserved : goal.loop-line-preserved
 loop-line-preserved c =
     c.in_ok-note_statement.ensures.noted
-    ∙ ap (λ z. with_mentions z (mentions_of (statement_of c.line-item.result.stmt))) c.loop-line.invariant
+    ∙ (λ i. with_mentions (c.loop-line.invariant i) (mentions_of (statement_of (c.deref.ensures i).stmt)))
     ∙ sym (noted_more c.args.lines.now c.loop-line.line-index c.line-item.result c.loop-line-test.true c.line-item.is)
 
 pub returns-clause-table : goal.returns-clause-table

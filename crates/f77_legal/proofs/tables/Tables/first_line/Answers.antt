@@ -1,4 +1,4 @@
-use Rattle.std.proofs.Common.{◌≤◌, map, length, ◌∙◌, sym, arith}
+use Rattle.std.proofs.Common.{◌≤◌, map, length, ◌∙◌, sym, ap, arith, Some}
 use Rattle.std.proofs.lemmas.List.{length-map}
 use Rattle.f77_tree.specs.Parsing.{line_of}
 use Rattle.f77_legal.specs.Clause.{breaks}
@@ -16,11 +16,12 @@ loop-i-preserved c = λ tables.
     let program = map line_of c.args.lines.now in
     let at = line_here c.args.lines.now c.loop-i.i c.index-lines-i.result c.index-lines-i.is c.loop-i-test.true in
     sym (skipped (breaks c.args.clause program) program c.loop-i.i (line_of c.index-lines-i.result) at
-    (sym (c.breaks.ensures tables) ∙ c.if-breaks.false)) ∙ c.loop-i.invariant tables
+    (ap (λ line. breaks c.args.clause program c.loop-i.i (line_of line).stmt) (sym c.deref.ensures) ∙ sym (c.breaks.ensures tables) ∙ c.if-breaks.false)) ∙ c.loop-i.invariant tables
 
 pub returns-then-breaks : goal.returns-then-breaks
 returns-then-breaks c = λ tables.
     let program = map line_of c.args.lines.now in
     let at = line_here c.args.lines.now c.loop-i.i c.index-lines-i.result c.index-lines-i.is c.loop-i-test.true in
-    sym (found (breaks c.args.clause program) program c.loop-i.i (line_of c.index-lines-i.result) at
-    (sym (c.breaks.ensures tables) ∙ c.if-breaks.true)) ∙ c.loop-i.invariant tables
+    ap (λ line. Some (line_of line).line) c.deref-then-breaks.ensures
+    ∙ sym (found (breaks c.args.clause program) program c.loop-i.i (line_of c.index-lines-i.result) at
+    (ap (λ line. breaks c.args.clause program c.loop-i.i (line_of line).stmt) (sym c.deref.ensures) ∙ sym (c.breaks.ensures tables) ∙ c.if-breaks.true)) ∙ c.loop-i.invariant tables

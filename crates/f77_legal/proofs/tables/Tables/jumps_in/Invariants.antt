@@ -5,11 +5,11 @@ use Rattle.f77_tree.specs.Parsing.{LineFields}
 use Rattle.f77_tree.specs.StatementView.{statement_of}
 use Rattle.f77_legal.specs.Labels.{place_of, jumps_of}
 use Rattle.f77_legal.specs.Loops.{goes_in, jumps_in}
-use Rattle.f77_legal.specs.Tables.{AreTables}
+use Rattle.f77_legal.specs.Tables.{Serve}
 use Rattle.f77_legal.proofs.tables.Tables.jumps_in.Given as goal
 
 -- the other labels decide
 abbrev pub invariant-loop-k : goal.invariant-loop-k
-invariant-loop-k l = (program : List LineFields) → AreTables l.self program
+invariant-loop-k l = (program : List LineFields) → Serve l.self program
     → jumps_in program l.i (statement_of l.stmt)
     ≡ list_any (λ label. option_map_or (goes_in program l.i) (place_of program label) false) (drop l.k (jumps_of (statement_of l.stmt)))

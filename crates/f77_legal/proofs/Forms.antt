@@ -1,0 +1,62 @@
+-- What a statement that is not of a form does not have.
+use Rattle.std.proofs.Common.{◌≡◌, ◌≢◌, ℕ, List, [], map, Option, None, refl, sym, ap, subst}
+use Rattle.std.specs.Prelude.{Vec}
+use Rattle.std.specs.declared.alloc.Global.{Global}
+use Rattle.f77_tree.specs.declared.data.DataGroup.{DataGroup}
+use Rattle.f77_tree.specs.declared.declaration.Decl.{Decl}
+use Rattle.f77_tree.specs.declared.tree.Expr.{Expr}
+use Rattle.f77_tree.specs.declared.tree.Kind.{Kind}
+use Rattle.f77_tree.specs.declared.tree.Stmt.{Stmt, Subroutine, Declare, Dimension, Preset, Loop}
+use Rattle.f77_tree.specs.declared.tree.Stmt.TheViews as boxed
+use Rattle.f77_tree.specs.declared.tree.Stmt.TheFolds.{fold_out-Stmt}
+use Rattle.f77_tree.specs.Node.{names_of}
+use Rattle.f77_tree.specs.StatementView.{stmt_step, statement_of}
+use Rattle.f77_tree.specs.Tree.{Statement}
+use Rattle.f77_legal.specs.Heading.{dummies_of}
+use Rattle.f77_legal.specs.Labels.{terminal_label}
+use Rattle.f77_legal.specs.Loops.{variable_of}
+use Rattle.f77_legal.specs.Names.{Plain, mentions_of, unit_name_of}
+use Rattle.f77_legal.specs.Presets.{groups_of}
+
+abbrev pub IsNoSubroutine : Stmt → Type 0
+IsNoSubroutine s = (name : List ℕ) (arguments : Vec (List ℕ) Global) → s ≢ Subroutine name arguments
+
+abbrev pub IsNoPreset : Stmt → Type 0
+IsNoPreset s = (groups : Vec DataGroup Global) → s ≢ Preset groups
+
+abbrev pub IsNoLoop : Stmt → Type 0
+IsNoLoop s = (label : ℕ) (variable : List ℕ) (first last : Expr) (step : Option Expr) → s ≢ Loop label variable first last step
+
+pub no_unit_name : (s : Stmt) → IsNoSubroutine s → unit_name_of (statement_of s) ≡ None
+unfolding boxed.out-Stmt denote.Hole.Carrier.out
+no_unit_name (Subroutine name arguments) other = absurd (other name arguments refl)
+no_unit_name s other = ap unit_name_of (fold_out-Stmt Statement stmt_step s)
+
+pub no_dummies : (s : Stmt) → IsNoSubroutine s → dummies_of (statement_of s) ≡ []
+unfolding boxed.out-Stmt denote.Hole.Carrier.out
+no_dummies (Subroutine name arguments) other = absurd (other name arguments refl)
+no_dummies s other = ap dummies_of (fold_out-Stmt Statement stmt_step s)
+
+pub no_groups : (s : Stmt) → IsNoPreset s → groups_of (statement_of s) ≡ []
+unfolding boxed.out-Stmt denote.Hole.Carrier.out
+no_groups (Preset groups) other = absurd (other groups refl)
+no_groups s other = ap groups_of (fold_out-Stmt Statement stmt_step s)
+
+pub no_terminal : (s : Stmt) → IsNoLoop s → terminal_label (statement_of s) ≡ None
+unfolding boxed.out-Stmt denote.Hole.Carrier.out
+no_terminal (Loop label variable first last step) other = absurd (other label variable first last step refl)
+no_terminal s other = ap terminal_label (fold_out-Stmt Statement stmt_step s)
+
+pub no_variable : (s : Stmt) → IsNoLoop s → variable_of (statement_of s) ≡ None
+unfolding boxed.out-Stmt denote.Hole.Carrier.out
+no_variable (Loop label variable first last step) other = absurd (other label variable first last step refl)
+no_variable s other = ap variable_of (fold_out-Stmt Statement stmt_step s)
+
+pub plain_mentions : (s : Stmt) → IsNoSubroutine s → ((kind : Kind) (items : Vec Decl Global) → s ≢ Declare kind items)
+    → ((items : Vec Decl Global) → s ≢ Dimension items) → mentions_of (statement_of s) ≡ map Plain (names_of (statement_of s))
+unfolding boxed.out-Stmt denote.Hole.Carrier.out
+plain_mentions (Subroutine name arguments) no_subroutine no_declaration no_dimension = absurd (no_subroutine name arguments refl)
+plain_mentions (Declare kind items) no_subroutine no_declaration no_dimension = absurd (no_declaration kind items refl)
+plain_mentions (Dimension items) no_subroutine no_declaration no_dimension = absurd (no_dimension items refl)
+plain_mentions s no_subroutine no_declaration no_dimension =
+    subst (λ other. mentions_of other ≡ map Plain (names_of other)) (sym (fold_out-Stmt Statement stmt_step s)) refl
