@@ -1,6 +1,6 @@
 -- A table keeps the names of DATA and the dummy arguments of its program.
 use Rattle.std.proofs.Common.{arith, ◌≡◌, ℕ, zero, suc, ◌<◌, ◌&&◌, Bool, true, List, [], ◌∷◌, length, map, get_or, Some, refl, sym, ap, ◌∙◌}
-use Rattle.std.specs.List.{flat_map, list_all, list_any}
+use Rattle.std.specs.List.{All, flat_map, list_all, list_any}
 use Rattle.std.specs.Str.{bytes_eq}
 use Rattle.std.proofs.lemmas.Bool.{and_parts}
 use Rattle.std.proofs.lemmas.List.Folds.{list_all-map}
@@ -17,17 +17,19 @@ use Rattle.f77_check.specs.declared.resolve.Resolver.{Resolver}
 use Rattle.f77_check.specs.Initial.{HasSlots, groups_kept}
 use Rattle.f77_check.specs.Kept.{is_kept}
 use Rattle.f77_legal.specs.Labels.{statement_at}
-use Rattle.f77_legal.specs.Names.{Symbol, name_in, mentions_of}
-use Rattle.f77_legal.specs.NameTable.{IsNameTable}
+use Rattle.f77_legal.specs.Names.{Symbol, name_in, mentions_of, symbols}
+use Rattle.f77_legal.specs.Patches.{is_among}
 use Rattle.f77_legal.specs.Presets.{groups_of}
 use Rattle.f77_check.specs.Ready.{CanResolve}
 use Rattle.f77_legal.specs.Heading.{dummies}
 use Rattle.f77_check.proofs.Arguments.{dummy_known}
 use Rattle.f77_check.proofs.KeptNames.{and_end, all_among, nodes_kept, kept_append, mentions_at, mentioned_kept, plain_kept}
-use Rattle.f77_check.proofs.SlotTables.{keys_are, slots_few}
+use Rattle.f77_check.proofs.SlotTables.{stock_few}
+use Rattle.f77_legal.proofs.Among.{among_holds}
+use Rattle.f77_legal.proofs.PatchNames.{among_keys}
 
 pub has_slots : (r : Resolver) (program : List LineFields) → CanResolve r program → HasSlots r
-has_slots r program can = record { table = can.slots; few = slots_few r.tables.names program can.tables.names can.legal }
+has_slots r program can = record { table = can.slots; few = stock_few r.tables.names program can.tables.bounds can.names }
 
 module _ (names : Names) where
   pub kept_among : (name : Symbol) → is_kept names name ≡ list_any (bytes_eq name) (keys names.facts)
@@ -51,18 +53,20 @@ module _ (names : Names) where
   groups_are [] = refl
   groups_are (g ∷ gs) = kept_append names (group_nodes g) (flat_map group_nodes gs) ∙ (λ i. group_is g i && groups_are gs i)
 
-module _ (names : Names) (program : List LineFields) (is : IsNameTable names program) where
+module _ (names : Names) (program : List LineFields) (covers : All (λ name. is_among (keys names.facts) name ≡ true) (symbols program)) where
   own_groups : (s : Statement) → list_all (λ m. is_kept names (name_in m)) (mentions_of s) ≡ true → groups_kept names (groups_of s) ≡ true
-  own_groups (Statement.Preset gs) h = sym (groups_are names gs) ∙ (sym (plain_kept names program is (names_of (Statement.Preset gs))) ∙ h)
+  own_groups (Statement.Preset gs) h = sym (groups_are names gs) ∙ (sym (plain_kept names (names_of (Statement.Preset gs))) ∙ h)
   own_groups _ h = refl
 
   pub groups_at : (i : ℕ) (s : Statement) → statement_at program i ≡ Some s → groups_kept names (groups_of s) ≡ true
-  groups_at i s at = own_groups s (mentions_at (λ m. is_kept names (name_in m)) program (mentioned_kept names program is) i s at)
+  groups_at i s at = own_groups s (mentions_at (λ m. is_kept names (name_in m)) program (mentioned_kept names program covers) i s at)
 
   pub dummies_kept : list_all (is_kept names) (dummies program) ≡ true
   dummies_kept =
       all_among (is_kept names) (dummies program)
-      (λ name among. kept_among names name ∙ ap (list_any (bytes_eq name)) (keys_are names program is) ∙ dummy_known program name among)
+      (λ name among.
+      sym (among_keys names name)
+      ∙ among_holds (λ name. is_among (keys names.facts) name ≡ true) (symbols program) covers name (dummy_known program name among))
 
 -- each of a list passes
 all_at : {X : Type 0} (test : X → Bool) (xs : List X) (i : ℕ) (x : X) → list_all test xs ≡ true → i < length xs → x ≡ get_or xs i x → test x ≡ true

@@ -1,14 +1,14 @@
 -- A table keeps each name that a statement of its program bears, and no name of a legal program has more than two dimensions.
 use Rattle.std.proofs.Common.{arith, ◌≡◌, ◌≤◌, ℕ, zero, suc, List, [], ◌∷◌, ◌++◌, Bool, true, false, ◌&&◌, ◌||◌, refl, sym, ap, subst, ◌∙◌, map, length, Option, Some, None}
 use Rattle.std.specs.Prelude.{nat_le}
-use Rattle.std.specs.List.{cons_option, filter_map, list_all, list_any}
+use Rattle.std.specs.List.{All, cons_option, filter_map, list_all, list_any}
 use Rattle.std.specs.Str.{bytes_eq}
 use Rattle.std.proofs.lemmas.Bool.Decides.{nat_tests}
 use Rattle.std.proofs.lemmas.List.{map-append}
 use Rattle.std.proofs.lemmas.List.Concat.{flat_map-cons}
 use Rattle.std.proofs.lemmas.List.Elements.{filter_map-append}
 use Rattle.std.proofs.lemmas.List.Folds.{list_all-append, list_all-map}
-use Rattle.std.proofs.lemmas.Map.Made.{is_some-lookup}
+use Rattle.indexmap.specs.IndexMap.{keys}
 use Rattle.f77_tree.specs.Node.{NodeOf, parts, all_parts, tree_nodes, step_parts, nodes_of, name_of, names_of}
 use Rattle.f77_tree.specs.Parsing.{LineFields}
 use Rattle.f77_tree.specs.Tree.{Tree, Trees, DeclFields, Statement}
@@ -18,12 +18,12 @@ use Rattle.f77_check.specs.Kept.{is_kept, tree_kept, items_kept, step_kept, name
 use Rattle.f77_legal.specs.Labels.{statement_at}
 use Rattle.f77_legal.specs.Legal.{IsLegal}
 use Rattle.f77_check.specs.Lookup.{AreFlat}
-use Rattle.f77_legal.specs.Names.{Symbol, Mention, name_in, mentions_of, mentions, bounds_given, bounds_in, some_items, first_or, bounds_of}
-use Rattle.f77_legal.specs.NameTable.{IsNameTable}
-use Rattle.f77_legal.proofs.Lookups.{same_bounds_at}
+use Rattle.f77_legal.specs.Names.{Symbol, Mention, name_in, mentions_of, mentions, symbols, bounds_given, bounds_in, some_items, first_or, bounds_of}
+use Rattle.f77_legal.specs.NameTable.{bounds_at}
+use Rattle.f77_legal.specs.Patches.{is_among}
 use Rattle.f77_legal.proofs.NoFaults.{dimensions_kept}
-use Rattle.f77_check.proofs.SlotTables.{keys_are}
-use Rattle.f77_legal.proofs.Symbols.{symbol_refl, any_once}
+use Rattle.f77_legal.proofs.PatchNames.{among_keys, symbols_pass}
+use Rattle.f77_legal.proofs.Symbols.{symbol_refl}
 
 pub and_true : (a b : Bool) → (a && b) ≡ true → (a ≡ true) × (b ≡ true)
 and_true true b h = (refl, h)
@@ -125,18 +125,7 @@ module _ (test : Mention → Bool) where
       let rest = mentions_hold by_line each program both.1 in
       mentions_apart line program ∙ (λ i. first i && rest i)
 
-module _ (names : Names) (program : List LineFields) (is : IsNameTable names program) where
-  kept_is : (name : Symbol) → is_kept names name ≡ list_any (bytes_eq name) (map name_in (mentions program))
-  kept_is name =
-      is_some-lookup (bytes_eq name) names.facts.entries
-      ∙ ap (list_any (bytes_eq name)) (keys_are names program is)
-      ∙ any_once name (map name_in (mentions program))
-
-  pub mentioned_kept : list_all (λ m. is_kept names (name_in m)) (mentions program) ≡ true
-  mentioned_kept =
-      sym (list_all-map (is_kept names) name_in (mentions program))
-      ∙ all_among (is_kept names) (map name_in (mentions program)) (λ name among. kept_is name ∙ among)
-
+module _ (names : Names) where
   pub plain_kept : (xs : List Symbol) → list_all (λ m. is_kept names (name_in m)) (map Mention.Plain xs) ≡ list_all (is_kept names) xs
   plain_kept xs = list_all-map (λ m. is_kept names (name_in m)) Mention.Plain xs
 
@@ -146,8 +135,13 @@ module _ (names : Names) (program : List LineFields) (is : IsNameTable names pro
   mentions_kept (Statement.Dimension ds) h = refl
   mentions_kept s h = statement_kept names s (sym (plain_kept (names_of s)) ∙ h)
 
-pub all_kept : (names : Names) (program : List LineFields) → IsNameTable names program → (i : ℕ) (s : Statement) → statement_at program i ≡ Some s → names_kept names s ≡ true
-all_kept names program is i s at = mentions_kept names program is s (mentions_at (λ m. is_kept names (name_in m)) program (mentioned_kept names program is) i s at)
+  -- where the names of the program are among those of the table
+  module _ (program : List LineFields) (covers : All (λ name. is_among (keys names.facts) name ≡ true) (symbols program)) where
+    pub mentioned_kept : list_all (λ m. is_kept names (name_in m)) (mentions program) ≡ true
+    mentioned_kept = (λ i. list_all (λ m. sym (among_keys names (name_in m)) i) (mentions program)) ∙ symbols_pass (keys names.facts) program covers
+
+    pub all_kept : (i : ℕ) (s : Statement) → statement_at program i ≡ Some s → names_kept names s ≡ true
+    all_kept i s at = mentions_kept s (mentions_at (λ m. is_kept names (name_in m)) program mentioned_kept i s at)
 
 -- the bounds that a mention gives are at most two
 abbrev is_flat : Mention → Bool
@@ -192,8 +186,8 @@ bounds_short (m ∷ ms) name all = let both = and_true (is_flat m) (list_all is_
     by true e flat later = rw e (given_short m (bounds_given ms name) flat later)
     by false e flat later = rw e later
 
-pub dimensions_two : (names : Names) (program : List LineFields) → IsNameTable names program → IsLegal program → AreFlat names
-dimensions_two names program is legal name =
-    subst (λ bounds. length bounds ≤ 2) (sym (same_bounds_at names program is name))
+pub dimensions_two : (names : Names) (program : List LineFields) → bounds_at names ≡ bounds_of program → IsLegal program → AreFlat names
+dimensions_two names program same legal name =
+    subst (λ (bounds : Symbol → List ℕ). length (bounds name) ≤ 2) (sym same)
     (bounds_short (mentions program) name
     (mentions_hold is_flat (λ line. dimensions_fit (bounds_of program) line.stmt) (λ line fit. statement_flat (bounds_of program) line.stmt fit) program (dimensions_kept program legal)))

@@ -1,4 +1,5 @@
 mod Arguments
+mod Variables
 mod Readiness
 mod Jumps
 mod Sites
@@ -17,3 +18,5 @@ mod Deepest
 mod Chosen
 mod Resolving
 pub mod Unpreset
+mod Carried
+mod Changes

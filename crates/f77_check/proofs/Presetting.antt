@@ -1,5 +1,5 @@
 -- DATA line by line: what each slot has been given.
-use Rattle.std.proofs.Common.{◌≡◌, ℕ, ◌+◌, ◌<◌, List, [], ◌∷◌, ◌++◌, length, map, take, replicate, get_or, append-nil, Option, Some, None, true, refl, sym, ap, subst, ◌∙◌}
+use Rattle.std.proofs.Common.{◌≡◌, ℕ, ◌+◌, ◌<◌, List, [], ◌∷◌, ◌++◌, length, map, take, replicate, get_or, append-nil, Option, Some, None, true, refl, sym, ap, ◌∙◌}
 use Rattle.std.specs.Prelude.{option_map}
 use Rattle.std.specs.List.{flat_map, list_all}
 use Rattle.std.proofs.lemmas.Grind.{flat_map-append}
@@ -13,7 +13,7 @@ use Rattle.f77_tree.specs.StatementView.{statement_of}
 use Rattle.f77_check.specs.declared.resolve.Resolver.{Resolver}
 use Rattle.f77_check.specs.Initial.{give_groups, groups_kept}
 use Rattle.f77_legal.specs.Labels.{statement_at}
-use Rattle.f77_legal.specs.Names.{name_in, mentions, bounds_of}
+use Rattle.f77_legal.specs.Names.{bounds_of}
 use Rattle.f77_legal.specs.NameTable.{bounds_at}
 use Rattle.f77_legal.specs.Presets.{groups_of}
 use Rattle.f77_check.specs.Ready.{CanResolve}
@@ -23,9 +23,8 @@ use Rattle.f77_check.proofs.Cells.{laid_out, laid_alike}
 use Rattle.f77_check.proofs.DataNames.{kept_among, groups_at}
 use Rattle.f77_check.proofs.Giving.{found_in, presets_in, are_named, groups_given}
 use Rattle.f77_legal.proofs.Listing.{one_more}
-use Rattle.f77_legal.proofs.Lookups.{same_bounds}
-use Rattle.f77_check.proofs.SlotTables.{keys_are}
-use Rattle.f77_legal.proofs.Symbols.{Apart, once_apart}
+use Rattle.f77_check.proofs.SlotTables.{stock_apart}
+use Rattle.f77_legal.proofs.Symbols.{Apart}
 
 module _ (lines : List Line) (i : ℕ) (line : Line) (below : i < length lines) (is : line ≡ get_or lines i line) where
   line_at : statement_at (map line_of lines) i ≡ Some (statement_of line.stmt)
@@ -47,18 +46,18 @@ preset_by r program lines = laid_out (bounds_of program) (keys r.tables.names.fa
 
 module _ (r : Resolver) (lines : List Line) (can : CanResolve r (map line_of lines)) where
   names_apart : Apart (keys r.tables.names.facts)
-  names_apart = subst Apart (sym (keys_are r.tables.names (map line_of lines) can.tables.names)) (once_apart (map name_in (mentions (map line_of lines))))
+  names_apart = stock_apart (keys r.tables.names.facts) (map line_of lines) can.names
 
   -- no slot has a value before the first line
   pub none_preset : replicate r.slots.count None ≡ preset_by r (map line_of lines) []
   none_preset =
       ap (λ n. replicate n None)
-      (can.slots.count ∙ ap (λ bounds. slot_count bounds (keys r.tables.names.facts)) (same_bounds r.tables.names (map line_of lines) can.tables.names))
+      (can.slots.count ∙ ap (λ bounds. slot_count bounds (keys r.tables.names.facts)) can.tables.bounds)
       ∙ sym (laid_alike (bounds_of (map line_of lines)) (keys r.tables.names.facts) None)
 
   module _ (i : ℕ) (line : Line) (below : i < length lines) (is : line ≡ get_or lines i line) where
     pub line_kept : groups_kept r.tables.names (groups_of (statement_of line.stmt)) ≡ true
-    line_kept = groups_at r.tables.names (map line_of lines) can.tables.names i (statement_of line.stmt) (line_at lines i line below is)
+    line_kept = groups_at r.tables.names (map line_of lines) can.names.covers i (statement_of line.stmt) (line_at lines i line below is)
 
     line_named : list_all (λ g. are_named (map line_of lines) (keys r.tables.names.facts) g.names) (groups_of (statement_of line.stmt)) ≡ true
     line_named = (λ j. list_all (λ g. list_all (λ name. sym (kept_among r.tables.names name) j) g.names) (groups_of (statement_of line.stmt))) ∙ line_kept
@@ -69,6 +68,6 @@ module _ (r : Resolver) (lines : List Line) (can : CanResolve r (map line_of lin
         → given ≡ preset_by r (map line_of lines) (map line_of (take (i + 1) lines))
     line_given held given before e =
         e
-        ∙ (λ j. give_groups (same_bounds r.tables.names (map line_of lines) can.tables.names j) (keys r.tables.names.facts) (before j) (groups_of (statement_of line.stmt)))
+        ∙ (λ j. give_groups (can.tables.bounds j) (keys r.tables.names.facts) (before j) (groups_of (statement_of line.stmt)))
         ∙ groups_given (map line_of lines) (keys r.tables.names.facts) names_apart (presets_in (map line_of lines) (map line_of (take i lines))) (groups_of (statement_of line.stmt)) line_named
         ∙ ap (λ given. laid_out (bounds_of (map line_of lines)) (keys r.tables.names.facts) (found_in given)) (sym (presets_more lines i line below is (map line_of lines)))

@@ -26,17 +26,16 @@ use Rattle.f77_legal.proofs.Actions.{inner_acts}
 use Rattle.f77_legal.proofs.Flow.{some_branch, some_terminal, some_place}
 use Rattle.f77_check.proofs.KeptNames.{all_kept, dimensions_two}
 use Rattle.f77_legal.proofs.LegalGives.{kept_by, clause_kept, not_false}
-use Rattle.f77_legal.proofs.Lookups.{same_kinds, same_bounds}
 
 module _ (r : Resolver) (p : List LineFields) (can : CanResolve r p) (i : ℕ) where
   pub ready_at : (s : Statement) → statement_at p i ≡ Some s → IsReady r s
   ready_at s at = record {
-    names = record { table = can.slots; flat = dimensions_two r.tables.names p can.tables.names can.legal };
-    kinds = subst (λ kinds. kinds_agree kinds s ≡ true) (sym (same_kinds r.tables.names p can.tables.names))
+    names = record { table = can.slots; flat = dimensions_two r.tables.names p can.tables.bounds can.legal };
+    kinds = subst (λ kinds. kinds_agree kinds s ≡ true) (sym can.tables.kinds)
         (not_false _ (clause_kept Kinds p (kept_by p can.legal).kinds i s at));
-    bounds = subst (λ bounds. dimensions_fit bounds s ≡ true) (sym (same_bounds r.tables.names p can.tables.names))
+    bounds = subst (λ bounds. dimensions_fit bounds s ≡ true) (sym can.tables.bounds)
         (not_false _ (clause_kept Bounds p (kept_by p can.legal).bounds i s at));
-    kept = all_kept r.tables.names p can.tables.names i s at;
+    kept = all_kept r.tables.names p can.names.covers i s at;
   }
 
   pub ends_at : (s : Statement) → statement_at p i ≡ Some s → HasEnd p i s
@@ -60,9 +59,9 @@ pub resolved_at : (r : Resolver) (p : List LineFields) → CanResolve r p → (i
 resolved_at r p can i s t at x does next ends also =
     let same : s ≡ t = same_Some _ _ (sym at ∙ also) in
     let kinds : IsAction (kind_of p) (bounds_at r.tables.names) (keys r.tables.names.facts) p i s x.action
-    = subst (λ kinds. IsAction kinds (bounds_at r.tables.names) (keys r.tables.names.facts) p i s x.action) (same_kinds r.tables.names p can.tables.names) does in
+    = subst (λ kinds. IsAction kinds (bounds_at r.tables.names) (keys r.tables.names.facts) p i s x.action) can.tables.kinds does in
     let bounds : IsAction (kind_of p) (bounds_of p) (keys r.tables.names.facts) p i s x.action
-    = subst (λ bounds. IsAction (kind_of p) bounds (keys r.tables.names.facts) p i s x.action) (same_bounds r.tables.names p can.tables.names) kinds in
+    = subst (λ bounds. IsAction (kind_of p) bounds (keys r.tables.names.facts) p i s x.action) can.tables.bounds kinds in
     record {
       action = subst (λ s. IsAction (kind_of p) (bounds_of p) (keys r.tables.names.facts) p i s x.action) same bounds;
       next = next;

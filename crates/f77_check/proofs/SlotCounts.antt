@@ -1,13 +1,15 @@
 -- The slots of a list of names, counted name by name.
-use Rattle.std.proofs.Common.{arith, ◌≡◌, ◌<◌, ◌≤◌, ℕ, zero, suc, ◌+◌, ◌-◌, Bool, true, false, cond, List, [], ◌∷◌, ◌++◌, length, map, take, drop, get_or, add-one, refl, sym, ap, ◌∙◌}
-use Rattle.std.specs.Prelude.{Some, None, position, option_map, nat_lt}
-use Rattle.std.specs.List.{position_or_len}
+use Rattle.std.proofs.Common.{arith, ◌≡◌, ◌<◌, ◌≤◌, ℕ, zero, suc, ◌+◌, ◌-◌, Bool, true, false, cond, List, [], ◌∷◌, ◌++◌, length, map, filter, take, drop, get_or, add-one, refl, sym, ap, ◌∙◌}
+use Rattle.std.specs.Prelude.{Some, None, is_some, position, option_map, nat_lt}
+use Rattle.std.specs.List.{position_or_len, sum}
 use Rattle.std.proofs.lemmas.Bool.Decides.{nat_tests}
 use Rattle.std.proofs.lemmas.List.{take-append-drop, length-append, length-drop, take_all}
+use Rattle.f77_tree.specs.Parsing.{LineFields}
 use Rattle.f77_legal.specs.Blocks.{first_numbers}
-use Rattle.f77_legal.specs.Names.{Symbol}
+use Rattle.f77_legal.specs.Names.{Symbol, bounds_of, some_items}
+use Rattle.f77_legal.specs.Patches.{IsStock}
 use Rattle.f77_legal.specs.Presets.{product}
-use Rattle.f77_check.specs.Slots.{slot_count}
+use Rattle.f77_check.specs.Slots.{slot_count, most_slots}
 use Rattle.f77_legal.proofs.FirstNumbers.{table_more, get_or-table, length-table}
 use Rattle.f77_legal.proofs.Sizes.{sum_more}
 
@@ -124,3 +126,33 @@ module _ (bounds : Symbol → List ℕ) where
       let long = ap length is ∙ length-table (λ n. slot_count bounds (take n names)) (length names) in
       let below = place_within test names n found in
       omega (arith, long, below)
+
+-- a variable has one slot
+module _ (bounds : Symbol → List ℕ) where
+  abbrev has_bounds : Symbol → Bool
+  has_bounds name = is_some (some_items (bounds name))
+
+  one_slot : (xs : List ℕ) → is_some (some_items xs) ≡ false → product xs ≡ 1
+  one_slot [] e = refl
+  one_slot (x ∷ xs) e = absurd (cc (e))
+
+  slots_of_arrays : (names : List Symbol) → slot_count bounds names ≤ length names + sum (map (λ name. product (bounds name)) (filter has_bounds names))
+  slots_of_arrays [] = omega arith
+  slots_of_arrays (name ∷ names) = by (has_bounds name) refl (slots_of_arrays names)
+    where
+      by : (b : Bool) → has_bounds name ≡ b → slot_count bounds names ≤ length names + sum (map (λ name. product (bounds name)) (filter has_bounds names))
+          → slot_count bounds (name ∷ names) ≤ length (name ∷ names) + sum (map (λ name. product (bounds name)) (filter has_bounds (name ∷ names)))
+      by true t rest =
+          let whole = count_more bounds name names in
+          let more = sum_more (product (bounds name)) (map (λ name. product (bounds name)) (filter has_bounds names)) in
+          rw t (omega (arith, whole, more, rest))
+      by false t rest =
+          let whole = count_more bounds name names in
+          let one = one_slot (bounds name) t in
+          rw t (omega (arith, whole, one, rest))
+
+-- names that a program may have, within the limits
+pub stock_slots : (names : List Symbol) (program : List LineFields) → IsStock names program → slot_count (bounds_of program) names ≤ most_slots
+stock_slots names program stock =
+    let within = slots_of_arrays (bounds_of program) names in
+    omega (arith, within, stock.few, stock.small)

@@ -1,22 +1,23 @@
--- The names of a table are those of the program, and those of a legal program have few slots.
-use Rattle.std.proofs.Common.{arith, ◌≡◌, ◌<◌, ◌≤◌, ◌^◌, ℕ, ◌+◌, List, [], ◌∷◌, Bool, true, false, refl, sym, ap, ◌∙◌, map, filter, length}
-use Rattle.std.specs.Prelude.{is_some}
-use Rattle.std.specs.List.{sum}
+-- The names of a table: those of the program, where it is the program's own, and a stock of it. They stand once each, and have few slots.
+use Rattle.std.proofs.Common.{arith, ◌≡◌, ◌≤◌, ◌<◌, ◌^◌, ◌+◌, List, [], ◌∷◌, Bool, true, false, refl, sym, ap, subst, ◌∙◌, length, filter}
+use Rattle.std.specs.List.{All, list_any}
 use Rattle.std.specs.Map.{keys_of}
+use Rattle.std.specs.Str.{bytes_eq}
+use Rattle.std.proofs.lemmas.List.Elements.{All-head, All-tail, All-weaker}
 use Rattle.std.proofs.lemmas.Map.Made.{keys_of-map_values}
 use Rattle.indexmap.specs.IndexMap.{keys}
 use Rattle.f77_tree.specs.Parsing.{LineFields}
 use Rattle.f77_legal.specs.declared.names.Names.{Names}
 use Rattle.f77_legal.specs.Legal.{IsLegal}
-use Rattle.f77_legal.specs.Names.{Symbol, mentions, symbols, bounds_of, some_items}
+use Rattle.f77_legal.specs.Names.{Symbol, mentions, symbols, bounds_of}
 use Rattle.f77_legal.specs.NameTable.{FactsFields, IsNameTable, fields_of, facts_of, bounds_at}
-use Rattle.f77_legal.specs.Presets.{product}
-use Rattle.f77_check.specs.Slots.{slot_count, most_slots}
+use Rattle.f77_legal.specs.Patches.{IsStock}
+use Rattle.f77_check.specs.Slots.{slot_count}
 use Rattle.f77_legal.proofs.Lookups.{same_bounds}
 use Rattle.f77_legal.proofs.NameTables.{rows}
-use Rattle.f77_legal.proofs.NoFaults.{few_symbols, few_elements}
-use Rattle.f77_legal.proofs.Sizes.{sum_more}
-use Rattle.f77_check.proofs.SlotCounts.{count_more}
+use Rattle.f77_legal.proofs.Stocks.{stock_of_legal}
+use Rattle.f77_legal.proofs.Symbols.{Apart, symbol_refl}
+use Rattle.f77_check.proofs.SlotCounts.{stock_slots}
 
 keys_rows : (f : Symbol → FactsFields) (names : List Symbol) → keys_of (rows f names) ≡ names
 keys_rows f [] = refl
@@ -26,40 +27,49 @@ pub keys_are : (names : Names) (program : List LineFields) → IsNameTable names
 keys_are names program is =
     sym (keys_of-map_values fields_of names.facts.entries) ∙ ap keys_of is ∙ keys_rows (facts_of (mentions program)) (symbols program)
 
--- a variable has one slot
-module _ (bounds : Symbol → List ℕ) where
-  abbrev has_bounds : Symbol → Bool
-  has_bounds name = is_some (some_items (bounds name))
+pub keys_stock : (names : Names) (program : List LineFields) → IsNameTable names program → IsLegal program → IsStock (keys names.facts) program
+keys_stock names program is legal = subst (λ list. IsStock list program) (sym (keys_are names program is)) (stock_of_legal program legal)
 
-  one_slot : (xs : List ℕ) → is_some (some_items xs) ≡ false → product xs ≡ 1
-  one_slot [] e = refl
-  one_slot (x ∷ xs) e = absurd (cc (e))
-
-  slots_of_arrays : (names : List Symbol) → slot_count bounds names ≤ length names + sum (map (λ name. product (bounds name)) (filter has_bounds names))
-  slots_of_arrays [] = omega arith
-  slots_of_arrays (name ∷ names) = by (has_bounds name) refl (slots_of_arrays names)
-    where
-      by : (b : Bool) → has_bounds name ≡ b → slot_count bounds names ≤ length names + sum (map (λ name. product (bounds name)) (filter has_bounds names))
-          → slot_count bounds (name ∷ names) ≤ length (name ∷ names) + sum (map (λ name. product (bounds name)) (filter has_bounds (name ∷ names)))
-      by true t rest =
-          let whole = count_more bounds name names in
-          let more = sum_more (product (bounds name)) (map (λ name. product (bounds name)) (filter has_bounds names)) in
-          rw t (omega (arith, whole, more, rest))
-      by false t rest =
-          let whole = count_more bounds name names in
-          let one = one_slot (bounds name) t in
-          rw t (omega (arith, whole, one, rest))
-
-pub few_slots : (program : List LineFields) → IsLegal program → slot_count (bounds_of program) (symbols program) ≤ most_slots
-few_slots program legal =
-    let within = slots_of_arrays (bounds_of program) (symbols program) in
-    let few = few_symbols program legal in
-    let elements = few_elements program legal in
-    omega (arith, within, few, elements)
+pub stock_few : (names : Names) (program : List LineFields) → bounds_at names ≡ bounds_of program → IsStock (keys names.facts) program
+    → slot_count (bounds_at names) (keys names.facts) < 2 ^ 32
+stock_few names program bounds stock =
+    let same = ap (λ bounds. slot_count bounds (keys names.facts)) bounds in
+    let few = stock_slots (keys names.facts) program stock in
+    omega (arith, same, few)
 
 pub slots_few : (names : Names) (program : List LineFields) → IsNameTable names program → IsLegal program → slot_count (bounds_at names) (keys names.facts) < 2 ^ 32
-slots_few names program is legal =
-    let same : slot_count (bounds_at names) (keys names.facts) ≡ slot_count (bounds_of program) (symbols program) =
-    λ i. slot_count (same_bounds names program is i) (keys_are names program is i) in
-    let few = few_slots program legal in
-    omega (arith, same, few)
+slots_few names program is legal = stock_few names program (same_bounds names program is) (keys_stock names program is legal)
+
+-- no name stands twice in a list where each is counted once
+once_more : (name x : Symbol) (names : List Symbol) → length (filter (bytes_eq name) names) ≤ length (filter (bytes_eq name) (x ∷ names))
+once_more name x names = by (bytes_eq name x) refl
+  where
+    by : (b : Bool) → bytes_eq name x ≡ b → length (filter (bytes_eq name) names) ≤ length (filter (bytes_eq name) (x ∷ names))
+    by true e = rw e (omega arith)
+    by false e = rw e (omega arith)
+
+none_counted : (name : Symbol) (names : List Symbol) → length (filter (bytes_eq name) names) ≤ 0 → list_any (bytes_eq name) names ≡ false
+none_counted name [] none = refl
+none_counted name (x ∷ names) none = by (bytes_eq name x) refl (none_counted name names)
+  where
+    by : (b : Bool) → bytes_eq name x ≡ b → (length (filter (bytes_eq name) names) ≤ 0 → list_any (bytes_eq name) names ≡ false)
+        → list_any (bytes_eq name) (x ∷ names) ≡ false
+    by true e rest = let some : length (filter (bytes_eq name) (x ∷ names)) ≡ 1 + length (filter (bytes_eq name) names) = rw e (omega arith) in absurd (omega (arith, some, none))
+    by false e rest = rw e (rest (omega (arith, once_more name x names, none)))
+
+abbrev once_at_most : List Symbol → Symbol → Type 0
+once_at_most names name = length (filter (bytes_eq name) names) ≤ 1
+
+counted_apart : (names : List Symbol) → All (once_at_most names) names → Apart names
+counted_apart [] all = tt
+counted_apart (x ∷ names) all =
+    let first : length (filter (bytes_eq x) (x ∷ names)) ≤ 1 = All-head (once_at_most (x ∷ names)) x names all in
+    let own : length (filter (bytes_eq x) (x ∷ names)) ≡ 1 + length (filter (bytes_eq x) names) = rw (symbol_refl x) (omega arith) in
+    let later = All-weaker (once_at_most (x ∷ names)) (once_at_most names)
+    (λ name once. omega (arith, once_more name x names, once)) names (All-tail (once_at_most (x ∷ names)) x names all) in
+    (none_counted x names (omega (arith, first, own)), counted_apart names later)
+
+pub stock_apart : (names : List Symbol) (program : List LineFields) → IsStock names program → Apart names
+stock_apart names program stock =
+    counted_apart names
+    (All-weaker (λ name. length (filter (bytes_eq name) names) ≡ 1) (once_at_most names) (λ name once. omega (arith, once)) names stock.once)

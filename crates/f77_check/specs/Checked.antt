@@ -4,7 +4,8 @@ use Rattle.f77_tree.specs.Parsing.{LineFields, IsProgram, line_of}
 use Rattle.f77_tree.specs.declared.program.Line.{Line}
 use Rattle.f77_check.specs.declared.checked.Shape.{Shape}
 use Rattle.f77_legal.specs.Legal.{is_array, IsLegal}
-use Rattle.f77_legal.specs.Names.{Symbol, symbols, kind_of, bounds_of}
+use Rattle.f77_legal.specs.Names.{Symbol, kind_of, bounds_of}
+use Rattle.f77_legal.specs.Patches.{IsStock}
 use Rattle.f77_legal.specs.Presets.{elements}
 use Rattle.f77_check.specs.Resolved.{AreResolved}
 use Rattle.f77_check.specs.Slots.{slot_count}
@@ -21,8 +22,8 @@ shape_of program name =
 abbrev pub shapes : List LineFields → List Shape
 shapes program = map (shape_of program) (dummies program)
 
--- the program, the shapes of its dummy arguments, its names in the order of their slots, how many slots these have, its statements resolved,
--- and what a run starts with
+-- The program, the shapes of its dummy arguments, names that have slots, in their order, how many slots these have, its statements resolved,
+-- and what a run starts with.
 pub record CheckedFields : Type 0 where
   pub program : List Line
   pub arguments : List Shape
@@ -35,7 +36,7 @@ pub record IsChecked (checked : CheckedFields) : Type 0 where
   pub formed : IsProgram None (map line_of checked.program)
   pub legal : IsLegal (map line_of checked.program)
   pub arguments : checked.arguments ≡ shapes (map line_of checked.program)
-  pub names : checked.names ≡ symbols (map line_of checked.program)
+  pub names : IsStock checked.names (map line_of checked.program)
   pub slots : checked.slots ≡ slot_count (bounds_of (map line_of checked.program)) checked.names
   pub statements : AreResolved (map line_of checked.program) checked.names checked.statements
   pub start : IsStartOf (map line_of checked.program) checked.names checked.start

@@ -8,7 +8,9 @@ pub mod Lookup
 pub mod Ready
 pub mod Resolved
 pub mod Start
+pub mod Symbols
 pub mod Initial
 pub mod Checked
 pub mod CheckedView
 pub mod Shapes
+pub mod Patching

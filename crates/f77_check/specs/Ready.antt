@@ -17,13 +17,15 @@ use Rattle.f77_check.specs.Lookup.{ServesNames}
 use Rattle.f77_legal.specs.NameTable.{bounds_at, kind_at}
 use Rattle.f77_check.specs.SlotTable.{IsSlotTable}
 use Rattle.f77_legal.specs.Names.{Symbol}
-use Rattle.f77_legal.specs.Tables.{AreTables}
+use Rattle.f77_legal.specs.Patches.{IsStock}
+use Rattle.f77_legal.specs.Tables.{Serve}
 use Rattle.f77_check.specs.declared.action.Action.{Action}
 use Rattle.f77_check.specs.declared.resolve.Resolver.{Resolver}
 
--- these are the tables of a legal program
+-- the tables serve a legal program, and have its names
 pub record CanResolve (resolver : Resolver) (program : List LineFields) : Type 0 where
-  pub tables : AreTables resolver.tables program
+  pub tables : Serve resolver.tables program
+  pub names : IsStock (keys resolver.tables.names.facts) program
   pub slots : IsSlotTable resolver.slots resolver.tables.names
   pub formed : IsProgram None program
   pub legal : IsLegal program

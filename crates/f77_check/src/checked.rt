@@ -1,7 +1,9 @@
 //! Programs that were checked.
 
-ghost use Rattle.std.specs.Prelude.{◌≡◌, ◌≤◌, length};
+ghost use Rattle.std.specs.Prelude.{◌≡◌, ◌≤◌, length, map};
 ghost use Rattle.std.specs.Coded.{codes};
+ghost use Rattle.indexmap.specs.IndexMap.{keys};
+ghost use Rattle.f77_tree.specs.Parsing.{line_of};
 ghost use Rattle.f77_tree.specs.contracts.tree.Expr as expr;
 ghost use Rattle.f77_tree.specs.contracts.tree.Stmt as stmt;
 ghost use Rattle.f77_tree.specs.contracts.program.Line as line;
@@ -11,12 +13,13 @@ ghost use Rattle.f77_check.specs.contracts.expression.Element as element;
 ghost use Rattle.f77_check.specs.contracts.expression.Number as number;
 ghost use Rattle.f77_check.specs.Checked.{CheckedFields, IsChecked};
 ghost use Rattle.f77_check.specs.CheckedView.{fields_of};
+ghost use Rattle.f77_check.specs.Ready.{CanResolve};
 ghost use Rattle.f77_check.specs.Slots.{most_slots};
 
 use crate::resolve::Resolver;
 use crate::resolved::Resolved;
 use crate::start::Start;
-use f77_tree::{Kind, Program};
+use f77_tree::{Kind, Program, Shared};
 use std::marker::Model;
 
 /// What a dummy argument is: a variable, or an array of so many elements.
@@ -31,10 +34,10 @@ pub struct Shape {
 #[derive(Drop)]
 pub struct Checked {
     program: Program,
-    arguments: Vec<Shape>,
-    resolver: Resolver,
-    statements: Vec<Resolved>,
-    start: Start,
+    arguments: Shared<Vec<Shape>>,
+    resolver: Shared<Resolver>,
+    statements: Vec<Shared<Resolved>>,
+    start: Shared<Start>,
 }
 
 impl Model for Checked {
@@ -52,18 +55,20 @@ impl Model for Checked {
 
     ghost view = { λ c. fields_of c.program c.arguments.items c.resolver c.statements.items c.start };
 
-    ghost invariant = { λ c. IsChecked (fields_of c.program c.arguments.items c.resolver c.statements.items c.start) };
+    ghost invariant = { λ c. IsChecked (fields_of c.program c.arguments.items c.resolver c.statements.items c.start)
+        × CanResolve c.resolver (map line_of c.program) };
 }
 
 impl Checked {
     pub(crate) fn from_parts(
         program: Program,
-        arguments: Vec<Shape>,
-        resolver: Resolver,
-        statements: Vec<Resolved>,
-        start: Start,
+        arguments: Shared<Vec<Shape>>,
+        resolver: Shared<Resolver>,
+        statements: Vec<Shared<Resolved>>,
+        start: Shared<Start>,
     ) -> Checked
-        requires { IsChecked (fields_of program arguments.items resolver statements.items start) }
+        requires checked { IsChecked (fields_of program arguments.items resolver statements.items start) }
+        requires tables { CanResolve resolver (map line_of program) }
         ensures { result ≡ fields_of program arguments.items resolver statements.items start }
     {
         Checked {
@@ -90,6 +95,22 @@ impl Checked {
         &self.arguments
     }
 
+    /// The same shapes, shared.
+    pub(crate) fn shared_arguments(&self) -> &Shared<Vec<Shape>>
+        ensures { result.now.items ≡ self.now.arguments }
+    {
+        &self.arguments
+    }
+
+    /// What names and labels are looked up in.
+    pub(crate) fn resolver(&self) -> &Shared<Resolver>
+        ensures tables { CanResolve result.now (map line_of self.now.program) }
+        ensures names { keys result.now.tables.names.facts ≡ self.now.names }
+        ensures checked { IsChecked self.now }
+    {
+        &self.resolver
+    }
+
     /// How many statements there are, 2 to 500. It takes no memory.
     pub fn count(&self) -> usize
         ensures { result ≡ length self.now.program }
@@ -107,7 +128,7 @@ impl Checked {
     }
 
     /// The statements resolved, in order. It takes no memory.
-    pub fn statements(&self) -> &[Resolved]
+    pub fn statements(&self) -> &[Shared<Resolved>]
         ensures statements { result.now ≡ self.now.statements }
         ensures checked { IsChecked self.now }
     {
@@ -118,6 +139,13 @@ impl Checked {
     pub fn start(&self) -> &Start
         ensures start { result.now ≡ self.now.start }
         ensures checked { IsChecked self.now }
+    {
+        &self.start
+    }
+
+    /// The same, shared.
+    pub(crate) fn shared_start(&self) -> &Shared<Start>
+        ensures { result.now ≡ self.now.start }
     {
         &self.start
     }

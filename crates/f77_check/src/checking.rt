@@ -4,6 +4,7 @@ ghost use Rattle.std.specs.Prelude.{◌≡◌, ◌⊎◌, map, IfOk, IfErr, Some
 ghost use Rattle.f77_tree.specs.Parsing.{line_of};
 ghost use Rattle.f77_check.specs.Checked.{shapes};
 ghost use Rattle.f77_legal.specs.Legal.{IsLegal, first_fault};
+ghost use Rattle.f77_legal.specs.Tables.{AreTables};
 ghost use Rattle.f77_legal.specs.declared.fault.CheckFault.TheVariants.{Memory};
 
 use crate::checked::Checked;
@@ -12,13 +13,24 @@ use crate::shapes::shapes;
 use crate::slots::Slots;
 use f77_legal::heading::arguments;
 use f77_legal::{CheckFault, Tables, judge};
-use f77_tree::Program;
+use f77_tree::{Line, Program, Shared};
 use std::alloc::Global;
+
+/// The tables of a legal program, or its first fault.
+pub(crate) fn judged(alloc: Global, lines: &[Shared<Line>]) -> Result<Tables, CheckFault>
+    ensures legal { IfOk result (λ tables. IsLegal (map line_of lines.now)) }
+    ensures tables { IfOk result (λ tables. AreTables tables (map line_of lines.now)) }
+    ensures fault { IfErr result (λ fault. (fault ≡ Memory) ⊎ (first_fault (map line_of lines.now) ≡ Some fault)) }
+{
+    let tables = Tables::of(alloc, lines)?;
+    judge(alloc, &tables, lines)?;
+    Ok(tables)
+}
 
 /// Whether the program is legal: it and the shapes of its dummy arguments, or its first fault, clause by clause, in the order of test.
 ///
 /// Want of memory is told in place of any answer.
-#[tactic(auto, using(crate::proofs::Arguments::shapes_are, crate::proofs::SlotTables::slots_few, crate::proofs::CheckedParts::checked_of))]
+#[tactic(auto, using(crate::proofs::SlotTables::slots_few))]
 pub fn check(alloc: Global, program: &Program) -> Result<Checked, CheckFault>
     ensures legal { IfOk result (λ checked. IsLegal (map line_of program.now)) }
     ensures program { IfOk result (λ checked. map line_of checked.program ≡ map line_of program.now) }
@@ -26,12 +38,17 @@ pub fn check(alloc: Global, program: &Program) -> Result<Checked, CheckFault>
     ensures fault { IfErr result (λ fault. (fault ≡ Memory) ⊎ (first_fault (map line_of program.now) ≡ Some fault)) }
 {
     let lines = program.lines();
-    let tables = Tables::of(alloc, lines)?;
-    judge(alloc, &tables, lines)?;
+    let tables = judged(alloc, lines)?;
     let arguments = shapes(alloc, &tables.names, arguments(lines))?;
     let slots = Slots::of(alloc, &tables.names)?;
     let resolver = Resolver { tables, slots };
     let statements = resolver.all(alloc, lines)?;
     let start = resolver.start(alloc, lines)?;
-    Ok(Checked::from_parts(program.clone()?, arguments, resolver, statements, start))
+    Ok(Checked::from_parts(
+        program.clone()?,
+        Shared::new(alloc, arguments)?,
+        Shared::new(alloc, resolver)?,
+        statements,
+        Shared::new(alloc, start)?,
+    ))
 }

@@ -12,6 +12,7 @@ mod resolved;
 mod shapes;
 mod slots;
 mod start;
+mod symbols;
 
 pub use action::{Action, Jump};
 pub use checked::{Checked, Shape};
@@ -20,3 +21,4 @@ pub use expression::{Arithmetic, Condition, Connective, Element, Number, Relatio
 pub use f77_legal::{CheckFault, Clause};
 pub use resolved::Resolved;
 pub use start::Start;
+pub use symbols::Variable;

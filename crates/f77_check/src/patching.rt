@@ -1,17 +1,22 @@
 //! Checked programs with one statement changed.
 
-ghost use Rattle.std.specs.Prelude.{◌≡◌, ◌⊎◌, true, false, map, IfOk, IfErr, Some};
-ghost use Rattle.f77_tree.specs.Parsing.{line_of};
-ghost use Rattle.f77_tree.specs.Patching.{Fits, patched};
+ghost use Rattle.std.specs.Prelude.{◌≡◌, ◌<◌, ◌⊎◌, ◌-◌, true, false, length, map, IfOk, IfErr, IfSome, IsNone, None, Some};
+ghost use Rattle.f77_tree.specs.Parsing.{IsProgram, line_of};
+ghost use Rattle.f77_tree.specs.Patching.{Fits, replaced, patched};
 ghost use Rattle.f77_tree.specs.StatementView.{statement_of};
 ghost use Rattle.f77_check.specs.Checked.{shapes};
-ghost use Rattle.f77_legal.specs.Legal.{IsLegal, first_fault};
+ghost use Rattle.f77_check.specs.Patching.{IsChangedAlone};
+ghost use Rattle.f77_check.specs.Resolved.{AreResolved};
+ghost use Rattle.f77_legal.specs.Legal.{IsLegal, Tells, faults, first_fault};
+ghost use Rattle.f77_legal.specs.Patches.{MayStandAt, StandsAlone};
 ghost use Rattle.f77_legal.specs.declared.fault.CheckFault.TheVariants.{Memory};
 
 use crate::checked::Checked;
-use crate::checking::check;
-use f77_legal::CheckFault;
-use f77_tree::Stmt;
+use crate::checking::{check, judged};
+use crate::resolved::Resolved;
+use f77_legal::{CheckFault, is_terminal, keeps_frame};
+use f77_tree::{Line, Program, Shared, Stmt};
+use std::alloc::Global;
 
 impl Checked {
     /// Whether the statement may stand in the place of the one of this number, which is 1 for SUBROUTINE: it is of the same
@@ -21,6 +26,73 @@ impl Checked {
         ensures no { result ≡ false → ¬ (Fits (map line_of self.now.program) number (statement_of stmt.now)) }
     {
         self.program().fits(number, stmt)
+    }
+
+    /// Whether the statement may stand in the place of the statement `i`, where DOs may end. It takes no memory.
+    fn may_stand_at(&self, i: usize, stmt: &Stmt) -> bool
+        requires { i < length self.now.program }
+        ensures { result ≡ true → MayStandAt (map line_of self.now.program) i (statement_of stmt.now) }
+    {
+        is_terminal(stmt) || self.statements()[i].ends.is_empty()
+    }
+
+    /// Whether the change is judged by the changed statement alone. It takes no memory.
+    fn stands_alone(&self, number: usize, stmt: &Stmt) -> bool
+        requires { Fits (map line_of self.now.program) number (statement_of stmt.now) }
+        ensures { result ≡ true → StandsAlone self.now.names (map line_of self.now.program) (number - 1) (statement_of stmt.now) }
+    {
+        let i = number - 1;
+        if !keeps_frame(&self.program().lines()[i].stmt, stmt) {
+            return false;
+        }
+        self.may_stand_at(i, stmt) && self.resolver().tables.names.have(stmt)
+    }
+
+    /// The first fault of the program with this statement in the place of the statement `i`, where it has it if any has. It
+    /// takes no memory.
+    fn own_fault(&self, i: usize, stmt: &Stmt) -> Option<CheckFault>
+        requires { StandsAlone self.now.names (map line_of self.now.program) i (statement_of stmt.now) }
+        ensures { result ≡ first_fault (replaced (map line_of self.now.program) i (statement_of stmt.now)) }
+    {
+        let lines = self.program().lines();
+        self.resolver()
+            .tables
+            .own_fault(lines, i, lines[i].line, stmt)
+    }
+
+    /// The statements of the changed program resolved, in order: the statement `i`, which is changed, is resolved by itself.
+    fn statements_with(
+        &self,
+        alloc: Global,
+        lines: &[Shared<Line>],
+        i: usize,
+    ) -> Result<Vec<Shared<Resolved>>, CheckFault>
+        requires formed { IsProgram None (map line_of lines.now) }
+        requires changed { IsChangedAlone self.now.names (map line_of self.now.program) i (map line_of lines.now) }
+        ensures statements { IfOk result (λ list. AreResolved (map line_of lines.now) self.now.names list.items) }
+        ensures memory { IfErr result (λ fault. fault ≡ Memory) }
+    {
+        let resolved = self.resolver().resolved(alloc, lines, i)?;
+        let mut statements = self.statements().to_vec(alloc)?;
+        statements[i] = Shared::new(alloc, resolved)?;
+        Ok(statements)
+    }
+
+    /// The changed program, checked, where it is legal by the changed statement alone, which is the statement `i`.
+    fn resolved_alone(&self, program: Program, i: usize) -> Result<Checked, CheckFault>
+        requires { IsChangedAlone self.now.names (map line_of self.now.program) i (map line_of program) }
+        ensures program { IfOk result (λ checked. map line_of checked.program ≡ map line_of program) }
+        ensures arguments { IfOk result (λ checked. checked.arguments ≡ self.now.arguments) }
+        ensures memory { IfErr result (λ fault. fault ≡ Memory) }
+    {
+        let statements = self.statements_with(program.allocator(), program.lines(), i)?;
+        Ok(Checked::from_parts(
+            program,
+            self.shared_arguments().clone()?,
+            self.resolver().clone()?,
+            statements,
+            self.shared_start().clone()?,
+        ))
     }
 
     /// The program with this statement in the place of the one of this number, checked: it and the shapes of its dummy
@@ -38,7 +110,42 @@ impl Checked {
         ensures fault { let program = patched (map line_of self.now.program) number (statement_of stmt.now) in
             IfErr result (λ fault. (fault ≡ Memory) ⊎ (first_fault program ≡ Some fault)) }
     {
+        if !self.stands_alone(number, stmt) {
+            let program = self.program().with_statement(number, stmt)?;
+            return check(program.allocator(), &program);
+        }
+        match self.own_fault(number - 1, stmt) {
+            Some(fault) => Err(fault),
+            None => {
+                let program = self.program().with_statement(number, stmt)?;
+                self.resolved_alone(program, number - 1)
+            }
+        }
+    }
+
+    /// What `patched` refuses the change with, None where it refuses none: no program is made where the changed statement
+    /// alone can tell.
+    ///
+    /// Want of memory is told in place of any answer.
+    pub fn patch_fault(&self, number: usize, stmt: &Stmt) -> Option<CheckFault>
+        requires { Fits (map line_of self.now.program) number (statement_of stmt.now) }
+        ensures legal { IsNone result → IsLegal (patched (map line_of self.now.program) number (statement_of stmt.now)) }
+        ensures fault { let program = patched (map line_of self.now.program) number (statement_of stmt.now) in
+            IfSome result (λ fault. (fault ≡ Memory) ⊎ (first_fault program ≡ Some fault)) }
+    {
+        if self.stands_alone(number, stmt) {
+            return self.own_fault(number - 1, stmt);
+        }
+        self.whole_fault(number, stmt).err()
+    }
+
+    /// The faults of the whole changed program.
+    fn whole_fault(&self, number: usize, stmt: &Stmt) -> Result<(), CheckFault>
+        requires { Fits (map line_of self.now.program) number (statement_of stmt.now) }
+        ensures { Tells result (faults (patched (map line_of self.now.program) number (statement_of stmt.now))) }
+    {
         let program = self.program().with_statement(number, stmt)?;
-        check(program.allocator(), &program)
+        judged(program.allocator(), program.lines())?;
+        Ok(())
     }
 }

@@ -13,7 +13,7 @@ ghost use Rattle.f77_legal.specs.Labels.{jumps_of, statement_at};
 ghost use Rattle.f77_legal.specs.Loops.{terminal};
 ghost use Rattle.f77_check.specs.Ready.{CanResolve, IsReady, AreFound, HasBranch, HasEnd, Does, Assigns};
 ghost use Rattle.f77_check.specs.Resolved.{IsResolved, AreResolved};
-ghost use Rattle.f77_legal.specs.Tables.{AreTables};
+ghost use Rattle.f77_legal.specs.Tables.{Serve};
 ghost use Rattle.f77_legal.specs.declared.fault.CheckFault.TheVariants.{Memory};
 
 use crate::action::{Action, Jump};
@@ -21,7 +21,7 @@ use crate::resolved::Resolved;
 use crate::slots::Slots;
 use f77_legal::blocks::{next, statement};
 use f77_legal::{CheckFault, Tables};
-use f77_tree::{Expr, Kind, Line, Name, Ref, Stmt};
+use f77_tree::{Expr, Kind, Line, Name, Ref, Shared, Stmt};
 use std::alloc::Global;
 
 /// What the names and labels of single statements are looked up in.
@@ -35,7 +35,7 @@ impl Resolver {
     /// The jump from the statement `i` to the one with this label.
     fn jump(&self, alloc: Global, i: usize, label: u32) -> Result<Jump, CheckFault>
         ghost program: { List LineFields }
-        requires tables { AreTables self.now.tables program }
+        requires tables { Serve self.now.tables program }
         requires found { IsSome (labels.place_of program label) }
         ensures jump { IfOk result (λ jump. IsJump program i label jump) }
         ensures memory { IfErr result (λ fault. fault ≡ Memory) }
@@ -50,7 +50,7 @@ impl Resolver {
     /// The jumps from the statement `i` to those with these labels, in order.
     fn jumps(&self, alloc: Global, i: usize, labels: &[u32]) -> Result<Vec<Jump>, CheckFault>
         ghost program: { List LineFields }
-        requires tables { AreTables self.now.tables program }
+        requires tables { Serve self.now.tables program }
         requires found { AreFound program labels.now }
         ensures jumps { IfOk result (λ jumps. AreJumps program i labels.now jumps.items) }
         ensures memory { IfErr result (λ fault. fault ≡ Memory) }
@@ -85,7 +85,7 @@ impl Resolver {
         value: &Expr,
     ) -> Result<Action, CheckFault>
         ghost program: { List LineFields }
-        requires tables { AreTables self.now.tables program }
+        requires tables { Serve self.now.tables program }
         requires ready { IsReady self.now (Statement.ComputedGoto labels.now (tree_of value.now)) }
         requires found { AreFound program labels.now }
         ensures action { IfOk result (λ action. Does self.now program i (Statement.ComputedGoto labels.now (tree_of value.now)) action) }
@@ -108,7 +108,7 @@ impl Resolver {
         positive: u32,
     ) -> Result<Action, CheckFault>
         ghost program: { List LineFields }
-        requires tables { AreTables self.now.tables program }
+        requires tables { Serve self.now.tables program }
         requires ready { IsReady self.now (Statement.ArithIf (tree_of value.now) negative zero positive) }
         requires found { IsSome (labels.place_of program negative)
             × IsSome (labels.place_of program zero)
@@ -127,7 +127,7 @@ impl Resolver {
     /// A statement that may stand in a logical IF.
     fn inner_action(&self, alloc: Global, i: usize, stmt: &Stmt) -> Result<Action, CheckFault>
         ghost program: { List LineFields }
-        requires tables { AreTables self.now.tables program }
+        requires tables { Serve self.now.tables program }
         requires ready { IsReady self.now (statement_of stmt.now) }
         requires found { AreFound program (jumps_of (statement_of stmt.now)) }
         requires acts { is_action (statement_of stmt.now) ≡ true }
@@ -172,7 +172,7 @@ impl Resolver {
         statement: &Stmt,
     ) -> Result<Action, CheckFault>
         ghost program: { List LineFields }
-        requires tables { AreTables self.now.tables program }
+        requires tables { Serve self.now.tables program }
         requires ready { IsReady self.now (Statement.LogicalIf (tree_of test.now) (statement_of statement.now)) }
         requires found { AreFound program (jumps_of (statement_of statement.now)) }
         requires acts { is_action (statement_of statement.now) ≡ true }
@@ -188,7 +188,7 @@ impl Resolver {
     /// A block IF or an ELSE IF (11.6, 11.7).
     fn branch(&self, alloc: Global, i: usize, test: &Expr) -> Result<Action, CheckFault>
         ghost program: { List LineFields }
-        requires tables { AreTables self.now.tables program }
+        requires tables { Serve self.now.tables program }
         requires ready { IsReady self.now (Statement.BlockIf (tree_of test.now)) }
         requires ends { HasBranch program i }
         ensures first { IfOk result (λ action. Does self.now program i (Statement.BlockIf (tree_of test.now)) action) }
@@ -217,7 +217,7 @@ impl Resolver {
         increment: &Option<Expr>,
     ) -> Result<Action, CheckFault>
         ghost program: { List LineFields }
-        requires tables { AreTables self.now.tables program }
+        requires tables { Serve self.now.tables program }
         requires ready { IsReady self.now
             (Statement.Loop label variable.now (tree_of first.now) (tree_of last.now) (option_map tree_of increment.now)) }
         requires ends { IsSome (terminal program i) }
@@ -241,7 +241,7 @@ impl Resolver {
     /// What the statement `i` does (section 10, 11.1 to 11.13).
     fn action(&self, alloc: Global, i: usize, stmt: &Stmt) -> Result<Action, CheckFault>
         ghost program: { List LineFields }
-        requires tables { AreTables self.now.tables program }
+        requires tables { Serve self.now.tables program }
         requires ready { IsReady self.now (statement_of stmt.now) }
         requires found { AreFound program (jumps_of (statement_of stmt.now)) }
         requires ends { HasEnd program i (statement_of stmt.now) }
@@ -284,7 +284,7 @@ impl Resolver {
     pub(crate) fn resolved(
         &self,
         alloc: Global,
-        lines: &[Line],
+        lines: &[Shared<Line>],
         i: usize,
     ) -> Result<Resolved, CheckFault>
         ghost program: { List LineFields }
@@ -305,14 +305,19 @@ impl Resolver {
     }
 
     /// Each statement of a legal program, resolved, in order.
-    pub(crate) fn all(&self, alloc: Global, lines: &[Line]) -> Result<Vec<Resolved>, CheckFault>
+    pub(crate) fn all(
+        &self,
+        alloc: Global,
+        lines: &[Shared<Line>],
+    ) -> Result<Vec<Shared<Resolved>>, CheckFault>
         requires { CanResolve self.now (map line_of lines.now) }
         ensures resolved { IfOk result (λ list. AreResolved (map line_of lines.now) (keys self.now.tables.names.facts) list.items) }
         ensures memory { IfErr result (λ fault. fault ≡ Memory) }
     {
         let mut list = Vec::with_capacity(alloc, lines.len())?;
         for i in 0..lines.len() {
-            list.push(self.resolved(alloc, lines, i)?)?;
+            let resolved = self.resolved(alloc, lines, i)?;
+            list.push(Shared::new(alloc, resolved)?)?;
         }
         Ok(list)
     }

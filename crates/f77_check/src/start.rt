@@ -23,7 +23,7 @@ use crate::resolve::Resolver;
 use f77_legal::CheckFault;
 use f77_legal::heading::arguments;
 use f77_legal::names::product;
-use f77_tree::{Constant, DataGroup, Line, Name, Stmt, Value};
+use f77_tree::{Constant, DataGroup, Form, Line, Name, Shared, Stmt, Value};
 use std::alloc::Global;
 
 /// What a run of a program starts with. Statements and slots are numbered from 0.
@@ -40,60 +40,27 @@ pub struct Start {
 fn is_executable(stmt: &Stmt) -> bool
     ensures { result ≡ start.is_executable (statement_of stmt.now) }
 {
-    match stmt {
-        Stmt::Subroutine { .. }
-        | Stmt::Declare { .. }
-        | Stmt::Dimension { .. }
-        | Stmt::Preset { .. } => false,
-        Stmt::Assign { .. }
-        | Stmt::Goto { .. }
-        | Stmt::ComputedGoto { .. }
-        | Stmt::ArithIf { .. }
-        | Stmt::LogicalIf { .. }
-        | Stmt::BlockIf { .. }
-        | Stmt::ElseIf { .. }
-        | Stmt::Else
-        | Stmt::EndIf
-        | Stmt::Loop { .. }
-        | Stmt::Continue
-        | Stmt::Return
-        | Stmt::Stop
-        | Stmt::Trap
-        | Stmt::End => true,
-    }
+    !matches!(
+        stmt.form(),
+        Form::Subroutine | Form::Declare | Form::Dimension | Form::Preset
+    )
 }
 
 /// The first executable statement.
-fn entry(lines: &[Line]) -> Option<usize>
+fn entry(lines: &[Shared<Line>]) -> Option<usize>
     ensures { result ≡ position (λ line. start.is_executable (statement_of line.stmt)) lines.now }
 {
     lines.iter().position(|line| is_executable(&line.stmt))
 }
 
 /// The groups of a DATA statement, none of another.
+#[tactic(auto, using(f77_legal::proofs::Forms::no_groups))]
 fn groups(stmt: &Stmt) -> &[DataGroup]
     ensures { map data_group_of result.now ≡ presets.groups_of (statement_of stmt.now) }
 {
     match stmt {
         Stmt::Preset { groups } => groups,
-        Stmt::Subroutine { .. }
-        | Stmt::Declare { .. }
-        | Stmt::Dimension { .. }
-        | Stmt::Assign { .. }
-        | Stmt::Goto { .. }
-        | Stmt::ComputedGoto { .. }
-        | Stmt::ArithIf { .. }
-        | Stmt::LogicalIf { .. }
-        | Stmt::BlockIf { .. }
-        | Stmt::ElseIf { .. }
-        | Stmt::Else
-        | Stmt::EndIf
-        | Stmt::Loop { .. }
-        | Stmt::Continue
-        | Stmt::Return
-        | Stmt::Stop
-        | Stmt::Trap
-        | Stmt::End => &[],
+        _ => &[],
     }
 }
 
@@ -194,7 +161,11 @@ impl Resolver {
     }
 
     /// What DATA gives each slot.
-    fn initial(&self, alloc: Global, lines: &[Line]) -> Result<Vec<Option<Constant>>, CheckFault>
+    fn initial(
+        &self,
+        alloc: Global,
+        lines: &[Shared<Line>],
+    ) -> Result<Vec<Option<Constant>>, CheckFault>
         requires { CanResolve self.now (map line_of lines.now) }
         ensures initial { IfOk result (λ initial. initial.items ≡ flat_map
             (λ name. map (preset_at (map line_of lines.now) name) (first_numbers (elements (map line_of lines.now) name)))
@@ -209,7 +180,7 @@ impl Resolver {
     }
 
     /// What a run of a legal program starts with.
-    pub(crate) fn start(&self, alloc: Global, lines: &[Line]) -> Result<Start, CheckFault>
+    pub(crate) fn start(&self, alloc: Global, lines: &[Shared<Line>]) -> Result<Start, CheckFault>
         requires { CanResolve self.now (map line_of lines.now) }
         ensures start { IfOk result (λ start. IsStartOf (map line_of lines.now) (keys self.now.tables.names.facts) start) }
         ensures memory { IfErr result (λ fault. fault ≡ Memory) }

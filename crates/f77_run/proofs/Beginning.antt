@@ -12,10 +12,12 @@ use Rattle.f77_legal.specs.Blocks.{first_numbers}
 use Rattle.f77_check.specs.Checked.{CheckedFields, IsChecked, shapes}
 use Rattle.f77_check.specs.declared.checked.Shape.{Shape}
 use Rattle.f77_legal.specs.Names.{Symbol, bounds_of, symbols}
+use Rattle.f77_legal.specs.Patches.{is_among}
 use Rattle.f77_legal.specs.Presets.{elements, product}
 use Rattle.f77_check.specs.Slots.{slot_count}
 use Rattle.f77_legal.specs.Heading.{dummies}
 use Rattle.f77_check.specs.Start.{preset_at}
+use Rattle.f77_legal.proofs.Among.{among_holds}
 use Rattle.f77_check.proofs.Unpreset.{unpreset}
 use Rattle.f77_run.specs.declared.argument.Arg.{Arg}
 use Rattle.f77_run.specs.declared.value.Value.{Value}
@@ -107,7 +109,9 @@ module _ (checked : CheckedFields) (is : IsChecked checked) where
           ∙ same_mapped (λ k. None) (given_at name) (λ k. sym (ap (option_map constant_value) (unpreset program name (other (list_any (bytes_eq name) (symbols program)) refl apart) k))) (first_numbers (elements program name))
         where
           other : (b : Bool) → list_any (bytes_eq name) (symbols program) ≡ b → list_any (bytes_eq name) checked.names ≡ false → list_any (bytes_eq name) (symbols program) ≡ false
-          other true e apart = let there = ap (list_any (bytes_eq name)) is.names ∙ e in absurd (cc (there, apart))
+          other true e apart =
+              let there = among_holds (λ name. is_among checked.names name ≡ true) (symbols program) is.names.covers name e in
+              absurd (cc (there, apart))
           other false e apart = e
 
   -- no DO is active

@@ -1,9 +1,10 @@
 -- What a step that can be made says of the statement where control is, and of its DO.
-use Rattle.std.proofs.Common.{◌≡◌, ◌<◌, ℕ, zero, suc, List, [], ◌∷◌, Bool, true, false, Option, Some, None, IsSome, refl, ◌∙◌, ap, arith, length, get_or}
-use Rattle.std.specs.Prelude.{slice_get, if◌then◌else◌, option_map, nat_lt, ◌&&◌}
+use Rattle.std.proofs.Common.{◌≡◌, ◌<◌, ℕ, zero, suc, ℤ, pos, negsuc, List, [], ◌∷◌, Bool, true, false, Option, Some, None, IsSome, refl, ◌∙◌, ◌++◌, ap, arith, length, take, drop, get_or}
+use Rattle.std.specs.Prelude.{slice_get, slice_set, if◌then◌else◌, option_map, nat_lt, ◌&&◌}
 use Rattle.std.specs.List.{list_all}
 use Rattle.std.specs.Option.{option_and_then}
 use Rattle.std.proofs.lemmas.Bool.{false≢true, ltb-true}
+use Rattle.std.proofs.lemmas.List.{length-set, take-append-le, take_all}
 use Rattle.std.proofs.lemmas.Option.{slice_get_read}
 use Rattle.f77_check.specs.declared.action.Action.{Action, Loop}
 use Rattle.f77_check.specs.declared.expression.Number.{Number}
@@ -12,7 +13,10 @@ use Rattle.f77_run.specs.declared.machine.Machine.{Machine}
 use Rattle.f77_run.specs.declared.machine.Place.TheVariants.{Execute, Increment}
 use Rattle.f77_run.specs.declared.machine.Turn.{Turn}
 use Rattle.f77_run.specs.Evaluation.{number_within}
-use Rattle.f77_run.specs.Moves.{Turns, state_of, moved, acted, incremented, is_executed, is_loop, turn_at}
+use Rattle.f77_run.specs.declared.value.Value.{Value}
+use Rattle.f77_run.specs.declared.value.Value.TheVariants as held
+use Rattle.f77_run.specs.Moves.{Cells, Turns, state_of, moved, acted, begun, incremented, is_executed, is_loop, passing_at, turn_at}
+use Rattle.f77_run.specs.Number.{trip_count}
 use Rattle.f77_run.specs.Reach.{are_below, action_within, resolved_within, all_within}
 
 among : {A B : Type 0} (f : A → Option B) (xs : List A) (i : ℕ) → IsSome (option_and_then f (slice_get xs i)) → i < length xs
@@ -97,3 +101,18 @@ incremented_moves statements m d r turn is here active some =
     let got = slice_get_read statements (length statements) d r refl (incremented_within statements m d is some) here in
     let test = (incremented_active statements m d r is here some).0 in
     rw (is, got, test, active) refl
+
+-- a DO whose step is not zero begins with its passes to make
+pub begun_so : (statements : List Resolved) (d variable t : ℕ) (first last step : ℤ) (cells : Cells) (turns : Turns) → (step ≡ pos 0 → ⊥)
+    → begun statements d variable t first last step cells turns
+    ≡ passing_at statements t d (trip_count first last step) step (slice_set cells variable (Some (held.Number first))) turns
+begun_so statements d variable t first last (pos zero) cells turns nonzero = absurd (nonzero refl)
+begun_so statements d variable t first last (pos (suc m)) cells turns nonzero = refl
+begun_so statements d variable t first last (negsuc m) cells turns nonzero = refl
+
+-- the cells behind a store through a slice of them all
+pub written : (cells slots new : Cells) (n k : ℕ) (value : Option Value) → slots ≡ cells → length cells ≡ n → new ≡ slice_set slots k value
+    → take n (new ++ drop (length new) cells) ≡ slice_set cells k value
+written cells slots new n k value same long set =
+    let kept : length new ≡ n = ap length set ∙ length-set slots k value ∙ ap length same ∙ long in
+    take-append-le n new (drop (length new) cells) (omega (arith, kept)) ∙ take_all n new (omega (arith, kept)) ∙ set ∙ ap (λ xs. slice_set xs k value) same

@@ -22,6 +22,7 @@ use crate::machine::{
 use crate::number::{sum, trip_count};
 use crate::value::Value;
 use f77_check::{Action, Condition, Element, Jump, Number, Resolved};
+use f77_tree::Shared;
 
 /// Where control goes on from a statement that did not jump.
 fn place_behind(resolved: &Resolved, turns: &[Option<Turn>]) -> Place
@@ -191,7 +192,7 @@ fn pass(end: &Resolved, d: usize, turn: Turn, machine: &mut Machine) -> Control
 
 /// The DO `d`, which ends at the statement `terminal`, has these passes to make.
 fn pass_at(
-    statements: &[Resolved],
+    statements: &[Shared<Resolved>],
     terminal: usize,
     d: usize,
     turn: Turn,
@@ -240,7 +241,7 @@ impl Parameters {
 
 /// Begins the DO `d`.
 fn begin(
-    statements: &[Resolved],
+    statements: &[Shared<Resolved>],
     d: usize,
     variable: usize,
     terminal: usize,
@@ -267,7 +268,7 @@ fn begin(
 
 /// Increments the DO `d`, which has this left.
 fn increment(
-    statements: &[Resolved],
+    statements: &[Shared<Resolved>],
     d: usize,
     variable: usize,
     terminal: usize,
@@ -295,7 +296,7 @@ fn increment(
 
 /// Executes the statement `i`, or the statement in a logical IF of its own.
 pub(crate) fn execute(
-    statements: &[Resolved],
+    statements: &[Shared<Resolved>],
     i: usize,
     resolved: &Resolved,
     action: &Action,
@@ -352,7 +353,7 @@ pub(crate) fn execute(
 
 /// One step.
 #[tactic(auto, using(crate::proofs::Steps::executed_within, crate::proofs::Steps::incremented_within))]
-pub(crate) fn step(statements: &[Resolved], machine: &mut Machine) -> Result<Control, Fault>
+pub(crate) fn step(statements: &[Shared<Resolved>], machine: &mut Machine) -> Result<Control, Fault>
     requires statements { all_within (length machine.old.cells.items) (length machine.old.turns.items) statements.now ≡ true }
     requires long { length statements.now ≡ length machine.old.turns.items }
     requires short { length statements.now < 2 ^ 32 }
@@ -362,7 +363,7 @@ pub(crate) fn step(statements: &[Resolved], machine: &mut Machine) -> Result<Con
 {
     match machine.place {
         Place::Execute(i) => {
-            let resolved = &statements[i];
+            let resolved: &Resolved = &statements[i];
             execute(statements, i, resolved, &resolved.action, machine)
         }
         Place::Increment(d) => {

@@ -10,9 +10,10 @@ use crate::execute::step;
 use crate::finish::Finish;
 use crate::machine::{Control, Machine};
 use f77_check::Resolved;
+use f77_tree::Shared;
 
 /// At most so many steps: how they end.
-pub(crate) fn go(statements: &[Resolved], machine: &mut Machine, steps: u32) -> Finish
+pub(crate) fn go(statements: &[Shared<Resolved>], machine: &mut Machine, steps: u32) -> Finish
     ghost at: { Site }
     requires { IsRunning at statements.now machine.old }
     ensures outcome { IsOutcome at.program steps (config_at at machine.old) result (values_at at machine.new.cells.items) }

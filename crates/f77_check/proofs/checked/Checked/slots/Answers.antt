@@ -1,5 +1,7 @@
+use Rattle.std.proofs.Common.{◌≤◌, sym, subst}
+use Rattle.f77_check.specs.Slots.{most_slots}
 use Rattle.f77_check.proofs.CheckedParts.{checked_few}
 use Rattle.f77_check.proofs.checked.Checked.slots.Goals as goal
 
 pub returns-clause-few : goal.returns-clause-few
-returns-clause-few c = checked_few _ c.self.invariant
+returns-clause-few c = subst (λ r. r.slots.count ≤ most_slots) (sym c.deref.ensures) (checked_few _ c.self.invariant.0)

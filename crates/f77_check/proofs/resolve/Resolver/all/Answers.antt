@@ -1,6 +1,10 @@
-use Rattle.std.proofs.Common.{◌+◌, map, sym, subst}
+use Rattle.std.proofs.Common.{◌≡◌, ◌+◌, map, sym, subst}
+use Rattle.std.specs.Prelude.{Some}
 use Rattle.indexmap.specs.IndexMap.{keys}
 use Rattle.f77_tree.specs.Parsing.{line_of}
+use Rattle.f77_tree.specs.Tree.{Statement}
+use Rattle.f77_check.specs.Resolved.{IsResolved}
+use Rattle.f77_legal.specs.Labels.{statement_at}
 use Rattle.f77_check.proofs.Sites.{AreFirst, one_more}
 use Rattle.f77_check.proofs.resolve.Resolver.all.Goals as goal
 
@@ -8,5 +12,8 @@ pub loop-i-preserved : goal.loop-i-preserved
 loop-i-preserved c =
     let program = map line_of c.args.lines.now in
     let names = keys c.args.self.now.tables.names.facts in
-    subst (AreFirst program names (c.loop-i.i + 1)) (sym c.in_ok-push.ensures.items)
-    (one_more program names c.loop-i.i c.loop-i.list.items c.in_ok-resolved.field-0 c.loop-i.invariant c.in_ok-resolved.ensures.resolved)
+    let i = c.loop-i.i in
+    subst (AreFirst program names (i + 1)) (sym c.in_ok-push.ensures.items)
+    (one_more program names i c.loop-i.list.items _ c.loop-i.invariant
+    (subst (λ resolved. (s : Statement) → statement_at program i ≡ Some s → IsResolved program names i s resolved) (sym c.in_ok-new.ensures)
+    c.in_ok-resolved.ensures.resolved))

@@ -3,8 +3,10 @@ use Rattle.std.proofs.lemmas.Grind.{common_steps}
 use Rattle.std.proofs.lemmas.List.{take_all}
 use Rattle.indexmap.specs.IndexMap.{keys}
 use Rattle.f77_tree.specs.Parsing.{line_of}
+use Rattle.f77_tree.specs.StatementView.{statement_of}
 use Rattle.f77_check.specs.Initial.{give_groups, groups_kept}
 use Rattle.f77_legal.specs.NameTable.{bounds_at}
+use Rattle.f77_legal.specs.Presets.{groups_of}
 use Rattle.f77_check.proofs.DataNames.{has_slots}
 use Rattle.f77_check.proofs.Presetting.{preset_by, none_preset, line_kept, line_given}
 use Rattle.f77_check.proofs.resolve.Resolver.initial.Goals as goal
@@ -15,6 +17,7 @@ give_groups-requires-clause-slots c = has_slots c.args.self.now (map line_of c.a
 pub give_groups-requires-clause-kept : goal.give_groups-requires-clause-kept
 give_groups-requires-clause-kept c =
     ap (groups_kept c.args.self.now.tables.names) c.groups.ensures
+    ∙ ap (λ line. groups_kept c.args.self.now.tables.names (groups_of (statement_of line.stmt))) c.deref.ensures
     ∙ line_kept c.args.self.now c.args.lines.now c.requires c.loop-line.line-index c.line-item.result c.loop-line-test.true c.line-item.is
 
 pub loop-line-init : goal.loop-line-init
@@ -27,7 +30,7 @@ loop-line-preserved c =
     whole
     ∙ line_given r c.args.lines.now c.requires c.loop-line.line-index c.line-item.result c.loop-line-test.true c.line-item.is c.loop-line.held.items c.give_groups.new.held c.loop-line.invariant
     (c.in_ok-give_groups.ensures.given
-    ∙ (λ i. give_groups (bounds_at r.tables.names) (keys r.tables.names.facts) (c.deref_mut.ensures.value i) (c.groups.ensures i)))
+    ∙ (λ i. give_groups (bounds_at r.tables.names) (keys r.tables.names.facts) (c.deref_mut.ensures.value i) ((c.groups.ensures ∙ ap (λ line. groups_of (statement_of line.stmt)) c.deref.ensures) i)))
 
 pub returns-clause-initial : goal.returns-clause-initial
 returns-clause-initial c =

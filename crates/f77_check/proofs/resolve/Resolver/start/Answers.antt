@@ -7,7 +7,6 @@ use Rattle.f77_check.specs.Slots.{first_slot}
 use Rattle.f77_check.specs.Start.{is_executable}
 use Rattle.f77_check.proofs.DataNames.{has_slots, dummies_kept}
 use Rattle.f77_check.proofs.FirstExecutable.{first_executable}
-use Rattle.f77_legal.proofs.Lookups.{same_bounds}
 use Rattle.f77_legal.proofs.Positions.{position-map}
 use Rattle.f77_check.proofs.resolve.Resolver.start.Goals as goal
 
@@ -23,12 +22,12 @@ first_slots-requires-clause-slots c = has_slots c.args.self.now (map line_of c.a
 pub first_slots-requires-clause-kept : goal.first_slots-requires-clause-kept
 first_slots-requires-clause-kept c =
     ap (list_all (is_kept c.args.self.now.tables.names)) c.arguments.ensures
-    ∙ dummies_kept c.args.self.now.tables.names (map line_of c.args.lines.now) c.requires.tables.names
+    ∙ dummies_kept c.args.self.now.tables.names (map line_of c.args.lines.now) c.requires.names.covers
 
 pub returns-clause-start : goal.returns-clause-start
 returns-clause-start c =
     let names = c.args.self.now.tables.names in
-    let bounds = same_bounds names (map line_of c.args.lines.now) c.requires.tables.names in
+    let bounds = c.requires.tables.bounds in
     record {
       entry = position-map (λ line. is_executable line.stmt) line_of c.args.lines.now ∙ (sym c.entry.ensures ∙ c.in-Some.is);
       dummies = (λ i. map (first_slot (sym bounds i) (keys names.facts)) (sym c.arguments.ensures i)) ∙ c.in_ok-dummies.ensures.slots;

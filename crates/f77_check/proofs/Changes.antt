@@ -1,0 +1,205 @@
+-- When a changed statement stands alone, and what is told of it.
+use Rattle.std.proofs.Common.{arith, ◌≡◌, ◌≢◌, ◌<◌, ◌==◌, ◌∙◌, inl, inr, ℕ, Bool, true, false, true≢false, cond, List, [], ◌∷◌, length, get_or, set, map, filter, reverse, Option, Some, None, refl, sym, ap, subst}
+use Rattle.std.specs.Prelude.{is_some, option_map, IsNone}
+use Rattle.std.specs.List.{AllZip, find, list_all, slice_get}
+use Rattle.std.specs.Option.{option_and_then, option_map_or}
+use Rattle.std.proofs.lemmas.Bool.{cases_lt}
+use Rattle.std.proofs.lemmas.Bool.Decides.{nat_tests}
+use Rattle.std.proofs.lemmas.List.{length-map, length-reverse}
+use Rattle.std.proofs.lemmas.Option.{same_Some, slice_get_cases, slice_get-map, slice_get_past, slice_get_read, slice_get_within}
+use Rattle.indexmap.specs.IndexMap.{keys}
+use Rattle.f77_tree.specs.Parsing.{LineFields, IsProgram, line_of}
+use Rattle.f77_tree.specs.StatementGrammar.{IsFormed}
+use Rattle.f77_tree.specs.Tree.{Statement}
+use Rattle.f77_tree.specs.declared.program.Line.{Line}
+use Rattle.f77_check.specs.Checked.{CheckedFields, IsChecked, shapes}
+use Rattle.f77_check.specs.CheckedView.{fields_of}
+use Rattle.f77_check.specs.Patching.{IsChangedAlone}
+use Rattle.f77_check.specs.Ready.{CanResolve}
+use Rattle.f77_check.specs.Resolved.{IsResolved, AreResolved}
+use Rattle.f77_check.specs.Start.{IsStartOf}
+use Rattle.f77_check.specs.declared.checked.Shape.{Shape}
+use Rattle.f77_check.specs.declared.resolve.Resolver.{Resolver}
+use Rattle.f77_check.specs.declared.start.Start.{Start}
+use Rattle.f77_check.specs.declared.resolved.Resolved.{Resolved}
+use Rattle.f77_legal.specs.Blocks.{first_numbers, numbers}
+use Rattle.f77_legal.specs.Frames.{framed, HaveOneFrame}
+use Rattle.f77_legal.specs.Labels.{place_of, statement_at, terminal_label, is_terminal}
+use Rattle.f77_legal.specs.Legal.{IsLegal, faults, first_fault}
+use Rattle.f77_legal.specs.Loops.{terminal, ends_at, loops_ending}
+use Rattle.f77_legal.specs.NameTable.{has_name}
+use Rattle.f77_legal.specs.Names.{Symbol, name_in, mentions_of}
+use Rattle.f77_legal.specs.Patches.{is_among, names_pass, IsStock, MayStandAt, NamesAmong}
+use Rattle.f77_legal.specs.declared.fault.CheckFault.{CheckFault}
+use Rattle.f77_legal.specs.declared.names.Names.{Names}
+use Rattle.f77_legal.proofs.Alone.{alone_frame, alone_stock}
+use Rattle.f77_legal.proofs.Branches.{found_some}
+use Rattle.f77_legal.proofs.PatchNames.{is_executed, executed, among_kept, symbols_pass}
+use Rattle.f77_legal.proofs.Replaced.{other_line}
+use Rattle.f77_legal.proofs.SameFrame.{length_same}
+use Rattle.f77_check.proofs.Carried.{all_resolved_same, can_resolve_same, shapes_same, start_same}
+use Rattle.f77_check.proofs.CheckedParts.{checked_of}
+use Rattle.f77_check.proofs.KeptNames.{mentions_at}
+
+-- where no DO ends any statement may stand
+none_reversed : (xs : List ℕ) → reverse xs ≡ [] → xs ≡ []
+none_reversed [] none = refl
+none_reversed (x ∷ xs) none = let long = length-reverse (x ∷ xs) in let empty = ap length none in absurd (omega (arith, long, empty))
+
+none_filtered : (test : ℕ → Bool) (xs : List ℕ) → filter test xs ≡ [] → find test xs ≡ None
+none_filtered test [] none = refl
+none_filtered test (x ∷ xs) none = by (test x) refl (none_filtered test xs)
+  where
+    by : (b : Bool) → test x ≡ b → (filter test xs ≡ [] → find test xs ≡ None) → find test (x ∷ xs) ≡ None
+    by true e later = absurd (cc (sym (ap (λ b. cond b (x ∷ filter test xs) (filter test xs)) e) ∙ none))
+    by false e later = rw e (later (sym (ap (λ b. cond b (x ∷ filter test xs) (filter test xs)) e) ∙ none))
+
+loop_within : (p : List LineFields) (d i : ℕ) → terminal p d ≡ Some i → d < length p
+loop_within p d i ends = elim (cases_lt d (length p)) [
+  | inl lt ↦ lt
+  | inr le ↦
+      let none = ap (λ (o : Option LineFields). option_and_then (place_of p) (option_and_then terminal_label (option_map (λ line. line.stmt) o))) (slice_get_past p d le) in
+      absurd (cc (none, ends))
+]
+
+ends_there : (p : List LineFields) (d i : ℕ) → terminal p d ≡ Some i → ends_at p i d ≡ true
+ends_there p d i ends = ap (λ o. option_map_or (λ e. e == i) o false) ends ∙ same
+  where
+    same : (i == i) ≡ true
+    same = grind (arith, nat_tests)
+
+may_stand_anywhere : (p : List LineFields) (i : ℕ) (s : Statement) → loops_ending p i ≡ [] → MayStandAt p i s
+may_stand_anywhere p i s none = λ d ends.
+    let found = found_some (ends_at p i) (length p) d (ends_there p d i ends) (loop_within p d i ends) in
+    let lost = none_filtered (ends_at p i) (numbers p) (none_reversed (filter (ends_at p i) (numbers p)) none) in
+    absurd (true≢false (sym found ∙ ap is_some lost))
+
+no_items : (xs : List ℕ) → (length xs == 0) ≡ true → xs ≡ []
+no_items [] none = refl
+no_items (x ∷ xs) none = absurd (true≢false (sym none ∙ more))
+  where
+    more : (length (x ∷ xs) == 0) ≡ false
+    more = grind (arith, nat_tests)
+
+-- which DOs end at a statement is told by its resolved form
+pub may_stand_by : (checked : CheckedFields) → IsChecked checked → (i : ℕ) (s : Statement) → i < length checked.program → (r : Resolved)
+    → r ≡ get_or checked.statements i r → (length r.ends.items == 0) ≡ true → MayStandAt (map line_of checked.program) i s
+may_stand_by checked is i s within r read none =
+    may_stand_anywhere p i s (elim (slice_get_cases p i).1 [
+      | inl found ↦
+          let at : statement_at p i ≡ Some found.0.stmt = ap (option_map (λ (line : LineFields). line.stmt)) found.2 in
+          sym (is.statements.each i found.0.stmt r at told).ends ∙ no_items r.ends.items none
+      | inr past ↦ let none = past.0 in absurd (omega (arith, below, none))
+    ])
+  where
+    p : List LineFields
+    p = map line_of checked.program
+
+    below : i < length p
+    below = let long = length-map checked.program line_of in omega (arith, long, within)
+
+    told : slice_get checked.statements i ≡ Some r
+    told = slice_get_read checked.statements (length p) i r (sym is.statements.count) below read
+
+pub statement_within : (checked : CheckedFields) → IsChecked checked → (i : ℕ) (line : LineFields) → slice_get (map line_of checked.program) i ≡ Some line
+    → i < length checked.statements
+statement_within checked is i line at =
+    let within = slice_get_within (map line_of checked.program) i line at in
+    let long = is.statements.count in
+    omega (arith, within, long)
+
+-- a list that is copied
+pub same_items : {X : Type 0} (xs ys : List X) → AllZip (λ x y. y ≡ x) xs ys → ys ≡ xs
+same_items [] [] all = refl
+same_items [] (y ∷ ys) all = absurd all
+same_items (x ∷ xs) [] all = absurd all
+same_items (x ∷ xs) (y ∷ ys) all = rw (all.0, same_items xs ys all.1) refl
+
+-- the line that is read
+pub line_read : (lines : List Line) (i : ℕ) (x : Line) (line : LineFields) → slice_get (map line_of lines) i ≡ Some line → x ≡ get_or lines i x → line_of x ≡ line
+line_read lines i x line at read =
+    let within = slice_get_within (map line_of lines) i line at in
+    let long = length-map lines line_of in
+    let told : slice_get lines i ≡ Some x = slice_get_read lines (length lines) i x refl (omega (arith, within, long)) read in
+    same_Some (line_of x) line (sym (slice_get-map line_of lines i ∙ ap (option_map line_of) told) ∙ at)
+
+-- a statement that cannot be executed is all of it in the frame
+unframed : (t s : Statement) → is_executed s ≡ false → s ≡ framed t → s ≡ t
+unframed (Statement.Subroutine name names) s e same = same
+unframed (Statement.Declare kind declarations) s e same = same
+unframed (Statement.Dimension declarations) s e same = same
+unframed (Statement.Preset groups) s e same = same
+unframed _ s e same = absurd (true≢false (ap is_executed (sym same) ∙ e))
+
+module _ (names : Names) (p : List LineFields) (stock : IsStock (keys names.facts) p) (i : ℕ) (t : Statement) (at : statement_at p i ≡ Some t) where
+  there_among : NamesAmong (keys names.facts) t
+  there_among = mentions_at (λ mention. is_among (keys names.facts) (name_in mention)) p (symbols_pass (keys names.facts) p stock.covers) i t at
+
+  same_among : (s : Statement) → s ≡ t → NamesAmong (keys names.facts) s
+  same_among s same = subst (NamesAmong (keys names.facts)) (sym same) there_among
+
+  -- the names of a statement of the same frame are among those of the table, where the table has those that are executed
+  pub among_framed : (s : Statement) → IsFormed s → framed s ≡ framed t → names_pass (has_name names) s ≡ true → NamesAmong (keys names.facts) s
+  among_framed (Statement.Subroutine name dummies) formed same pass = same_among _ (unframed t _ refl same)
+  among_framed (Statement.Declare kind declarations) formed same pass = same_among _ (unframed t _ refl same)
+  among_framed (Statement.Dimension declarations) formed same pass = same_among _ (unframed t _ refl same)
+  among_framed (Statement.Preset groups) formed same pass = same_among _ (unframed t _ refl same)
+  among_framed Statement.End formed same pass = refl
+  among_framed s formed same pass = among_kept names s (executed s formed refl) pass
+
+-- a program is legal where it has no first fault
+no_fault : (list : List CheckFault) → slice_get list 0 ≡ None → list ≡ []
+no_fault [] none = refl
+no_fault (fault ∷ list) none = absurd (cc (none))
+
+pub none_legal : (p : List LineFields) (told : Option CheckFault) → told ≡ first_fault p → IsNone told → IsLegal p
+none_legal p None same none = no_fault (faults p) (sym same)
+none_legal p (Some fault) same none = absurd (true≢false none)
+
+-- a program that is changed in the statement i alone, by the tables of the checked one
+module _ (r : Resolver) (p q : List LineFields) (i : ℕ) (can : CanResolve r p) (change : IsChangedAlone (keys r.tables.names.facts) p i q) where
+  changed_frame : HaveOneFrame p q
+  changed_frame = subst (HaveOneFrame p) (sym change.changed) (sym (alone_frame (keys r.tables.names.facts) p i change.statement change.alone))
+
+  pub changed_can : IsProgram None q → CanResolve r q
+  changed_can formed =
+      can_resolve_same p q changed_frame r can
+      (subst (IsStock (keys r.tables.names.facts)) (sym change.changed) (alone_stock (keys r.tables.names.facts) p i change.statement change.alone can.names))
+      formed change.legal
+
+  pub changed_within : i < length q
+  changed_within =
+      let within = slice_get_within p i change.alone.line change.alone.at in
+      let long = length_same p q changed_frame in
+      omega (arith, within, long)
+
+  others : (j : ℕ) → i ≢ j → statement_at q j ≡ statement_at p j
+  others j apart =
+      ap (λ q. statement_at q j) change.changed ∙ ap (option_map (λ (line : LineFields). line.stmt)) (other_line p i j change.statement apart)
+
+  pub changed_statements : (list : List Resolved) (new : Resolved) → AreResolved p (keys r.tables.names.facts) list
+      → ((s : Statement) → statement_at q i ≡ Some s → IsResolved q (keys r.tables.names.facts) i s new)
+      → AreResolved q (keys r.tables.names.facts) (set list i new)
+  changed_statements list new are is = all_resolved_same p q changed_frame (keys r.tables.names.facts) i list new others are is
+
+  changed_shapes : shapes p ≡ shapes q
+  changed_shapes = shapes_same p q changed_frame
+
+  changed_start : (start : Start) → IsStartOf p (keys r.tables.names.facts) start → IsStartOf q (keys r.tables.names.facts) start
+  changed_start start is = start_same p q changed_frame (keys r.tables.names.facts) start is
+
+-- the parts of the changed program
+pub changed_parts : (checked : CheckedFields) → IsChecked checked → (r : Resolver) → CanResolve r (map line_of checked.program) → keys r.tables.names.facts ≡ checked.names
+    → (program : List Line) (i : ℕ) → IsChangedAlone checked.names (map line_of checked.program) i (map line_of program) → IsProgram None (map line_of program)
+    → (arguments : List Shape) → arguments ≡ checked.arguments → (statements : List Resolved) → AreResolved (map line_of program) checked.names statements
+    → (start : Start) → start ≡ checked.start
+    → IsChecked (fields_of program arguments r statements start) × CanResolve r (map line_of program)
+changed_parts checked is r can named program i change formed arguments same_arguments statements resolved start same_start =
+    let p = map line_of checked.program in
+    let q = map line_of program in
+    let own : IsChangedAlone (keys r.tables.names.facts) p i q = subst (λ names. IsChangedAlone names p i q) (sym named) change in
+    let starts : IsStartOf p (keys r.tables.names.facts) start = subst (λ names. IsStartOf p names start) (sym named) (subst (IsStartOf p checked.names) (sym same_start) is.start) in
+    checked_of program q arguments r statements start refl (changed_can r p q i can own formed)
+    (same_arguments ∙ is.arguments ∙ changed_shapes r p q i can own)
+    (subst (λ names. AreResolved q names statements) (sym named) resolved)
+    (changed_start r p q i can own start starts)
