@@ -24,6 +24,14 @@ mod fault_texts;
 #[cfg(test)]
 mod outcomes;
 #[cfg(test)]
+mod patch_forms;
+#[cfg(test)]
+mod patch_memory;
+#[cfg(test)]
+mod patched_programs;
+#[cfg(test)]
+mod patches;
+#[cfg(test)]
 mod programs;
 #[cfg(test)]
 mod resolved;
@@ -37,5 +45,7 @@ mod run_branches;
 mod run_data;
 #[cfg(test)]
 mod run_loops;
+#[cfg(test)]
+mod symbols;
 #[cfg(test)]
 mod verdicts;

@@ -72,16 +72,24 @@ pub(crate) fn outcome(
     shown(rt, &run(rt.alloc(), checked, &values, steps.parse()?))
 }
 
-/// Compares the outcomes of one program: a row is arguments, a limit on steps, and the outcome.
+/// Compares the outcomes of a program: a row is arguments, a limit on steps, and the outcome.
+pub(crate) fn assert_outcomes_of(
+    rt: &(impl AllocGlobal + Abort),
+    checked: &Checked,
+    rows: &[&str],
+) -> Result<(), Fail> {
+    for row in rows {
+        let (input, want) = parts(row)?;
+        assert_eq!(rt; outcome(rt, checked, input)?.as_str(), want, "{row}");
+    }
+    Ok(())
+}
+
+/// The same for the program of these statements.
 pub(crate) fn assert_outcomes(
     rt: &(impl AllocGlobal + Abort),
     statements: &str,
     rows: &[&str],
 ) -> Result<(), Fail> {
-    let checked = checked(rt, statements)?;
-    for row in rows {
-        let (input, want) = parts(row)?;
-        assert_eq!(rt; outcome(rt, &checked, input)?.as_str(), want, "{row}");
-    }
-    Ok(())
+    assert_outcomes_of(rt, &checked(rt, statements)?, rows)
 }

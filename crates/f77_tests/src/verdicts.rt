@@ -1,6 +1,6 @@
 //! Verdicts on programs.
 
-use f77_check::{CheckFault, check};
+use f77_check::{CheckFault, Checked, check};
 use f77_syntax::Name;
 use std::process::Abort;
 use std::test::Fail;
@@ -16,7 +16,7 @@ fn named(rt: &impl AllocGlobal, code: &str, name: &Name) -> Result<String, Fail>
 }
 
 /// The code of a fault and its detail.
-fn told(rt: &impl AllocGlobal, fault: &CheckFault) -> Result<String, Fail> {
+pub(crate) fn told(rt: &impl AllocGlobal, fault: &CheckFault) -> Result<String, Fail> {
     match fault {
         CheckFault::Memory => Ok(String::from_str(rt.alloc(), "C1")?),
         CheckFault::RealName(name) => named(rt, "C2", name),
@@ -36,14 +36,22 @@ fn told(rt: &impl AllocGlobal, fault: &CheckFault) -> Result<String, Fail> {
 }
 
 /// The number of statements of a legal program, or its first fault.
-pub(crate) fn verdict(rt: &impl AllocGlobal, statements: &str) -> Result<String, Fail> {
-    match check(rt.alloc(), &program(rt, statements)?) {
+pub(crate) fn verdict_of(
+    rt: &impl AllocGlobal,
+    answer: &Result<Checked, CheckFault>,
+) -> Result<String, Fail> {
+    match answer {
         Ok(checked) => {
             let count = checked.count();
             Ok(format!(in rt.alloc(); "legal {count}")?)
         }
-        Err(fault) => told(rt, &fault),
+        Err(fault) => told(rt, fault),
     }
+}
+
+/// The verdict on the program of these statements.
+pub(crate) fn verdict(rt: &impl AllocGlobal, statements: &str) -> Result<String, Fail> {
+    verdict_of(rt, &check(rt.alloc(), &program(rt, statements)?))
 }
 
 /// Compares the verdict on each program.
