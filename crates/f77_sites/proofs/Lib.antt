@@ -1,0 +1,5 @@
+pub mod Numbering
+pub mod Passes
+pub mod PutExpressions
+pub mod PutStatements
+pub mod Walks

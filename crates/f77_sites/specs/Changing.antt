@@ -1,0 +1,28 @@
+-- A pass over the sites of a whole that looks for one of them: a number says where that one is from here on, 1 where it is the next. It falls by the
+-- sites that were passed, and it is 0 when the one is behind.
+use Rattle.std.specs.Prelude.{◌≡◌, ◌-◌, ℕ, zero, suc, List, length, Option, None, slice_get}
+use Rattle.f77_tree.specs.declared.tree.Ref.{Ref}
+use Rattle.f77_tree.specs.Node.{NodeOf}
+use Rattle.f77_tree.specs.Tree.{Trees, Statement}
+use Rattle.f77_tree.specs.View.{trees, place_of}
+use Rattle.f77_sites.specs.Sites.{Site, put, sites_behind}
+
+abbrev pub numbered : {X : Type 0} → List X → ℕ → Option X
+numbered xs zero = None
+numbered xs (suc k) = slice_get xs k
+
+abbrev pub put_number : {X : Type 0} → List (Site X) → ℕ → NodeOf → X → X
+put_number xs number node x = put (numbered xs number) node x
+
+-- what a pass makes of the whole, and the number that is left
+pub record Passed {X : Type 0} (list : List (Site X)) (start left : ℕ) (node : NodeOf) (old new : X) : Type 0 where
+  pub made : new ≡ put_number list start node old
+  pub counted : left ≡ start - length list
+
+-- the reference that an assignment assigns to, its subscripts as one tree
+abbrev pub target_of : Ref → List ℕ × Trees
+target_of place = ((place_of place).0, trees (place_of place).1)
+
+-- the same of a statement behind its own node
+abbrev pub IsPut : Statement → ℕ → ℕ → NodeOf → Statement → Type 0
+IsPut s start left node new = Passed (sites_behind s) start left node s new

@@ -1,0 +1,14 @@
+//! The nodes of statements, and statements with one node changed.
+#![tactic(auto)]
+
+mod changing;
+mod changing_data;
+mod changing_expression;
+mod changing_node;
+pub mod law;
+mod new;
+mod node_list;
+
+pub use changing::with_node;
+pub use new::New;
+pub use node_list::nodes;
