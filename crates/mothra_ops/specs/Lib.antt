@@ -1,1 +1,4 @@
 pub mod Op
+pub mod Pools
+pub mod Replacements
+pub mod Edits

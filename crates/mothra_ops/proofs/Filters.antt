@@ -1,0 +1,35 @@
+-- Lists that a loop makes of what passes a test.
+use Rattle.std.proofs.Common.{◌≡◌, ◌<◌, ◌≤◌, ◌+◌, ◌∷◌, ◌++◌, [], ℕ, List, Bool, true, false, cond, length, map, filter, take, get_or, refl, sym, ap, ◌∙◌}
+use Rattle.std.proofs.lemmas.List.{take_more, take_all, map-append, append-nil}
+use Rattle.std.proofs.lemmas.List.Elements.{filter-append}
+
+module _ {X V : Type 0} (p : X → Bool) (f : X → V) where
+  more : (xs : List X) (i : ℕ) {x : X} (d : X) → x ≡ get_or xs i d → i < length xs
+      → map f (filter p (take (i + 1) xs)) ≡ map f (filter p (take i xs)) ++ map f (filter p (x ∷ []))
+  more xs i {x} d at lt =
+      ap (λ ys. map f (filter p ys)) (take_more xs i d lt ∙ ap (λ y. take i xs ++ y ∷ []) (sym at))
+      ∙ (ap (map f) (filter-append p (take i xs) (x ∷ [])) ∙ map-append f (filter p (take i xs)) (filter p (x ∷ [])))
+
+  -- what an item that passes is seen as is pushed
+  pub pushed : {W : Type 0} (g : W → V) (xs : List X) (i : ℕ) {x : X} (d : X) {w : W} (old : List W) {new : List W} → x ≡ get_or xs i d → i < length xs
+      → p x ≡ true → g w ≡ f x → map g old ≡ map f (filter p (take i xs)) → new ≡ old ++ w ∷ [] → map g new ≡ map f (filter p (take (i + 1) xs))
+  pushed g xs i d {w} old at lt passes is e n =
+      rw (more xs i d at lt, passes) (ap (map g) n ∙ (map-append g old (w ∷ []) ∙ (λ k. e k ++ is k ∷ [])))
+
+  -- an item that fails is left out
+  pub skipped : {W : Type 0} (g : W → V) (xs : List X) (i : ℕ) {x : X} (d : X) (old : List W) → x ≡ get_or xs i d → i < length xs → p x ≡ false
+      → map g old ≡ map f (filter p (take i xs)) → map g old ≡ map f (filter p (take (i + 1) xs))
+  skipped g xs i d old at lt fails e = rw (more xs i d at lt, fails) (e ∙ sym (append-nil (map f (filter p (take i xs)))))
+
+  filter_map-is : (q : V → Bool) (ys : List X) → ((x : X) → q (f x) ≡ p x) → filter q (map f ys) ≡ map f (filter p ys)
+  filter_map-is q [] same = refl
+  filter_map-is q (y ∷ ys) same = rw (same y, filter_map-is q ys same) (by (p y))
+    where
+      by : (b : Bool) → cond b (f y ∷ map f (filter p ys)) (map f (filter p ys)) ≡ map f (cond b (y ∷ filter p ys) (filter p ys))
+      by true = refl
+      by false = refl
+
+  -- the end, where the test is one of what the items are seen as
+  pub passed : {W : Type 0} (g : W → V) (xs : List X) (i : ℕ) (old : List W) (q : V → Bool) → ((x : X) → q (f x) ≡ p x) → length xs ≤ i
+      → map g old ≡ map f (filter p (take i xs)) → map g old ≡ filter q (map f xs)
+  passed g xs i old q same le e = e ∙ (ap (λ ys. map f (filter p ys)) (take_all i xs le) ∙ sym (filter_map-is q xs same))

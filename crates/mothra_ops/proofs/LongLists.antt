@@ -1,0 +1,19 @@
+-- Lists of edits that are too long.
+use Rattle.std.proofs.Common.{◌<◌, ◌≤◌, ℕ, List, length, subst, arith, inl, inr}
+use Rattle.std.specs.Prelude.{◌⊎◌, Contains}
+use Rattle.f77_tree.specs.Parsing.{LineFields}
+use Rattle.mothra_ops.specs.Edits.{IsMember, IsTooLong, Lists, thinned, most_edits, most_whole}
+use Rattle.mothra_ops.specs.declared.edit.Edit.{Edit}
+use Rattle.mothra_ops.specs.declared.op.Op.{Op}
+use Rattle.mothra_ops.proofs.OrderedLists.{no_longer}
+use Rattle.mothra_ops.proofs.Thinning.{thinned_within}
+
+pub too_long : (op : Op) (program : List LineFields) (q : ℕ) (whole : List Edit) → 1 ≤ q → IsTooLong op program q → Lists (IsMember op program) whole
+    → (most_edits < length (thinned q whole)) ⊎ (most_whole < length whole)
+too_long op program q whole one long lists = elim long.many [
+  | inl many ↦ let more = thinned_within q long.some whole one shorter in inl (omega (arith, many, more))
+  | inr many ↦ inr (omega (arith, many, shorter))
+]
+  where
+    shorter : length long.some ≤ length whole
+    shorter = no_longer long.some whole long.ordered lists.ordered (λ edit has. (lists.exactly edit).1 (subst (IsMember op program) has.2 (long.members has.0 edit has.1)))

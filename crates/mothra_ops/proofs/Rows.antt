@@ -1,0 +1,92 @@
+-- Worked rows.
+use Rattle.std.proofs.Common.{◌≡◌, ℕ, Bool, true, false, List, [], ◌∷◌, map, refl}
+use Rattle.std.specs.Prelude.{codes, pos, negsuc}
+use Rattle.f77_tree.specs.Node.{NodeOf}
+use Rattle.f77_tree.specs.Tree.{Tree, Trees, Statement}
+use Rattle.f77_tree.specs.declared.data.Constant.{Constant}
+use Rattle.f77_tree.specs.declared.intrinsic.Intrinsic.TheVariants.{Iabs}
+use Rattle.f77_tree.specs.declared.operator.Operator.TheVariants as operator
+use Rattle.f77_tree.specs.declared.operator.Sign.TheVariants.{Minus}
+use Rattle.f77_tree.specs.declared.tree.Kind.{Kind}
+use Rattle.f77_tree.specs.declared.tree.Kind.TheVariants.{Integer}
+use Rattle.mothra_ops.specs.Pools.{PoolFields, scalar, ascending, each_once, array_reference, constant}
+use Rattle.mothra_ops.specs.Replacements.{replacements, next_constants, gives}
+use Rattle.mothra_ops.specs.declared.op.Op.TheVariants.{Aar, Abs, Acr, Aor, Asr, Car, Cnr, Crp, Csr, Der, Dsa}
+use Rattle.mothra_ops.specs.declared.op.Op.TheVariants.{Glr, Lcr, Ror, Rsr, San, Sar, Scr, Sdl, Src, Svr, Uoi}
+
+abbrev i : List ℕ
+i = codes "I"
+
+abbrev j : List ℕ
+j = codes "J"
+
+abbrev k : List ℕ
+k = codes "K"
+
+abbrev m : List ℕ
+m = codes "M"
+
+abbrev n : List ℕ
+n = codes "N"
+
+abbrev pools : PoolFields
+pools = record {
+  kinds = λ name. Integer;
+  bounds = λ name. [];
+  scalars = scalar i ∷ (scalar j ∷ (scalar k ∷ []));
+  arrays = m ∷ (n ∷ []);
+  references = Tree.Reference m (Trees.Then (scalar i) Trees.None) ∷ (Tree.Reference n (Trees.Then (Tree.Number 1) Trees.None) ∷ []);
+  constants = Tree.Number 1 ∷ [];
+  labels = ascending (30 ∷ (10 ∷ (20 ∷ [])));
+}
+
+abbrev sum : Tree
+sum = Tree.Binary operator.Add (scalar i) (scalar j)
+
+aor : replacements Aor pools (NodeOf.Part sum)
+    ≡ map NodeOf.Part (Tree.Binary operator.Subtract (scalar i) (scalar j) ∷ (Tree.Binary operator.Multiply (scalar i) (scalar j)
+    ∷ (Tree.Binary operator.Divide (scalar i) (scalar j) ∷ (Tree.Binary operator.Power (scalar i) (scalar j) ∷ (scalar i ∷ (scalar j ∷ []))))))
+aor = refl
+
+svr : replacements Svr pools (NodeOf.Target k Trees.None) ≡ NodeOf.Target i Trees.None ∷ (NodeOf.Target j Trees.None ∷ [])
+svr = refl
+
+svr_loop : replacements Svr pools (NodeOf.Named i) ≡ NodeOf.Named j ∷ (NodeOf.Named k ∷ [])
+svr_loop = refl
+
+csr_target : replacements Csr pools (NodeOf.Target k Trees.None) ≡ []
+csr_target = refl
+
+crp : replacements Crp pools (NodeOf.Part (Tree.Number 0)) ≡ map NodeOf.Part (Tree.Number 1 ∷ (Tree.Signed Minus (Tree.Number 1) ∷ []))
+crp = refl
+
+crp_top : replacements Crp pools (NodeOf.Part (Tree.Number 2147483647)) ≡ map NodeOf.Part (Tree.Number 2147483646 ∷ [])
+crp_top = refl
+
+glr : replacements Glr pools (NodeOf.Labelled 20) ≡ NodeOf.Labelled 10 ∷ (NodeOf.Labelled 30 ∷ [])
+glr = refl
+
+aar : replacements Aar pools (NodeOf.Target m (Trees.Then (scalar i) Trees.None)) ≡ NodeOf.Target n (Trees.Then (Tree.Number 1) Trees.None) ∷ []
+aar = refl
+
+cnr : replacements Cnr pools (NodeOf.Part (Tree.Reference m (Trees.Then (scalar i) Trees.None))) ≡ NodeOf.Part (Tree.Reference n (Trees.Then (scalar i) Trees.None)) ∷ []
+cnr = refl
+
+sar : replacements Sar pools (NodeOf.Target m (Trees.Then (scalar i) Trees.None))
+    ≡ NodeOf.Target i Trees.None ∷ (NodeOf.Target j Trees.None ∷ (NodeOf.Target k Trees.None ∷ []))
+sar = refl
+
+dsa : next_constants (Constant.Number (pos 5)) ≡ Constant.Number (pos 6) ∷ (Constant.Number (pos 4) ∷ [])
+dsa = refl
+
+dsa_least : next_constants (Constant.Number (negsuc 2147483646)) ≡ Constant.Number (negsuc 2147483645) ∷ []
+dsa_least = refl
+
+rsr : replacements Rsr pools (NodeOf.Itself Statement.Return) ≡ []
+rsr = refl
+
+sdl : replacements Sdl pools (NodeOf.Itself (Statement.Goto 10)) ≡ NodeOf.Itself Statement.Continue ∷ []
+sdl = refl
+
+abs_none : replacements Abs pools (NodeOf.Part (Tree.Number 3)) ≡ []
+abs_none = refl

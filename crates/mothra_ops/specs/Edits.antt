@@ -1,0 +1,84 @@
+-- The edits of an operator: which there are, and their list.
+use Rattle.std.specs.Prelude.{◌≡◌, ◌≢◌, ◌↔◌, ◌⊎◌, ◌<◌, ◌≤◌, ◌-◌, ◌==◌, ◌%◌, ⊤, ℕ, zero, suc, List, [], ◌∷◌, Option, Some, None, slice_get, All, AllPairs, Contains, length, map, filter}
+use Rattle.std.specs.List.{enumerate_from}
+use Rattle.std.specs.Option.{option_and_then}
+use Rattle.f77_tree.specs.Parsing.{LineFields}
+use Rattle.f77_tree.specs.Patching.{Fits, patched}
+use Rattle.f77_tree.specs.Tree.{Statement}
+use Rattle.f77_legal.specs.Labels.{statement_at}
+use Rattle.f77_legal.specs.Legal.{IsLegal}
+use Rattle.mothra_ops.specs.Pools.{PoolFields, pools_of}
+use Rattle.mothra_ops.specs.Replacements.{gives}
+use Rattle.f77_sites.specs.Sites.{Site, sites}
+use Rattle.mothra_ops.specs.declared.edit.Edit.{Edit}
+use Rattle.mothra_ops.specs.declared.fault.OpsFault.{OpsFault}
+use Rattle.mothra_ops.specs.declared.fault.OpsFault.TheVariants.{Memory, NotASite, TooMany}
+use Rattle.mothra_ops.specs.declared.op.Op.{Op}
+
+-- the item of this number, counted from 1
+abbrev pub numbered : {X : Type 0} → List X → ℕ → Option X
+numbered xs zero = None
+numbered xs (suc k) = slice_get xs k
+
+-- the statement that an edit makes: at its position the replacement of its rank, of those that its operator gives the node there
+abbrev pub made : PoolFields → List LineFields → Edit → Option Statement
+made pools program edit =
+    option_and_then
+    (λ line. option_and_then
+    (λ site. option_and_then (λ node. Some (site.1 node)) (numbered (gives edit.op pools line.stmt site.0) edit.rank))
+    (slice_get (sites line.stmt) edit.position))
+    (numbered program edit.statement)
+
+-- The edit is one of the operator's: what it makes is a legal program, and another one.
+pub record IsMember (op : Op) (program : List LineFields) (edit : Edit) : Type 0 where
+  pub own : edit.op ≡ op
+  pub statement : Statement
+  pub makes : made (pools_of program) program edit ≡ Some statement
+  pub fits : Fits program edit.statement statement
+  pub legal : IsLegal (patched program edit.statement statement)
+  pub differs : statement_at program (edit.statement - 1) ≢ Some statement
+
+-- the order of statement, position and rank
+abbrev pub Below : ℕ → ℕ → ℕ → Edit → Type 0
+Below statement position rank edit =
+    (edit.statement < statement) ⊎ ((edit.statement ≡ statement) × ((edit.position < position) ⊎ ((edit.position ≡ position) × (edit.rank < rank))))
+
+abbrev pub Before : Edit → Edit → Type 0
+Before one other = Below other.statement other.position other.rank one
+
+-- the edits with this property in their order, each once
+pub record Lists (P : Edit → Type 0) (edits : List Edit) : Type 0 where
+  pub ordered : AllPairs Before edits
+  pub exactly : (edit : Edit) → Contains edits edit ↔ P edit
+
+-- of the items of a list each q-th, from the first
+abbrev pub thinned : {X : Type 0} → ℕ → List X → List X
+thinned q xs = map (λ numbered. numbered.1) (filter (λ numbered. numbered.0 % q == 0) (enumerate_from 0 xs))
+
+-- the most items of a list that is thinned, and of one before that
+abbrev pub most_edits : ℕ
+most_edits = 1048575
+
+abbrev pub most_whole : ℕ
+most_whole = 4294967295
+
+-- the whole list of an operator, and this one thinned by q
+pub record IsList (op : Op) (program : List LineFields) (q : ℕ) (edits : List Edit) : Type 0 where
+  pub whole : List Edit
+  pub lists : Lists (IsMember op program) whole
+  pub is : edits ≡ thinned q whole
+  pub few : length edits ≤ most_edits
+  pub few_whole : length whole ≤ most_whole
+
+-- some of its edits, in order, are too many
+pub record IsTooLong (op : Op) (program : List LineFields) (q : ℕ) : Type 0 where
+  pub some : List Edit
+  pub ordered : AllPairs Before some
+  pub members : All (IsMember op program) some
+  pub many : (most_edits < length (thinned q some)) ⊎ (most_whole < length some)
+
+-- why there is no list
+abbrev pub IsNoList : Op → List LineFields → ℕ → OpsFault → Type 0
+IsNoList op program q Memory = ⊤
+IsNoList op program q NotASite = ⊥
+IsNoList op program q (TooMany other) = (other ≡ op) × IsTooLong op program q

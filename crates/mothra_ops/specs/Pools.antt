@@ -1,0 +1,71 @@
+-- What the operators draw from: the scalars and arrays of a program, its array references, its constants and its labels.
+use Rattle.std.specs.Prelude.{ℕ, Bool, true, false, not, nat_lt, List, [], ◌∷◌, ◌++◌, filter, map, fold, Option, Some, None, if◌then◌else◌}
+use Rattle.std.specs.List.{flat_map, filter_map}
+use Rattle.f77_tree.specs.Comparing.{same_tree}
+use Rattle.f77_tree.specs.Node.{NodeOf, nodes_of}
+use Rattle.f77_tree.specs.Parsing.{LineFields}
+use Rattle.f77_tree.specs.Tree.{Tree, Trees, Statement}
+use Rattle.f77_tree.specs.declared.tree.Kind.{Kind}
+use Rattle.f77_legal.specs.Labels.{labels}
+use Rattle.f77_legal.specs.Legal.{is_array}
+use Rattle.f77_legal.specs.Names.{Symbol, symbols, kind_of, bounds_of}
+
+-- each item once, where it comes first
+abbrev pub each_once : {X : Type 0} → (X → X → Bool) → List X → List X
+each_once same [] = []
+each_once same (x ∷ xs) = x ∷ filter (λ y. not (same x y)) (each_once same xs)
+
+-- a number in its place among ascending ones
+abbrev pub placed : ℕ → List ℕ → List ℕ
+placed n [] = n ∷ []
+placed n (m ∷ ms) = if nat_lt m n then m ∷ placed n ms else n ∷ (m ∷ ms)
+
+abbrev pub ascending : List ℕ → List ℕ
+ascending = fold (λ ns n. placed n ns) []
+
+abbrev pub is_executable : Statement → Bool
+is_executable (Statement.Subroutine name names) = false
+is_executable (Statement.Declare kind declarations) = false
+is_executable (Statement.Dimension declarations) = false
+is_executable (Statement.Preset groups) = false
+is_executable _ = true
+
+-- the nodes of the executable statements, in order
+abbrev pub executable_nodes : List LineFields → List NodeOf
+executable_nodes program = flat_map (λ line. if is_executable line.stmt then nodes_of line.stmt else []) program
+
+-- a reference with subscripts, also where it is assigned to
+abbrev pub array_reference : NodeOf → Option Tree
+array_reference (NodeOf.Target name (Trees.Then t ts)) = Some (Tree.Reference name (Trees.Then t ts))
+array_reference (NodeOf.Part (Tree.Reference name (Trees.Then t ts))) = Some (Tree.Reference name (Trees.Then t ts))
+array_reference _ = None
+
+abbrev pub constant : NodeOf → Option Tree
+constant (NodeOf.Part (Tree.Number n)) = Some (Tree.Number n)
+constant (NodeOf.Part (Tree.Truth b)) = Some (Tree.Truth b)
+constant _ = None
+
+abbrev pub scalar : Symbol → Tree
+scalar name = Tree.Reference name Trees.None
+
+-- The kinds and the bounds of names; the scalars and the arrays in order of first appearance, array references and constants in order of first
+-- occurrence in executable statements, and the labels that stand on statements, ascending.
+pub record PoolFields : Type 0 where
+  pub kinds : Symbol → Kind
+  pub bounds : Symbol → List ℕ
+  pub scalars : List Tree
+  pub arrays : List Symbol
+  pub references : List Tree
+  pub constants : List Tree
+  pub labels : List ℕ
+
+abbrev pub pools_of : List LineFields → PoolFields
+pools_of program = record {
+  kinds = kind_of program;
+  bounds = bounds_of program;
+  scalars = map scalar (filter (λ name. not (is_array program name)) (symbols program));
+  arrays = filter (is_array program) (symbols program);
+  references = each_once same_tree (filter_map array_reference (executable_nodes program));
+  constants = each_once same_tree (filter_map constant (executable_nodes program));
+  labels = ascending (labels program);
+}

@@ -1,0 +1,220 @@
+-- What each operator puts in the place of a node (King and Offutt 1991, the operators of Mothra). A rank is a place in these lists, from 1.
+use Rattle.std.specs.Prelude.{ℕ, zero, suc, ◌+◌, ◌==◌, ◌&&◌, ◌+ℤ◌, ◌-ℤ◌, pos, nat_abs, Bool, true, false, not, nat_eq, nat_lt, nat_le}
+use Rattle.std.specs.Prelude.{List, [], ◌∷◌, ◌++◌, length, map, filter, Option, Some, None, if◌then◌else◌}
+use Rattle.std.specs.List.{filter_map}
+use Rattle.std.specs.Ordering.{int_eq}
+use Rattle.std.specs.Str.{bytes_eq}
+use Rattle.f77_tree.specs.Comparing.{same_tree, same_operator, same_statement}
+use Rattle.f77_tree.specs.Form.{form_of}
+use Rattle.f77_tree.specs.Node.{NodeOf}
+use Rattle.f77_tree.specs.Tree.{Tree, Trees, Statement}
+use Rattle.f77_tree.specs.declared.data.Constant.{Constant}
+use Rattle.f77_tree.specs.declared.data.Value.{Value}
+use Rattle.f77_tree.specs.declared.form.Form.{Form}
+use Rattle.f77_tree.specs.declared.intrinsic.Intrinsic.TheVariants.{Iabs}
+use Rattle.f77_tree.specs.declared.operator.Operator.{Operator}
+use Rattle.f77_tree.specs.declared.operator.Operator.TheVariants as operator
+use Rattle.f77_tree.specs.declared.operator.Sign.TheVariants.{Minus}
+use Rattle.f77_tree.specs.declared.tree.Kind.{Kind}
+use Rattle.f77_tree.specs.declared.tree.Kind.TheVariants.{Integer, Logical}
+use Rattle.f77_legal.specs.Kinds.{same_kind, result_kind}
+use Rattle.f77_legal.specs.Names.{Symbol}
+use Rattle.mothra_ops.specs.Pools.{PoolFields, is_executable, scalar}
+use Rattle.mothra_ops.specs.declared.op.Op.{Op}
+use Rattle.mothra_ops.specs.declared.op.Op.TheVariants.{Aar, Abs, Acr, Aor, Asr, Car, Cnr, Crp, Csr, Der, Dsa}
+use Rattle.mothra_ops.specs.declared.op.Op.TheVariants.{Glr, Lcr, Ror, Rsr, San, Sar, Scr, Sdl, Src, Svr, Uoi}
+
+-- the kind of an expression, where names are of these kinds
+abbrev pub kind_in : (Symbol → Kind) → Tree → Kind
+kind_in kinds (Tree.Number n) = Integer
+kind_in kinds (Tree.Truth b) = Logical
+kind_in kinds (Tree.Reference name items) = kinds name
+kind_in kinds (Tree.Call function items) = Integer
+kind_in kinds (Tree.Signed sign t) = Integer
+kind_in kinds (Tree.Not t) = Logical
+kind_in kinds (Tree.Binary op a b) = result_kind op
+kind_in kinds (Tree.ZeroPush t) = Integer
+
+-- an array reference, a scalar, a constant
+abbrev pub is_element : Tree → Bool
+is_element (Tree.Reference name (Trees.Then t ts)) = true
+is_element _ = false
+
+abbrev pub is_scalar : Tree → Bool
+is_scalar (Tree.Reference name Trees.None) = true
+is_scalar _ = false
+
+abbrev pub is_constant : Tree → Bool
+is_constant (Tree.Number n) = true
+is_constant (Tree.Truth b) = true
+is_constant _ = false
+
+-- AAR, ACR, ASR, SAR, SCR, SVR, CAR, CSR, SRC: each other one of a pool, of the same kind
+abbrev pub others : (Symbol → Kind) → List Tree → Tree → List Tree
+others kinds pool t = filter (λ u. same_kind (kind_in kinds u) (kind_in kinds t) && not (same_tree u t)) pool
+
+abbrev pub drawn : (Tree → Bool) → (Symbol → Kind) → List Tree → Tree → List Tree
+drawn is_site kinds pool t = if is_site t then others kinds pool t else []
+
+-- CNR: each other array of the same kind and number of bounds, with the same subscripts
+abbrev pub is_comparable : PoolFields → Symbol → Symbol → Bool
+is_comparable pools name other =
+    same_kind (pools.kinds other) (pools.kinds name) && (length (pools.bounds other) == length (pools.bounds name) && not (bytes_eq other name))
+
+abbrev pub comparable : PoolFields → Tree → List Tree
+comparable pools (Tree.Reference name (Trees.Then t ts)) =
+    map (λ other. Tree.Reference other (Trees.Then t ts)) (filter (is_comparable pools name) pools.arrays)
+comparable pools _ = []
+
+-- ABS
+abbrev pub absolute_value : Tree → Tree
+absolute_value t = Tree.Call Iabs (Trees.Then t Trees.None)
+
+abbrev pub absolute : Tree → List Tree
+absolute t = absolute_value t ∷ (Tree.Signed Minus (absolute_value t) ∷ (Tree.ZeroPush t ∷ []))
+
+-- UOI
+abbrev pub with_unary : Kind → Tree → List Tree
+with_unary Integer t =
+    Tree.Signed Minus t ∷ (Tree.Binary operator.Add t (Tree.Number 1) ∷ (Tree.Binary operator.Subtract t (Tree.Number 1) ∷ []))
+with_unary Logical t = Tree.Not t ∷ []
+
+-- the other operators of the same group, in the order of the group
+abbrev pub arithmetic : List Operator
+arithmetic = operator.Add ∷ (operator.Subtract ∷ (operator.Multiply ∷ (operator.Divide ∷ (operator.Power ∷ []))))
+
+abbrev pub relations : List Operator
+relations =
+    operator.Less ∷ (operator.LessOrEqual ∷ (operator.Equal ∷ (operator.NotEqual ∷ (operator.GreaterOrEqual ∷ (operator.Greater ∷ [])))))
+
+abbrev pub connectors : List Operator
+connectors = operator.And ∷ (operator.Or ∷ (operator.Equivalent ∷ (operator.NotEquivalent ∷ [])))
+
+abbrev pub is_in : List Operator → Operator → Bool
+is_in [] op = false
+is_in (o ∷ os) op = if same_operator o op then true else is_in os op
+
+abbrev pub exchanged : List Operator → Operator → Tree → Tree → List Tree
+exchanged group op a b = map (λ o. Tree.Binary o a b) (filter (λ o. not (same_operator o op)) group)
+
+-- AOR, LCR and ROR: the others of the group, and behind them what else may stand there
+abbrev pub with_group : List Operator → (Tree → Tree → List Tree) → Tree → List Tree
+with_group group more (Tree.Binary op a b) = if is_in group op then exchanged group op a b ++ more a b else []
+with_group group more _ = []
+
+abbrev pub operands : Tree → Tree → List Tree
+operands a b = a ∷ (b ∷ [])
+
+abbrev pub truths : List Tree
+truths = Tree.Truth true ∷ (Tree.Truth false ∷ [])
+
+-- CRP: one more, where it is in the range of INTEGER, and one less; the other truth value
+abbrev pub raised : ℕ → List Tree
+raised n = if nat_lt n 2147483647 then Tree.Number (n + 1) ∷ [] else []
+
+abbrev pub lowered : ℕ → Tree
+lowered zero = Tree.Signed Minus (Tree.Number 1)
+lowered (suc n) = Tree.Number n
+
+abbrev pub altered : Tree → List Tree
+altered (Tree.Number n) = raised n ++ (lowered n ∷ [])
+altered (Tree.Truth b) = Tree.Truth (not b) ∷ []
+altered _ = []
+
+-- in the place of an expression; of an expression or a target; of a target that is a scalar, or a DO variable
+abbrev pub in_parts : (Tree → List Tree) → NodeOf → List NodeOf
+in_parts gives (NodeOf.Part t) = map NodeOf.Part (gives t)
+in_parts gives _ = []
+
+abbrev pub target : Tree → Option NodeOf
+target (Tree.Reference name items) = Some (NodeOf.Target name items)
+target _ = None
+
+abbrev pub variable : Tree → Option NodeOf
+variable (Tree.Reference name items) = Some (NodeOf.Named name)
+variable _ = None
+
+abbrev pub in_places : (Tree → List Tree) → NodeOf → List NodeOf
+in_places gives (NodeOf.Part t) = map NodeOf.Part (gives t)
+in_places gives (NodeOf.Target name items) = filter_map target (gives (Tree.Reference name items))
+in_places gives _ = []
+
+abbrev pub in_variables : (Tree → List Tree) → NodeOf → List NodeOf
+in_variables gives (NodeOf.Named name) = filter_map variable (gives (scalar name))
+in_variables gives node = in_places gives node
+
+-- an INTEGER expression that is no constant; any expression that is none
+abbrev pub in_computed : (Tree → List Tree) → NodeOf → List NodeOf
+in_computed gives = in_parts (λ t. if is_constant t then [] else gives t)
+
+-- DSA: one more and one less, within 2147483647 either way; the other truth value
+abbrev pub next_constants : Constant → List Constant
+next_constants (Constant.Number z) = map Constant.Number (filter (λ w. nat_le (nat_abs w) 2147483647) ((z +ℤ pos 1) ∷ ((z -ℤ pos 1) ∷ [])))
+next_constants (Constant.Truth b) = Constant.Truth (not b) ∷ []
+
+abbrev pub in_values : NodeOf → List NodeOf
+in_values (NodeOf.Initial value) = map (λ constant. NodeOf.Initial (record { times = value.times; constant = constant })) (next_constants value.constant)
+in_values _ = []
+
+-- GLR and DER: each other label
+abbrev pub in_labels : List ℕ → NodeOf → List NodeOf
+in_labels labels (NodeOf.Labelled label) = map NodeOf.Labelled (filter (λ other. not (nat_eq other label)) labels)
+in_labels labels _ = []
+
+-- SDL, RSR and SAN: in the place of a statement that does something
+abbrev pub acts : Form → Bool
+acts Form.Assign = true
+acts Form.Goto = true
+acts Form.ComputedGoto = true
+acts Form.ArithIf = true
+acts Form.LogicalIf = true
+acts Form.Return = true
+acts Form.Stop = true
+acts _ = false
+
+abbrev pub acts_or_continues : Form → Bool
+acts_or_continues Form.Continue = true
+acts_or_continues form = acts form
+
+abbrev pub in_statements : (Form → Bool) → Statement → NodeOf → List NodeOf
+in_statements is_site new (NodeOf.Itself s) = if is_site (form_of s) && not (same_statement new s) then NodeOf.Itself new ∷ [] else []
+in_statements is_site new _ = []
+
+abbrev pub replacements : Op → PoolFields → NodeOf → List NodeOf
+replacements Aar pools = in_places (drawn is_element pools.kinds pools.references)
+replacements Abs pools = in_computed (λ t. if same_kind Integer (kind_in pools.kinds t) then absolute t else [])
+replacements Acr pools = in_parts (drawn is_constant pools.kinds pools.references)
+replacements Aor pools = in_parts (with_group arithmetic operands)
+replacements Asr pools = in_places (drawn is_scalar pools.kinds pools.references)
+replacements Car pools = in_parts (drawn is_element pools.kinds pools.constants)
+replacements Cnr pools = in_places (comparable pools)
+replacements Crp pools = in_parts altered
+replacements Csr pools = in_parts (drawn is_scalar pools.kinds pools.constants)
+replacements Der pools = in_labels pools.labels
+replacements Dsa pools = in_values
+replacements Glr pools = in_labels pools.labels
+replacements Lcr pools = in_parts (with_group connectors (λ a b. operands a b ++ truths))
+replacements Ror pools = in_parts (with_group relations (λ a b. truths))
+replacements Rsr pools = in_statements acts_or_continues Statement.Return
+replacements San pools = in_statements acts_or_continues Statement.Trap
+replacements Sar pools = in_places (drawn is_element pools.kinds pools.scalars)
+replacements Scr pools = in_parts (drawn is_constant pools.kinds pools.scalars)
+replacements Sdl pools = in_statements acts Statement.Continue
+replacements Src pools = in_parts (drawn is_constant pools.kinds pools.constants)
+replacements Svr pools = in_variables (drawn is_scalar pools.kinds pools.scalars)
+replacements Uoi pools = in_computed (λ t. with_unary (kind_in pools.kinds t) t)
+
+-- The statements in which an operator has sites: executable ones, but for DATA; of the two that exchange labels DER has the DOs.
+abbrev pub is_form : Form → Statement → Bool
+is_form Form.Loop (Statement.Loop label name a b c) = true
+is_form Form.Preset (Statement.Preset groups) = true
+is_form _ _ = false
+
+abbrev pub stands_in : Op → Statement → Bool
+stands_in Der s = is_form Form.Loop s
+stands_in Dsa s = is_form Form.Preset s
+stands_in Glr s = is_executable s && not (is_form Form.Loop s)
+stands_in _ s = is_executable s
+
+abbrev pub gives : Op → PoolFields → Statement → NodeOf → List NodeOf
+gives op pools s node = if stands_in op s then replacements op pools node else []

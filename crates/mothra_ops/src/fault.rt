@@ -1,0 +1,38 @@
+//! What keeps edits from being answered.
+
+ghost use Rattle.std.specs.Prelude.{◌≡◌};
+ghost use Rattle.mothra_ops.specs.declared.fault.OpsFault.TheVariants as fault;
+
+use crate::op::Op;
+use std::alloc::{AllocError, AllocFailed};
+use thiserror::Error;
+
+/// Why there is no list or no program.
+#[derive(Clone, Copy, Debug, PartialEq, Eq, Drop, Error)]
+pub enum OpsFault {
+    /// No memory was left.
+    #[error("out of memory")]
+    Memory,
+    /// The edit is none of its operator's.
+    #[error("no such edit")]
+    NotASite,
+    /// The operator has more edits than a list holds.
+    #[error("too many edits of one operator")]
+    TooMany(Op),
+}
+
+impl From<AllocError> for OpsFault {
+    ghost from_gives = { λ _ f. f ≡ fault.Memory };
+
+    fn from(_e: AllocError) -> OpsFault {
+        OpsFault::Memory
+    }
+}
+
+impl<T: Drop> From<AllocFailed<T>> for OpsFault {
+    ghost from_gives = { λ _ f. f ≡ fault.Memory };
+
+    fn from(_e: AllocFailed<T>) -> OpsFault {
+        OpsFault::Memory
+    }
+}

@@ -1,0 +1,72 @@
+//! What operators put in the place of a statement, a label or a value of DATA.
+
+ghost use Rattle.std.specs.Prelude.{◌≡◌, [], ◌∷◌, not, map, filter, nat_eq, option_map, IfOk, IfErr, Some, None};
+ghost use Rattle.f77_tree.specs.Node.{NodeOf};
+ghost use Rattle.f77_tree.specs.StatementView.{statement_of};
+ghost use Rattle.f77_legal.specs.NameTable.{kind_at};
+ghost use Rattle.mothra_ops.specs.Replacements as model;
+ghost use Rattle.mothra_ops.specs.Replacements.{next_constants};
+ghost use Rattle.mothra_ops.specs.declared.fault.OpsFault.TheVariants.{Memory};
+
+use crate::fault::OpsFault;
+use f77_tree::{Constant, Form, Stmt, Value};
+use std::alloc::Global;
+
+/// The largest INTEGER that DATA gives, and the size of the least one.
+const MOST: i32 = 2_147_483_647;
+
+/// Whether a statement of this form does something that may be left out.
+pub(crate) fn acts(form: Form) -> bool
+    ensures { result ≡ model.acts form }
+{
+    matches!(
+        form,
+        Form::Assign
+            | Form::Goto
+            | Form::ComputedGoto
+            | Form::ArithIf
+            | Form::LogicalIf
+            | Form::Return
+            | Form::Stop
+    )
+}
+
+pub(crate) fn acts_or_continues(form: Form) -> bool
+    ensures { result ≡ model.acts_or_continues form }
+{
+    matches!(form, Form::Continue) || acts(form)
+}
+
+/// Each other label.
+pub(crate) fn other_labels(alloc: Global, labels: &[u32], own: u32) -> Result<Vec<u32>, OpsFault>
+    ensures list { IfOk result (λ list. list.items ≡ filter (λ other. not (nat_eq other own)) labels.now) }
+    ensures memory { IfErr result (λ fault. fault ≡ Memory) }
+{
+    let mut list = Vec::new(alloc);
+    for label in labels {
+        if *label != own {
+            list.push(*label)?;
+        }
+    }
+    Ok(list)
+}
+
+/// The constants of DATA next to this one: one more and one less, within the range; the other truth value.
+pub(crate) fn next_constants(alloc: Global, constant: Constant) -> Result<Vec<Constant>, OpsFault>
+    ensures list { IfOk result (λ list. list.items ≡ next_constants constant) }
+    ensures memory { IfErr result (λ fault. fault ≡ Memory) }
+{
+    let mut list = Vec::new(alloc);
+    match constant {
+        Constant::Number(number) => {
+            if number < MOST {
+                list.push(Constant::Number(number + 1))?;
+            }
+            if number > -MOST {
+                list.push(Constant::Number(number - 1))?;
+            }
+        }
+        Constant::Truth(truth) => list.push(Constant::Truth(!truth))?,
+    }
+    Ok(list)
+}
