@@ -1,10 +1,8 @@
-//! Verdicts on programs.
+//! Verdicts as texts.
 
-use f77_check::{CheckFault, Checked, check};
+use f77_check::{CheckFault, Checked};
 use f77_syntax::Name;
-use std::process::Abort;
 use std::test::Fail;
-use test_programs::{parts, program};
 
 fn numbered(rt: &impl AllocGlobal, code: &str, number: u32) -> Result<String, Fail> {
     Ok(format!(in rt.alloc(); "{code} {number}")?)
@@ -16,7 +14,7 @@ fn named(rt: &impl AllocGlobal, code: &str, name: &Name) -> Result<String, Fail>
 }
 
 /// The code of a fault and its detail.
-pub(crate) fn told(rt: &impl AllocGlobal, fault: &CheckFault) -> Result<String, Fail> {
+fn told(rt: &impl AllocGlobal, fault: &CheckFault) -> Result<String, Fail> {
     match fault {
         CheckFault::Memory => Ok(String::from_str(rt.alloc(), "C1")?),
         CheckFault::RealName(name) => named(rt, "C2", name),
@@ -36,7 +34,7 @@ pub(crate) fn told(rt: &impl AllocGlobal, fault: &CheckFault) -> Result<String, 
 }
 
 /// The number of statements of a legal program, or its first fault.
-pub(crate) fn verdict_of(
+pub fn verdict_of(
     rt: &impl AllocGlobal,
     answer: &Result<Checked, CheckFault>,
 ) -> Result<String, Fail> {
@@ -47,18 +45,4 @@ pub(crate) fn verdict_of(
         }
         Err(fault) => told(rt, fault),
     }
-}
-
-/// The verdict on the program of these statements.
-pub(crate) fn verdict(rt: &impl AllocGlobal, statements: &str) -> Result<String, Fail> {
-    verdict_of(rt, &check(rt.alloc(), &program(rt, statements)?))
-}
-
-/// Compares the verdict on each program.
-pub(crate) fn assert_verdicts(rt: &(impl AllocGlobal + Abort), rows: &[&str]) -> Result<(), Fail> {
-    for row in rows {
-        let (statements, want) = parts(row)?;
-        assert_eq!(rt; verdict(rt, statements)?.as_str(), want, "{row}");
-    }
-    Ok(())
 }

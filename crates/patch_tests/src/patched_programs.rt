@@ -1,23 +1,12 @@
 //! Programs with one statement changed. A row is a change, or two of which the first is legal, ` => ` and the verdict on
 //! the changed program.
 
-use crate::outcomes::assert_outcomes_of;
-use crate::patches::{answer, changed, held, holder, number_and_text};
-use crate::programs::checked;
-use crate::verdicts::verdict_of;
 use f77_check::Checked;
 use f77_syntax::print;
 use std::process::Abort;
 use std::test::Fail;
+use test_checks::{ADD, LOOP, PRESET, changed, checked, held, holder, number_and_text, verdict_on};
 use test_programs::{parts, program};
-
-const ADD: &str = "SUBROUTINE ADD(I,J,K); K=I+J; END";
-
-const LOOP: &str =
-    "SUBROUTINE LOOP(N,K); K=0; IF (N.LT.0) GO TO 20; DO 10 I=1,N; 10 K=K+I; 20 K=K+1; 30 RETURN; END";
-
-const PRESET: &str =
-    "SUBROUTINE S(K); LOGICAL P; INTEGER M(3); DATA P/.TRUE./,M/3*1/; IF (P) K=M(1); END";
 
 const BLOCK: &str = "SUBROUTINE S(K); IF (K.GT.0) THEN; L=1; ELSE; K=2; END IF; 10 K=K; END";
 
@@ -132,16 +121,9 @@ const NAME_ROWS: &[&str] = &[
 /// The verdict on a change, or on the second of two.
 fn verdict(rt: &impl AllocGlobal, old: &Checked, changes: &str) -> Result<String, Fail> {
     if let Some((first, second)) = changes.split_once("; ") {
-        return last_verdict(rt, &changed(rt, old, first)?, second);
+        return verdict_on(rt, &changed(rt, old, first)?, second);
     }
-    last_verdict(rt, old, changes)
-}
-
-fn last_verdict(rt: &impl AllocGlobal, old: &Checked, change: &str) -> Result<String, Fail> {
-    match answer(rt, old, change)? {
-        Some(answer) => verdict_of(rt, &answer),
-        None => Ok(String::from_str(rt.alloc(), "does not fit")?),
-    }
+    verdict_on(rt, old, changes)
 }
 
 fn assert_changes(
@@ -236,38 +218,4 @@ fn keeps_the_changed_statement(rt: HostRuntime) -> Result<(), Fail> {
         "SUBROUTINE ADD(I,J,K); K=I; END",
     )?;
     assert_printed(&rt, &old, ADD)
-}
-
-fn assert_runs(
-    rt: &(impl AllocGlobal + Abort),
-    statements: &str,
-    change: &str,
-    rows: &[&str],
-) -> Result<(), Fail> {
-    let old = checked(rt, statements)?;
-    assert_outcomes_of(rt, &changed(rt, &old, change)?, rows)
-}
-
-#[test]
-fn runs_the_changed_statement(rt: HostRuntime) -> Result<(), Fail> {
-    assert_runs(&rt, ADD, "2 K=I-J", &["2 3 0 within 9 => Returned 2 3 -1"])?;
-    assert_runs(&rt, LOOP, "5 K=K+2*I", &["3 0 within 20 => Returned 3 13"])?;
-    assert_runs(
-        &rt,
-        LOOP,
-        "3 GO TO (20,30),N",
-        &["2 9 within 20 => Returned 2 0"],
-    )?;
-    assert_runs(
-        &rt,
-        PRESET,
-        "4 DATA P/.TRUE./,M/5,6,7/",
-        &["0 within 9 => Returned 5"],
-    )?;
-    assert_runs(
-        &rt,
-        PRESET,
-        "5 IF (P) K=-M(3)",
-        &["0 within 9 => Returned -1"],
-    )
 }

@@ -1,9 +1,9 @@
 //! Outcomes of assignments.
 
 use crate::outcomes::{assert_outcomes, outcome};
-use crate::programs::checked;
 use std::process::Abort;
 use std::test::Fail;
+use test_checks::checked;
 use test_programs::parts;
 
 const ASSIGNMENTS: &[&str] = &[

@@ -1,12 +1,11 @@
 //! Each form of statement in the place of each other one: what tells of a change by the changed statement alone agrees with
 //! the check of the whole changed program.
 
-use crate::patches::{changed, held, holder, patch_fault, patched};
-use crate::programs::checked;
-use f77_check::{CheckFault, Checked, check};
+use f77_check::Checked;
 use f77_syntax::Stmt;
 use std::process::Abort;
 use std::test::Fail;
+use test_checks::{changed, checked, held, holder, patch_fault, patched_fault, whole_fault};
 
 /// A program that has each form of statement.
 const FORMS: &str =
@@ -78,24 +77,6 @@ const FIRST_CHANGES: &[&str] = &[
     "10 CONTINUE",
     "11 IF (K.EQ.1) THEN",
 ];
-
-/// What the check of the whole changed program answers, None where the statement does not fit.
-fn whole_fault(
-    rt: &impl AllocGlobal,
-    old: &Checked,
-    number: usize,
-    stmt: &Stmt,
-) -> Result<Option<Option<CheckFault>>, Fail> {
-    if !old.fits(number, stmt) {
-        return Ok(None);
-    }
-    let new = old.program().with_statement(number, stmt)?;
-    Ok(Some(check(rt.alloc(), &new).err()))
-}
-
-fn patched_fault(old: &Checked, number: usize, stmt: &Stmt) -> Option<Option<CheckFault>> {
-    Some(patched(old, number, stmt)?.err())
-}
 
 /// Compares the three answers for each place of a statement.
 fn assert_agreed(

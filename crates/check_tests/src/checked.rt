@@ -1,9 +1,9 @@
 //! What a checked program tells: its lines, its dummy arguments and where a run starts.
 
-use crate::programs::checked;
 use f77_check::{Shape, Start};
 use f77_syntax::{Constant, print};
 use std::test::Fail;
+use test_checks::checked;
 use test_programs::program;
 
 const SHAPES: &str = "SUBROUTINE S(K,M,P); INTEGER M(3,4); LOGICAL P; P=K.GT.M(1,2); END";

@@ -1,11 +1,11 @@
 //! Outcomes of runs as texts.
 
 use crate::arguments::arguments;
-use crate::programs::checked;
 use f77_check::Checked;
 use f77_run::{Arg, Outcome, RunFault, run};
 use std::process::Abort;
 use std::test::Fail;
+use test_checks::checked;
 use test_programs::parts;
 
 fn show_numbers(text: &mut String, values: &[i32]) -> Result<(), Fail> {

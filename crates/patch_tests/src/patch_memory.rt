@@ -1,12 +1,10 @@
 //! Each allocation can be refused: a change is then answered with want of memory, and else undisturbed, and the program
 //! that is changed stays as it was.
 
-use crate::patches::{held, holder, number_and_text, patch_fault, patched};
-use crate::programs::checked;
-use f77_check::{CheckFault, Checked};
-use f77_syntax::Stmt;
+use f77_check::CheckFault;
 use std::process::Abort;
 use std::test::Fail;
+use test_checks::{checked, held, holder, number_and_text, patch_fault, patched_fault};
 use test_programs::program;
 
 const LOOP: &str = "SUBROUTINE S(K); DO 10 I=1,3; 10 K=K+I; END";
@@ -22,10 +20,6 @@ const WHOLE: &str = "2 K=0";
 
 /// The same, with a fault.
 const WHOLE_FAULT: &str = "2 DO 20 I=1,3";
-
-fn patched_fault(old: &Checked, number: usize, stmt: &Stmt) -> Option<Option<CheckFault>> {
-    Some(patched(old, number, stmt)?.err())
-}
 
 /// Whether a fault is of want of memory, or as it is with ample memory.
 fn assert_answer(rt: &impl Abort, answer: Option<Option<CheckFault>>, want: &Option<CheckFault>) {

@@ -5,6 +5,6 @@ use std::test::Fail;
 use test_programs::program;
 
 /// The program of statements with `; ` between them, checked.
-pub(crate) fn checked(rt: &impl AllocGlobal, statements: &str) -> Result<Checked, Fail> {
+pub fn checked(rt: &impl AllocGlobal, statements: &str) -> Result<Checked, Fail> {
     Ok(check(rt.alloc(), &program(rt, statements)?)?)
 }

@@ -1,8 +1,6 @@
-//! The texts of faults.
+//! The texts of faults of programs.
 
 use f77_check::{CheckFault, check};
-use f77_run::RunFault;
-use std::fmt::Display;
 use std::process::Abort;
 use std::test::Fail;
 use test_programs::program;
@@ -10,7 +8,7 @@ use test_programs::program;
 /// Compares the text of a fault.
 fn assert_text(
     rt: &(impl AllocGlobal + Abort),
-    fault: &impl Display,
+    fault: &CheckFault,
     want: &str,
 ) -> Result<(), Fail> {
     let text = format!(in rt.alloc(); "{fault}")?;
@@ -117,20 +115,5 @@ fn faults_of_the_whole_program_have_texts(rt: HostRuntime) -> Result<(), Fail> {
         &rt,
         &CheckFault::TooMany,
         "the program has too many statements, names or elements",
-    )
-}
-
-#[test]
-fn faults_of_runs_have_texts(rt: HostRuntime) -> Result<(), Fail> {
-    assert_text(&rt, &RunFault::Memory, "memory ran out")?;
-    assert_text(
-        &rt,
-        &RunFault::ArgumentCount,
-        "there are more or fewer values than dummy arguments",
-    )?;
-    assert_text(
-        &rt,
-        &RunFault::ArgumentShape(3),
-        "value 3 has another kind or another number of elements than its dummy argument",
     )
 }

@@ -1,12 +1,14 @@
 //! Changes of one statement of a checked program. A change is a number and a statement.
 
-use f77_check::{CheckFault, Checked};
+use crate::verdicts::verdict_of;
+use f77_check::{CheckFault, Checked, check};
 use f77_syntax::{Program, Stmt};
+use std::alloc::Global;
 use std::test::Fail;
 use test_programs::program;
 
 /// A program that holds the statement of this text.
-pub(crate) fn holder(rt: &impl AllocGlobal, text: &str) -> Result<Program, Fail> {
+pub fn holder(rt: &impl AllocGlobal, text: &str) -> Result<Program, Fail> {
     if text == "END" {
         return program(rt, "SUBROUTINE Z; END");
     }
@@ -19,7 +21,7 @@ pub(crate) fn holder(rt: &impl AllocGlobal, text: &str) -> Result<Program, Fail>
 }
 
 /// The statement of this text in the program that holds it.
-pub(crate) fn held<'a>(holder: &'a Program, text: &str) -> Result<&'a Stmt, Fail> {
+pub fn held<'a>(holder: &'a Program, text: &str) -> Result<&'a Stmt, Fail> {
     let number = if text.starts_with("SUBROUTINE") { 1 } else { 2 };
     match holder.line(number) {
         Some(line) => Ok(&line.stmt),
@@ -28,7 +30,7 @@ pub(crate) fn held<'a>(holder: &'a Program, text: &str) -> Result<&'a Stmt, Fail
 }
 
 /// The number and the text of a change.
-pub(crate) fn number_and_text(change: &str) -> Result<(usize, &str), Fail> {
+pub fn number_and_text(change: &str) -> Result<(usize, &str), Fail> {
     match change.split_once(' ') {
         Some((number, text)) => Ok((number.parse()?, text)),
         None => Err(Fail::new("a change is a number and a statement")),
@@ -36,11 +38,7 @@ pub(crate) fn number_and_text(change: &str) -> Result<(usize, &str), Fail> {
 }
 
 /// What `patched` answers, None where the statement does not fit.
-pub(crate) fn patched(
-    old: &Checked,
-    number: usize,
-    stmt: &Stmt,
-) -> Option<Result<Checked, CheckFault>> {
+pub fn patched(old: &Checked, number: usize, stmt: &Stmt) -> Option<Result<Checked, CheckFault>> {
     if !old.fits(number, stmt) {
         return None;
     }
@@ -48,15 +46,41 @@ pub(crate) fn patched(
 }
 
 /// What `patch_fault` answers, None where the statement does not fit.
-pub(crate) fn patch_fault(old: &Checked, number: usize, stmt: &Stmt) -> Option<Option<CheckFault>> {
+pub fn patch_fault(old: &Checked, number: usize, stmt: &Stmt) -> Option<Option<CheckFault>> {
     if !old.fits(number, stmt) {
         return None;
     }
     Some(old.patch_fault(number, stmt))
 }
 
+/// The fault that `patched` answers, None where the statement does not fit.
+pub fn patched_fault(old: &Checked, number: usize, stmt: &Stmt) -> Option<Option<CheckFault>> {
+    if !old.fits(number, stmt) {
+        return None;
+    }
+    Some(old.patched(number, stmt).err())
+}
+
+fn fault_of(alloc: Global, program: &Program) -> Option<CheckFault> {
+    check(alloc, program).err()
+}
+
+/// The fault that the check of the whole changed program answers, None where the statement does not fit.
+pub fn whole_fault(
+    rt: &impl AllocGlobal,
+    old: &Checked,
+    number: usize,
+    stmt: &Stmt,
+) -> Result<Option<Option<CheckFault>>, Fail> {
+    if !old.fits(number, stmt) {
+        return Ok(None);
+    }
+    let new = old.program().with_statement(number, stmt)?;
+    Ok(Some(fault_of(rt.alloc(), &new)))
+}
+
 /// What `patched` answers to a change.
-pub(crate) fn answer(
+pub fn answer(
     rt: &impl AllocGlobal,
     old: &Checked,
     change: &str,
@@ -67,9 +91,17 @@ pub(crate) fn answer(
 }
 
 /// The program with a change that is legal.
-pub(crate) fn changed(rt: &impl AllocGlobal, old: &Checked, change: &str) -> Result<Checked, Fail> {
+pub fn changed(rt: &impl AllocGlobal, old: &Checked, change: &str) -> Result<Checked, Fail> {
     match answer(rt, old, change)? {
         Some(new) => Ok(new?),
         None => Err(Fail::new("the statement does not fit")),
+    }
+}
+
+/// The verdict on the program with a change.
+pub fn verdict_on(rt: &impl AllocGlobal, old: &Checked, change: &str) -> Result<String, Fail> {
+    match answer(rt, old, change)? {
+        Some(answer) => verdict_of(rt, &answer),
+        None => Ok(String::from_str(rt.alloc(), "does not fit")?),
     }
 }

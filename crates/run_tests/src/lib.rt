@@ -1,0 +1,21 @@
+//! Tests of the public calls that run programs. A row of a table is an input, ` => ` and what it gives.
+#![tactic(auto)]
+
+#[cfg(test)]
+mod arguments;
+#[cfg(test)]
+mod outcomes;
+#[cfg(test)]
+mod run_arguments;
+#[cfg(test)]
+mod run_arithmetic;
+#[cfg(test)]
+mod run_branches;
+#[cfg(test)]
+mod run_changed;
+#[cfg(test)]
+mod run_data;
+#[cfg(test)]
+mod run_faults;
+#[cfg(test)]
+mod run_loops;
