@@ -29,14 +29,18 @@ made pools program edit =
     (slice_get (sites line.stmt) edit.position))
     (numbered program edit.statement)
 
--- The edit is one of the operator's: what it makes is a legal program, and another one.
+-- The program with this statement in the place of the one with this number is a mutant: it is legal, and another one.
+pub record IsMutant (program : List LineFields) (number : ℕ) (statement : Statement) : Type 0 where
+  pub fits : Fits program number statement
+  pub legal : IsLegal (patched program number statement)
+  pub differs : statement_at program (number - 1) ≢ Some statement
+
+-- The edit is one of the operator's: what it makes is a mutant.
 pub record IsMember (op : Op) (program : List LineFields) (edit : Edit) : Type 0 where
   pub own : edit.op ≡ op
   pub statement : Statement
   pub makes : made (pools_of program) program edit ≡ Some statement
-  pub fits : Fits program edit.statement statement
-  pub legal : IsLegal (patched program edit.statement statement)
-  pub differs : statement_at program (edit.statement - 1) ≢ Some statement
+  pub mutant : IsMutant program edit.statement statement
 
 -- the order of statement, position and rank
 abbrev pub Below : ℕ → ℕ → ℕ → Edit → Type 0
@@ -76,6 +80,11 @@ pub record IsTooLong (op : Op) (program : List LineFields) (q : ℕ) : Type 0 wh
   pub ordered : AllPairs Before some
   pub members : All (IsMember op program) some
   pub many : (most_edits < length (thinned q some)) ⊎ (most_whole < length some)
+
+-- the list thinned by q, with the length of the whole one
+pub record IsCountedList (op : Op) (program : List LineFields) (q : ℕ) (edits : List Edit) (count : ℕ) : Type 0 where
+  pub list : IsList op program q edits
+  pub counted : count ≡ length list.whole
 
 -- why there is no list
 abbrev pub IsNoList : Op → List LineFields → ℕ → OpsFault → Type 0

@@ -2,3 +2,7 @@ pub mod Op
 pub mod Pools
 pub mod Replacements
 pub mod Edits
+pub mod Original
+pub mod Listing
+pub mod Plan
+pub mod InPlaces

@@ -1,14 +1,18 @@
 -- What the operators draw from: the scalars and arrays of a program, its array references, its constants and its labels.
-use Rattle.std.specs.Prelude.{ℕ, Bool, true, false, not, nat_lt, List, [], ◌∷◌, ◌++◌, filter, map, fold, Option, Some, None, if◌then◌else◌}
+use Rattle.std.specs.Prelude.{ℕ, Bool, true, false, not, nat_lt, List, [], ◌∷◌, filter, map, fold, Option, Some, None, if◌then◌else◌}
 use Rattle.std.specs.List.{flat_map, filter_map}
 use Rattle.f77_tree.specs.Comparing.{same_tree}
 use Rattle.f77_tree.specs.Node.{NodeOf, nodes_of}
 use Rattle.f77_tree.specs.Parsing.{LineFields}
 use Rattle.f77_tree.specs.Tree.{Tree, Trees, Statement}
+use Rattle.f77_tree.specs.View.{trees, tree_of, place_of}
 use Rattle.f77_tree.specs.declared.tree.Kind.{Kind}
+use Rattle.f77_tree.specs.declared.tree.Ref.{Ref}
 use Rattle.f77_legal.specs.Labels.{labels}
 use Rattle.f77_legal.specs.Legal.{is_array}
+use Rattle.f77_legal.specs.NameTable.{kind_at, bounds_at}
 use Rattle.f77_legal.specs.Names.{Symbol, symbols, kind_of, bounds_of}
+use Rattle.mothra_ops.specs.declared.pools.Pools.{Pools}
 
 -- each item once, where it comes first
 abbrev pub each_once : {X : Type 0} → (X → X → Bool) → List X → List X
@@ -68,4 +72,19 @@ pools_of program = record {
   references = each_once same_tree (filter_map array_reference (executable_nodes program));
   constants = each_once same_tree (filter_map constant (executable_nodes program));
   labels = ascending (labels program);
+}
+
+-- what pools of the program stand for
+abbrev pub reference_of : Ref → Tree
+reference_of reference = Tree.Reference (place_of reference).0 (trees (place_of reference).1)
+
+abbrev pub fields_of : Pools → PoolFields
+fields_of pools = record {
+  kinds = kind_at pools.names;
+  bounds = bounds_at pools.names;
+  scalars = map scalar pools.scalars.items;
+  arrays = pools.arrays.items;
+  references = map (λ reference. reference_of reference.now) pools.references.items;
+  constants = map (λ constant. tree_of constant.now) pools.constants.items;
+  labels = pools.labels.items;
 }

@@ -2,12 +2,25 @@
 #![tactic(auto)]
 
 mod edit;
+mod editing;
 mod expressions;
 mod fault;
+mod in_expressions;
+mod in_places;
 pub mod law;
+mod listing;
+mod news;
 mod op;
+mod original;
+mod places;
+mod plan;
+mod pools;
+mod replacing;
+mod site;
 mod statements;
 
 pub use edit::Edit;
+pub use editing::{apply, edits};
 pub use fault::OpsFault;
 pub use op::Op;
+pub use plan::Plan;

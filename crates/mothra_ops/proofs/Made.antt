@@ -1,0 +1,99 @@
+-- What an edit makes, by the line, the node and the replacement that are found.
+use Rattle.std.proofs.Common.{arith, ◌≡◌, ◌<◌, ◌≤◌, ◌-◌, ◌+◌, ℕ, zero, suc, length, List, map, refl, Option, Some, None, ap, sym, ◌∙◌, inl, inr, get_or}
+use Rattle.std.specs.Prelude.{◌⊎◌, option_map, slice_get}
+use Rattle.std.specs.Option.{option_and_then}
+use Rattle.std.proofs.lemmas.Option.{none-some, slice_get-map, slice_get_cases, slice_get_past, slice_get_read}
+use Rattle.std.proofs.lemmas.List.{length-map}
+use Rattle.f77_tree.specs.Node.{NodeOf, node_of, nodes_of}
+use Rattle.f77_tree.specs.Parsing.{LineFields, line_of, line_at}
+use Rattle.f77_tree.specs.StatementView.{statement_of}
+use Rattle.f77_tree.specs.Tree.{Statement}
+use Rattle.f77_tree.specs.declared.node.Node.{Node}
+use Rattle.f77_tree.specs.declared.program.Line.{Line}
+use Rattle.f77_sites.specs.New.{new_of}
+use Rattle.f77_sites.specs.Sites.{Site, changed, sites}
+use Rattle.f77_sites.specs.declared.new.New.{New}
+use Rattle.mothra_ops.specs.Edits.{made, numbered}
+use Rattle.mothra_ops.specs.Original.{Has, StandsAt}
+use Rattle.mothra_ops.specs.Pools.{PoolFields}
+use Rattle.mothra_ops.specs.Replacements.{gives}
+use Rattle.mothra_ops.specs.declared.edit.Edit.{Edit}
+use Rattle.mothra_ops.specs.declared.op.Op.{Op}
+use Rattle.mothra_ops.proofs.Members.{node_there, made_there}
+use Rattle.mothra_ops.proofs.Mutants.{line_numbered}
+
+-- a number that no item has
+pub past : {X : Type 0} (xs : List X) (r : ℕ) → (r ≡ 0) ⊎ (length xs < r) → numbered xs r ≡ None
+past xs zero h = refl
+past xs (suc k) (inl e) = absurd (omega (arith, e))
+past xs (suc k) (inr h) = slice_get_past xs k (omega (arith, h))
+
+-- the number of an item, from 1
+pub item_numbered : (news : List New) (r : ℕ) (new : New) → 1 ≤ r → r ≤ length news → new ≡ get_or news (r - 1) new → numbered (map new_of news) r ≡ Some (new_of new)
+item_numbered news zero new low high is = absurd (omega (arith, low))
+item_numbered news (suc k) new low high is =
+    let e : suc k - 1 ≡ k = omega arith in
+    slice_get-map new_of news k ∙ ap (option_map new_of) (slice_get_read news (length news) k new refl (omega (arith, high)) (is ∙ ap (λ (j : ℕ). get_or news j new) e))
+
+pub next_numbered : (news : List New) (k : ℕ) (new : New) → k < length news → new ≡ get_or news k new → numbered (map new_of news) (k + 1) ≡ Some (new_of new)
+next_numbered news k new low is =
+    let e : k ≡ k + 1 - 1 = omega arith in
+    item_numbered news (k + 1) new (omega arith) (omega (arith, low)) (is ∙ ap (λ (j : ℕ). get_or news j new) e)
+
+-- the same of nodes and of lines
+pub node_listed : (nodes : List Node) (s : Statement) (k : ℕ) (node : Node) → map node_of nodes ≡ nodes_of s → k < length nodes → node ≡ get_or nodes k node
+    → slice_get (nodes_of s) k ≡ Some (node_of node)
+node_listed nodes s k node all low is =
+    ap (λ (ns : List NodeOf). slice_get ns k) (sym all) ∙ slice_get-map node_of nodes k ∙ ap (option_map node_of) (slice_get_read nodes (length nodes) k node refl low is)
+
+pub line_has : (lines : List Line) (k : ℕ) (line : Line) → k < length lines → line ≡ get_or lines k line → Has (map line_of lines) (k + 1) (statement_of line.stmt)
+line_has lines k line low is =
+    let e : k + 1 ≡ suc k = omega arith in
+    ap (λ (j : ℕ). option_map (λ (l : LineFields). l.stmt) (numbered (map line_of lines) j)) e
+    ∙ ap (option_map (λ (l : LineFields). l.stmt)) (slice_get-map line_of lines k ∙ ap (option_map line_of) (slice_get_read lines (length lines) k line refl low is))
+
+-- what an operator gives, of other words for it and for the pools
+module _ (op other : Op) (pools wanted : PoolFields) (s : Statement) (node : NodeOf) (news : List New) (same : other ≡ op) (drawn : pools ≡ wanted)
+    (given : map new_of news ≡ gives op pools s node) where
+  pub the_given : gives other wanted s node ≡ map new_of news
+  the_given = ap (λ (o : Op). gives o wanted s node) same ∙ ap (λ (p : PoolFields). gives op p s node) (sym drawn) ∙ sym given
+
+  pub given_next : (k : ℕ) (new : New) → k < length news → new ≡ get_or news k new → numbered (gives other wanted s node) (k + 1) ≡ Some (new_of new)
+  given_next k new low is = ap (λ (ns : List NodeOf). numbered ns (k + 1)) the_given ∙ next_numbered news k new low is
+
+  pub given_many : length (gives other wanted s node) ≡ length news
+  given_many = ap length the_given ∙ length-map news new_of
+
+-- where the statement has no node, and where the operator puts nothing of the rank
+module _ (pools : PoolFields) (lines : List Line) (edit : Edit) (line : Line) (at : line_at lines edit.statement ≡ Some line) where
+  of_line : numbered (map line_of lines) edit.statement ≡ Some (line_of line)
+  of_line = line_numbered lines edit.statement ∙ ap (option_map line_of) at
+
+  abbrev at_site : Statement → Option (Site Statement) → Option Statement
+  at_site stmt o = option_and_then (λ (x : Site Statement). option_and_then (λ n. Some (x.1 n)) (numbered (gives edit.op pools stmt x.0) edit.rank)) o
+
+  there : made pools (map line_of lines) edit ≡ at_site (statement_of line.stmt) (slice_get (sites (statement_of line.stmt)) edit.position)
+  there = ap (option_and_then (λ (l : LineFields). at_site l.stmt (slice_get (sites l.stmt) edit.position))) of_line
+
+  pub no_node : slice_get (nodes_of (statement_of line.stmt)) edit.position ≡ None → made pools (map line_of lines) edit ≡ None
+  no_node none = elim (slice_get_cases (sites (statement_of line.stmt)) edit.position).1 [
+    | inl (site, low, of_site, i) ↦ absurd (none-some site.0 (sym none ∙ node_there (statement_of line.stmt) edit.position site of_site))
+    | inr (high, no_site) ↦ there ∙ ap (at_site (statement_of line.stmt)) no_site
+  ]
+
+  module _ (node : NodeOf) (node_is : slice_get (nodes_of (statement_of line.stmt)) edit.position ≡ Some node) where
+    pub no_new : numbered (gives edit.op pools (statement_of line.stmt) node) edit.rank ≡ None → made pools (map line_of lines) edit ≡ None
+    no_new none = elim (slice_get_cases (sites (statement_of line.stmt)) edit.position).1 [
+      | inl (site, low, of_site, i) ↦
+          let same : Some site.0 ≡ Some node = sym (node_there (statement_of line.stmt) edit.position site of_site) ∙ node_is in
+          there ∙ ap (at_site (statement_of line.stmt)) of_site
+          ∙ ap (λ (o : Option NodeOf). option_and_then (λ n. Some (site.1 n)) (option_and_then (λ (m : NodeOf). numbered (gives edit.op pools (statement_of line.stmt) m) edit.rank) o)) same
+          ∙ ap (option_and_then (λ n. Some (site.1 n))) none
+      | inr (high, no_site) ↦ there ∙ ap (at_site (statement_of line.stmt)) no_site
+    ]
+
+    pub the_new : (new : NodeOf) → numbered (gives edit.op pools (statement_of line.stmt) node) edit.rank ≡ Some new
+        → made pools (map line_of lines) edit ≡ Some (changed (statement_of line.stmt) edit.position new)
+    the_new new is =
+        made_there pools (map line_of lines) edit.op edit.statement edit.position edit.rank (statement_of line.stmt) node new
+        (record { statement_at = ap (option_map (λ (l : LineFields). l.stmt)) of_line; node_at = node_is }) is

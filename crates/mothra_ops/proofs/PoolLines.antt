@@ -1,0 +1,95 @@
+-- The pools of a program: labels in their places, and what a table of names tells.
+use Rattle.std.proofs.Common.{◌≡◌, ◌<◌, ◌≤◌, ◌∷◌, [], ℕ, List, Bool, true, false, not, length, map, filter, get_or, nat_lt, refl, sym, ap, ◌∙◌, suc, zero, arith}
+use Rattle.std.specs.Prelude.{is_some}
+use Rattle.std.specs.Bool.{beq}
+use Rattle.std.specs.List.{insert, filter_map}
+use Rattle.std.specs.Map.{keys_of}
+use Rattle.std.proofs.lemmas.Bool.Decides.{nat_tests}
+use Rattle.std.proofs.lemmas.Map.Made.{keys_of-map_values}
+use Rattle.indexmap.specs.IndexMap.{keys}
+use Rattle.f77_tree.specs.Comparing.{same_tree}
+use Rattle.f77_tree.specs.Node.{NodeOf}
+use Rattle.f77_tree.specs.Parsing.{LineFields}
+use Rattle.f77_tree.specs.Tree.{Tree}
+use Rattle.f77_tree.specs.declared.tree.Kind.{Kind}
+use Rattle.f77_legal.specs.Labels.{labels}
+use Rattle.f77_legal.specs.Legal.{is_array}
+use Rattle.f77_legal.specs.Names.{Symbol, mentions, symbols, some_items}
+use Rattle.f77_legal.specs.NameTable.{FactsFields, IsNameTable, fields_of, facts_of, kind_at, bounds_at}
+use Rattle.f77_legal.specs.declared.names.Names.{Names}
+use Rattle.f77_legal.proofs.Lookups.{same_kinds, same_bounds}
+use Rattle.f77_legal.proofs.NameTables.{rows}
+use Rattle.mothra_ops.specs.Pools.{PoolFields, pools_of, placed, ascending, each_once, scalar, array_reference, constant, executable_nodes}
+
+pub placed_at : (ns : List ℕ) (n i : ℕ) → i < length ns → ((k : ℕ) → k < i → get_or ns k 0 < n) → n ≤ get_or ns i 0 → insert ns i n ≡ placed n ns
+placed_at [] n i lt below above = absurd (omega (arith, lt))
+placed_at (m ∷ ms) n zero lt below above = let e : nat_lt m n ≡ false = grind (arith, nat_tests) in rw e refl
+placed_at (m ∷ ms) n (suc i) lt below above =
+    let low = below 0 (omega arith) in
+    let e : nat_lt m n ≡ true = grind (arith, nat_tests) in
+    rw e (ap (λ z. m ∷ z) (placed_at ms n i (omega (arith, lt)) (λ k less. below (suc k) (omega (arith, less))) above))
+
+pub placed_last : (ns : List ℕ) (n : ℕ) → ((k : ℕ) → k < length ns → get_or ns k 0 < n) → insert ns (length ns) n ≡ placed n ns
+placed_last [] n below = refl
+placed_last (m ∷ ms) n below =
+    let low = below 0 (omega arith) in
+    let e : nat_lt m n ≡ true = grind (arith, nat_tests) in
+    rw e (ap (λ z. m ∷ z) (placed_last ms n (λ k less. below (suc k) (omega (arith, less)))))
+
+keys_rows : (f : Symbol → FactsFields) (names : List Symbol) → keys_of (rows f names) ≡ names
+keys_rows f [] = refl
+keys_rows f (name ∷ names) = ap (λ z. name ∷ z) (keys_rows f names)
+
+keys_are : (names : Names) (program : List LineFields) → IsNameTable names program → keys names.facts ≡ symbols program
+keys_are names program is =
+    sym (keys_of-map_values fields_of names.facts.entries) ∙ (ap keys_of is ∙ keys_rows (facts_of (mentions program)) (symbols program))
+
+-- a test against a constant
+is_false : (b : Bool) → beq b false ≡ not b
+is_false true = refl
+is_false false = refl
+
+is_true : (b : Bool) → beq b true ≡ b
+is_true true = refl
+is_true false = refl
+
+abbrev drawn_from : (Symbol → Kind) → (Symbol → List ℕ) → List Symbol → List Symbol → List Tree → List Tree → List ℕ → PoolFields
+drawn_from kinds bounds scalars arrays references constants ordered = record {
+  kinds = kinds;
+  bounds = bounds;
+  scalars = map scalar scalars;
+  arrays = arrays;
+  references = references;
+  constants = constants;
+  labels = ordered;
+}
+
+-- what the table of a program's names tells
+module _ (names : Names) (program : List LineFields) (is : IsNameTable names program) where
+  scalars_are : filter (λ name. beq (is_some (some_items (bounds_at names name))) false) (keys names.facts) ≡ filter (λ name. not (is_array program name)) (symbols program)
+  scalars_are =
+      (λ i. filter (λ name. is_false (is_some (some_items (bounds_at names name))) i) (keys names.facts))
+      ∙ (λ i. filter (λ name. not (is_some (some_items (same_bounds names program is i name)))) (keys_are names program is i))
+
+  arrays_are : filter (λ name. beq (is_some (some_items (bounds_at names name))) true) (keys names.facts) ≡ filter (is_array program) (symbols program)
+  arrays_are =
+      (λ i. filter (λ name. is_true (is_some (some_items (bounds_at names name))) i) (keys names.facts))
+      ∙ (λ i. filter (λ name. is_some (some_items (same_bounds names program is i name))) (keys_are names program is i))
+
+  pub pools_are : (nodes : List NodeOf) (own : List ℕ) (scalars arrays : List Symbol) (references constants : List Tree) (ordered : List ℕ)
+      → nodes ≡ executable_nodes program → own ≡ labels program
+      → scalars ≡ filter (λ name. beq (is_some (some_items (bounds_at names name))) false) (keys names.facts)
+      → arrays ≡ filter (λ name. beq (is_some (some_items (bounds_at names name))) true) (keys names.facts)
+      → references ≡ each_once same_tree (filter_map array_reference nodes)
+      → constants ≡ each_once same_tree (filter_map constant nodes)
+      → ordered ≡ ascending own
+      → drawn_from (kind_at names) (bounds_at names) scalars arrays references constants ordered ≡ pools_of program
+  pools_are nodes own scalars arrays references constants ordered visited labelled without with_bounds referred constant_is sorted = λ i. record {
+    kinds = same_kinds names program is i;
+    bounds = same_bounds names program is i;
+    scalars = map scalar ((without ∙ scalars_are) i);
+    arrays = (with_bounds ∙ arrays_are) i;
+    references = (referred ∙ ap (λ ns. each_once same_tree (filter_map array_reference ns)) visited) i;
+    constants = (constant_is ∙ ap (λ ns. each_once same_tree (filter_map constant ns)) visited) i;
+    labels = (sorted ∙ ap ascending labelled) i;
+  }

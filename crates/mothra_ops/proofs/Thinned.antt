@@ -1,0 +1,38 @@
+-- A list of which each q-th item is kept, with one item more.
+use Rattle.std.proofs.Common.{◌≡◌, ◌≢◌, ◌≤◌, ◌+◌, ◌%◌, ℕ, suc, Bool, true, false, List, [], ◌∷◌, ◌++◌, length, map, filter, refl, sym, ap, ◌∙◌, arith}
+use Rattle.std.specs.Prelude.{◌==◌, cond}
+use Rattle.std.specs.List.{enumerate_from}
+use Rattle.std.proofs.lemmas.Bool.Decides.{nat_tests}
+use Rattle.std.proofs.lemmas.List.{map-append, append-nil}
+use Rattle.std.proofs.lemmas.List.Elements.{filter-append}
+use Rattle.mothra_ops.specs.Edits.{thinned}
+
+enumerate_push : {X : Type 0} (n : ℕ) (xs : List X) (x : X) → enumerate_from n (xs ++ x ∷ []) ≡ enumerate_from n xs ++ (n + length xs, x) ∷ []
+enumerate_push n [] x = let e : n ≡ n + 0 = omega arith in ap (λ (k : ℕ). (k, x) ∷ []) e
+enumerate_push n (y ∷ ys) x =
+    let e : n + 1 + length ys ≡ n + suc (length ys) = omega arith in
+    ap (λ l. (n, y) ∷ l) (enumerate_push (n + 1) ys x ∙ ap (λ (k : ℕ). enumerate_from (n + 1) ys ++ (k, x) ∷ []) e)
+
+not_zero : (m : ℕ) → m ≢ 0 → (m == 0) ≡ false
+not_zero m some = grind (arith, nat_tests)
+
+module _ {X : Type 0} (q : ℕ) (xs : List X) (x : X) where
+  pushed : enumerate_from 0 (xs ++ x ∷ []) ≡ enumerate_from 0 xs ++ (length xs, x) ∷ []
+  pushed = let e : 0 + length xs ≡ length xs = omega arith in enumerate_push 0 xs x ∙ ap (λ (k : ℕ). enumerate_from 0 xs ++ (k, x) ∷ []) e
+
+  one_more : thinned q (xs ++ x ∷ []) ≡ thinned q xs ++ map (λ (numbered : ℕ × X). numbered.1) (cond (length xs % q == 0) ((length xs, x) ∷ []) [])
+  one_more =
+      ap (λ l. map (λ (numbered : ℕ × X). numbered.1) (filter (λ (numbered : ℕ × X). numbered.0 % q == 0) l)) pushed
+      ∙ ap (map (λ (numbered : ℕ × X). numbered.1)) (filter-append (λ (numbered : ℕ × X). numbered.0 % q == 0) (enumerate_from 0 xs) ((length xs, x) ∷ []))
+      ∙ map-append (λ (numbered : ℕ × X). numbered.1) (filter (λ (numbered : ℕ × X). numbered.0 % q == 0) (enumerate_from 0 xs)) (cond (length xs % q == 0) ((length xs, x) ∷ []) [])
+
+  -- it is kept behind a number of items that q divides
+  pub thinned_kept : length xs % q ≡ 0 → thinned q (xs ++ x ∷ []) ≡ thinned q xs ++ x ∷ []
+  thinned_kept none =
+      one_more ∙ ap (λ (m : ℕ). thinned q xs ++ map (λ (numbered : ℕ × X). numbered.1) (cond (m == 0) ((length xs, x) ∷ []) [])) none
+
+  -- and not behind another
+  pub thinned_passed : length xs % q ≢ 0 → thinned q (xs ++ x ∷ []) ≡ thinned q xs
+  thinned_passed some =
+      one_more ∙ ap (λ b. thinned q xs ++ map (λ (numbered : ℕ × X). numbered.1) (cond b ((length xs, x) ∷ []) [])) (not_zero (length xs % q) some)
+      ∙ append-nil (thinned q xs)

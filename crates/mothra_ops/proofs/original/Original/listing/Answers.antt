@@ -1,0 +1,49 @@
+use Rattle.std.proofs.Common.{arith, ◌≡◌, ◌+◌, ◌<◌, ℕ, List, map, length, subst, ap, sym, ◌∙◌, refl}
+use Rattle.std.proofs.lemmas.List.{length-map}
+use Rattle.std.proofs.lemmas.Result.{err_from_is_err_and}
+use Rattle.f77_tree.specs.Parsing.{line_of}
+use Rattle.f77_tree.specs.StatementView.{statement_of}
+use Rattle.f77_tree.specs.declared.program.Line.{Line}
+use Rattle.mothra_ops.specs.Original.{Has, lines_of}
+use Rattle.mothra_ops.proofs.Comings.{come_at_start, come_to_end, counted_of, no_list_of}
+use Rattle.mothra_ops.proofs.Made.{line_has}
+use Rattle.mothra_ops.proofs.original.Original.listing.Goals as goal
+
+pub loop-i-init : goal.loop-i-init
+loop-i-init c = record {
+  op = refl;
+  every = refl;
+  come = λ own. come_at_start _ (lines_of c.args.self.now) c.new.ensures.items refl;
+}
+
+pub returns-in_err-list_statement-clause-refused : goal.returns-in_err-list_statement-clause-refused
+returns-in_err-list_statement-clause-refused c =
+    let p = err_from_is_err_and c.from_residual.result c.from_residual.ensures.1 in
+    let has : Has (lines_of c.args.self.now) (c.loop-i.i + 1) (statement_of c.deref.result.now.stmt) =
+    subst (λ (ls : List Line). Has (map line_of ls) (c.loop-i.i + 1) (statement_of c.deref.result.now.stmt)) (c.lines-lines.ensures.lines ∙ c.program.ensures.program)
+    (subst (λ (l : Line). Has (map line_of c.lines-lines.result.now) (c.loop-i.i + 1) (statement_of l.stmt)) (sym c.deref.ensures)
+    (line_has c.lines-lines.result.now c.loop-i.i c.index-lines-i.result c.loop-i-test.true c.index-lines-i.is)) in
+    rw (p.1, p.2) (λ own.
+    no_list_of c.args.op c.loop-i.listing.op (lines_of c.args.self.now) c.args.every c.loop-i.listing.every c.in_err-list_statement.field-0.0 c.loop-i.invariant.op c.loop-i.invariant.every
+    (c.in_err-list_statement.ensures.refused own has (c.loop-i.invariant.come own)))
+
+pub loop-i-preserved : goal.loop-i-preserved
+loop-i-preserved c =
+    let has : Has (lines_of c.args.self.now) (c.loop-i.i + 1) (statement_of c.deref.result.now.stmt) =
+    subst (λ (ls : List Line). Has (map line_of ls) (c.loop-i.i + 1) (statement_of c.deref.result.now.stmt)) (c.lines-lines.ensures.lines ∙ c.program.ensures.program)
+    (subst (λ (l : Line). Has (map line_of c.lines-lines.result.now) (c.loop-i.i + 1) (statement_of l.stmt)) (sym c.deref.ensures)
+    (line_has c.lines-lines.result.now c.loop-i.i c.index-lines-i.result c.loop-i-test.true c.index-lines-i.is)) in
+    record {
+      op = c.in_ok-list_statement.ensures.same_op ∙ c.loop-i.invariant.op;
+      every = c.in_ok-list_statement.ensures.same_every ∙ c.loop-i.invariant.every;
+      come = λ own. c.in_ok-list_statement.ensures.come own has (c.loop-i.invariant.come own);
+    }
+
+pub returns-clause-list : goal.returns-clause-list
+returns-clause-list c = λ own.
+    let l = c.loop-i.listing in
+    let long : length (lines_of c.args.self.now) ≡ length c.lines-lines.result.now =
+    length-map c.args.self.now.checked.now.program line_of ∙ ap length (sym (c.lines-lines.ensures.lines ∙ c.program.ensures.program)) in
+    let past : length (lines_of c.args.self.now) < c.loop-i.i + 1 = omega (arith, long, c.loop-i-test.false) in
+    counted_of c.args.op l.op (lines_of c.args.self.now) c.args.every l.every l.edits.items l.whole c.loop-i.invariant.op c.loop-i.invariant.every
+    (come_to_end l (lines_of c.args.self.now) (c.loop-i.i + 1) past (c.loop-i.invariant.come own))

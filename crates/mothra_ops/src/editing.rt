@@ -1,0 +1,169 @@
+//! The list of an operator's edits, and the program that an edit makes.
+
+ghost use Rattle.std.specs.Prelude.{◌≡◌, ◌↔◌, ◌<◌, ◌≤◌, ◌+◌, ◌^◌, ◌⊎◌, map, OnOk, IfOk, IfErr, IsTrue};
+ghost use Rattle.f77_tree.specs.Parsing.{line_of};
+ghost use Rattle.f77_tree.specs.Patching.{patched};
+ghost use Rattle.f77_tree.specs.StatementView.{statement_of};
+ghost use Rattle.f77_sites.specs.New.{new_of};
+ghost use Rattle.f77_sites.specs.Sites.{changed};
+ghost use Rattle.mothra_ops.specs.Edits.{IsCountedList, IsList, IsMember, IsMutant, IsNoList};
+ghost use Rattle.mothra_ops.specs.Listing.{HasCome};
+ghost use Rattle.mothra_ops.specs.Original.{Has, IsOriginal, IsSiteOf, lines_of};
+ghost use Rattle.mothra_ops.specs.declared.fault.OpsFault.TheVariants.{Memory, NotASite};
+
+use crate::edit::Edit;
+use crate::fault::OpsFault;
+use crate::listing::Listing;
+use crate::op::Op;
+use crate::original::Original;
+use crate::replacing::gives;
+use crate::site::Site;
+use f77_check::Checked;
+use f77_sites::{New, nodes, with_node};
+use f77_tree::Stmt;
+use std::alloc::Global;
+
+impl Original<'_> {
+    /// Whether a mutant comes of putting the node at the site.
+    fn makes_mutant(&self, alloc: Global, site: Site<'_>, new: &New) -> Result<bool, OpsFault>
+        requires { site.position + 1 < 2 ^ 64 }
+        ensures decided { IfOk result (λ yes. IsTrue yes
+            ↔ IsMutant (lines_of self.now) site.entry.number (changed (statement_of site.entry.stmt.now) site.entry.position (new_of new.now))) }
+        ensures memory { IfErr result (λ fault. fault ≡ Memory) }
+    {
+        let made = with_node(alloc, site.stmt, site.position, new.as_node())?;
+        self.is_mutant(site.number, &made)
+    }
+
+    /// Puts the edits of a site into the list.
+    fn list_site(
+        &self,
+        alloc: Global,
+        site: Site<'_>,
+        listing: &mut Listing,
+    ) -> Result<(), OpsFault>
+        requires every { 1 ≤ listing.now.every }
+        requires position { site.position + 1 < 2 ^ 64 }
+        ensures same_op { listing.new.op ≡ listing.old.op }
+        ensures same_every { listing.new.every ≡ listing.old.every }
+        ensures come { OnOk result (IsOriginal self.now → IsSiteOf (lines_of self.now) site.entry
+            → HasCome listing.old (lines_of self.now) site.entry.number site.entry.position 0
+            → HasCome listing.new (lines_of self.now) site.entry.number (site.entry.position + 1) 0) }
+        ensures refused { IfErr result (λ fault. IsOriginal self.now → IsSiteOf (lines_of self.now) site.entry
+            → HasCome listing.old (lines_of self.now) site.entry.number site.entry.position 0
+            → IsNoList listing.old.op (lines_of self.now) listing.old.every fault) }
+    {
+        let news = gives(alloc, listing.op, &self.pools, site.stmt, site.node)?;
+        for k in 0..news.len() {
+            if self.makes_mutant(alloc, site, &news[k])? {
+                listing.add(Edit {
+                    op: listing.op,
+                    statement: site.number,
+                    position: site.position,
+                    rank: k + 1,
+                })?;
+            }
+        }
+        Ok(())
+    }
+
+    /// Puts the edits of a statement into the list.
+    fn list_statement(
+        &self,
+        alloc: Global,
+        number: usize,
+        stmt: &Stmt,
+        listing: &mut Listing,
+    ) -> Result<(), OpsFault>
+        requires { 1 ≤ listing.now.every }
+        ensures same_op { listing.new.op ≡ listing.old.op }
+        ensures same_every { listing.new.every ≡ listing.old.every }
+        ensures come { OnOk result (IsOriginal self.now → Has (lines_of self.now) number (statement_of stmt.now)
+            → HasCome listing.old (lines_of self.now) number 0 0
+            → HasCome listing.new (lines_of self.now) (number + 1) 0 0) }
+        ensures refused { IfErr result (λ fault. IsOriginal self.now → Has (lines_of self.now) number (statement_of stmt.now)
+            → HasCome listing.old (lines_of self.now) number 0 0
+            → IsNoList listing.old.op (lines_of self.now) listing.old.every fault) }
+    {
+        let nodes = nodes(alloc, stmt)?;
+        for position in 0..nodes.len() {
+            let site = Site {
+                number,
+                stmt,
+                position,
+                node: nodes[position],
+            };
+            self.list_site(alloc, site, listing)?;
+        }
+        Ok(())
+    }
+
+    /// The operator's whole list, thinned.
+    fn listing(&self, alloc: Global, op: Op, every: u32) -> Result<Listing, OpsFault>
+        requires { 1 ≤ every }
+        ensures op { IfOk result (λ listing. listing.op ≡ op) }
+        ensures list { IfOk result (λ listing. IsOriginal self.now → IsCountedList op (lines_of self.now) every listing.edits.items listing.whole) }
+        ensures refused { IfErr result (λ fault. IsOriginal self.now → IsNoList op (lines_of self.now) every fault) }
+    {
+        let mut listing = Listing {
+            op,
+            every,
+            edits: Vec::new(alloc),
+            whole: 0,
+        };
+        let lines = self.checked.program().lines();
+        for i in 0..lines.len() {
+            self.list_statement(alloc, i + 1, &lines[i].stmt, &mut listing)?;
+        }
+        Ok(listing)
+    }
+}
+
+/// The operator's list, thinned, with the number of edits of the whole one.
+pub(crate) fn listing(
+    alloc: Global,
+    checked: &Checked,
+    op: Op,
+    every: u32,
+) -> Result<Listing, OpsFault>
+    requires { 1 ≤ every }
+    ensures op { IfOk result (λ listing. listing.op ≡ op) }
+    ensures list { IfOk result (λ listing. IsCountedList op (map line_of checked.now.program) every listing.edits.items listing.whole) }
+    ensures refused { IfErr result (λ fault. IsNoList op (map line_of checked.now.program) every fault) }
+{
+    let original = Original::of(alloc, checked)?;
+    original.listing(alloc, op, every)
+}
+
+/// The edits of the operator's list, in the order of statement, position and rank, thinned: of the whole list its items 1,
+/// `every` + 1, 2 * `every` + 1 and on.
+///
+/// It is refused where the thinned list has over 1,048,575 edits, or the whole list over 4,294,967,295.
+pub fn edits(alloc: Global, checked: &Checked, op: Op, every: u32) -> Result<Vec<Edit>, OpsFault>
+    requires { 1 ≤ every }
+    ensures list { IfOk result (λ edits. IsList op (map line_of checked.now.program) every edits.items) }
+    ensures refused { IfErr result (λ fault. IsNoList op (map line_of checked.now.program) every fault) }
+{
+    let listing = listing(alloc, checked, op, every)?;
+    Ok(listing.edits)
+}
+
+/// The program that an edit of the whole list makes, checked. Every other edit is refused.
+pub fn apply(alloc: Global, checked: &Checked, edit: &Edit) -> Result<Checked, OpsFault>
+    ensures program { let program = map line_of checked.now.program in IfOk result
+        (λ made. (member : IsMember edit.now.op program edit.now) × (map line_of made.program ≡ patched program edit.now.statement member.statement)) }
+    ensures refused { IfErr result
+        (λ fault. (fault ≡ Memory) ⊎ ((fault ≡ NotASite) × ¬ (IsMember edit.now.op (map line_of checked.now.program) edit.now))) }
+{
+    let original = Original::of(alloc, checked)?;
+    let Some(made) = original.statement_made(alloc, edit)? else {
+        return Err(OpsFault::NotASite);
+    };
+    if !original.is_mutant(edit.statement, &made)? {
+        return Err(OpsFault::NotASite);
+    }
+    match checked.patched(edit.statement, &made) {
+        Ok(mutant) => Ok(mutant),
+        Err(_) => Err(OpsFault::Memory),
+    }
+}

@@ -1,0 +1,148 @@
+//! What operators put in the place of an expression.
+
+ghost use Rattle.std.specs.Prelude.{◌≡◌, [], map, if◌then◌else◌, IfOk, IfErr};
+ghost use Rattle.f77_tree.specs.Node.{NodeOf};
+ghost use Rattle.f77_tree.specs.View.{tree_of};
+ghost use Rattle.f77_legal.specs.Kinds.{same_kind};
+ghost use Rattle.f77_tree.specs.declared.tree.Kind.TheVariants.{Integer};
+ghost use Rattle.mothra_ops.specs.Pools.{fields_of};
+ghost use Rattle.mothra_ops.specs.Replacements as model;
+ghost use Rattle.mothra_ops.specs.Replacements.{drawn, others};
+ghost use Rattle.mothra_ops.specs.declared.fault.OpsFault.TheVariants.{Memory};
+
+use crate::expressions::{
+    absolute, altered, arithmetic, is_constant, kind_in, logical, relational, with_unary,
+};
+use crate::fault::OpsFault;
+use crate::in_places::in_place_of;
+use crate::news::expressions;
+use crate::op::Op;
+use crate::places::{is_element, other_constants, references_of_kind, scalars_of_kind};
+use crate::pools::Pools;
+use f77_tree::{Expr, Kind};
+use std::alloc::Global;
+
+fn is_array_element(expr: &Expr) -> bool
+    ensures { result ≡ model.is_element (tree_of expr.now) }
+{
+    match expr {
+        Expr::Reference(reference) => is_element(reference),
+        _ => false,
+    }
+}
+
+fn is_scalar(expr: &Expr) -> bool
+    ensures { result ≡ model.is_scalar (tree_of expr.now) }
+{
+    match expr {
+        Expr::Reference(reference) => !is_element(reference),
+        _ => false,
+    }
+}
+
+/// The other constants at a site, none elsewhere.
+fn drawn_constants(
+    alloc: Global,
+    pools: &Pools<'_>,
+    expr: &Expr,
+    is_site: bool,
+) -> Result<Vec<Expr>, OpsFault>
+    ensures list { IfOk result (λ list. map tree_of list.items
+        ≡ (if is_site then others (fields_of pools.now).kinds (fields_of pools.now).constants (tree_of expr.now) else [])) }
+    ensures memory { IfErr result (λ fault. fault ≡ Memory) }
+{
+    if is_site {
+        Ok(other_constants(alloc, pools, expr)?)
+    } else {
+        Ok(Vec::new(alloc))
+    }
+}
+
+/// The array references of the kind of a constant.
+#[tactic(auto, using(crate::proofs::Elements::references_apart))]
+fn references_for(alloc: Global, pools: &Pools<'_>, expr: &Expr) -> Result<Vec<Expr>, OpsFault>
+    ensures list { IfOk result (λ list. map tree_of list.items
+        ≡ drawn model.is_constant (fields_of pools.now).kinds (fields_of pools.now).references (tree_of expr.now)) }
+    ensures memory { IfErr result (λ fault. fault ≡ Memory) }
+{
+    if is_constant(expr) {
+        let list = references_of_kind(alloc, pools, kind_in(&pools.names, expr))?;
+        Ok(expressions(alloc, list)?)
+    } else {
+        Ok(Vec::new(alloc))
+    }
+}
+
+/// The scalars of the kind of a constant.
+#[tactic(auto, using(crate::proofs::Elements::scalars_apart))]
+fn scalars_for(alloc: Global, pools: &Pools<'_>, expr: &Expr) -> Result<Vec<Expr>, OpsFault>
+    ensures list { IfOk result (λ list. map tree_of list.items
+        ≡ drawn model.is_constant (fields_of pools.now).kinds (fields_of pools.now).scalars (tree_of expr.now)) }
+    ensures memory { IfErr result (λ fault. fault ≡ Memory) }
+{
+    if is_constant(expr) {
+        let list = scalars_of_kind(alloc, pools, kind_in(&pools.names, expr))?;
+        Ok(expressions(alloc, list)?)
+    } else {
+        Ok(Vec::new(alloc))
+    }
+}
+
+/// The absolute values of an INTEGER expression that is no constant.
+fn absolutes(alloc: Global, pools: &Pools<'_>, expr: &Expr) -> Result<Vec<Expr>, OpsFault>
+    ensures list { IfOk result (λ list. map tree_of list.items ≡ (if model.is_constant (tree_of expr.now) then []
+        else (if same_kind Integer (model.kind_in (fields_of pools.now).kinds (tree_of expr.now)) then model.absolute (tree_of expr.now) else []))) }
+    ensures memory { IfErr result (λ fault. fault ≡ Memory) }
+{
+    if is_constant(expr) {
+        return Ok(Vec::new(alloc));
+    }
+    if Kind::Integer == kind_in(&pools.names, expr) {
+        Ok(absolute(alloc, expr)?)
+    } else {
+        Ok(Vec::new(alloc))
+    }
+}
+
+/// What a sign makes of an expression that is no constant.
+fn unaries(alloc: Global, pools: &Pools<'_>, expr: &Expr) -> Result<Vec<Expr>, OpsFault>
+    ensures list { IfOk result (λ list. map tree_of list.items ≡ (if model.is_constant (tree_of expr.now) then []
+        else model.with_unary (model.kind_in (fields_of pools.now).kinds (tree_of expr.now)) (tree_of expr.now))) }
+    ensures memory { IfErr result (λ fault. fault ≡ Memory) }
+{
+    if is_constant(expr) {
+        Ok(Vec::new(alloc))
+    } else {
+        Ok(with_unary(alloc, kind_in(&pools.names, expr), expr)?)
+    }
+}
+
+/// What the operator puts in the place of the expression, in the order of the ranks.
+pub(crate) fn in_expression(
+    alloc: Global,
+    op: Op,
+    pools: &Pools<'_>,
+    expr: &Expr,
+) -> Result<Vec<Expr>, OpsFault>
+    ensures list { IfOk result (λ list. map NodeOf.Part (map tree_of list.items)
+        ≡ model.replacements op (fields_of pools.now) (NodeOf.Part (tree_of expr.now))) }
+    ensures memory { IfErr result (λ fault. fault ≡ Memory) }
+{
+    match op {
+        Op::Aar | Op::Asr | Op::Cnr | Op::Sar | Op::Svr => {
+            Ok(in_place_of(alloc, op, pools, expr)?)
+        }
+        Op::Abs => Ok(absolutes(alloc, pools, expr)?),
+        Op::Acr => Ok(references_for(alloc, pools, expr)?),
+        Op::Aor => Ok(arithmetic(alloc, expr)?),
+        Op::Car => Ok(drawn_constants(alloc, pools, expr, is_array_element(expr))?),
+        Op::Crp => Ok(altered(alloc, expr)?),
+        Op::Csr => Ok(drawn_constants(alloc, pools, expr, is_scalar(expr))?),
+        Op::Lcr => Ok(logical(alloc, expr)?),
+        Op::Ror => Ok(relational(alloc, expr)?),
+        Op::Scr => Ok(scalars_for(alloc, pools, expr)?),
+        Op::Src => Ok(drawn_constants(alloc, pools, expr, is_constant(expr))?),
+        Op::Uoi => Ok(unaries(alloc, pools, expr)?),
+        Op::Der | Op::Dsa | Op::Glr | Op::Rsr | Op::San | Op::Sdl => Ok(Vec::new(alloc)),
+    }
+}

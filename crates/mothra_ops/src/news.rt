@@ -1,0 +1,89 @@
+//! Lists of what operators put in the place of nodes, as nodes.
+
+ghost use Rattle.std.specs.Prelude.{◌≡◌, map, IfOk, IfErr};
+ghost use Rattle.f77_tree.specs.Node.{NodeOf};
+ghost use Rattle.f77_tree.specs.View.{tree_of};
+ghost use Rattle.f77_sites.specs.New.{new_of};
+ghost use Rattle.mothra_ops.specs.InPlaces.{target_of, variable_of};
+ghost use Rattle.mothra_ops.specs.Pools.{reference_of};
+ghost use Rattle.mothra_ops.specs.declared.fault.OpsFault.TheVariants.{Memory};
+
+use crate::fault::OpsFault;
+use f77_sites::New;
+use f77_tree::{Constant, Expr, Ref, Value};
+use std::alloc::Global;
+
+/// References as expressions.
+#[tactic(auto, using(crate::proofs::Elements::as_expression))]
+pub(crate) fn expressions(alloc: Global, list: Vec<Ref>) -> Result<Vec<Expr>, OpsFault>
+    ensures made { IfOk result (λ made. map tree_of made.items ≡ map reference_of list.items) }
+    ensures memory { IfErr result (λ fault. fault ≡ Memory) }
+{
+    let mut made = Vec::new(alloc);
+    for reference in list {
+        made.push(Expr::Reference(reference))?;
+    }
+    Ok(made)
+}
+
+pub(crate) fn in_parts(alloc: Global, list: Vec<Expr>) -> Result<Vec<New>, OpsFault>
+    ensures made { IfOk result (λ made. map new_of made.items ≡ map NodeOf.Part (map tree_of list.items)) }
+    ensures memory { IfErr result (λ fault. fault ≡ Memory) }
+{
+    let mut made = Vec::new(alloc);
+    for expr in list {
+        made.push(New::Expression(expr))?;
+    }
+    Ok(made)
+}
+
+pub(crate) fn in_targets(alloc: Global, list: Vec<Ref>) -> Result<Vec<New>, OpsFault>
+    ensures made { IfOk result (λ made. map new_of made.items ≡ map target_of list.items) }
+    ensures memory { IfErr result (λ fault. fault ≡ Memory) }
+{
+    let mut made = Vec::new(alloc);
+    for reference in list {
+        made.push(New::Target(reference))?;
+    }
+    Ok(made)
+}
+
+#[tactic(auto, using(crate::proofs::Elements::as_variable))]
+pub(crate) fn in_variables(alloc: Global, list: Vec<Ref>) -> Result<Vec<New>, OpsFault>
+    ensures made { IfOk result (λ made. map new_of made.items ≡ map variable_of list.items) }
+    ensures memory { IfErr result (λ fault. fault ≡ Memory) }
+{
+    let mut made = Vec::new(alloc);
+    for reference in list {
+        made.push(New::Name(reference.name))?;
+    }
+    Ok(made)
+}
+
+pub(crate) fn in_labels(alloc: Global, list: Vec<u32>) -> Result<Vec<New>, OpsFault>
+    ensures made { IfOk result (λ made. map new_of made.items ≡ map NodeOf.Labelled list.items) }
+    ensures memory { IfErr result (λ fault. fault ≡ Memory) }
+{
+    let mut made = Vec::new(alloc);
+    for label in list {
+        made.push(New::Label(label))?;
+    }
+    Ok(made)
+}
+
+/// Constants of DATA, each so many times.
+pub(crate) fn in_values(
+    alloc: Global,
+    times: u32,
+    list: Vec<Constant>,
+) -> Result<Vec<New>, OpsFault>
+    ensures made { IfOk result (λ made. map new_of made.items
+        ≡ map (λ constant. NodeOf.Initial (record { times = times; constant = constant })) list.items) }
+    ensures memory { IfErr result (λ fault. fault ≡ Memory) }
+{
+    let mut made = Vec::new(alloc);
+    for constant in list {
+        made.push(New::Value(Value { times, constant }))?;
+    }
+    Ok(made)
+}

@@ -1,0 +1,140 @@
+//! Plans: which mutants there are of a program, for the operators that are asked for.
+
+ghost use Rattle.std.specs.Prelude.{◌≡◌, ◌↔◌, ◌≤◌, map, length, option_map, Contains, IfOk, IfErr, IsTrue};
+ghost use Rattle.std.specs.Coded.{codes};
+ghost use Rattle.f77_tree.specs.Parsing.{line_of};
+ghost use Rattle.f77_tree.specs.contracts.tree.Expr as expr;
+ghost use Rattle.f77_tree.specs.contracts.tree.Stmt as stmt;
+ghost use Rattle.f77_check.specs.contracts.action.Action as action;
+ghost use Rattle.f77_check.specs.contracts.expression.Condition as condition;
+ghost use Rattle.f77_check.specs.contracts.expression.Element as element;
+ghost use Rattle.f77_check.specs.contracts.expression.Number as number;
+ghost use Rattle.mothra_ops.specs.Edits.{numbered};
+ghost use Rattle.mothra_ops.specs.declared.op.Op.{Op};
+ghost use Rattle.mothra_ops.specs.Plan.{PlanFields, IsPlan, IsNoPlan, fields_of, list_fields, list_of, asked, edits_of, whole_of};
+
+use crate::edit::Edit;
+use crate::editing::listing;
+use crate::fault::OpsFault;
+use crate::listing::Listing;
+use crate::op::Op;
+use f77_check::Checked;
+use std::alloc::Global;
+use std::marker::Model;
+
+/// The lists of the operators that are asked for, of one program, each thinned alike.
+#[derive(Drop)]
+pub struct Plan {
+    checked: Checked,
+    every: u32,
+    /// In the order of the operators.
+    lists: Vec<Listing>,
+}
+
+impl Model for Plan {
+    ghost Value = { PlanFields };
+
+    ghost coded = { Prim.hlevel (
+      codes,
+      expr.the_row.coded,
+      stmt.the_row.coded,
+      element.the_row.coded,
+      number.the_row.coded,
+      condition.the_row.coded,
+      action.the_row.coded,
+    ) };
+
+    ghost view = { λ plan. fields_of plan.checked plan.every plan.lists.items };
+
+    ghost invariant = { λ plan. IsPlan (fields_of plan.checked plan.every plan.lists.items) };
+}
+
+impl Plan {
+    /// The plan of a program for these operators; their order and repeats do not matter.
+    ///
+    /// It is refused for the first operator, in their order, that has a list which `edits` refuses.
+    pub fn new(alloc: Global, checked: Checked, ops: &[Op], every: u32) -> Result<Plan, OpsFault>
+        requires { 1 ≤ every }
+        ensures program { IfOk result (λ plan. plan.checked ≡ checked) }
+        ensures every { IfOk result (λ plan. plan.every ≡ every) }
+        ensures asked { IfOk result (λ plan. (op : Op) → IsTrue (asked plan op) ↔ Contains ops.now op) }
+        ensures lists { IfOk result (λ plan. IsPlan plan) }
+        ensures refused { IfErr result (λ fault. IsNoPlan ops.now (map line_of checked.program) every fault) }
+    {
+        let mut lists = Vec::new(alloc);
+        for op in Op::ALL {
+            if ops.contains(&op) {
+                lists.push(listing(alloc, &checked, op, every)?)?;
+            }
+        }
+        Ok(Plan {
+            checked,
+            every,
+            lists,
+        })
+    }
+
+    /// The list of an operator that was asked for. It takes no memory.
+    fn list(&self, op: Op) -> Option<&Listing>
+        ensures list { option_map (λ list. list_fields list.now) result ≡ list_of self.now op }
+        ensures plan { IsPlan self.now }
+    {
+        self.lists.iter().find(|list| list.op == op)
+    }
+
+    /// The program. It takes no memory.
+    pub fn program(&self) -> &Checked
+        ensures program { result.now ≡ self.now.checked }
+        ensures plan { IsPlan self.now }
+    {
+        &self.checked
+    }
+
+    /// Of each whole list each such edit is kept, from the first. It takes no memory.
+    pub fn every(&self) -> u32
+        ensures { result ≡ self.now.every }
+    {
+        self.every
+    }
+
+    /// Whether the operator was asked for. It takes no memory.
+    pub fn asked(&self, op: Op) -> bool
+        ensures { result ≡ asked self.now op }
+    {
+        self.list(op).is_some()
+    }
+
+    /// How many mutants the operator has, at most 1,048,575; 0 where it was not asked for. It takes no memory.
+    pub fn count(&self, op: Op) -> u32
+        ensures count { result ≡ length (edits_of self.now op) }
+        ensures plan { IsPlan self.now }
+    {
+        match self.list(op) {
+            Some(list) => list.edits.len() as u32,
+            None => 0,
+        }
+    }
+
+    /// How many edits the operator's whole list has; 0 where it was not asked for. It takes no memory.
+    pub fn whole(&self, op: Op) -> u32
+        ensures whole { result ≡ whole_of self.now op }
+        ensures plan { IsPlan self.now }
+    {
+        match self.list(op) {
+            Some(list) => list.whole,
+            None => 0,
+        }
+    }
+
+    /// The edit that makes the operator's mutant of this number, from 1. It takes no memory.
+    pub fn edit(&self, op: Op, number: u32) -> Option<&Edit>
+        ensures edit { option_map (λ edit. edit.now) result ≡ numbered (edits_of self.now op) number }
+        ensures plan { IsPlan self.now }
+    {
+        let list = self.list(op)?;
+        if number == 0 {
+            return None;
+        }
+        list.edits.get(number as usize - 1)
+    }
+}

@@ -1,0 +1,243 @@
+//! What the operators draw from.
+
+ghost use Rattle.std.specs.Prelude.{◌≡◌, ◌≤◌, is_some, map, filter, length, IfOk, IfErr, OnOk, option_map};
+ghost use Rattle.std.specs.Bool.{beq};
+ghost use Rattle.std.specs.List.{filter_map, insert, list_any};
+ghost use Rattle.indexmap.specs.IndexMap.{keys};
+ghost use Rattle.f77_tree.specs.Comparing.{same_tree};
+ghost use Rattle.f77_tree.specs.Node.{node_of};
+ghost use Rattle.f77_tree.specs.Parsing.{line_of};
+ghost use Rattle.f77_tree.specs.StatementView.{statement_of};
+ghost use Rattle.f77_tree.specs.View.{tree_of};
+ghost use Rattle.f77_legal.specs.Names.{some_items};
+ghost use Rattle.f77_legal.specs.NameTable.{bounds_at};
+ghost use Rattle.mothra_ops.specs.Pools as model;
+ghost use Rattle.mothra_ops.specs.Pools.{each_once, placed, ascending, array_reference, constant, pools_of, fields_of, reference_of};
+ghost use Rattle.mothra_ops.specs.declared.fault.OpsFault.TheVariants.{Memory};
+
+use crate::fault::OpsFault;
+use crate::places::is_element;
+use f77_check::Checked;
+use f77_legal::Names;
+use f77_sites::nodes;
+use f77_tree::{Expr, Line, Name, Node, Ref, Shared, Stmt};
+use std::alloc::Global;
+
+/// What the operators draw from: the names of a program with their kinds and bounds, its scalars and arrays, its array
+/// references, its constants and its labels.
+#[derive(Drop)]
+pub(crate) struct Pools<'a> {
+    pub(crate) names: Names,
+    /// The names without bounds, in order of first appearance.
+    pub(crate) scalars: Vec<Name>,
+    /// The names with bounds, in order of first appearance.
+    pub(crate) arrays: Vec<Name>,
+    /// The array references of executable statements, each once, in order of first occurrence.
+    pub(crate) references: Vec<&'a Ref>,
+    /// The constants of executable statements, each once, in order of first occurrence.
+    pub(crate) constants: Vec<&'a Expr>,
+    /// The labels that stand on statements, ascending.
+    pub(crate) labels: Vec<u32>,
+}
+
+/// Whether the statement is executable (ANSI X3.9-1978, 7.1).
+pub(crate) fn is_executable(stmt: &Stmt) -> bool
+    ensures { result ≡ model.is_executable (statement_of stmt.now) }
+{
+    match stmt {
+        Stmt::Subroutine { .. }
+        | Stmt::Declare { .. }
+        | Stmt::Dimension { .. }
+        | Stmt::Preset { .. } => false,
+        Stmt::Assign { .. }
+        | Stmt::Goto { .. }
+        | Stmt::ComputedGoto { .. }
+        | Stmt::ArithIf { .. }
+        | Stmt::LogicalIf { .. }
+        | Stmt::BlockIf { .. }
+        | Stmt::ElseIf { .. }
+        | Stmt::Else
+        | Stmt::EndIf
+        | Stmt::Loop { .. }
+        | Stmt::Continue
+        | Stmt::Return
+        | Stmt::Stop
+        | Stmt::Trap
+        | Stmt::End => true,
+    }
+}
+
+/// The nodes of the executable statements, in order.
+fn executable_nodes<'a>(alloc: Global, lines: &'a [Shared<Line>]) -> Result<Vec<Node<'a>>, OpsFault>
+    ensures nodes { IfOk result (λ list. map node_of list.items ≡ model.executable_nodes (map line_of lines.now)) }
+    ensures memory { IfErr result (λ fault. fault ≡ Memory) }
+{
+    let mut list = Vec::new(alloc);
+    for line in lines {
+        if is_executable(&line.stmt) {
+            list.append(&mut nodes(alloc, &line.stmt)?)?;
+        }
+    }
+    Ok(list)
+}
+
+/// Whether the name has bounds, where these are wanted, or has none.
+fn is_wanted(names: &Names, name: &Name, wanted: bool) -> bool
+    ensures { result ≡ beq (is_some (some_items (bounds_at names.now name.now))) wanted }
+{
+    names.bounds(name).is_empty() != wanted
+}
+
+/// The names of the table that have bounds, or those that have none, in order.
+fn with_bounds(alloc: Global, names: &Names, wanted: bool) -> Result<Vec<Name>, OpsFault>
+    ensures names { IfOk result (λ list. list.items
+        ≡ filter (λ name. beq (is_some (some_items (bounds_at names.now name))) wanted) (keys names.now.facts)) }
+    ensures memory { IfErr result (λ fault. fault ≡ Memory) }
+{
+    let mut list = Vec::new(alloc);
+    for name in names.facts.keys() {
+        if is_wanted(names, name, wanted) {
+            list.push(*name)?;
+        }
+    }
+    Ok(list)
+}
+
+fn is_listed_reference(list: &[&Ref], reference: &Ref) -> bool
+    ensures { result ≡ list_any (same_tree (reference_of reference.now)) (map (λ known. reference_of known.now) list.now) }
+{
+    for known in list {
+        if *reference == **known {
+            return true;
+        }
+    }
+    false
+}
+
+/// The array references among the nodes, each once, where it comes first.
+fn references<'a>(alloc: Global, nodes: &[Node<'a>]) -> Result<Vec<&'a Ref>, OpsFault>
+    ensures references { IfOk result (λ list. map (λ reference. reference_of reference.now) list.items
+        ≡ each_once same_tree (filter_map array_reference (map node_of nodes.now))) }
+    ensures memory { IfErr result (λ fault. fault ≡ Memory) }
+{
+    let mut list: Vec<&'a Ref> = Vec::new(alloc);
+    for node in nodes {
+        if let Some(reference) = array_reference(*node)
+            && !is_listed_reference(&list, reference)
+        {
+            list.push(reference)?;
+        }
+    }
+    Ok(list)
+}
+
+fn array_reference(node: Node<'_>) -> Option<&Ref>
+    ensures { option_map (λ reference. reference_of reference.now) result ≡ model.array_reference (node_of node.entry) }
+{
+    match node {
+        Node::Target(reference) | Node::Expression(Expr::Reference(reference)) => {
+            is_element(reference).then_some(reference)
+        }
+        _ => None,
+    }
+}
+
+fn constant(node: Node<'_>) -> Option<&Expr>
+    ensures { option_map (λ expr. tree_of expr.now) result ≡ model.constant (node_of node.entry) }
+{
+    let Node::Expression(expr) = node else {
+        return None;
+    };
+    match expr {
+        Expr::Number(_) | Expr::Truth(_) => Some(expr),
+        _ => None,
+    }
+}
+
+fn is_listed_constant(list: &[&Expr], constant: &Expr) -> bool
+    ensures { result ≡ list_any (same_tree (tree_of constant.now)) (map (λ known. tree_of known.now) list.now) }
+{
+    for known in list {
+        if *constant == **known {
+            return true;
+        }
+    }
+    false
+}
+
+/// The constants among the nodes, each once, where it comes first.
+fn constants<'a>(alloc: Global, nodes: &[Node<'a>]) -> Result<Vec<&'a Expr>, OpsFault>
+    ensures constants { IfOk result (λ list. map (λ expr. tree_of expr.now) list.items
+        ≡ each_once same_tree (filter_map constant (map node_of nodes.now))) }
+    ensures memory { IfErr result (λ fault. fault ≡ Memory) }
+{
+    let mut list: Vec<&'a Expr> = Vec::new(alloc);
+    for node in nodes {
+        if let Some(constant) = constant(*node)
+            && !is_listed_constant(&list, constant)
+        {
+            list.push(constant)?;
+        }
+    }
+    Ok(list)
+}
+
+/// The place of a label among ascending ones.
+fn place_of(list: &[u32], label: u32) -> usize
+    ensures within { result ≤ length list.now }
+    ensures placed { insert list.now result label ≡ placed label list.now }
+{
+    for at in 0..list.len() {
+        if list[at] >= label {
+            return at;
+        }
+    }
+    list.len()
+}
+
+/// Puts a label in its place among ascending ones.
+fn place(list: &mut Vec<u32>, label: u32) -> Result<(), OpsFault>
+    ensures placed { OnOk result (list.new.items ≡ placed label list.old.items) }
+    ensures memory { IfErr result (λ fault. fault ≡ Memory) }
+{
+    let at = place_of(list, label);
+    list.insert(at, label)?;
+    Ok(())
+}
+
+/// The labels, ascending.
+fn ascending(alloc: Global, labels: &[u32]) -> Result<Vec<u32>, OpsFault>
+    ensures labels { IfOk result (λ list. list.items ≡ ascending labels.now) }
+    ensures memory { IfErr result (λ fault. fault ≡ Memory) }
+{
+    let mut list = Vec::new(alloc);
+    for label in labels {
+        place(&mut list, *label)?;
+    }
+    Ok(list)
+}
+
+impl<'a> Pools<'a> {
+    /// What the operators draw from in a checked program.
+    pub(crate) fn of(alloc: Global, checked: &'a Checked) -> Result<Pools<'a>, OpsFault>
+        ensures pools { IfOk result (λ pools. fields_of pools ≡ pools_of (map line_of checked.now.program)) }
+        ensures memory { IfErr result (λ fault. fault ≡ Memory) }
+    {
+        let lines = checked.program().lines();
+        let Ok(names) = Names::of(alloc, lines) else {
+            return Err(OpsFault::Memory);
+        };
+        let nodes = executable_nodes(alloc, lines)?;
+        let Ok(labels) = checked.labels() else {
+            return Err(OpsFault::Memory);
+        };
+        Ok(Pools {
+            scalars: with_bounds(alloc, &names, false)?,
+            arrays: with_bounds(alloc, &names, true)?,
+            names,
+            references: references(alloc, &nodes)?,
+            constants: constants(alloc, &nodes)?,
+            labels: ascending(alloc, &labels)?,
+        })
+    }
+}

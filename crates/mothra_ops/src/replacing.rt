@@ -1,0 +1,185 @@
+//! What each operator puts in the place of a node.
+
+ghost use Rattle.std.specs.Prelude.{◌≡◌, ◌&&◌, ◌∷◌, [], not, map, if◌then◌else◌, IfOk, IfErr};
+ghost use Rattle.f77_tree.specs.Comparing.{same_statement};
+ghost use Rattle.f77_tree.specs.declared.form.Form.TheVariants as form;
+ghost use Rattle.f77_tree.specs.Node.{NodeOf, node_of};
+ghost use Rattle.f77_tree.specs.StatementView.{statement_of};
+ghost use Rattle.f77_sites.specs.New.{new_of};
+ghost use Rattle.mothra_ops.specs.Pools.{fields_of};
+ghost use Rattle.mothra_ops.specs.Replacements as model;
+ghost use Rattle.mothra_ops.specs.declared.fault.OpsFault.TheVariants.{Memory};
+
+use crate::fault::OpsFault;
+use crate::in_expressions::in_expression;
+use crate::in_places::{in_target, in_variable};
+use crate::news::{in_labels, in_parts, in_values};
+use crate::op::Op;
+use crate::pools::{Pools, is_executable};
+use crate::statements::{acts, acts_or_continues, next_constants, other_labels};
+use f77_sites::New;
+use f77_tree::{Node, Stmt, Value};
+use std::alloc::Global;
+
+/// Whether the statement is a DO.
+fn is_loop(stmt: &Stmt) -> bool
+    ensures { result ≡ model.is_form form.Loop (statement_of stmt.now) }
+{
+    match stmt {
+        Stmt::Loop { .. } => true,
+        Stmt::Subroutine { .. }
+        | Stmt::Declare { .. }
+        | Stmt::Dimension { .. }
+        | Stmt::Preset { .. }
+        | Stmt::Assign { .. }
+        | Stmt::Goto { .. }
+        | Stmt::ComputedGoto { .. }
+        | Stmt::ArithIf { .. }
+        | Stmt::LogicalIf { .. }
+        | Stmt::BlockIf { .. }
+        | Stmt::ElseIf { .. }
+        | Stmt::Else
+        | Stmt::EndIf
+        | Stmt::Continue
+        | Stmt::Return
+        | Stmt::Stop
+        | Stmt::Trap
+        | Stmt::End => false,
+    }
+}
+
+/// Whether the statement is DATA.
+fn is_preset(stmt: &Stmt) -> bool
+    ensures { result ≡ model.is_form form.Preset (statement_of stmt.now) }
+{
+    match stmt {
+        Stmt::Preset { .. } => true,
+        Stmt::Subroutine { .. }
+        | Stmt::Declare { .. }
+        | Stmt::Dimension { .. }
+        | Stmt::Assign { .. }
+        | Stmt::Goto { .. }
+        | Stmt::ComputedGoto { .. }
+        | Stmt::ArithIf { .. }
+        | Stmt::LogicalIf { .. }
+        | Stmt::BlockIf { .. }
+        | Stmt::ElseIf { .. }
+        | Stmt::Else
+        | Stmt::EndIf
+        | Stmt::Loop { .. }
+        | Stmt::Continue
+        | Stmt::Return
+        | Stmt::Stop
+        | Stmt::Trap
+        | Stmt::End => false,
+    }
+}
+
+/// Whether the operator has sites in the statement.
+fn stands_in(op: Op, stmt: &Stmt) -> bool
+    ensures { result ≡ model.stands_in op (statement_of stmt.now) }
+{
+    match op {
+        Op::Der => is_loop(stmt),
+        Op::Dsa => is_preset(stmt),
+        Op::Glr => is_executable(stmt) && !is_loop(stmt),
+        _ => is_executable(stmt),
+    }
+}
+
+/// The new statement at a site where another one stands.
+fn exchanged(alloc: Global, is_site: bool, new: Stmt, stmt: &Stmt) -> Result<Vec<New>, OpsFault>
+    ensures list { IfOk result (λ list. map new_of list.items
+        ≡ (if is_site && not (same_statement (statement_of new) (statement_of stmt.now)) then NodeOf.Itself (statement_of new) ∷ [] else [])) }
+    ensures memory { IfErr result (λ fault. fault ≡ Memory) }
+{
+    let mut list = Vec::new(alloc);
+    if is_site && new != *stmt {
+        list.push(New::Statement(new))?;
+    }
+    Ok(list)
+}
+
+/// What the operator puts in the place of a statement.
+fn in_statement(alloc: Global, op: Op, pools: &Pools<'_>, stmt: &Stmt) -> Result<Vec<New>, OpsFault>
+    ensures list { IfOk result (λ list. map new_of list.items
+        ≡ model.replacements op (fields_of pools.now) (NodeOf.Itself (statement_of stmt.now))) }
+    ensures memory { IfErr result (λ fault. fault ≡ Memory) }
+{
+    let _pools = pools;
+    let form = stmt.form();
+    match op {
+        Op::Rsr => Ok(exchanged(alloc, acts_or_continues(form), Stmt::Return, stmt)?),
+        Op::San => Ok(exchanged(alloc, acts_or_continues(form), Stmt::Trap, stmt)?),
+        Op::Sdl => Ok(exchanged(alloc, acts(form), Stmt::Continue, stmt)?),
+        _ => Ok(Vec::new(alloc)),
+    }
+}
+
+/// What the operator puts in the place of a label.
+fn in_label(alloc: Global, op: Op, pools: &Pools<'_>, label: u32) -> Result<Vec<New>, OpsFault>
+    ensures list { IfOk result (λ list. map new_of list.items ≡ model.replacements op (fields_of pools.now) (NodeOf.Labelled label)) }
+    ensures memory { IfErr result (λ fault. fault ≡ Memory) }
+{
+    match op {
+        Op::Der | Op::Glr => {
+            let list = other_labels(alloc, &pools.labels, label)?;
+            Ok(in_labels(alloc, list)?)
+        }
+        _ => Ok(Vec::new(alloc)),
+    }
+}
+
+/// What the operator puts in the place of a value of DATA.
+fn in_value(alloc: Global, op: Op, pools: &Pools<'_>, value: &Value) -> Result<Vec<New>, OpsFault>
+    ensures list { IfOk result (λ list. map new_of list.items ≡ model.replacements op (fields_of pools.now) (NodeOf.Initial value.now)) }
+    ensures memory { IfErr result (λ fault. fault ≡ Memory) }
+{
+    let _pools = pools;
+    match op {
+        Op::Dsa => {
+            let list = next_constants(alloc, value.constant)?;
+            Ok(in_values(alloc, value.times, list)?)
+        }
+        _ => Ok(Vec::new(alloc)),
+    }
+}
+
+/// What the operator puts in the place of a node, in a statement where it has sites.
+#[tactic(auto, using(crate::proofs::InPlaces::of_declared))]
+fn at_node(alloc: Global, op: Op, pools: &Pools<'_>, node: Node<'_>) -> Result<Vec<New>, OpsFault>
+    ensures list { IfOk result (λ list. map new_of list.items ≡ model.replacements op (fields_of pools.now) (node_of node.entry)) }
+    ensures memory { IfErr result (λ fault. fault ≡ Memory) }
+{
+    match node {
+        Node::Statement(stmt) => Ok(in_statement(alloc, op, pools, stmt)?),
+        Node::Target(own) => Ok(in_target(alloc, op, pools, own)?),
+        Node::Expression(expr) => {
+            let list = in_expression(alloc, op, pools, expr)?;
+            Ok(in_parts(alloc, list)?)
+        }
+        Node::Name(name) => Ok(in_variable(alloc, op, pools, name)?),
+        Node::Declared(_) => Ok(Vec::new(alloc)),
+        Node::Label(label) => Ok(in_label(alloc, op, pools, label)?),
+        Node::Value(value) => Ok(in_value(alloc, op, pools, value)?),
+    }
+}
+
+/// What the operator puts in the place of the node of the statement, in the order of the ranks.
+pub(crate) fn gives(
+    alloc: Global,
+    op: Op,
+    pools: &Pools<'_>,
+    stmt: &Stmt,
+    node: Node<'_>,
+) -> Result<Vec<New>, OpsFault>
+    ensures list { IfOk result (λ list. map new_of list.items
+        ≡ model.gives op (fields_of pools.now) (statement_of stmt.now) (node_of node.entry)) }
+    ensures memory { IfErr result (λ fault. fault ≡ Memory) }
+{
+    if stands_in(op, stmt) {
+        Ok(at_node(alloc, op, pools, node)?)
+    } else {
+        Ok(Vec::new(alloc))
+    }
+}
