@@ -1,5 +1,5 @@
 -- What operators put in the place of a reference, in the place of what has none, and as other sorts of nodes.
-use Rattle.std.proofs.Common.{◌≡◌, ◌∷◌, [], List, Bool, true, false, map, refl, sym, ap, ◌∙◌}
+use Rattle.std.proofs.Common.{◌≡◌, ◌∷◌, [], List, false, map, refl, sym, ap, ◌∙◌}
 use Rattle.std.specs.List.{filter_map}
 use Rattle.f77_tree.specs.Node.{NodeOf}
 use Rattle.f77_tree.specs.Tree.{Tree, Trees, DeclFields}

@@ -14,7 +14,7 @@ use Rattle.f77_sites.specs.New.{new_of}
 use Rattle.f77_sites.specs.Sites.{Site, changed, sites}
 use Rattle.f77_sites.specs.declared.new.New.{New}
 use Rattle.mothra_ops.specs.Edits.{made, numbered}
-use Rattle.mothra_ops.specs.Original.{Has, StandsAt}
+use Rattle.mothra_ops.specs.Original.{Has}
 use Rattle.mothra_ops.specs.Pools.{PoolFields}
 use Rattle.mothra_ops.specs.Replacements.{gives}
 use Rattle.mothra_ops.specs.declared.edit.Edit.{Edit}

@@ -1,5 +1,5 @@
 -- The lists of a plan that is being made.
-use Rattle.std.proofs.Common.{◌≡◌, ◌<◌, ◌≤◌, ◌⊎◌, ◌+◌, ◌++◌, ℕ, suc, zero, List, [], ◌∷◌, length, map, Bool, true, false, eqb, nat_eq, Option, Some, None, refl, sym, ap, ◌∙◌, cond, arith, inl, inr, subst, Bor, true≢false}
+use Rattle.std.proofs.Common.{◌≡◌, ◌<◌, ◌≤◌, ◌⊎◌, ◌+◌, ◌++◌, ℕ, List, [], ◌∷◌, map, Bool, true, false, eqb, nat_eq, Option, Some, None, refl, sym, ap, ◌∙◌, cond, arith, inl, inr, subst, Bor, true≢false}
 use Rattle.std.specs.Prelude.{All, Contains, is_some}
 use Rattle.std.specs.Bool.{Decides}
 use Rattle.std.specs.List.{find}
@@ -11,7 +11,7 @@ use Rattle.std.proofs.lemmas.Bool.Decides.{nat_tests}
 use Rattle.f77_tree.specs.Parsing.{LineFields, line_of}
 use Rattle.f77_check.specs.Checked.{CheckedFields}
 use Rattle.mothra_ops.specs.Edits.{IsCountedList, IsList, IsNoList, IsTooLong}
-use Rattle.mothra_ops.specs.Op.{index, op_at}
+use Rattle.mothra_ops.specs.Op.{index}
 use Rattle.mothra_ops.specs.Plan.{ListFields, IsPlan, IsNoPlan, fields_of, list_fields}
 use Rattle.mothra_ops.specs.declared.edit.Edit.{Edit}
 use Rattle.mothra_ops.specs.declared.fault.OpsFault.{OpsFault}

@@ -1,18 +1,16 @@
 -- Worked rows.
-use Rattle.std.proofs.Common.{◌≡◌, ℕ, Bool, true, false, List, [], ◌∷◌, map, refl}
+use Rattle.std.proofs.Common.{◌≡◌, ℕ, List, [], ◌∷◌, map, refl}
 use Rattle.std.specs.Prelude.{codes, pos, negsuc}
 use Rattle.f77_tree.specs.Node.{NodeOf}
 use Rattle.f77_tree.specs.Tree.{Tree, Trees, Statement}
 use Rattle.f77_tree.specs.declared.data.Constant.{Constant}
-use Rattle.f77_tree.specs.declared.intrinsic.Intrinsic.TheVariants.{Iabs}
 use Rattle.f77_tree.specs.declared.operator.Operator.TheVariants as operator
 use Rattle.f77_tree.specs.declared.operator.Sign.TheVariants.{Minus}
-use Rattle.f77_tree.specs.declared.tree.Kind.{Kind}
 use Rattle.f77_tree.specs.declared.tree.Kind.TheVariants.{Integer}
-use Rattle.mothra_ops.specs.Pools.{PoolFields, scalar, ascending, each_once, array_reference, constant}
-use Rattle.mothra_ops.specs.Replacements.{replacements, next_constants, gives}
-use Rattle.mothra_ops.specs.declared.op.Op.TheVariants.{Aar, Abs, Acr, Aor, Asr, Car, Cnr, Crp, Csr, Der, Dsa}
-use Rattle.mothra_ops.specs.declared.op.Op.TheVariants.{Glr, Lcr, Ror, Rsr, San, Sar, Scr, Sdl, Src, Svr, Uoi}
+use Rattle.mothra_ops.specs.Pools.{PoolFields, scalar, ascending}
+use Rattle.mothra_ops.specs.Replacements.{replacements, next_constants}
+use Rattle.mothra_ops.specs.declared.op.Op.TheVariants.{Aar, Abs, Aor, Cnr, Crp, Csr}
+use Rattle.mothra_ops.specs.declared.op.Op.TheVariants.{Glr, Rsr, Sar, Sdl, Svr}
 
 abbrev i : List ℕ
 i = codes "I"

@@ -1,5 +1,5 @@
 -- The edits of an operator: which there are, and their list.
-use Rattle.std.specs.Prelude.{◌≡◌, ◌≢◌, ◌↔◌, ◌⊎◌, ◌<◌, ◌≤◌, ◌-◌, ◌==◌, ◌%◌, ⊤, ℕ, zero, suc, List, [], ◌∷◌, Option, Some, None, slice_get, All, AllPairs, Contains, length, map, filter}
+use Rattle.std.specs.Prelude.{◌≡◌, ◌≢◌, ◌↔◌, ◌⊎◌, ◌<◌, ◌≤◌, ◌-◌, ◌==◌, ◌%◌, ⊤, ℕ, zero, suc, List, Option, Some, None, slice_get, All, AllPairs, Contains, length, map, filter}
 use Rattle.std.specs.List.{enumerate_from}
 use Rattle.std.specs.Option.{option_and_then}
 use Rattle.f77_tree.specs.Parsing.{LineFields}
@@ -9,7 +9,7 @@ use Rattle.f77_legal.specs.Labels.{statement_at}
 use Rattle.f77_legal.specs.Legal.{IsLegal}
 use Rattle.mothra_ops.specs.Pools.{PoolFields, pools_of}
 use Rattle.mothra_ops.specs.Replacements.{gives}
-use Rattle.f77_sites.specs.Sites.{Site, sites}
+use Rattle.f77_sites.specs.Sites.{sites}
 use Rattle.mothra_ops.specs.declared.edit.Edit.{Edit}
 use Rattle.mothra_ops.specs.declared.fault.OpsFault.{OpsFault}
 use Rattle.mothra_ops.specs.declared.fault.OpsFault.TheVariants.{Memory, NotASite, TooMany}

@@ -1,5 +1,5 @@
 -- What the operators that put references in the place of references put there, of an assignment or of an expression.
-use Rattle.std.specs.Prelude.{List, [], if◌then◌else◌}
+use Rattle.std.specs.Prelude.{List, []}
 use Rattle.f77_tree.specs.Node.{NodeOf}
 use Rattle.f77_tree.specs.Tree.{Tree}
 use Rattle.f77_tree.specs.View.{trees, place_of}

@@ -1,4 +1,4 @@
-use Rattle.std.proofs.Common.{◌≡◌, List, Some, None, map, ap, sym, ◌∙◌, refl, inl, inr, true≢false}
+use Rattle.std.proofs.Common.{◌≡◌, Some, map, ap, sym, ◌∙◌, refl, inr, true≢false}
 use Rattle.std.specs.Prelude.{option_map}
 use Rattle.f77_check.specs.Checked.{CheckedFields}
 use Rattle.f77_tree.specs.Parsing.{line_of}

@@ -1,11 +1,8 @@
-use Rattle.std.proofs.Common.{◌≡◌, not, sym, refl, ◌∙◌, ap}
-use Rattle.std.specs.Prelude.{◌&&◌}
-use Rattle.f77_tree.specs.Comparing.{same_tree, same_operator}
+use Rattle.std.proofs.Common.{not, sym, refl, ◌∙◌}
+use Rattle.f77_tree.specs.Comparing.{same_operator}
 use Rattle.f77_tree.specs.Tree.{Tree}
-use Rattle.f77_tree.specs.View.{tree_of, trees, place_of}
+use Rattle.f77_tree.specs.View.{tree_of}
 use Rattle.f77_tree.specs.declared.operator.Operator.{Operator}
-use Rattle.f77_legal.specs.Kinds.{same_kind}
-use Rattle.mothra_ops.specs.Replacements as model
 use Rattle.mothra_ops.proofs.Filters.{pushed, skipped}
 use Rattle.mothra_ops.proofs.expressions.exchanged.Goals.{then-is_another+in_ok-between+in_ok-push, else-is_another}
 use Rattle.mothra_ops.proofs.expressions.exchanged.Goals as goal

@@ -1,4 +1,4 @@
-use Rattle.std.proofs.Common.{◌≡◌, sym, ◌∙◌}
+use Rattle.std.proofs.Common.{sym, ◌∙◌}
 use Rattle.f77_tree.specs.View.{tree_of}
 use Rattle.mothra_ops.proofs.Elements.{scalars_apart}
 use Rattle.mothra_ops.proofs.in_expressions.scalars_for.Goals as goal

@@ -1,4 +1,4 @@
-use Rattle.std.proofs.Common.{◌≡◌, ap, ◌∙◌}
+use Rattle.std.proofs.Common.{ap, ◌∙◌}
 use Rattle.f77_tree.specs.Tree.{Tree}
 use Rattle.mothra_ops.specs.Pools.{fields_of}
 use Rattle.mothra_ops.specs.Replacements.{others}

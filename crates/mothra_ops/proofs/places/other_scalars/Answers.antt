@@ -1,9 +1,7 @@
-use Rattle.std.proofs.Common.{◌≡◌, not, sym, refl, ◌∙◌, ap, subst, get_or, length, ◌<◌}
+use Rattle.std.proofs.Common.{not, sym, ◌∙◌, ap, subst, get_or, length, ◌<◌}
 use Rattle.f77_legal.specs.Names.{Symbol}
 use Rattle.std.specs.Prelude.{◌&&◌}
-use Rattle.f77_tree.specs.Comparing.{same_tree, same_operator}
-use Rattle.f77_tree.specs.Tree.{Tree}
-use Rattle.f77_tree.specs.View.{tree_of, trees, place_of}
+use Rattle.f77_tree.specs.Comparing.{same_tree}
 use Rattle.f77_legal.specs.Kinds.{same_kind}
 use Rattle.mothra_ops.specs.Pools.{fields_of, reference_of, scalar}
 use Rattle.mothra_ops.specs.Replacements as model

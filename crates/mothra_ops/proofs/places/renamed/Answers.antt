@@ -1,4 +1,3 @@
-use Rattle.std.proofs.Common.{◌≡◌}
 use Rattle.mothra_ops.proofs.Elements.{renamed}
 use Rattle.mothra_ops.proofs.places.renamed.Goals as goal
 

@@ -1,6 +1,6 @@
-use Rattle.std.proofs.Common.{◌≡◌, ◌≢◌, ◌%◌, ◌+◌, ◌≤◌, ◌<◌, ◌++◌, ◌∷◌, [], ℕ, List, length, refl, sym, ap, ◌∙◌, inl, inr, arith}
+use Rattle.std.proofs.Common.{◌≡◌, ◌%◌, ◌+◌, ◌≤◌, ◌++◌, ◌∷◌, [], ℕ, List, length, refl, sym, ap, ◌∙◌, inl, inr, arith}
 use Rattle.std.proofs.lemmas.List.{length_push}
-use Rattle.mothra_ops.specs.Edits.{most_edits, most_whole, thinned}
+use Rattle.mothra_ops.specs.Edits.{most_whole, thinned}
 use Rattle.mothra_ops.specs.declared.edit.Edit.{Edit}
 use Rattle.mothra_ops.proofs.Thinned.{thinned_kept, thinned_passed}
 use Rattle.mothra_ops.proofs.listing.Listing.add.Goals.{then-self-eq0+else-len-ge-MOST_EDITS+in_ok-push, else-self-eq0}

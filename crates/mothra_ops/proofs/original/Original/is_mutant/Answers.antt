@@ -1,9 +1,7 @@
-use Rattle.std.proofs.Common.{◌≡◌, Option, Some, ap, sym, ◌∙◌, refl, true≢false}
-use Rattle.std.specs.Prelude.{option_map}
-use Rattle.f77_tree.specs.Parsing.{line_at, line_of}
+use Rattle.std.proofs.Common.{◌≡◌, Some, ap, sym, ◌∙◌, refl, true≢false}
+use Rattle.f77_tree.specs.Parsing.{line_at}
 use Rattle.f77_tree.specs.StatementView.{statement_of}
 use Rattle.f77_tree.specs.SameTrees.{statement_decides}
-use Rattle.mothra_ops.specs.Original.{lines_of}
 use Rattle.mothra_ops.proofs.Mutants.{the_same, is_mutant}
 use Rattle.mothra_ops.proofs.original.Original.is_mutant.Goals.{then-eq-via-then-eq, then-eq-via-else-eq+then-not-fits}
 use Rattle.mothra_ops.proofs.original.Original.is_mutant.Goals as goal

@@ -1,10 +1,10 @@
-use Rattle.std.proofs.Common.{arith, ◌≡◌, ◌+◌, ◌<◌, List, Some, length, ap, sym, ◌∙◌, refl, inl, inr, true≢false}
+use Rattle.std.proofs.Common.{arith, ◌≡◌, ◌+◌, ◌<◌, length, sym, ◌∙◌, refl, inl, inr, true≢false}
 use Rattle.std.specs.Prelude.{◌⊎◌}
 use Rattle.std.proofs.lemmas.Result.{err_from_is_err_and}
 use Rattle.f77_tree.specs.Node.{node_of}
 use Rattle.f77_tree.specs.StatementView.{statement_of}
 use Rattle.f77_sites.specs.New.{new_of}
-use Rattle.mothra_ops.specs.Edits.{numbered, IsTooLong}
+use Rattle.mothra_ops.specs.Edits.{IsTooLong}
 use Rattle.mothra_ops.specs.Original.{lines_of}
 use Rattle.mothra_ops.specs.Pools.{fields_of, pools_of}
 use Rattle.mothra_ops.specs.Replacements.{gives}

@@ -1,4 +1,4 @@
-use Rattle.std.proofs.Common.{◌≡◌, ◌+◌}
+use Rattle.std.proofs.Common.{◌≡◌}
 use Rattle.f77_tree.specs.StatementView.{statement_of}
 use Rattle.mothra_ops.specs.Listing.{HasCome}
 use Rattle.mothra_ops.specs.Original.{Has, IsOriginal, lines_of}

@@ -1,9 +1,8 @@
-use Rattle.std.proofs.Common.{rules, tests, ◌≡◌, ◌<◌, ◌≤◌, map, Contains, IfErr, IfOk, arith, subst, sym, ap, ◌∙◌, refl, Bool, true, false, ℕ, ◌+◌, ◌++◌, ◌∷◌, [], nat_eq}
+use Rattle.std.proofs.Common.{rules, ◌≡◌, map, arith, subst, sym, ℕ, ◌+◌, ◌++◌, ◌∷◌, [], nat_eq}
 use Rattle.mothra_ops.specs.contracts.op.OpPartialEq.TheImpl.{ghosts}
 use Rattle.std.proofs.lemmas.Bool.Decides.{not_from_Decides}
 use Rattle.std.proofs.lemmas.List.Elements.{Decides-contains, contains_decides}
 use Rattle.f77_tree.specs.Parsing.{line_of}
-use Rattle.f77_check.specs.Checked.{CheckedFields}
 use Rattle.mothra_ops.specs.Edits.{IsCountedList}
 use Rattle.mothra_ops.specs.Op.{index, op_at}
 use Rattle.mothra_ops.specs.Plan.{IsNoPlan}
