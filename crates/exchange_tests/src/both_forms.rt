@@ -3,8 +3,8 @@ ghost use Rattle.std.specs.Prelude.{◌≡◌, ◌<◌, true};
 
 use crate::tickets::{aar, assert_tally, counts, taken};
 use crate::turns::{TURNS, Turn, parts, shown, turn_of};
+use mothra_codes::Op;
 use mothra_exchange::{Gate, LockedExchange, Offer, TableExchange, Take};
-use mothra_ops::Op;
 use std::process::Abort;
 use std::sync::Wait;
 use std::test::Fail;

@@ -1,8 +1,8 @@
 //! The limit on an operator's count.
 
 use crate::tickets::counts;
+use mothra_codes::Op;
 use mothra_exchange::{ExchangeFault, LockedExchange, State, TableExchange};
-use mothra_ops::Op;
 use std::process::Abort;
 
 #[test]

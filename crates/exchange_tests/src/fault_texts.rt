@@ -1,7 +1,7 @@
 //! The texts of faults.
 
+use mothra_codes::Op;
 use mothra_exchange::ExchangeFault;
-use mothra_ops::Op;
 use std::process::Abort;
 use std::test::Fail;
 

@@ -3,8 +3,8 @@ ghost use Rattle.mothra_exchange.specs.Table.{IsPassOf};
 
 use crate::offers::offers_all;
 use crate::tickets::{assert_tally, counts, taken};
+use mothra_codes::Op;
 use mothra_exchange::{Close, Gate, Offer, Pass, TableExchange, Ticket};
-use mothra_ops::Op;
 use std::process::Abort;
 use std::test::Fail;
 

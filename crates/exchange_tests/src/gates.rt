@@ -3,8 +3,8 @@
 use crate::both_forms::splits_and_merges;
 use crate::stalling::Stalling;
 use crate::tickets::{aar, assert_tally, counts, taken};
+use mothra_codes::Op;
 use mothra_exchange::{Close, Gate, Offer, TableExchange, Take};
-use mothra_ops::Op;
 use std::process::Abort;
 use std::sync::Wait;
 use std::sync::atomic::AtomicU64;

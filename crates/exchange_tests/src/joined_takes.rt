@@ -3,8 +3,8 @@ ghost use Rattle.mothra_exchange.specs.Table.{IsPassOf};
 
 use crate::offers::offers_all;
 use crate::tickets::counts;
+use mothra_codes::Op;
 use mothra_exchange::{Close, Gate, Pass, TableExchange, Take};
-use mothra_ops::Op;
 use std::alloc::{AllocError, Global};
 use std::process::Abort;
 use std::test::Fail;

@@ -2,8 +2,8 @@
 
 use crate::tickets::counts;
 use crate::turns::{TURNS, Turn, parts, shown, turn_of};
+use mothra_codes::Op;
 use mothra_exchange::{Event, State};
-use mothra_ops::Op;
 use std::alloc::Global;
 use std::process::Abort;
 use std::test::Fail;

@@ -1,8 +1,8 @@
 //! Offers that are made in order.
 ghost use Rattle.mothra_exchange.specs.Table.{IsPassOf};
 
+use mothra_codes::Op;
 use mothra_exchange::{Offer, Pass, TableExchange, Ticket};
-use mothra_ops::Op;
 use std::process::Abort;
 
 /// Offers 1 to the count.

@@ -1,6 +1,6 @@
 //! The codes of the operators.
 
-use mothra_ops::Op;
+use mothra_codes::Op;
 use std::process::Abort;
 use std::test::Fail;
 

@@ -2,8 +2,8 @@
 
 use crate::both_forms::splits_and_merges;
 use crate::tickets::{aar, counts};
+use mothra_codes::Op;
 use mothra_exchange::{ExchangeFault, LockedExchange, Offer, State, TableExchange};
-use mothra_ops::Op;
 
 #[test]
 fn refused_memory_is_a_fault_of_the_state(rt: HostRuntime) {

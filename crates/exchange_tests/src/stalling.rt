@@ -1,6 +1,6 @@
 //! A gate that keeps no records and hands its calls on, until it gives up.
+use mothra_codes::Op;
 use mothra_exchange::{Close, Gate, Offer, Take, Tally, Ticket};
-use mothra_ops::Op;
 use std::sync::Wait;
 use std::sync::atomic::{AtomicU64, Ordering};
 

@@ -1,8 +1,8 @@
 //! Tickets, and the numbers of an operator.
 ghost use Rattle.std.specs.Prelude.{◌≡◌};
 
+use mothra_codes::Op;
 use mothra_exchange::{Take, Tally, Ticket};
-use mothra_ops::Op;
 use std::process::Abort;
 
 /// The counts of the operators where one of them has this many, and the others have none.

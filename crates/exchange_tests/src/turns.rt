@@ -1,7 +1,7 @@
 //! Calls of an exchange in which AAR has three tickets and ABS none, and at most two wait.
 
+use mothra_codes::Op;
 use mothra_exchange::Ticket;
-use mothra_ops::Op;
 use std::alloc::{AllocError, Global};
 use std::fmt::Debug;
 use std::test::Fail;

@@ -3,11 +3,11 @@ use Rattle.std.proofs.Common.{◌≡◌, ◌≢◌, ℕ, zero, suc, ◌+◌, ◌
 use mathlib.Core.Option.{some, some-ne-none, some-injective}
 use lib.ListN.{get_elem?}
 use Rattle.std.proofs.lemmas.Bool.Decides.{nat_tests}
-use Rattle.mothra_ops.specs.declared.op.Op.{Op}
+use Rattle.mothra_codes.specs.declared.op.Op.{Op}
 use Rattle.mothra_exchange.specs.declared.ticket.Ticket.{Ticket}
 use Rattle.mothra_exchange.specs.declared.word.Word.{Word}
 use Rattle.mothra_exchange.specs.declared.view.View.{View}
-use Rattle.mothra_ops.specs.Op.{index}
+use Rattle.mothra_codes.specs.Op.{index}
 use Rattle.mothra_exchange.specs.Word.{AtMost}
 use Rattle.mothra_exchange.specs.Ticket.{one_if, is_ticket, times, once_up_to, ticket}
 use Rattle.mothra_exchange.specs.View.{total, once_if_closed}

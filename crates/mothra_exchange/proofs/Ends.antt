@@ -8,7 +8,7 @@ use Rattle.atomic_table.specs.Table.{Final, Seen}
 use Rattle.mothra_exchange.specs.declared.word.Word.{Word}
 use Rattle.mothra_exchange.specs.declared.view.Look.{Look}
 use Rattle.mothra_exchange.specs.declared.view.View.{View}
-use Rattle.mothra_ops.specs.Op.{index}
+use Rattle.mothra_codes.specs.Op.{index}
 use Rattle.mothra_exchange.specs.Word.{pack, AtMost, opening_word, Fits}
 use Rattle.mothra_exchange.specs.Ticket.{times, once_up_to}
 use Rattle.mothra_exchange.specs.View.{total, first_look, whole_view, spent_view}
@@ -16,7 +16,7 @@ use Rattle.mothra_exchange.specs.Rule.{Knows, IsLive, IsSound, Holds}
 use Rattle.mothra_exchange.specs.Tally.{word_at, EndsAt, Ends}
 use Rattle.mothra_exchange.specs.Fault.{AllCountsFit}
 use Rattle.mothra_exchange.proofs.Counting.{AtMost-refl, total_has}
-use Rattle.mothra_ops.proofs.Operators.{index_below}
+use Rattle.mothra_codes.proofs.Operators.{index_below}
 use Rattle.mothra_exchange.proofs.Steps.{lives}
 use Rattle.mothra_exchange.proofs.Halves.{blank}
 use Rattle.mothra_exchange.proofs.Exchanges.{fits}

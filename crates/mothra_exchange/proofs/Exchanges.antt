@@ -6,17 +6,17 @@ use lib.ListN.{get_elem?}
 use prog.Atomic.{either}
 use Rattle.atomic_table.specs.Table.{Me, Act, keeps, Allows, stepped, step, Valid, carried_after}
 use Rattle.atomic_table.proofs.Lists.{exchanged}
-use Rattle.mothra_ops.specs.declared.op.Op.{Op}
+use Rattle.mothra_codes.specs.declared.op.Op.{Op}
 use Rattle.mothra_exchange.specs.declared.word.Word.{Word}
 use Rattle.mothra_exchange.specs.declared.view.Look.{Look}
 use Rattle.mothra_exchange.specs.declared.view.View.{View}
-use Rattle.mothra_ops.specs.Op.{index}
+use Rattle.mothra_codes.specs.Op.{index}
 use Rattle.mothra_exchange.specs.Word.{bit, pack, Fits, AtMost, InBounds, word_after_take, word_after_offer, word_after_close}
 use Rattle.mothra_exchange.specs.Ticket.{one_if, times, ticket}
 use Rattle.mothra_exchange.specs.View.{look_at, view_after_finding, view_after_take, view_after_offer, view_after_close, once_if_closed}
 use Rattle.mothra_exchange.specs.Rule.{OpRule, Holds, Takes, Offers, Closes, Loses}
 use Rattle.mothra_exchange.proofs.Counting.{total_has, once_up_to-past, times-more, is_ticket-own, is_ticket-other, once_up_to-suc, AtMost-refl}
-use Rattle.mothra_ops.proofs.Operators.{op_at-index}
+use Rattle.mothra_codes.proofs.Operators.{op_at-index}
 use Rattle.mothra_exchange.proofs.Steps.{Moves, Apart, op_moves, lives, turns, looks_apart, new_look}
 
 pub fits : (C : ℕ) (w : Word) → InBounds C w → Fits w

@@ -5,7 +5,7 @@ use mathlib.Core.Option.{some, some-ne-none}
 use mathlib.Core.Logic.{dite}
 use native.Mathlib.Decide.{ℕ_discrete}
 use lib.ListN.{get_elem?}
-use Rattle.mothra_ops.specs.declared.op.Op.{Op}
+use Rattle.mothra_codes.specs.declared.op.Op.{Op}
 use Rattle.mothra_exchange.specs.declared.ticket.Ticket.{Ticket}
 use Rattle.mothra_exchange.specs.declared.log.Event.{Event}
 use Rattle.mothra_exchange.specs.declared.log.Event.TheVariants.{Offered, Handed, Closed}
@@ -15,7 +15,7 @@ use Rattle.mothra_exchange.specs.declared.answer.Offer.TheVariants.{Closed as Of
 use Rattle.mothra_exchange.specs.declared.answer.Take.TheVariants.{Finished, Empty, Taken}
 use Rattle.mothra_exchange.specs.declared.answer.Close.TheVariants.{Already, Done}
 use Rattle.mothra_exchange.specs.Answer.{offer_answer, take_answer, close_answer}
-use Rattle.mothra_ops.specs.Op.{index}
+use Rattle.mothra_codes.specs.Op.{index}
 use Rattle.mothra_exchange.specs.Ticket.{one_if, ticket}
 use Rattle.mothra_exchange.specs.Word.{word_after_offer, word_after_take, word_after_close}
 use Rattle.mothra_exchange.specs.Log.{word_of, offers, hands, MayFollow, IsLegal}

@@ -5,17 +5,17 @@ use mathlib.Core.Option.{some, none}
 use lib.ListN.{get_elem?}
 use Rattle.atomic_table.specs.Table.{Me, keeps, Allows, step, Splits, Joins}
 use Rattle.atomic_table.proofs.Lists.{at_set, at_snoc}
-use Rattle.mothra_ops.specs.declared.op.Op.TheVariants.{Aar}
+use Rattle.mothra_codes.specs.declared.op.Op.TheVariants.{Aar}
 use Rattle.mothra_exchange.specs.declared.word.Word.{Word}
 use Rattle.mothra_exchange.specs.declared.view.Look.{Look}
 use Rattle.mothra_exchange.specs.declared.view.View.{View}
-use Rattle.mothra_ops.specs.Op.{index}
+use Rattle.mothra_codes.specs.Op.{index}
 use Rattle.mothra_exchange.specs.Word.{AtMost, greater_word}
 use Rattle.mothra_exchange.specs.Ticket.{times}
 use Rattle.mothra_exchange.specs.View.{total, look_at, first_look, spent_view, view_after_split, split_off_view, joined_look, joined_looks, merging_view, settled_view}
 use Rattle.mothra_exchange.specs.Rule.{Knows, OpRule, IsLive, Holds, Settles}
 use Rattle.mothra_exchange.proofs.Counting.{total_set, total_has, total-snoc, times-append, once_up_to-most, once_if_closed-most}
-use Rattle.mothra_ops.proofs.Operators.{index_below}
+use Rattle.mothra_codes.proofs.Operators.{index_below}
 use Rattle.mothra_exchange.proofs.Steps.{Keeps, op_keeps, lives, turns}
 
 -- the word of an operator that was never view_after_load at is below all

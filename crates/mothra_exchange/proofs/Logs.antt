@@ -6,18 +6,18 @@ use mathlib.Core.Logic.{dite}
 use native.Mathlib.Decide.{ℕ_discrete, dec_le}
 use lib.ListN.{get_elem?}
 use Rattle.atomic_table.proofs.Lists.{at_longer, at_last}
-use Rattle.mothra_ops.specs.declared.op.Op.{Op}
+use Rattle.mothra_codes.specs.declared.op.Op.{Op}
 use Rattle.mothra_exchange.specs.declared.ticket.Ticket.{Ticket}
 use Rattle.mothra_exchange.specs.declared.word.Word.{Word}
 use Rattle.mothra_exchange.specs.declared.log.Event.{Event}
 use Rattle.mothra_exchange.specs.declared.log.Event.TheVariants.{Offered, Handed, Closed}
-use Rattle.mothra_ops.specs.Op.{index, op_at}
+use Rattle.mothra_codes.specs.Op.{index, op_at}
 use Rattle.mothra_exchange.specs.Word.{bit, InBounds, opening_word, word_after_offer, word_after_take, word_after_close}
 use Rattle.mothra_exchange.specs.Ticket.{one_if, ticket}
 use Rattle.mothra_exchange.specs.Log.{offers_in, hands_in, closes_in, offers, hands, closes, word_of, Stands, MayFollow, IsLegalAfter, IsLegal}
 use Rattle.mothra_exchange.specs.State.{History, history, used_by, used, room, counts_of, Keeps}
 use Rattle.mothra_exchange.proofs.Counting.{get_or-set_there, get_or-set_else}
-use Rattle.mothra_ops.proofs.Operators.{index_below, index-op_at, same_op}
+use Rattle.mothra_codes.proofs.Operators.{index_below, index-op_at, same_op}
 
 pub offers-more : (i : ℕ) (log : List Event) (e : Event) → offers i (log ++ e ∷ []) ≡ offers i log + offers_in i e
 offers-more i [] e = omega arith

@@ -1,7 +1,7 @@
 -- A try call changes what the view has of its operator alone.
 use Rattle.std.proofs.Common.{◌≡◌, ◌≢◌, ℕ, ◌+◌, refl, sym, ap, ◌∙◌, subst, arith}
-use Rattle.mothra_ops.specs.declared.op.Op.{Op}
-use Rattle.mothra_ops.specs.Op.{index}
+use Rattle.mothra_codes.specs.declared.op.Op.{Op}
+use Rattle.mothra_codes.specs.Op.{index}
 use Rattle.mothra_exchange.specs.declared.ticket.Ticket.{Ticket}
 use Rattle.mothra_exchange.specs.declared.word.Word.{Word}
 use Rattle.mothra_exchange.specs.declared.view.Look.{Look}
@@ -17,7 +17,7 @@ use Rattle.mothra_exchange.specs.View.{first_look, look_at, with_look, view_afte
 use Rattle.mothra_exchange.specs.Calls.{LostTo, OfferDid, TakeDid, CloseDid}
 use Rattle.mothra_exchange.specs.Laws.{ChangesOnly}
 use Rattle.mothra_exchange.proofs.Counting.{times-more, is_ticket-other, get_or-set_else}
-use Rattle.mothra_ops.proofs.Operators.{same_op}
+use Rattle.mothra_codes.proofs.Operators.{same_op}
 
 only_trans : (op : Op) (a b c : View) → ChangesOnly op a b → ChangesOnly op b c → ChangesOnly op a c
 only_trans op a b c p q = record {

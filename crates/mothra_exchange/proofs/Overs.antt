@@ -1,6 +1,6 @@
 -- What follows from what the calls say.
 use Rattle.std.proofs.Common.{◌≡◌, ◌⊎◌, ℕ, ◌+◌, ◌<◌, length, Bool, true, false, true≢false, cond, eqb, ltb, not, ◌||◌, refl, sym, ap, ◌∙◌, subst, ⊎_elim, arith, eq-eqb, length-set}
-use Rattle.mothra_ops.specs.declared.op.Op.{Op}
+use Rattle.mothra_codes.specs.declared.op.Op.{Op}
 use Rattle.mothra_exchange.specs.declared.word.Word.{Word}
 use Rattle.mothra_exchange.specs.declared.view.Look.{Look}
 use Rattle.mothra_exchange.specs.declared.view.View.{View}
@@ -8,7 +8,7 @@ use Rattle.mothra_exchange.specs.declared.ticket.Ticket.{Ticket}
 use Rattle.mothra_exchange.specs.declared.answer.Offer.TheVariants.{Closed as OfferClosed, PastEnd, OutOfTurn, Full, Accepted}
 use Rattle.mothra_exchange.specs.declared.answer.Take.{Take}
 use Rattle.mothra_exchange.specs.declared.answer.Take.TheVariants.{Finished, Empty, Busy, Taken, GaveUp}
-use Rattle.mothra_ops.specs.Op.{index}
+use Rattle.mothra_codes.specs.Op.{index}
 use Rattle.mothra_exchange.specs.Ticket.{ticket}
 use Rattle.mothra_exchange.specs.Word.{word_after_take}
 use Rattle.mothra_exchange.specs.View.{look_at, joined_look, united_view, merging_view, view_after_load, view_after_split, split_off_view}
@@ -17,7 +17,7 @@ use Rattle.mothra_exchange.specs.Sharing.{IsOver, MergesWell}
 use Rattle.mothra_exchange.specs.Answer.{take_answer}
 use Rattle.mothra_exchange.specs.Calls.{TakeDid, OfferDid}
 use Rattle.mothra_exchange.proofs.Counting.{times-append}
-use Rattle.mothra_ops.proofs.Operators.{index_below}
+use Rattle.mothra_codes.proofs.Operators.{index_below}
 use Rattle.mothra_exchange.proofs.Steps.{new_look}
 use Rattle.mothra_exchange.proofs.Halves.{joined_at}
 

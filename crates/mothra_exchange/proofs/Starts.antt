@@ -3,11 +3,11 @@ use Rattle.std.proofs.Common.{◌≡◌, ℕ, zero, suc, ◌+◌, ◌*◌, ◌<�
 use Rattle.std.specs.Prelude.{slice_index}
 use Rattle.mothra_exchange.specs.declared.word.Word.{Word}
 use Rattle.mothra_exchange.specs.declared.log.Event.{Event}
-use Rattle.mothra_ops.specs.Op.{index}
+use Rattle.mothra_codes.specs.Op.{index}
 use Rattle.mothra_exchange.specs.Word.{InBounds, opening_word}
 use Rattle.mothra_exchange.specs.State.{used, room, counts_of, Keeps}
 use Rattle.mothra_exchange.specs.Fault.{AllCountsFit}
-use Rattle.mothra_ops.proofs.Operators.{index_below}
+use Rattle.mothra_codes.proofs.Operators.{index_below}
 
 pub same_list : {A : Type 0} (d : A) (xs ys : List A) → length xs ≡ length ys → ((k : ℕ) → k < length xs → get_or xs k d ≡ get_or ys k d) → xs ≡ ys
 same_list d [] [] e h = refl

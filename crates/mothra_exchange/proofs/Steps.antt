@@ -7,17 +7,17 @@ use mathlib.Core.Logic.{dite}
 use lib.ListN.{get_elem?}
 use Rattle.atomic_table.specs.Table.{State, Me, keeps, Allows, step}
 use Rattle.atomic_table.proofs.Lists.{at_set}
-use Rattle.mothra_ops.specs.declared.op.Op.{Op}
+use Rattle.mothra_codes.specs.declared.op.Op.{Op}
 use Rattle.mothra_exchange.specs.declared.word.Word.{Word}
 use Rattle.mothra_exchange.specs.declared.view.Look.{Look}
 use Rattle.mothra_exchange.specs.declared.view.View.{View}
-use Rattle.mothra_ops.specs.Op.{index}
+use Rattle.mothra_codes.specs.Op.{index}
 use Rattle.mothra_exchange.specs.Word.{pack, AtMost, InBounds}
 use Rattle.mothra_exchange.specs.Ticket.{times, once_up_to}
 use Rattle.mothra_exchange.specs.View.{look_at, view_after_load, spent_view, with_look, first_look, once_if_closed}
 use Rattle.mothra_exchange.specs.Rule.{Knows, OpRule, IsLive, Holds, Looks}
 use Rattle.mothra_exchange.proofs.Counting.{total_set, AtMost-refl, AtMost-trans, get_or-set_there, get_or-set_else}
-use Rattle.mothra_ops.proofs.Operators.{index_below, same_op}
+use Rattle.mothra_codes.proofs.Operators.{index_below, same_op}
 
 -- what a step of one view on the word w₀, which becomes w, says of its operator
 pub record Moves (i : ℕ) (w₀ w : Word) (v v' : View) : Type 0 where

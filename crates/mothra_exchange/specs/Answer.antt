@@ -1,6 +1,6 @@
 -- The table of answers: each call's answer from an operator's numbers, tested in the order given.
 use Rattle.std.specs.Prelude.{ℕ, ◌+◌, not, nat_lt, ◌==◌, if◌then◌else◌}
-use Rattle.mothra_ops.specs.declared.op.Op.{Op}
+use Rattle.mothra_codes.specs.declared.op.Op.{Op}
 use Rattle.mothra_exchange.specs.declared.word.Word.{Word}
 use Rattle.mothra_exchange.specs.declared.answer.Offer.{Offer}
 use Rattle.mothra_exchange.specs.declared.answer.Offer.TheVariants.{Closed, PastEnd, OutOfTurn, Full, Accepted}

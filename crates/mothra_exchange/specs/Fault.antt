@@ -1,6 +1,6 @@
 -- When an exchange is refused.
 use Rattle.std.specs.Prelude.{ℕ, ◌<◌, List, slice_index}
-use Rattle.mothra_ops.specs.Op.{index}
+use Rattle.mothra_codes.specs.Op.{index}
 use Rattle.mothra_exchange.specs.declared.fault.ExchangeFault.{ExchangeFault}
 use Rattle.mothra_exchange.specs.declared.fault.ExchangeFault.TheVariants.{Memory, CountTooLarge}
 

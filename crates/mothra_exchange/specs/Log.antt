@@ -2,8 +2,8 @@
 use Rattle.std.specs.Prelude.{◌≡◌, ℕ, zero, suc, ◌+◌, ◌<◌, ◌≤◌, Bool, false, ◌||◌, ◌==◌, if◌then◌else◌, List, [], ◌∷◌, ◌++◌, slice_index}
 use mathlib.Core.Option.{some}
 use lib.ListN.{get_elem?}
-use Rattle.mothra_ops.specs.declared.op.Op.{Op}
-use Rattle.mothra_ops.specs.Op.{index}
+use Rattle.mothra_codes.specs.declared.op.Op.{Op}
+use Rattle.mothra_codes.specs.Op.{index}
 use Rattle.mothra_exchange.specs.declared.ticket.Ticket.{Ticket}
 use Rattle.mothra_exchange.specs.declared.word.Word.{Word}
 use Rattle.mothra_exchange.specs.declared.log.Event.{Event}

@@ -1,7 +1,7 @@
 -- What an exchange ends with.
 use Rattle.std.specs.Prelude.{◌≡◌, ℕ, ◌≤◌, List, slice_index_or, slice_index}
-use Rattle.mothra_ops.specs.declared.op.Op.{Op}
-use Rattle.mothra_ops.specs.Op.{index}
+use Rattle.mothra_codes.specs.declared.op.Op.{Op}
+use Rattle.mothra_codes.specs.Op.{index}
 use Rattle.mothra_exchange.specs.declared.word.Word.{Word}
 use Rattle.mothra_exchange.specs.declared.view.View.{View}
 use Rattle.mothra_exchange.specs.Word.{AtMost, InBounds, opening_word}

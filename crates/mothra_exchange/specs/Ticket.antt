@@ -1,7 +1,7 @@
 -- Tickets, and how often one stands in a list.
 use Rattle.std.specs.Prelude.{ℕ, ◌+◌, Bool, ◌&&◌, nat_lt, nat_le, ◌==◌, if◌then◌else◌, List, [], ◌∷◌}
-use Rattle.mothra_ops.specs.declared.op.Op.{Op}
-use Rattle.mothra_ops.specs.Op.{index}
+use Rattle.mothra_codes.specs.declared.op.Op.{Op}
+use Rattle.mothra_codes.specs.Op.{index}
 use Rattle.mothra_exchange.specs.declared.ticket.Ticket.{Ticket}
 
 abbrev pub ticket : Op → ℕ → Ticket

@@ -1,6 +1,6 @@
 // The try calls of the word form: each is one load and at most one compare-exchange.
 ghost use Rattle.std.specs.Prelude.{◌≡◌};
-ghost use Rattle.mothra_ops.specs.Op.{index};
+ghost use Rattle.mothra_codes.specs.Op.{index};
 ghost use Rattle.mothra_exchange.specs.View.{view_after_load};
 ghost use Rattle.mothra_exchange.specs.Rule.{Loads};
 ghost use Rattle.mothra_exchange.specs.Calls.{HasLoaded, OfferDid, TakeDid, CloseDid, OfferLeaves, TakeLeaves, CloseLeaves};
@@ -11,7 +11,7 @@ use crate::rule::{Closing, Loading, Offering, Taking};
 use crate::table::{Pass, TableExchange};
 use crate::ticket::Ticket;
 use crate::word::Word;
-use mothra_ops::Op;
+use mothra_codes::Op;
 
 impl<const C: u32> TableExchange<C> {
     /// Offers a ticket. It tries once, waits for nobody and takes no memory.

@@ -2,7 +2,7 @@
 ghost use Rattle.std.specs.Prelude.{IfNone, IfSome};
 ghost use Rattle.mothra_exchange.specs.Fault.{AllCountsFit, IsFaultOf};
 
-use mothra_ops::Op;
+use mothra_codes::Op;
 use thiserror::Error;
 
 /// The largest count that a packed word holds.

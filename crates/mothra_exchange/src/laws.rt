@@ -3,8 +3,8 @@
 ghost use Rattle.std.specs.Prelude.{◌≡◌, ◌≢◌, ◌⊎◌, ℕ, ◌+◌, ◌<◌, ◌≤◌, true, false, List, slice_index};
 ghost use mathlib.Core.Option.{some};
 ghost use lib.ListN.{get_elem?};
-ghost use Rattle.mothra_ops.specs.declared.op.Op.{Op};
-ghost use Rattle.mothra_ops.specs.Op.{index};
+ghost use Rattle.mothra_codes.specs.declared.op.Op.{Op};
+ghost use Rattle.mothra_codes.specs.Op.{index};
 ghost use Rattle.mothra_exchange.specs.declared.ticket.Ticket.{Ticket};
 ghost use Rattle.mothra_exchange.specs.declared.word.Word.{Word};
 ghost use Rattle.mothra_exchange.specs.declared.view.View.{View};

@@ -1,6 +1,6 @@
 // The exchange under one lock.
 ghost use Rattle.std.specs.Prelude.{◌≡◌, IfErr, OnOk, true, false};
-ghost use Rattle.mothra_ops.specs.declared.op.Op.{Op};
+ghost use Rattle.mothra_codes.specs.declared.op.Op.{Op};
 ghost use Rattle.mothra_exchange.specs.declared.word.Word.{Word};
 ghost use Rattle.mothra_exchange.specs.View.{spent_view};
 ghost use Rattle.mothra_exchange.specs.Answer.{offer_answer, take_answer, close_answer};
@@ -16,7 +16,7 @@ use crate::gate::Gate;
 use crate::state::State;
 use crate::tally::Tally;
 use crate::ticket::Ticket;
-use mothra_ops::Op;
+use mothra_codes::Op;
 use std::alloc::Global;
 use std::sync::{Mutex, Wait};
 

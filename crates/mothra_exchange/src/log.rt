@@ -1,6 +1,6 @@
 // What happens in an exchange.
 use crate::ticket::Ticket;
-use mothra_ops::Op;
+use mothra_codes::Op;
 
 /// One change of an exchange.
 #[derive(Clone, Copy, PartialEq, Eq, Debug, Drop)]

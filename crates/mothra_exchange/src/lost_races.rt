@@ -3,7 +3,7 @@ ghost use Rattle.std.specs.Prelude.{◌≡◌};
 ghost use Rattle.mothra_exchange.specs.Table.{IsPassOf};
 
 use crate::{Close, ExchangeFault, Offer, Pass, TableExchange, Take, Ticket};
-use mothra_ops::Op;
+use mothra_codes::Op;
 use std::process::Abort;
 
 fn aar(number: u32) -> Ticket

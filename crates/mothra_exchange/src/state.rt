@@ -1,6 +1,6 @@
 // The exchange that one caller at a time changes, with its log.
 ghost use Rattle.std.specs.Prelude.{◌≡◌, [], map, IfOk, IfErr, OnOk, vec_capacity};
-ghost use Rattle.mothra_ops.specs.declared.op.Op.{Op};
+ghost use Rattle.mothra_codes.specs.declared.op.Op.{Op};
 ghost use Rattle.mothra_exchange.specs.Word.{opening_word};
 ghost use Rattle.mothra_exchange.specs.Answer.{offer_answer, take_answer, close_answer};
 ghost use Rattle.mothra_exchange.specs.Log.{IsLegal, log_after_offer, log_after_take, log_after_close};
@@ -14,7 +14,7 @@ use crate::log::Event;
 use crate::tally::Tally;
 use crate::ticket::Ticket;
 use crate::word::Word;
-use mothra_ops::Op;
+use mothra_codes::Op;
 use std::alloc::Global;
 use std::marker::Model;
 

@@ -4,7 +4,7 @@ use crate::gate::Gate;
 use crate::table::{Pass, TableExchange};
 use crate::tally::Tally;
 use crate::ticket::Ticket;
-use mothra_ops::Op;
+use mothra_codes::Op;
 use std::sync::Wait;
 
 impl<const C: u32> Gate for TableExchange<C> {

@@ -4,7 +4,7 @@ ghost use Rattle.mothra_exchange.specs.declared.word.Word.{Word};
 ghost use Rattle.mothra_exchange.specs.Tally.{word_at};
 
 use crate::word::Word;
-use mothra_ops::Op;
+use mothra_codes::Op;
 use std::marker::Model;
 
 /// Each operator's numbers at the end of an exchange. Only finishing an exchange makes one.

@@ -1,5 +1,5 @@
 // The name of one mutant.
-use mothra_ops::Op;
+use mothra_codes::Op;
 
 /// Mutant `number` of an operator's list, from 1.
 #[derive(Clone, Copy, PartialEq, Eq, Debug, Drop)]

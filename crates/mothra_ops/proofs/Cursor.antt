@@ -6,7 +6,7 @@ use Rattle.std.proofs.lemmas.List.{get_or_append_left, get_or_push, length_push,
 use Rattle.std.proofs.lemmas.List.Quantifiers.{all_pairs_push}
 use Rattle.mothra_ops.specs.Edits.{Below, Before, Lists}
 use Rattle.mothra_ops.specs.declared.edit.Edit.{Edit}
-use Rattle.mothra_ops.specs.declared.op.Op.{Op}
+use Rattle.mothra_codes.specs.declared.op.Op.{Op}
 
 contains_old : (xs : List Edit) (y e : Edit) → Contains xs e → Contains (xs ++ y ∷ []) e
 contains_old xs y e (k, low, at) = (k, omega (arith, length_push xs y), get_or_append_left xs (y ∷ []) e k low ∙ at)

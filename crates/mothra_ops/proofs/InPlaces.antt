@@ -6,11 +6,11 @@ use Rattle.f77_tree.specs.Tree.{Tree, Trees, DeclFields}
 use Rattle.f77_tree.specs.View.{trees, place_of}
 use Rattle.f77_tree.specs.declared.tree.Ref.{Ref}
 use Rattle.f77_legal.specs.Names.{Symbol}
-use Rattle.mothra_ops.specs.InPlaces.{in_place, target_of, variable_of}
+use Rattle.mothra_ops.specs.InPlaces.{target_of, variable_of}
 use Rattle.mothra_ops.specs.Pools.{PoolFields, reference_of, scalar}
-use Rattle.mothra_ops.specs.Replacements.{is_element, is_scalar, comparable, target, variable, others, replacements}
-use Rattle.mothra_ops.specs.declared.op.Op.{Op}
-use Rattle.mothra_ops.specs.declared.op.Op.TheVariants.{Aar, Asr, Cnr, Sar, Svr}
+use Rattle.mothra_ops.specs.Replacements.{is_element, is_scalar, comparable, target, variable, others, in_place, replacements}
+use Rattle.mothra_codes.specs.declared.op.Op.{Op}
+use Rattle.mothra_codes.specs.declared.op.Op.TheVariants.{Aar, Asr, Cnr, Sar, Svr}
 
 -- nothing in the place of an expression that is no reference
 pub nowhere : (op : Op) (pools : PoolFields) (t : Tree) → is_element t ≡ false → is_scalar t ≡ false → comparable pools t ≡ [] → [] ≡ in_place op pools t

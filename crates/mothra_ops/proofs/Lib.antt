@@ -1,5 +1,3 @@
-mod Codes
-pub mod Operators
 mod Rows
 mod Filters
 mod OrderedLists
@@ -12,8 +10,9 @@ mod InPlaces
 mod Thinned
 mod Cursor
 mod Members
-mod Mutants
+mod MakesMutant
 mod Comings
 mod Made
 mod Applied
 mod Plans
+mod Numbered

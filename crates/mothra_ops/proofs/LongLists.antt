@@ -4,7 +4,7 @@ use Rattle.std.specs.Prelude.{◌⊎◌}
 use Rattle.f77_tree.specs.Parsing.{LineFields}
 use Rattle.mothra_ops.specs.Edits.{IsMember, IsTooLong, Lists, thinned, most_edits, most_whole}
 use Rattle.mothra_ops.specs.declared.edit.Edit.{Edit}
-use Rattle.mothra_ops.specs.declared.op.Op.{Op}
+use Rattle.mothra_codes.specs.declared.op.Op.{Op}
 use Rattle.mothra_ops.proofs.OrderedLists.{no_longer}
 use Rattle.mothra_ops.proofs.Thinning.{thinned_within}
 

@@ -18,9 +18,9 @@ use Rattle.mothra_ops.specs.Original.{Has}
 use Rattle.mothra_ops.specs.Pools.{PoolFields}
 use Rattle.mothra_ops.specs.Replacements.{gives}
 use Rattle.mothra_ops.specs.declared.edit.Edit.{Edit}
-use Rattle.mothra_ops.specs.declared.op.Op.{Op}
+use Rattle.mothra_codes.specs.declared.op.Op.{Op}
 use Rattle.mothra_ops.proofs.Members.{node_there, made_there}
-use Rattle.mothra_ops.proofs.Mutants.{line_numbered}
+use Rattle.mothra_ops.proofs.MakesMutant.{line_numbered}
 
 -- a number that no item has
 pub past : {X : Type 0} (xs : List X) (r : ℕ) → (r ≡ 0) ⊎ (length xs < r) → numbered xs r ≡ None

@@ -13,7 +13,7 @@ use Rattle.mothra_ops.specs.Original.{Has, StandsAt}
 use Rattle.mothra_ops.specs.Pools.{PoolFields, pools_of}
 use Rattle.mothra_ops.specs.Replacements.{gives}
 use Rattle.mothra_ops.specs.declared.edit.Edit.{Edit}
-use Rattle.mothra_ops.specs.declared.op.Op.{Op}
+use Rattle.mothra_codes.specs.declared.op.Op.{Op}
 use Rattle.mothra_ops.proofs.Cursor.{edit_at}
 
 -- a number from 1 on

@@ -1,5 +1,5 @@
 -- Lists of what comes first, and of ascending numbers, as loops make them.
-use Rattle.std.proofs.Common.{◌≡◌, ◌<◌, ◌+◌, ◌∷◌, ◌++◌, [], ℕ, List, Bool, true, false, not, ◌||◌, Option, Some, None, length, take, get_or, refl, sym, ap, ◌∙◌, if◌then◌else◌, arith, suc, zero}
+use Rattle.std.proofs.Common.{◌≡◌, ◌<◌, ◌+◌, ◌∷◌, ◌++◌, [], ℕ, List, Bool, true, false, not, Option, Some, None, length, take, get_or, refl, sym, ap, ◌∙◌, if◌then◌else◌}
 use Rattle.std.specs.Prelude.{map, filter}
 use Rattle.std.specs.Cmp.{IsEquivalence}
 use Rattle.std.specs.List.{filter_map, list_any, cons_option}
@@ -64,6 +64,11 @@ module _ {X : Type 0} (same : X → X → Bool) (laws : IsEquivalence same) wher
         → each_once same (filter_map h (ns ++ n ∷ [])) ≡ each_once same (filter_map h ns) ++ x ∷ []
     new_more x some new = let e = sym (any_once x (filter_map h ns)) ∙ new in one_more x some ∙ rw e refl
 
+  -- a search among what is seen by g
+  pub any_seen : {W : Type 0} (g : W → X) (w : W) (xs : List W) → list_any (λ known. same (g known) (g w)) xs ≡ list_any (same (g w)) (map g xs)
+  any_seen g w [] = refl
+  any_seen g w (x ∷ xs) = rw (laws.symm (g x) (g w), any_seen g w xs) refl
+
   -- the steps of a loop over nodes, each seen by v; what is listed is seen by g
   module _ {M N W : Type 0} (h : N → Option X) (v : M → N) (g : W → X) (ms : List M) (i : ℕ) {m : M} (d : M) (old : List W)
       (at : m ≡ get_or ms i d) (lt : i < length ms) (is : map g old ≡ each_once same (filter_map h (map v (take i ms)))) where
@@ -73,26 +78,15 @@ module _ {X : Type 0} (same : X → X → Bool) (laws : IsEquivalence same) wher
     pub passed_over : h (v m) ≡ None → map g old ≡ each_once same (filter_map h (map v (take (i + 1) ms)))
     passed_over none = is ∙ (sym (none_more h (map v (take i ms)) (v m) none) ∙ ap (λ ns. each_once same (filter_map h ns)) (sym step))
 
-    pub known_before : (w : W) → h (v m) ≡ Some (g w) → list_any (same (g w)) (map g old) ≡ true
+    pub known_before : (w : W) → h (v m) ≡ Some (g w) → list_any (λ known. same (g known) (g w)) old ≡ true
         → map g old ≡ each_once same (filter_map h (map v (take (i + 1) ms)))
     known_before w some known =
-        let e = ap (list_any (same (g w))) (sym is) ∙ known in
+        let e = ap (list_any (same (g w))) (sym is) ∙ sym (any_seen g w old) ∙ known in
         is ∙ (sym (known_more h (map v (take i ms)) (v m) (g w) some e) ∙ ap (λ ns. each_once same (filter_map h ns)) (sym step))
 
-    pub listed_new : (w : W) {new : List W} → h (v m) ≡ Some (g w) → list_any (same (g w)) (map g old) ≡ false → new ≡ old ++ w ∷ []
+    pub listed_new : (w : W) {new : List W} → h (v m) ≡ Some (g w) → list_any (λ known. same (g known) (g w)) old ≡ false → new ≡ old ++ w ∷ []
         → map g new ≡ each_once same (filter_map h (map v (take (i + 1) ms)))
     listed_new w some unknown pushed =
-        let e = ap (list_any (same (g w))) (sym is) ∙ unknown in
+        let e = ap (list_any (same (g w))) (sym is) ∙ sym (any_seen g w old) ∙ unknown in
         ap (map g) pushed ∙ (map-append g old (w ∷ []) ∙ (ap (λ xs. xs ++ g w ∷ []) is
         ∙ (sym (new_more h (map v (take i ms)) (v m) (g w) some e) ∙ ap (λ ns. each_once same (filter_map h ns)) (sym step))))
-
--- an item that passes settles a search
-module _ {X Y : Type 0} (p : Y → Bool) (v : X → Y) where
-  or_later : (b : Bool) {found : Bool} → true ≡ found → true ≡ (b || found)
-  or_later true later = refl
-  or_later false later = later
-
-  pub found_at : (xs : List X) (i : ℕ) {x : X} (d : X) → x ≡ get_or xs i d → i < length xs → p (v x) ≡ true → true ≡ list_any p (map v xs)
-  found_at [] i d at lt passes = absurd (omega (arith, lt))
-  found_at (x ∷ xs) zero d at lt passes = let e : p (v x) ≡ true = ap (λ y. p (v y)) (sym at) ∙ passes in rw e refl
-  found_at (x ∷ xs) (suc i) d at lt passes = or_later (p (v x)) (found_at xs i d at (omega (arith, lt)) passes)

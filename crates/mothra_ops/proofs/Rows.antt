@@ -9,8 +9,8 @@ use Rattle.f77_tree.specs.declared.operator.Sign.TheVariants.{Minus}
 use Rattle.f77_tree.specs.declared.tree.Kind.TheVariants.{Integer}
 use Rattle.mothra_ops.specs.Pools.{PoolFields, scalar, ascending}
 use Rattle.mothra_ops.specs.Replacements.{replacements, next_constants}
-use Rattle.mothra_ops.specs.declared.op.Op.TheVariants.{Aar, Abs, Aor, Cnr, Crp, Csr}
-use Rattle.mothra_ops.specs.declared.op.Op.TheVariants.{Glr, Rsr, Sar, Sdl, Svr}
+use Rattle.mothra_codes.specs.declared.op.Op.TheVariants.{Aar, Abs, Aor, Cnr, Crp, Csr}
+use Rattle.mothra_codes.specs.declared.op.Op.TheVariants.{Glr, Rsr, Sar, Sdl, Svr}
 
 abbrev i : List ℕ
 i = codes "I"

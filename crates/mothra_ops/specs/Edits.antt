@@ -13,7 +13,7 @@ use Rattle.f77_sites.specs.Sites.{sites}
 use Rattle.mothra_ops.specs.declared.edit.Edit.{Edit}
 use Rattle.mothra_ops.specs.declared.fault.OpsFault.{OpsFault}
 use Rattle.mothra_ops.specs.declared.fault.OpsFault.TheVariants.{Memory, NotASite, TooMany}
-use Rattle.mothra_ops.specs.declared.op.Op.{Op}
+use Rattle.mothra_codes.specs.declared.op.Op.{Op}
 
 -- the item of this number, counted from 1
 abbrev pub numbered : {X : Type 0} → List X → ℕ → Option X

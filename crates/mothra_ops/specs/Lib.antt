@@ -1,4 +1,3 @@
-pub mod Op
 pub mod Pools
 pub mod Replacements
 pub mod Edits
@@ -6,3 +5,4 @@ pub mod Original
 pub mod Listing
 pub mod Plan
 pub mod InPlaces
+pub mod Mutants

@@ -4,7 +4,7 @@ use Rattle.f77_tree.specs.Parsing.{LineFields}
 use Rattle.mothra_ops.specs.Edits.{Below, IsMember, Lists, most_edits, most_whole, thinned}
 use Rattle.mothra_ops.specs.declared.edit.Edit.{Edit}
 use Rattle.mothra_ops.specs.declared.listing.Listing.{Listing}
-use Rattle.mothra_ops.specs.declared.op.Op.{Op}
+use Rattle.mothra_codes.specs.declared.op.Op.{Op}
 
 -- it has the edits of this whole list, thinned, and their number
 pub record Holds (listing : Listing) (list : List Edit) : Type 0 where

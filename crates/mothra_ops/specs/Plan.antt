@@ -4,12 +4,12 @@ use Rattle.std.specs.Option.{option_map_or}
 use Rattle.f77_tree.specs.Parsing.{LineFields, line_of}
 use Rattle.f77_check.specs.Checked.{CheckedFields}
 use Rattle.mothra_ops.specs.Edits.{IsCountedList, IsList, IsTooLong}
-use Rattle.mothra_ops.specs.Op.{index}
+use Rattle.mothra_codes.specs.Op.{index}
 use Rattle.mothra_ops.specs.declared.edit.Edit.{Edit}
 use Rattle.mothra_ops.specs.declared.fault.OpsFault.{OpsFault}
 use Rattle.mothra_ops.specs.declared.fault.OpsFault.TheVariants.{Memory, NotASite, TooMany}
 use Rattle.mothra_ops.specs.declared.listing.Listing.{Listing}
-use Rattle.mothra_ops.specs.declared.op.Op.{Op}
+use Rattle.mothra_codes.specs.declared.op.Op.{Op}
 
 -- an operator's list, thinned, and the length of the whole one
 pub record ListFields : Type 0 where

@@ -18,9 +18,9 @@ use Rattle.f77_tree.specs.declared.tree.Kind.TheVariants.{Integer, Logical}
 use Rattle.f77_legal.specs.Kinds.{same_kind, result_kind}
 use Rattle.f77_legal.specs.Names.{Symbol}
 use Rattle.mothra_ops.specs.Pools.{PoolFields, is_executable, scalar}
-use Rattle.mothra_ops.specs.declared.op.Op.{Op}
-use Rattle.mothra_ops.specs.declared.op.Op.TheVariants.{Aar, Abs, Acr, Aor, Asr, Car, Cnr, Crp, Csr, Der, Dsa}
-use Rattle.mothra_ops.specs.declared.op.Op.TheVariants.{Glr, Lcr, Ror, Rsr, San, Sar, Scr, Sdl, Src, Svr, Uoi}
+use Rattle.mothra_codes.specs.declared.op.Op.{Op}
+use Rattle.mothra_codes.specs.declared.op.Op.TheVariants.{Aar, Abs, Acr, Aor, Asr, Car, Cnr, Crp, Csr, Der, Dsa}
+use Rattle.mothra_codes.specs.declared.op.Op.TheVariants.{Glr, Lcr, Ror, Rsr, San, Sar, Scr, Sdl, Src, Svr, Uoi}
 
 -- the kind of an expression, where names are of these kinds
 abbrev pub kind_in : (Symbol → Kind) → Tree → Kind
@@ -178,14 +178,23 @@ abbrev pub in_statements : (Form → Bool) → Statement → NodeOf → List Nod
 in_statements is_site new (NodeOf.Itself s) = if is_site (form_of s) && not (same_statement new s) then NodeOf.Itself new ∷ [] else []
 in_statements is_site new _ = []
 
+-- what the operators that put references in the place of references put there
+abbrev pub in_place : Op → PoolFields → Tree → List Tree
+in_place Aar pools t = drawn is_element pools.kinds pools.references t
+in_place Asr pools t = drawn is_scalar pools.kinds pools.references t
+in_place Cnr pools t = comparable pools t
+in_place Sar pools t = drawn is_element pools.kinds pools.scalars t
+in_place Svr pools t = drawn is_scalar pools.kinds pools.scalars t
+in_place _ pools t = []
+
 abbrev pub replacements : Op → PoolFields → NodeOf → List NodeOf
-replacements Aar pools = in_places (drawn is_element pools.kinds pools.references)
+replacements Aar pools = in_places (in_place Aar pools)
 replacements Abs pools = in_computed (λ t. if same_kind Integer (kind_in pools.kinds t) then absolute t else [])
 replacements Acr pools = in_parts (drawn is_constant pools.kinds pools.references)
 replacements Aor pools = in_parts (with_group arithmetic operands)
-replacements Asr pools = in_places (drawn is_scalar pools.kinds pools.references)
+replacements Asr pools = in_places (in_place Asr pools)
 replacements Car pools = in_parts (drawn is_element pools.kinds pools.constants)
-replacements Cnr pools = in_places (comparable pools)
+replacements Cnr pools = in_places (in_place Cnr pools)
 replacements Crp pools = in_parts altered
 replacements Csr pools = in_parts (drawn is_scalar pools.kinds pools.constants)
 replacements Der pools = in_labels pools.labels
@@ -195,11 +204,11 @@ replacements Lcr pools = in_parts (with_group connectors (λ a b. operands a b +
 replacements Ror pools = in_parts (with_group relations (λ a b. truths))
 replacements Rsr pools = in_statements acts_or_continues Statement.Return
 replacements San pools = in_statements acts_or_continues Statement.Trap
-replacements Sar pools = in_places (drawn is_element pools.kinds pools.scalars)
+replacements Sar pools = in_places (in_place Sar pools)
 replacements Scr pools = in_parts (drawn is_constant pools.kinds pools.scalars)
 replacements Sdl pools = in_statements acts Statement.Continue
 replacements Src pools = in_parts (drawn is_constant pools.kinds pools.constants)
-replacements Svr pools = in_variables (drawn is_scalar pools.kinds pools.scalars)
+replacements Svr pools = in_variables (in_place Svr pools)
 replacements Uoi pools = in_computed (λ t. with_unary (kind_in pools.kinds t) t)
 
 -- The statements in which an operator has sites: executable ones, but for DATA; of the two that exchange labels DER has the DOs.

@@ -1,6 +1,6 @@
 //! Edits.
 
-use crate::op::Op;
+use mothra_codes::Op;
 
 /// One small change of a program.
 #[derive(Clone, Copy, Debug, PartialEq, Eq, Drop)]

@@ -14,13 +14,13 @@ ghost use Rattle.mothra_ops.specs.declared.fault.OpsFault.TheVariants.{Memory, N
 use crate::edit::Edit;
 use crate::fault::OpsFault;
 use crate::listing::Listing;
-use crate::op::Op;
 use crate::original::Original;
 use crate::replacing::gives;
 use crate::site::Site;
 use f77_check::Checked;
 use f77_sites::{New, nodes, with_node};
 use f77_tree::Stmt;
+use mothra_codes::Op;
 use std::alloc::Global;
 
 impl Original<'_> {

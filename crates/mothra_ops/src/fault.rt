@@ -3,7 +3,7 @@
 ghost use Rattle.std.specs.Prelude.{◌≡◌};
 ghost use Rattle.mothra_ops.specs.declared.fault.OpsFault.TheVariants as fault;
 
-use crate::op::Op;
+use mothra_codes::Op;
 use std::alloc::{AllocError, AllocFailed};
 use thiserror::Error;
 

@@ -4,19 +4,18 @@ ghost use Rattle.std.specs.Prelude.{◌≡◌, [], map, if◌then◌else◌, IfO
 ghost use Rattle.f77_tree.specs.Node.{NodeOf};
 ghost use Rattle.f77_tree.specs.View.{trees, tree_of, place_of};
 ghost use Rattle.f77_sites.specs.New.{new_of};
-ghost use Rattle.mothra_ops.specs.InPlaces.{in_place};
 ghost use Rattle.mothra_ops.specs.Pools.{fields_of, reference_of};
 ghost use Rattle.mothra_ops.specs.Replacements as model;
-ghost use Rattle.mothra_ops.specs.Replacements.{others};
+ghost use Rattle.mothra_ops.specs.Replacements.{in_place, others};
 ghost use Rattle.mothra_ops.specs.declared.fault.OpsFault.TheVariants.{Memory};
 
 use crate::fault::OpsFault;
 use crate::news::{expressions, in_targets, in_variables};
-use crate::op::Op;
 use crate::places::{comparable, is_element, other_references, other_scalars, scalar};
 use crate::pools::Pools;
 use f77_sites::New;
 use f77_tree::{Expr, Name, Ref};
+use mothra_codes::Op;
 use std::alloc::Global;
 
 /// The other array references at a site, none elsewhere.

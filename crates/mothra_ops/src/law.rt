@@ -4,7 +4,7 @@ ghost use Rattle.std.specs.Prelude.{◌≡◌, ◌*◌, ◌<◌, ◌≤◌, ◌�
 ghost use Rattle.f77_tree.specs.Parsing.{LineFields};
 ghost use Rattle.mothra_ops.specs.Edits.{Lists, IsMember, IsTooLong, thinned, most_edits, most_whole};
 ghost use Rattle.mothra_ops.specs.declared.edit.Edit.{Edit};
-ghost use Rattle.mothra_ops.specs.declared.op.Op.{Op};
+ghost use Rattle.mothra_codes.specs.declared.op.Op.{Op};
 
 /// An operator has one whole list of a program.
 pub fn one_list()

@@ -8,7 +8,7 @@ ghost use Rattle.mothra_ops.specs.declared.fault.OpsFault.TheVariants.{Memory, T
 
 use crate::edit::Edit;
 use crate::fault::OpsFault;
-use crate::op::Op;
+use mothra_codes::Op;
 use std::alloc::Global;
 
 /// The most edits of a list.

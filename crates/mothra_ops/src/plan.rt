@@ -10,15 +10,15 @@ ghost use Rattle.f77_check.specs.contracts.expression.Condition as condition;
 ghost use Rattle.f77_check.specs.contracts.expression.Element as element;
 ghost use Rattle.f77_check.specs.contracts.expression.Number as number;
 ghost use Rattle.mothra_ops.specs.Edits.{numbered};
-ghost use Rattle.mothra_ops.specs.declared.op.Op.{Op};
+ghost use Rattle.mothra_codes.specs.declared.op.Op.{Op};
 ghost use Rattle.mothra_ops.specs.Plan.{PlanFields, IsPlan, IsNoPlan, fields_of, list_fields, list_of, asked, edits_of, whole_of};
 
 use crate::edit::Edit;
 use crate::editing::listing;
 use crate::fault::OpsFault;
 use crate::listing::Listing;
-use crate::op::Op;
 use f77_check::Checked;
+use mothra_codes::Op;
 use std::alloc::Global;
 use std::marker::Model;
 

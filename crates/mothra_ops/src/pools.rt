@@ -2,7 +2,7 @@
 
 ghost use Rattle.std.specs.Prelude.{◌≡◌, ◌≤◌, is_some, map, filter, length, IfOk, IfErr, OnOk, option_map};
 ghost use Rattle.std.specs.Bool.{beq};
-ghost use Rattle.std.specs.List.{filter_map, insert, list_any};
+ghost use Rattle.std.specs.List.{filter_map, insert};
 ghost use Rattle.indexmap.specs.IndexMap.{keys};
 ghost use Rattle.f77_tree.specs.Comparing.{same_tree};
 ghost use Rattle.f77_tree.specs.Node.{node_of};
@@ -103,17 +103,6 @@ fn with_bounds(alloc: Global, names: &Names, wanted: bool) -> Result<Vec<Name>, 
     Ok(list)
 }
 
-fn is_listed_reference(list: &[&Ref], reference: &Ref) -> bool
-    ensures { result ≡ list_any (same_tree (reference_of reference.now)) (map (λ known. reference_of known.now) list.now) }
-{
-    for known in list {
-        if *reference == **known {
-            return true;
-        }
-    }
-    false
-}
-
 /// The array references among the nodes, each once, where it comes first.
 fn references<'a>(alloc: Global, nodes: &[Node<'a>]) -> Result<Vec<&'a Ref>, OpsFault>
     ensures references { IfOk result (λ list. map (λ reference. reference_of reference.now) list.items
@@ -123,7 +112,7 @@ fn references<'a>(alloc: Global, nodes: &[Node<'a>]) -> Result<Vec<&'a Ref>, Ops
     let mut list: Vec<&'a Ref> = Vec::new(alloc);
     for node in nodes {
         if let Some(reference) = array_reference(*node)
-            && !is_listed_reference(&list, reference)
+            && !list.contains(&reference)
         {
             list.push(reference)?;
         }
@@ -154,17 +143,6 @@ fn constant(node: Node<'_>) -> Option<&Expr>
     }
 }
 
-fn is_listed_constant(list: &[&Expr], constant: &Expr) -> bool
-    ensures { result ≡ list_any (same_tree (tree_of constant.now)) (map (λ known. tree_of known.now) list.now) }
-{
-    for known in list {
-        if *constant == **known {
-            return true;
-        }
-    }
-    false
-}
-
 /// The constants among the nodes, each once, where it comes first.
 fn constants<'a>(alloc: Global, nodes: &[Node<'a>]) -> Result<Vec<&'a Expr>, OpsFault>
     ensures constants { IfOk result (λ list. map (λ expr. tree_of expr.now) list.items
@@ -174,7 +152,7 @@ fn constants<'a>(alloc: Global, nodes: &[Node<'a>]) -> Result<Vec<&'a Expr>, Ops
     let mut list: Vec<&'a Expr> = Vec::new(alloc);
     for node in nodes {
         if let Some(constant) = constant(*node)
-            && !is_listed_constant(&list, constant)
+            && !list.contains(&constant)
         {
             list.push(constant)?;
         }

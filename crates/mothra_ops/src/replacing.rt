@@ -6,7 +6,7 @@ ghost use Rattle.f77_tree.specs.declared.form.Form.TheVariants as form;
 ghost use Rattle.f77_tree.specs.Node.{NodeOf, node_of};
 ghost use Rattle.f77_tree.specs.StatementView.{statement_of};
 ghost use Rattle.f77_sites.specs.New.{new_of};
-ghost use Rattle.mothra_ops.specs.Pools.{fields_of};
+ghost use Rattle.mothra_ops.specs.Pools.{PoolFields, fields_of};
 ghost use Rattle.mothra_ops.specs.Replacements as model;
 ghost use Rattle.mothra_ops.specs.declared.fault.OpsFault.TheVariants.{Memory};
 
@@ -14,11 +14,11 @@ use crate::fault::OpsFault;
 use crate::in_expressions::in_expression;
 use crate::in_places::{in_target, in_variable};
 use crate::news::{in_labels, in_parts, in_values};
-use crate::op::Op;
 use crate::pools::{Pools, is_executable};
 use crate::statements::{acts, acts_or_continues, next_constants, other_labels};
 use f77_sites::New;
 use f77_tree::{Node, Stmt, Value};
+use mothra_codes::Op;
 use std::alloc::Global;
 
 /// Whether the statement is a DO.
@@ -101,12 +101,11 @@ fn exchanged(alloc: Global, is_site: bool, new: Stmt, stmt: &Stmt) -> Result<Vec
 }
 
 /// What the operator puts in the place of a statement.
-fn in_statement(alloc: Global, op: Op, pools: &Pools<'_>, stmt: &Stmt) -> Result<Vec<New>, OpsFault>
-    ensures list { IfOk result (λ list. map new_of list.items
-        ≡ model.replacements op (fields_of pools.now) (NodeOf.Itself (statement_of stmt.now))) }
+fn in_statement(alloc: Global, op: Op, stmt: &Stmt) -> Result<Vec<New>, OpsFault>
+    ensures list { IfOk result (λ list. (pools : PoolFields) → map new_of list.items
+        ≡ model.replacements op pools (NodeOf.Itself (statement_of stmt.now))) }
     ensures memory { IfErr result (λ fault. fault ≡ Memory) }
 {
-    let _pools = pools;
     let form = stmt.form();
     match op {
         Op::Rsr => Ok(exchanged(alloc, acts_or_continues(form), Stmt::Return, stmt)?),
@@ -131,11 +130,10 @@ fn in_label(alloc: Global, op: Op, pools: &Pools<'_>, label: u32) -> Result<Vec<
 }
 
 /// What the operator puts in the place of a value of DATA.
-fn in_value(alloc: Global, op: Op, pools: &Pools<'_>, value: &Value) -> Result<Vec<New>, OpsFault>
-    ensures list { IfOk result (λ list. map new_of list.items ≡ model.replacements op (fields_of pools.now) (NodeOf.Initial value.now)) }
+fn in_value(alloc: Global, op: Op, value: &Value) -> Result<Vec<New>, OpsFault>
+    ensures list { IfOk result (λ list. (pools : PoolFields) → map new_of list.items ≡ model.replacements op pools (NodeOf.Initial value.now)) }
     ensures memory { IfErr result (λ fault. fault ≡ Memory) }
 {
-    let _pools = pools;
     match op {
         Op::Dsa => {
             let list = next_constants(alloc, value.constant)?;
@@ -152,7 +150,7 @@ fn at_node(alloc: Global, op: Op, pools: &Pools<'_>, node: Node<'_>) -> Result<V
     ensures memory { IfErr result (λ fault. fault ≡ Memory) }
 {
     match node {
-        Node::Statement(stmt) => Ok(in_statement(alloc, op, pools, stmt)?),
+        Node::Statement(stmt) => Ok(in_statement(alloc, op, stmt)?),
         Node::Target(own) => Ok(in_target(alloc, op, pools, own)?),
         Node::Expression(expr) => {
             let list = in_expression(alloc, op, pools, expr)?;
@@ -161,7 +159,7 @@ fn at_node(alloc: Global, op: Op, pools: &Pools<'_>, node: Node<'_>) -> Result<V
         Node::Name(name) => Ok(in_variable(alloc, op, pools, name)?),
         Node::Declared(_) => Ok(Vec::new(alloc)),
         Node::Label(label) => Ok(in_label(alloc, op, pools, label)?),
-        Node::Value(value) => Ok(in_value(alloc, op, pools, value)?),
+        Node::Value(value) => Ok(in_value(alloc, op, value)?),
     }
 }
 

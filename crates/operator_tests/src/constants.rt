@@ -2,9 +2,7 @@
 
 use crate::listed::assert_mutants;
 use std::test::Fail;
-
-const LOOP: &str =
-    "SUBROUTINE LOOP(N,K); K=0; IF (N.LT.0) GO TO 20; DO 10 I=1,N; 10 K=K+I; 20 K=K+1; 30 RETURN; END";
+use test_checks::LOOP;
 
 const ZEROS: &str = "SUBROUTINE Z(K); K=K-0; K=-0; END";
 

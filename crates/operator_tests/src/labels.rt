@@ -2,9 +2,7 @@
 
 use crate::listed::assert_mutants;
 use std::test::Fail;
-
-const LOOP: &str =
-    "SUBROUTINE LOOP(N,K); K=0; IF (N.LT.0) GO TO 20; DO 10 I=1,N; 10 K=K+I; 20 K=K+1; 30 RETURN; END";
+use test_checks::LOOP;
 
 const SELECTED: &str =
     "SUBROUTINE SEL(I,K); GO TO (10,20),I; K=0; RETURN; 10 K=1; RETURN; 20 K=2; END";

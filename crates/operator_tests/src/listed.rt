@@ -1,16 +1,12 @@
 //! The mutants of a program as texts.
 
-use f77_check::{Checked, check};
+use f77_check::Checked;
 use f77_tree::print_stmt;
 use mothra_ops::{Edit, Op, apply, edits};
 use std::process::Abort;
 use std::test::Fail;
-use test_programs::{parts, program};
-
-/// The program of statements with `; ` between them, checked.
-pub(crate) fn checked(rt: &impl AllocGlobal, statements: &str) -> Result<Checked, Fail> {
-    Ok(check(rt.alloc(), &program(rt, statements)?)?)
-}
+use test_checks::checked;
+use test_programs::parts;
 
 /// The operator with this code.
 pub(crate) fn operator(code: &str) -> Result<Op, Fail> {

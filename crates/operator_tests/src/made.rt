@@ -1,17 +1,13 @@
 //! The programs that edits make, and edits that make none.
 
-use crate::listed::{checked, operator};
+use crate::listed::operator;
 use f77_check::Checked;
 use f77_tree::print;
 use mothra_ops::{Edit, OpsFault, apply};
 use std::process::Abort;
 use std::test::Fail;
+use test_checks::{ADD, LOOP, checked};
 use test_programs::{parts, program};
-
-const ADD: &str = "SUBROUTINE ADD(I,J,K); K=I+J; END";
-
-const LOOP: &str =
-    "SUBROUTINE LOOP(N,K); K=0; IF (N.LT.0) GO TO 20; DO 10 I=1,N; 10 K=K+I; 20 K=K+1; 30 RETURN; END";
 
 /// The edit of an operator's code and the numbers of the statement, the position and the rank.
 fn edit(code: &str, statement: usize, position: usize, rank: usize) -> Result<Edit, Fail> {

@@ -1,12 +1,11 @@
 //! Plans.
 
-use crate::listed::{checked, operator};
+use crate::listed::operator;
 use mothra_ops::{Edit, Op, Plan};
 use std::process::Abort;
 use std::test::Fail;
+use test_checks::{ADD, checked};
 use test_programs::parts;
-
-const ADD: &str = "SUBROUTINE ADD(I,J,K); K=I+J; END";
 
 /// The plan of the sum for these operators.
 fn plan(rt: &impl AllocGlobal, ops: &[Op], every: u32) -> Result<Plan, Fail> {

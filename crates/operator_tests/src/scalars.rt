@@ -2,11 +2,7 @@
 
 use crate::listed::assert_mutants;
 use std::test::Fail;
-
-const ADD: &str = "SUBROUTINE ADD(I,J,K); K=I+J; END";
-
-const LOOP: &str =
-    "SUBROUTINE LOOP(N,K); K=0; IF (N.LT.0) GO TO 20; DO 10 I=1,N; 10 K=K+I; 20 K=K+1; 30 RETURN; END";
+use test_checks::{ADD, LOOP};
 
 const LOG: &str = "SUBROUTINE LOG(P,Q); LOGICAL P,Q; P=P.AND.Q; END";
 

@@ -2,8 +2,7 @@
 
 use crate::listed::assert_mutants;
 use std::test::Fail;
-
-const ADD: &str = "SUBROUTINE ADD(I,J,K); K=I+J; END";
+use test_checks::ADD;
 
 #[test]
 fn thins_absolute_values(rt: HostRuntime) -> Result<(), Fail> {

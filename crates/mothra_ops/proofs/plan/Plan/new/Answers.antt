@@ -1,13 +1,13 @@
 use Rattle.std.proofs.Common.{rules, ◌≡◌, map, arith, subst, sym, ℕ, ◌+◌, ◌++◌, ◌∷◌, [], nat_eq}
-use Rattle.mothra_ops.specs.contracts.op.OpPartialEq.TheImpl.{ghosts}
+use Rattle.mothra_codes.specs.contracts.op.OpPartialEq.TheImpl.{ghosts}
 use Rattle.std.proofs.lemmas.Bool.Decides.{not_from_Decides}
 use Rattle.std.proofs.lemmas.List.Elements.{Decides-contains, contains_decides}
 use Rattle.f77_tree.specs.Parsing.{line_of}
 use Rattle.mothra_ops.specs.Edits.{IsCountedList}
-use Rattle.mothra_ops.specs.Op.{index, op_at}
+use Rattle.mothra_codes.specs.Op.{index, op_at}
 use Rattle.mothra_ops.specs.Plan.{IsNoPlan}
-use Rattle.mothra_ops.specs.declared.op.Op.{Op}
-use Rattle.mothra_ops.proofs.Operators.{index-op_at}
+use Rattle.mothra_codes.specs.declared.op.Op.{Op}
+use Rattle.mothra_codes.proofs.Operators.{index-op_at}
 use Rattle.mothra_ops.proofs.Plans.{HasLists, no_lists, one_more_listed, none_more, one_op, no_plan, is_asked, was_asked, is_plan}
 use Rattle.mothra_ops.proofs.plan.Plan.new.Goals as goal
 use Rattle.mothra_ops.proofs.plan.Plan.new.Goals.{then-contains+in_ok-listing+in_ok-push, else-contains}

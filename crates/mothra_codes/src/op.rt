@@ -1,6 +1,6 @@
 // The 22 operators, their codes and their order.
 ghost use Rattle.std.specs.Prelude.{◌≡◌, ◌<◌, IfSome};
-ghost use Rattle.mothra_ops.specs.Op.{index, code_of};
+ghost use Rattle.mothra_codes.specs.Op.{index, code_of};
 
 /// An operator of Mothra (King and Offutt 1991, "A Fortran Language System for Mutation-Based
 /// Software Testing"). The variants stand in the alphabetical order of their codes, which is the

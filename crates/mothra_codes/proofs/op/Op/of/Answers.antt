@@ -6,10 +6,10 @@ use Rattle.std.proofs.lemmas.Iterator.{YieldsList-from_slice}
 use Rattle.std.proofs.lemmas.Iterator.Adapters.{option_map_id}
 use Rattle.std.proofs.lemmas.Iterator.Consumers.{YieldsList-from_copied}
 use Rattle.std.proofs.lemmas.Iterator.Search.{find_from_yields_List}
-use Rattle.mothra_ops.specs.declared.op.Op.{Op}
-use Rattle.mothra_ops.specs.Op.{all_ops, code_of}
-use Rattle.mothra_ops.proofs.Codes.{op_found}
-use Rattle.mothra_ops.proofs.op.Op.of.Goals as goal
+use Rattle.mothra_codes.specs.declared.op.Op.{Op}
+use Rattle.mothra_codes.specs.Op.{all_ops, code_of}
+use Rattle.mothra_codes.proofs.Codes.{op_found}
+use Rattle.mothra_codes.proofs.op.Op.of.Goals as goal
 
 pub returns-clause-known : goal.returns-clause-known
 returns-clause-known c op e =

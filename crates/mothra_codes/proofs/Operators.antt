@@ -1,9 +1,9 @@
 -- An operator and its number.
 use Rattle.std.proofs.Common.{◌≡◌, ℕ, zero, suc, ◌+◌, List, [], ◌∷◌, length, get_or, Bool, true, false, ◌&&◌, eqb, ◌<◌, refl, sym, ap, ◌∙◌, arith}
 use Rattle.std.proofs.lemmas.Bool.Decides.{nat_tests}
-use Rattle.mothra_ops.specs.declared.op.Op.{Op}
-use Rattle.mothra_ops.specs.declared.op.Op.TheVariants.{Aar, Abs, Acr, Aor, Asr, Car, Cnr, Crp, Csr, Der, Dsa, Glr, Lcr, Ror, Rsr, San, Sar, Scr, Sdl, Src, Svr, Uoi}
-use Rattle.mothra_ops.specs.Op.{index, op_at, all_ops}
+use Rattle.mothra_codes.specs.declared.op.Op.{Op}
+use Rattle.mothra_codes.specs.declared.op.Op.TheVariants.{Aar, Abs, Acr, Aor, Asr, Car, Cnr, Crp, Csr, Der, Dsa, Glr, Lcr, Ror, Rsr, San, Sar, Scr, Sdl, Src, Svr, Uoi}
+use Rattle.mothra_codes.specs.Op.{index, op_at, all_ops}
 
 pub op_at-index : (op : Op) → op_at (index op) ≡ op
 op_at-index Aar = refl

@@ -1,0 +1,163 @@
+//! The mutants of a plan, one at a time.
+
+ghost use Rattle.std.specs.Prelude.{◌≡◌, ◌++◌, ◌≤◌, option_map, string_bytes, codes, None, IfOk, IfErr, IfSome, IfNone, OnOk};
+ghost use Rattle.f77_tree.specs.StatementView.{statement_of};
+ghost use Rattle.mothra_ops.specs.Edits.{IsMutant, numbered};
+ghost use Rattle.mothra_ops.specs.Mutants.{change_text, line_at, mutant_fields, mutant_made, mutant_name, mutant_of, mutant_text, program_of};
+ghost use Rattle.mothra_ops.specs.Original.{IsOriginal};
+ghost use Rattle.mothra_ops.specs.Plan.{PlanFields, IsPlan, edits_of};
+ghost use Rattle.mothra_ops.specs.declared.fault.OpsFault.TheVariants.{Memory};
+
+use crate::edit::Edit;
+use crate::fault::OpsFault;
+use crate::original::Original;
+use crate::plan::Plan;
+use f77_tree::{Stmt, print_stmt};
+use mothra_codes::Op;
+use std::alloc::{AllocError, Global};
+use std::marker::Model;
+
+/// What a mutant has in the place of a statement of the program.
+#[derive(Debug, Drop)]
+pub struct Mutant {
+    /// The number of the statement that is changed, from 1.
+    pub number: usize,
+    /// What stands in its place.
+    pub stmt: Stmt,
+}
+
+/// The mutants of a plan. What the operators draw from its program is found once, and not for each mutant.
+#[derive(Drop)]
+pub struct Mutants<'a> {
+    plan: &'a Plan,
+    original: Original<'a>,
+}
+
+impl<'a> Model for Mutants<'a> {
+    ghost use Rattle.std.specs.Prelude.{◌≡◌};
+    ghost use Rattle.std.specs.Coded.{codes};
+    ghost use Rattle.f77_tree.specs.contracts.tree.Expr as expr;
+    ghost use Rattle.f77_tree.specs.contracts.tree.Stmt as stmt;
+    ghost use Rattle.f77_check.specs.contracts.action.Action as action;
+    ghost use Rattle.f77_check.specs.contracts.expression.Condition as condition;
+    ghost use Rattle.f77_check.specs.contracts.expression.Element as element;
+    ghost use Rattle.f77_check.specs.contracts.expression.Number as number;
+    ghost use Rattle.mothra_ops.specs.Original.{IsOriginal};
+    ghost use Rattle.mothra_ops.specs.Plan.{PlanFields};
+
+    ghost Value = { PlanFields };
+
+    ghost coded = { Prim.hlevel (
+      codes,
+      expr.the_row.coded,
+      stmt.the_row.coded,
+      element.the_row.coded,
+      number.the_row.coded,
+      condition.the_row.coded,
+      action.the_row.coded,
+    ) };
+
+    ghost view = { λ mutants. mutants.plan.now };
+
+    ghost invariant = { λ mutants. IsOriginal mutants.original × (mutants.original.checked.now ≡ mutants.plan.now.checked) };
+}
+
+impl<'a> Mutants<'a> {
+    /// The mutants of this plan.
+    pub fn of(alloc: Global, plan: &'a Plan) -> Result<Mutants<'a>, OpsFault>
+        ensures mutants { IfOk result (λ mutants. mutants ≡ plan.now) }
+        ensures memory { IfErr result (λ fault. fault ≡ Memory) }
+    {
+        let original = Original::of(alloc, plan.program())?;
+        Ok(Mutants { plan, original })
+    }
+
+    /// The operator's mutant of this number, from 1; none where the plan has no such mutant.
+    pub fn mutant(&self, alloc: Global, op: Op, number: u32) -> Result<Option<Mutant>, OpsFault>
+        ensures mutant { IfOk result (λ mutant. option_map mutant_fields mutant ≡ mutant_of self.now op number) }
+        // What it makes is legal, and another program.
+        ensures legal { IfOk result (λ mutant. IfSome mutant (λ m. IsMutant (program_of self.now) m.number (statement_of m.stmt))) }
+        ensures none { IfOk result (λ mutant. IfNone mutant (numbered (edits_of self.now op) number ≡ None)) }
+        ensures memory { IfErr result (λ fault. fault ≡ Memory) }
+    {
+        match self.plan.edit(op, number) {
+            Some(edit) => self.made(alloc, edit),
+            None => Ok(None),
+        }
+    }
+
+    /// What an edit of the plan makes.
+    fn made(&self, alloc: Global, edit: &Edit) -> Result<Option<Mutant>, OpsFault>
+        ensures made { IfOk result (λ mutant. option_map mutant_fields mutant ≡ mutant_made (program_of self.now) edit.now) }
+        ensures memory { IfErr result (λ fault. fault ≡ Memory) }
+    {
+        match self.original.statement_made(alloc, edit)? {
+            Some(stmt) => Ok(Some(Mutant {
+                number: edit.statement,
+                stmt,
+            })),
+            None => Ok(None),
+        }
+    }
+
+    /// The line number of a statement; 0 where the program has none of this number.
+    fn line_number(&self, number: usize) -> u32
+        ensures { result ≡ line_at (program_of self.now) number }
+    {
+        match self.plan.program().program().line(number) {
+            Some(line) => line.line,
+            None => 0,
+        }
+    }
+
+    /// Appends where a mutant is changed, and what stands there.
+    fn push_change(&self, text: &mut String, mutant: &Mutant) -> Result<(), OpsFault>
+        ensures text { OnOk result (string_bytes text.new ≡ string_bytes text.old ++ change_text (program_of self.now) (mutant_fields mutant.now)) }
+        ensures memory { IfErr result (λ fault. fault ≡ Memory) }
+    {
+        let line = self.line_number(mutant.number);
+        let Ok(statement) = print_stmt(*text.allocator(), &mutant.stmt) else {
+            return Err(OpsFault::Memory);
+        };
+        Ok(write!(text, "LINE {line} {statement}")?)
+    }
+
+    /// Appends how this mutant of the operator is told.
+    fn push_mutant(
+        &self,
+        text: &mut String,
+        op: Op,
+        number: u32,
+        mutant: &Mutant,
+    ) -> Result<(), OpsFault>
+        ensures text { OnOk result (string_bytes text.new ≡ string_bytes text.old
+            ++ (mutant_name self.now.every op number ++ (codes " " ++ change_text (program_of self.now) (mutant_fields mutant.now)))) }
+        ensures memory { IfErr result (λ fault. fault ≡ Memory) }
+    {
+        push_name(text, self.plan.every(), op, number)?;
+        text.push(' ')?;
+        self.push_change(text, mutant)
+    }
+
+    /// Appends how the operator's mutant of this number is told: its name, the line number of the statement that it
+    /// changes, and the canonical text of what stands there. Nothing where the plan has no such mutant.
+    pub fn push_text(&self, text: &mut String, op: Op, number: u32) -> Result<(), OpsFault>
+        ensures text { OnOk result (string_bytes text.new ≡ string_bytes text.old ++ mutant_text self.now op number) }
+        ensures memory { IfErr result (λ fault. fault ≡ Memory) }
+    {
+        match self.mutant(*text.allocator(), op, number)? {
+            Some(mutant) => self.push_mutant(text, op, number, &mutant),
+            None => Ok(()),
+        }
+    }
+}
+
+/// Appends how a mutant is named: the operator's code, its number, and its number in the whole list, of which each such
+/// item is kept.
+pub fn push_name(text: &mut String, every: u32, op: Op, number: u32) -> Result<(), AllocError>
+    ensures { OnOk result (string_bytes text.new ≡ string_bytes text.old ++ mutant_name every op number) }
+{
+    let code = op.code();
+    let original = u64::from(number.saturating_sub(1)) * u64::from(every) + 1;
+    Ok(write!(text, "{code} {number} {original}")?)
+}
