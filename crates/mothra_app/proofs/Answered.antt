@@ -1,17 +1,18 @@
 -- From what was read and answered to what is served.
-use Rattle.std.proofs.Common.{arith, ◌≡◌, ◌∙◌, ℕ, ◌<◌, ◌≤◌, ◌++◌, Bool, true, false, sym, ap, refl, subst, inl, inr, List, [], Option, Some, None, Result, Ok, Err, IfOk, IsSome, length, length-append, append-nil, nat_lt}
+use Rattle.std.proofs.Common.{arith, ◌≡◌, ◌∙◌, ℕ, ◌<◌, ◌≤◌, ◌++◌, Bool, true, false, sym, ap, refl, subst, inl, inr, List, [], Option, Some, None, Result, Ok, Err, IfOk, length, length-append, append-nil, nat_lt}
 use Rattle.std.proofs.lemmas.Bool.{ltb-true, ltb-false, lt-ltb}
 use Rattle.std.proofs.KnownBytes.{Keeps-refl}
 use Rattle.clap.specs.Words.{Text, fault_of}
 use Rattle.clap.specs.Kinds.{HasKind, IsAmong}
 use Rattle.clap.specs.Values.{kind_of}
 use Rattle.clap.specs.declared.error.Error.{Error}
-use Rattle.mothra_app.specs.Answer.{IsAnswer, IsRefusal}
+use Rattle.clap.specs.declared.error.kind.ErrorKind.TheVariants as kind
+use Rattle.mothra_app.specs.Answer.{IsTold, IsAnswer, IsRefusal}
 use Rattle.mothra_cli.specs.Command.{mothra}
 use Rattle.mothra_cli.specs.Input.{limit, AreAll, IsRead, ReadsUpTo}
-use Rattle.mothra_app.specs.Job.{job_of}
-use Rattle.mothra_cli.specs.Request.{request_of}
-use Rattle.mothra_app.specs.Serving.{IsServed, MayBeWritten, IsReadFor, IsAnswered, IsAnsweredBy}
+use Rattle.mothra_app.specs.Job.{faults, job_of}
+use Rattle.mothra_cli.specs.Request.{HasBadOperators}
+use Rattle.mothra_app.specs.Serving.{AsksFor, MayBeWritten, IsReadFor, IsAnswered, IsAnsweredBy, bad_operators}
 use Rattle.mothra_cli.specs.declared.request.Request.{Request}
 use Rattle.mothra_app.specs.declared.status.Status.{Status}
 use Rattle.mothra_app.specs.declared.status.Status.TheVariants as status
@@ -20,7 +21,7 @@ use Rattle.mothra_app.specs.declared.status.Status.TheVariants as status
 
 job_at : (xs v : List ℕ) (b : Bool) → nat_lt 1048576 (length v) ≡ b → length v ≤ length xs
     → (length v < 1048577 → xs ≡ v) → job_of xs ≡ job_of v
-unfolding job_of
+unfolding job_of faults
 job_at xs v true is longer same = rw (is, lt-ltb 1048576 (length xs) (let more : 1048576 < length v = ltb-true _ _ is in omega arith)) refl
 job_at xs v false is longer same = ap job_of (same (let few : length v ≤ 1048576 = ltb-false _ _ is in omega arith))
 
@@ -42,29 +43,19 @@ answered_by (Some xs) (Some rest) v request s t reads answer = record {
 
 -- ---- what may be written
 
-may_be_written : (words : List Text) (bytes : List ℕ) (request : Request) (s : Status) (t : List ℕ) → request_of words ≡ Some request
-    → IsAnswer request (job_of bytes) s t → MayBeWritten words bytes s t
-may_be_written words bytes request status.Report t is answer = IsServed.report is answer
-may_be_written words bytes request status.Fault t is (inl line) =
-    inl (subst (IsServed words bytes status.Fault) (sym line.2) (IsServed.fault line.0 is line.1))
-may_be_written words bytes request status.Fault t is (inr memory) = inr (subst IsSome (sym is) refl, memory)
-may_be_written words bytes request status.Words t is answer = absurd answer
-may_be_written words bytes request status.Help t is answer = absurd answer
-
 -- a text that answers a request is a report or a fault
 read_for : (request : Request) (bytes : List ℕ) (left now : Option (List ℕ)) (s : Status) (t : List ℕ) → IsAnswer request (job_of bytes) s t
     → IsRead limit left now → IsReadFor s left now
-read_for request bytes left now status.Report t answer read = read
-read_for request bytes left now status.Fault t answer read = read
-read_for request bytes left now status.Words t answer read = absurd answer
-read_for request bytes left now status.Help t answer read = absurd answer
+read_for request bytes left now s t (IsAnswer.told (IsTold.report is)) read = read
+read_for request bytes left now s t (IsAnswer.told (IsTold.fault f is)) read = read
+read_for request bytes left now s t (IsAnswer.memory f is) read = read
 
-pub answered : (words : List Text) (left now : Option (List ℕ)) (request : Request) (s : Status) (t : List ℕ) → request_of words ≡ Some request
+pub answered : (words : List Text) (left now : Option (List ℕ)) (request : Request) (s : Status) (t : List ℕ) → AsksFor words request
     → IsAnsweredBy request left s t → IsRead limit left now → IsAnswered words left now s t
 answered words left now request s t is by read = record {
   bytes = by.bytes;
   all = by.all;
-  may = may_be_written words by.bytes request s t is by.answer;
+  may = MayBeWritten.answer is by.answer;
   read = read_for request by.bytes left now s t by.answer read;
 }
 
@@ -73,9 +64,9 @@ refused_so : (words : List Text) (bytes : List ℕ) (e : Error) (s : Status) (t 
 refused_so words bytes e status.Report t kinds refusal = absurd refusal
 refused_so words bytes e status.Fault t kinds refusal = absurd refusal
 refused_so words bytes e status.Words t (inl full) refusal = absurd (refusal.1 full)
-refused_so words bytes e status.Words t (inr among) refusal = (kind_of e, refusal.1, refusal.0, among)
-refused_so words bytes e status.Help t (inl full) refusal = cc
-refused_so words bytes e status.Help t (inr among) refusal = subst (λ k. IsAmong k (fault_of mothra words)) refusal among
+refused_so words bytes e status.Words t (inr among) refusal = MayBeWritten.refusal (kind_of e, refusal.1, refusal.0, among)
+refused_so words bytes e status.Help t (inl full) refusal = let no : kind.OutOfMemory ≡ kind.DisplayHelp = sym full ∙ refusal in absurd (cc)
+refused_so words bytes e status.Help t (inr among) refusal = MayBeWritten.help (subst (λ k. IsAmong k (fault_of mothra words)) refusal among)
 
 unread_for : (e : Error) (left : Option (List ℕ)) (s : Status) → IsRefusal (kind_of e) s → IsReadFor s left left
 unread_for e left status.Report refusal = absurd refusal
@@ -96,6 +87,17 @@ refused words left e s t kinds refusal =
       all = some.1;
       may = refused_so words some.0 e s t kinds refusal;
       read = unread_for e left s refusal;
+    }
+
+pub bad_list : (words : List Text) (left : Option (List ℕ)) (s : Status) (t : List ℕ) → HasBadOperators words → s ≡ status.Words → t ≡ bad_operators
+    → IsAnswered words left left s t
+bad_list words left s t bad is text =
+    let some = any_bytes left in
+    record {
+      bytes = some.0;
+      all = some.1;
+      may = subst (λ v. MayBeWritten words some.0 v t) (sym is) (subst (MayBeWritten words some.0 status.Words) (sym text) (MayBeWritten.bad_list bad));
+      read = subst (λ v. IsReadFor v left left) (sym is) (Keeps-refl left);
     }
 
 pub IfOk-both : {X E : Type 0} (r : Result X E) (P Q R : X → Type 0) → ((x : X) → P x → Q x → R x) → IfOk r P → IfOk r Q → IfOk r R

@@ -1,8 +1,15 @@
 mod Suites
 mod EachValue
+mod Memory
 mod Sources
+mod LegalPrograms
+mod Executions
+mod Outcomes
+mod Chosen
+mod ListedLines
+mod Listings
 mod Answered
 mod OneProgram
 mod OneExecution
+mod OneListing
 mod OneAnswer
-mod Executions

@@ -1,5 +1,5 @@
 -- A source has one program at most, or one fault.
-use Rattle.std.proofs.Common.{arith, ◌≡◌, ◌∙◌, ℕ, List, [], sym, ap, refl, subst, Some, None, Result, Ok, Err}
+use Rattle.std.proofs.Common.{arith, ◌≡◌, ◌∙◌, ◌<◌, ◌≤◌, ◌⊎◌, ℕ, List, length, [], sym, ap, refl, subst, Some, None, Result, Ok, Err}
 use Rattle.std.specs.List.{slice_get}
 use Rattle.f77_source.specs.Card.{CardFields}
 use Rattle.f77_source.specs.Read as form
@@ -11,10 +11,12 @@ use Rattle.f77_tree.specs.declared.fault.SyntaxFault.{SyntaxFault}
 use Rattle.f77_legal.specs.Legal.{faults, first_fault}
 use Rattle.f77_legal.specs.declared.fault.CheckFault.{CheckFault}
 use Rattle.f77_run.specs.Interpreter.{OneAnswer}
-use Rattle.mothra_app.specs.Executing.{IsLegalProgramOf}
-use Rattle.mothra_app.specs.Program.{IsProgramOf}
+use Rattle.mothra_app.specs.Program.{IsProgramOf, IsLegalProgramOf}
 use Rattle.mothra_app.specs.declared.fault.Fault.{Fault}
 use Rattle.mothra_app.specs.declared.fault.Fault.TheVariants.{Form, Syntax, Check}
+use Rattle.mothra_codes.specs.declared.op.Op.{Op}
+use Rattle.mothra_ops.specs.Edits.{IsMember, IsTooLong, Lists, most_edits, most_whole, thinned}
+use Rattle.mothra_ops.specs.declared.edit.Edit.{Edit}
 
 -- the laws of the crates below
 pub record Laws : Type 0 where
@@ -24,6 +26,9 @@ pub record Laws : Type 0 where
   pub one_program : (cards : List CardFields) (program others : List LineFields) → AreLines None cards program → AreLines None cards others → program ≡ others
   pub one_syntax_fault : (cards : List CardFields) (fault other : SyntaxFault) → syntax.IsFirstFault None cards fault → syntax.IsFirstFault None cards other → fault ≡ other
   pub one_run : OneAnswer
+  pub one_edit_list : (op : Op) (program : List LineFields) (one other : List Edit) → Lists (IsMember op program) one → Lists (IsMember op program) other → one ≡ other
+  pub too_long : (op : Op) (program : List LineFields) (q : ℕ) (whole : List Edit) → 1 ≤ q → IsTooLong op program q → Lists (IsMember op program) whole
+      → (most_edits < length (thinned q whole)) ⊎ (most_whole < length whole)
   pub program_or_fault : (cards : List CardFields) (program : List LineFields) (fault : SyntaxFault) → AreLines None cards program → syntax.IsFirstFault None cards fault → ⊥
 
 abbrev pub Read : Type 0

@@ -1,6 +1,6 @@
 -- From what the calls on a source answer to what the source is, and how it is printed.
 use Rattle.std.proofs.Common.{◌≡◌, ◌≤◌, ◌⊎◌, inl, inr, ℕ, List, [], sym, subst, length, Some, None, Result, Ok, Err, MatchResult}
-use Rattle.std.specs.Prelude.{IsErrAnd}
+use Rattle.std.specs.Prelude.{Contains, IsErrAnd}
 use Rattle.std.specs.List.{slice_get}
 use Rattle.f77_source.specs.Card.{CardFields}
 use Rattle.f77_source.specs.Read as forms
@@ -12,11 +12,12 @@ use Rattle.f77_tree.specs.Parsing.{LineFields}
 use Rattle.f77_tree.specs.Printing.{printed, print_faults}
 use Rattle.f77_tree.specs.declared.fault.SyntaxFault.{SyntaxFault}
 use Rattle.f77_tree.specs.declared.fault.SyntaxFault.TheVariants as syntax
-use Rattle.mothra_app.specs.Fault.{IsMemory, in_form, in_syntax}
+use Rattle.mothra_app.specs.Fault.{of_programs}
 use Rattle.mothra_app.specs.Program.{IsProgramOf}
 use Rattle.mothra_app.specs.Printing.{IsPrinted}
 use Rattle.mothra_app.specs.declared.fault.Fault.{Fault}
 use Rattle.mothra_app.specs.declared.fault.Fault.TheVariants.{Form, Syntax}
+use Rattle.mothra_app.proofs.Memory.{form_in, syntax_in}
 
 -- a result that is this fault
 pub told : {A : Type 0} (r : Result A Fault) (P : A → Type 0) (Q : Fault → Type 0) (fault : Fault) → IsErrAnd r (λ e. e ≡ fault) → Q fault
@@ -25,8 +26,8 @@ told (Ok x) P Q fault is q = absurd is
 told (Err e) P Q fault is q = subst Q (sym is) q
 
 pub form_refused : (source : List ℕ) (fault : FormFault) → forms.IsRefusedBy source fault
-    → IsProgramOf source (Err (Form fault)) ⊎ IsMemory (Form fault)
-form_refused source form.Memory is = inr in_form
+    → IsProgramOf source (Err (Form fault)) ⊎ Contains of_programs (Form fault)
+form_refused source form.Memory is = inr form_in
 form_refused source form.TooLarge is = inl (IsProgramOf.too_large is)
 form_refused source (form.NotAscii line) is = inl (IsProgramOf.no_cards is.0 is.1)
 form_refused source (form.Tab line) is = inl (IsProgramOf.no_cards is.0 is.1)
@@ -35,17 +36,17 @@ form_refused source (form.LooseContinuation line) is = inl (IsProgramOf.no_cards
 form_refused source (form.TooManyContinuations line) is = inl (IsProgramOf.no_cards is.0 is.1)
 
 pub syntax_refused : (source : List ℕ) (cards : List CardFields) (fault : SyntaxFault) → length source ≤ 65536 → AreCards 1 (lines source) cards
-    → (fault ≡ syntax.Memory) ⊎ parsing.IsFirstFault None cards fault → IsProgramOf source (Err (Syntax fault)) ⊎ IsMemory (Syntax fault)
-syntax_refused source cards fault within are (inl is) = inr (subst (λ f. IsMemory (Syntax f)) (sym is) in_syntax)
+    → (fault ≡ syntax.Memory) ⊎ parsing.IsFirstFault None cards fault → IsProgramOf source (Err (Syntax fault)) ⊎ Contains of_programs (Syntax fault)
+syntax_refused source cards fault within are (inl is) = inr (subst (λ f. Contains of_programs (Syntax f)) (sym is) syntax_in)
 syntax_refused source cards fault within are (inr first) = inl (IsProgramOf.no_program within are first)
 
 pub text_refused : (source : List ℕ) (program : List LineFields) (fault : SyntaxFault) → IsProgramOf source (Ok program)
-    → (slice_get (print_faults program) 0 ≡ Some fault) ⊎ (fault ≡ syntax.Memory) → IsPrinted source (Err (Syntax fault)) ⊎ IsMemory (Syntax fault)
+    → (slice_get (print_faults program) 0 ≡ Some fault) ⊎ (fault ≡ syntax.Memory) → IsPrinted source (Err (Syntax fault)) ⊎ Contains of_programs (Syntax fault)
 text_refused source program fault is (inl first) = inl (IsPrinted.no_text is first)
-text_refused source program fault is (inr memory) = inr (subst (λ f. IsMemory (Syntax f)) (sym memory) in_syntax)
+text_refused source program fault is (inr memory) = inr (subst (λ f. Contains of_programs (Syntax f)) (sym memory) syntax_in)
 
-pub program_refused : (source : List ℕ) (fault : Fault) → IsProgramOf source (Err fault) ⊎ IsMemory fault
-    → IsPrinted source (Err fault) ⊎ IsMemory fault
+pub program_refused : (source : List ℕ) (fault : Fault) → IsProgramOf source (Err fault) ⊎ Contains of_programs fault
+    → IsPrinted source (Err fault) ⊎ Contains of_programs fault
 program_refused source fault (inl is) = inl (IsPrinted.no_program is)
 program_refused source fault (inr memory) = inr memory
 

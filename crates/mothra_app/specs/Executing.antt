@@ -2,25 +2,16 @@
 use Rattle.std.specs.Prelude.{◌≡◌, ℕ, List, Some, None, Result, Ok, Err}
 use Rattle.f77_tree.specs.Parsing.{LineFields}
 use Rattle.f77_check.specs.Checked.{shapes}
-use Rattle.f77_legal.specs.Legal.{IsLegal, first_fault}
-use Rattle.f77_legal.specs.declared.fault.CheckFault.{CheckFault}
 use Rattle.f77_run.specs.Interpreter.{IsOutcomeOf, refusal}
 use Rattle.f77_run.specs.declared.argument.Arg.{Arg}
 use Rattle.f77_run.specs.declared.outcome.Outcome.{Outcome}
 use Rattle.f77_run.specs.declared.outcome.RunFault.{RunFault}
 use Rattle.mothra_app.specs.Job.{JobFields, test_at}
 use Rattle.mothra_app.specs.OutcomeLine.{outcome_line}
-use Rattle.mothra_app.specs.Program.{IsProgramOf}
+use Rattle.mothra_app.specs.Program.{IsLegalProgramOf}
 use Rattle.mothra_app.specs.declared.fault.Fault.{Fault}
-use Rattle.mothra_app.specs.declared.fault.Fault.TheVariants.{Job, Check, Run}
+use Rattle.mothra_app.specs.declared.fault.Fault.TheVariants.{Job, Run}
 use Rattle.mothra_app.specs.declared.job.JobFault.TheVariants.{NoTest}
-
--- The legal program that a source is, or its first fault.
-pub data IsLegalProgramOf (source : List ℕ) : Result (List LineFields) Fault → Type 0 where
-  no_program : {fault : Fault} → IsProgramOf source (Err fault) → IsLegalProgramOf source (Err fault)
-  not_legal : {program : List LineFields} {fault : CheckFault} → IsProgramOf source (Ok program)
-      → first_fault program ≡ Some fault → IsLegalProgramOf source (Err (Check fault))
-  legal : {program : List LineFields} → IsProgramOf source (Ok program) → IsLegal program → IsLegalProgramOf source (Ok program)
 
 -- The line of the outcome of a run with these arguments within so many steps, or why the program is not run.
 pub data IsRun (program : List LineFields) (arguments : List Arg) (steps : ℕ) : Result (List ℕ) Fault → Type 0 where

@@ -1,16 +1,34 @@
 -- Faults of the calls that a command makes.
+use Rattle.std.specs.Prelude.{List, [], ◌∷◌, Contains}
 use Rattle.mothra_app.specs.declared.fault.Fault.{Fault}
-use Rattle.mothra_app.specs.declared.fault.Fault.TheVariants.{Job, Form, Syntax, Check, Run}
+use Rattle.mothra_app.specs.declared.fault.Fault.TheVariants.{Job, Form, Syntax, Check, Run, Ops}
 use Rattle.mothra_app.specs.declared.job.JobFault.TheVariants as job
 use Rattle.f77_source.specs.declared.fault.FormFault.TheVariants as form
 use Rattle.f77_tree.specs.declared.fault.SyntaxFault.TheVariants as syntax
 use Rattle.f77_legal.specs.declared.fault.CheckFault.TheVariants as check
 use Rattle.f77_run.specs.declared.outcome.RunFault.TheVariants as run
+use Rattle.mothra_cli.specs.declared.request.Request.{Request}
+use Rattle.mothra_cli.specs.declared.request.Request.TheVariants as command
+use Rattle.mothra_ops.specs.declared.fault.OpsFault.TheVariants as ops
 
--- want of memory, which may come in place of any other answer
-pub data IsMemory : Fault → Type 0 where
-  in_job : IsMemory (Job job.Memory)
-  in_form : IsMemory (Form form.Memory)
-  in_syntax : IsMemory (Syntax syntax.Memory)
-  in_check : IsMemory (Check check.Memory)
-  in_run : IsMemory (Run run.Memory)
+-- want of memory for a program, F1 or S1; for a legal one, C1 too; for a run, N1 too; for its mutants, O1 too
+abbrev pub of_programs : List Fault
+of_programs = Form form.Memory ∷ Syntax syntax.Memory ∷ []
+
+abbrev pub of_legal_programs : List Fault
+of_legal_programs = Check check.Memory ∷ of_programs
+
+abbrev pub of_runs : List Fault
+of_runs = Run run.Memory ∷ of_legal_programs
+
+abbrev pub of_mutants : List Fault
+of_mutants = Ops ops.Memory ∷ of_legal_programs
+
+-- want of memory, which may come in place of any other answer of the command
+abbrev pub memory_faults : Request → List Fault
+memory_faults command.Print = Job job.Memory ∷ of_programs
+memory_faults (command.Exec test steps) = Job job.Memory ∷ of_runs
+memory_faults (command.List operators every) = Job job.Memory ∷ of_mutants
+
+abbrev pub IsMemory : Request → Fault → Type 0
+IsMemory request fault = Contains (memory_faults request) fault

@@ -1,12 +1,13 @@
--- The job that bytes are, or the first fault.
-use Rattle.std.specs.Prelude.{ℕ, zero, suc, ◌||◌, Bool, nat_lt, if◌then◌else◌, List, slice_get, codes, length}
-use Rattle.std.specs.Prelude.{Option, Some, None, Result, Ok, Err, option_and_then}
+-- The job that bytes are, or the first of their faults.
+use Rattle.std.specs.Prelude.{ℕ, zero, suc, ◌||◌, Bool, not, nat_lt, if◌then◌else◌, List, [], ◌∷◌, ◌++◌, slice_get, codes, filter, length, map}
+use Rattle.std.specs.Prelude.{Option, Some, None, Result, option_and_then, option_map, unwrap_or}
 use Rattle.std.specs.Str.{bytes_eq, is_utf8}
-use Rattle.serde_json.specs.Data.{Data, Items, no_items, Members, no_members, member}
+use Rattle.serde_json.specs.Data.{Data, Items, no_items, item, Members, no_members, member}
 use Rattle.serde_json.specs.Read.{read}
 use Rattle.serde_json.specs.Find.{as_array, as_object, as_str, get}
 use Rattle.f77_run.specs.declared.argument.Arg.{Arg}
-use Rattle.mothra_app.specs.Suite.{SuiteRead, suite_of}
+use Rattle.mothra_app.specs.FirstFault.{absent, first_or}
+use Rattle.mothra_app.specs.Suite.{suite_faults, tests_of}
 use Rattle.mothra_app.specs.declared.job.JobFault.{JobFault}
 use Rattle.mothra_app.specs.declared.job.JobFault.TheVariants.{NotJson, Key, TooLarge}
 
@@ -26,49 +27,70 @@ json_of bytes = if is_utf8 bytes then read bytes else None
 abbrev pub is_known : List ℕ → Bool
 is_known key = bytes_eq key (codes "source") || bytes_eq key (codes "suite")
 
--- the members are in the order of their keys' bytes
-abbrev pub first_unknown : Members → Option (List ℕ)
-first_unknown no_members = None
-first_unknown (member key value rest) = if is_known key then first_unknown rest else Some key
+-- the keys of an object: its members are in the order of their bytes
+abbrev pub keys_of : Members → List (List ℕ)
+keys_of no_members = []
+keys_of (member key value rest) = key ∷ keys_of rest
 
--- a job without the key has no test
-abbrev pub suite_items : Option Data → Option Items
-suite_items None = Some no_items
-suite_items (Some value) = as_array value
+abbrev pub unknown_keys : Members → List (List ℕ)
+unknown_keys members = filter (λ key. not (is_known key)) (keys_of members)
+
+-- the text at the key `source`
+abbrev pub source_in : Data → Option (List ℕ)
+source_in value = option_and_then as_str (get (codes "source") value)
+
+abbrev pub listed : Items → List Data
+listed no_items = []
+listed (item value rest) = value ∷ listed rest
+
+-- the values of a list; a job without the key has no test
+abbrev pub suite_values : Option Data → Option (List Data)
+suite_values None = Some []
+suite_values (Some value) = option_map listed (as_array value)
+
+-- the values of the list at the key `suite`
+abbrev pub suite_in : Data → Option (List Data)
+suite_in value = suite_values (get (codes "suite") value)
 
 -- the values of the test of this number, from 1
 abbrev pub test_at : List (List Arg) → ℕ → Option (List Arg)
 test_at suite zero = None
 test_at suite (suc i) = slice_get suite i
 
-abbrev pub with_tests : List ℕ → SuiteRead → JobRead
-with_tests text (Ok suite) = Ok (record { source = text; suite = suite })
-with_tests text (Err fault) = Err fault
+-- the faults of an object with this source, these tests and these unknown keys, in the order in which they are told
+abbrev pub member_faults : Option (List ℕ) → Option (List Data) → List (List ℕ) → List JobFault
+member_faults source suite unknown =
+    absent (Key (codes "source")) source
+    ++ (absent (Key (codes "suite")) suite
+    ++ (map Key unknown
+    ++ suite_faults (unwrap_or suite [])))
 
--- the job, where this key is not there
-abbrev pub without_unknown : Option (List ℕ) → List ℕ → Items → JobRead
-without_unknown None text items = with_tests text (suite_of items)
-without_unknown (Some key) text items = Err (Key key)
+-- J2 of a value that is no object, or the faults of its members
+abbrev pub object_faults : Data → Option Members → List JobFault
+object_faults value None = NotJson ∷ []
+object_faults value (Some members) = member_faults (source_in value) (suite_in value) (unknown_keys members)
 
-abbrev pub with_suite : List ℕ → Option Items → Members → JobRead
-with_suite text None ms = Err (Key (codes "suite"))
-with_suite text (Some items) ms = without_unknown (first_unknown ms) text items
+-- J2 of bytes that are no JSON text, or the faults of their value
+abbrev pub value_faults : Option Data → List JobFault
+value_faults None = NotJson ∷ []
+value_faults (Some value) = object_faults value (as_object value)
 
-abbrev pub with_source : Option (List ℕ) → Option Items → Members → JobRead
-with_source None items ms = Err (Key (codes "source"))
-with_source (Some text) items ms = with_suite text items ms
+-- J7
+abbrev pub size_faults : List ℕ → List JobFault
+size_faults bytes = if nat_lt 1048576 (length bytes) then TooLarge ∷ [] else []
 
-abbrev pub of_object : Data → Option Members → JobRead
-of_object value None = Err NotJson
-of_object value (Some ms) =
-    with_source (option_and_then as_str (get (codes "source") value)) (suite_items (get (codes "suite") value)) ms
+-- all faults of a job, in the order in which they are told
+unfoldable pub faults : List ℕ → List JobFault
+faults bytes = size_faults bytes ++ value_faults (json_of bytes)
 
-unfoldable pub job_in : Data → JobRead
-job_in value = of_object value (as_object value)
+-- the job of this source and these tests
+abbrev pub job_with : Option (List ℕ) → Option (List Data) → JobFields
+job_with source suite = record { source = unwrap_or source []; suite = tests_of (unwrap_or suite []) }
 
-abbrev pub of_json : Option Data → JobRead
-of_json None = Err NotJson
-of_json (Some value) = job_in value
+abbrev pub job_fields : Option Data → JobFields
+job_fields None = job_with None None
+job_fields (Some value) = job_with (source_in value) (suite_in value)
 
+-- the job that bytes without a fault are, or the first fault
 unfoldable pub job_of : List ℕ → JobRead
-job_of bytes = if nat_lt 1048576 (length bytes) then Err TooLarge else of_json (json_of bytes)
+job_of bytes = first_or (faults bytes) (job_fields (json_of bytes))

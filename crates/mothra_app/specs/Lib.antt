@@ -1,3 +1,4 @@
+pub mod FirstFault
 pub mod Suite
 pub mod Job
 pub mod Fault
@@ -6,6 +7,7 @@ pub mod Program
 pub mod Printing
 pub mod OutcomeLine
 pub mod Executing
+pub mod Listing
 pub mod Status
 pub mod Answer
 pub mod Serving

@@ -11,9 +11,12 @@ use Rattle.f77_legal.specs.declared.fault.CheckFault.TheVariants as check
 use Rattle.f77_run.specs.declared.outcome.RunFault.{RunFault}
 use Rattle.f77_run.specs.declared.outcome.RunFault.TheVariants as run
 use Rattle.mothra_app.specs.declared.fault.Fault.{Fault}
-use Rattle.mothra_app.specs.declared.fault.Fault.TheVariants.{Job, Form, Syntax, Check, Run}
+use Rattle.mothra_app.specs.declared.fault.Fault.TheVariants.{Job, Form, Syntax, Check, Run, Ops}
 use Rattle.mothra_app.specs.declared.job.JobFault.{JobFault}
 use Rattle.mothra_app.specs.declared.job.JobFault.TheVariants as job
+use Rattle.mothra_codes.specs.Op.{code_of}
+use Rattle.mothra_ops.specs.declared.fault.OpsFault.{OpsFault}
+use Rattle.mothra_ops.specs.declared.fault.OpsFault.TheVariants as ops
 
 abbrev pub plain_line : List ℕ → List ℕ
 plain_line code = codes "FAULT " ++ (code ++ codes "\n")
@@ -81,9 +84,16 @@ run_line run.Memory = plain_line (codes "N1")
 run_line run.ArgumentCount = plain_line (codes "N2")
 run_line (run.ArgumentShape argument) = numbered_line (codes "N3") argument
 
+-- the detail is the operator's code
+abbrev pub ops_line : OpsFault → List ℕ
+ops_line ops.Memory = plain_line (codes "O1")
+ops_line ops.NotASite = plain_line (codes "O2")
+ops_line (ops.TooMany op) = named_line (codes "O3") (code_of op)
+
 unfoldable pub line_of : Fault → List ℕ
 line_of (Job fault) = job_line fault
 line_of (Form fault) = form_line fault
 line_of (Syntax fault) = syntax_line fault
 line_of (Check fault) = check_line fault
 line_of (Run fault) = run_line fault
+line_of (Ops fault) = ops_line fault

@@ -1,5 +1,5 @@
 -- The program of a job.
-use Rattle.std.specs.Prelude.{◌≤◌, ◌<◌, ℕ, List, length, None, Result, Ok, Err}
+use Rattle.std.specs.Prelude.{◌≡◌, ◌≤◌, ◌<◌, ℕ, List, length, Some, None, Result, Ok, Err}
 use Rattle.f77_source.specs.Card.{CardFields}
 use Rattle.f77_source.specs.Read as form
 use Rattle.f77_source.specs.Read.{AreCards, lines}
@@ -8,8 +8,10 @@ use Rattle.f77_source.specs.declared.fault.FormFault.TheVariants.{TooLarge}
 use Rattle.f77_tree.specs.Parsing as syntax
 use Rattle.f77_tree.specs.Parsing.{LineFields, AreLines}
 use Rattle.f77_tree.specs.declared.fault.SyntaxFault.{SyntaxFault}
+use Rattle.f77_legal.specs.Legal.{IsLegal, first_fault}
+use Rattle.f77_legal.specs.declared.fault.CheckFault.{CheckFault}
 use Rattle.mothra_app.specs.declared.fault.Fault.{Fault}
-use Rattle.mothra_app.specs.declared.fault.Fault.TheVariants.{Form, Syntax}
+use Rattle.mothra_app.specs.declared.fault.Fault.TheVariants.{Form, Syntax, Check}
 
 -- The program that a source is, or its first fault: that of its lines, else that of its cards.
 pub data IsProgramOf (source : List ℕ) : Result (List LineFields) Fault → Type 0 where
@@ -20,3 +22,10 @@ pub data IsProgramOf (source : List ℕ) : Result (List LineFields) Fault → Ty
       → syntax.IsFirstFault None cards fault → IsProgramOf source (Err (Syntax fault))
   program : {cards : List CardFields} {program : List LineFields} → length source ≤ 65536 → AreCards 1 (lines source) cards
       → AreLines None cards program → IsProgramOf source (Ok program)
+
+-- The legal program that a source is, or its first fault.
+pub data IsLegalProgramOf (source : List ℕ) : Result (List LineFields) Fault → Type 0 where
+  no_program : {fault : Fault} → IsProgramOf source (Err fault) → IsLegalProgramOf source (Err fault)
+  not_legal : {program : List LineFields} {fault : CheckFault} → IsProgramOf source (Ok program)
+      → first_fault program ≡ Some fault → IsLegalProgramOf source (Err (Check fault))
+  legal : {program : List LineFields} → IsProgramOf source (Ok program) → IsLegal program → IsLegalProgramOf source (Ok program)

@@ -1,29 +1,28 @@
 -- What is served: a status and a text, by the words and all the bytes of the reader.
-use Rattle.std.specs.Prelude.{◌≡◌, ◌≢◌, ◌⊎◌, ℕ, List, Option, Some, Ok, Err, IsSome}
+use Rattle.std.specs.Prelude.{◌≡◌, ◌≢◌, ℕ, List, Option, Some, codes}
 use Rattle.std.specs.Io.KnownBytes.{Appends, Keeps}
 use Rattle.clap.specs.Words.{Text, fault_of}
 use Rattle.clap.specs.Kinds.{IsAmong}
 use Rattle.clap.specs.declared.error.kind.ErrorKind.{ErrorKind}
 use Rattle.clap.specs.declared.error.kind.ErrorKind.TheVariants as kind
-use Rattle.mothra_app.specs.Answer.{IsOutcome, IsAnswer, IsMemoryLine}
+use Rattle.mothra_app.specs.Answer.{IsTold, IsAnswer}
 use Rattle.mothra_cli.specs.Command.{mothra}
 use Rattle.mothra_cli.specs.Input.{limit, AreAll, IsRead}
 use Rattle.mothra_app.specs.Job.{job_of}
-use Rattle.mothra_app.specs.Line.{line_of}
 use Rattle.mothra_cli.specs.Output.{AppendsFront}
-use Rattle.mothra_cli.specs.Request.{request_of}
-use Rattle.mothra_app.specs.declared.fault.Fault.{Fault}
+use Rattle.mothra_cli.specs.Request.{HasBadOperators, IsBounded, request_of}
 use Rattle.mothra_cli.specs.declared.request.Request.{Request}
 use Rattle.mothra_app.specs.declared.status.Status.{Status}
 use Rattle.mothra_app.specs.declared.status.Status.TheVariants as status
 
--- The status and the text that words and bytes are served with, where the command line takes the words: the report
--- that the request comes to on the job that the bytes are, or the line of the first fault.
-pub data IsServed (words : List Text) (bytes : List ℕ) : Status → List ℕ → Type 0 where
-  report : {request : Request} {text : List ℕ} → request_of words ≡ Some request
-      → IsOutcome request (job_of bytes) (Ok text) → IsServed words bytes status.Report text
-  fault : {request : Request} (fault : Fault) → request_of words ≡ Some request
-      → IsOutcome request (job_of bytes) (Err fault) → IsServed words bytes status.Fault (line_of fault)
+-- the command line takes the words, and they ask for this, with numbers in the bounds of their options
+pub record AsksFor (words : List Text) (request : Request) : Type 0 where
+  pub is : request_of words ≡ Some request
+  pub bounded : IsBounded request
+
+-- the status and the text that words and bytes are served with, where the words ask for something
+abbrev pub IsServed : List Text → List ℕ → Status → List ℕ → Type 0
+IsServed words bytes status text = (request : Request) × AsksFor words request × IsTold request (job_of bytes) status text
 
 -- the command line refuses the words, for another cause than memory, and is not asked for help
 abbrev pub IsRefused : List Text → Type 0
@@ -33,12 +32,17 @@ IsRefused words = (cause : ErrorKind) × (cause ≢ kind.OutOfMemory) × (cause 
 abbrev pub AsksHelp : List Text → Type 0
 AsksHelp words = IsAmong kind.DisplayHelp (fault_of mothra words)
 
--- what may be written with this status for the words and the bytes
-abbrev pub MayBeWritten : List Text → List ℕ → Status → List ℕ → Type 0
-MayBeWritten words bytes status.Report text = IsServed words bytes status.Report text
-MayBeWritten words bytes status.Fault text = IsServed words bytes status.Fault text ⊎ (IsSome (request_of words) × IsMemoryLine text)
-MayBeWritten words bytes status.Words text = IsRefused words
-MayBeWritten words bytes status.Help text = AsksHelp words
+-- what is told of a value of `--ops` that is no list of operators' codes
+abbrev pub bad_operators : List ℕ
+bad_operators = codes "BAD OPERATOR LIST\n"
+
+-- What may be written for the words and the bytes: the answer to what the words ask for, or what is told of words that ask for nothing.
+pub data MayBeWritten (words : List Text) (bytes : List ℕ) : Status → List ℕ → Type 0 where
+  answer : {request : Request} {status : Status} {text : List ℕ} → AsksFor words request → IsAnswer request (job_of bytes) status text
+      → MayBeWritten words bytes status text
+  bad_list : HasBadOperators words → MayBeWritten words bytes status.Words bad_operators
+  refusal : {text : List ℕ} → IsRefused words → MayBeWritten words bytes status.Words text
+  help : {text : List ℕ} → AsksHelp words → MayBeWritten words bytes status.Help text
 
 -- what was read for an answer with this status: nothing for words that are refused or ask for help
 abbrev pub IsReadFor : Status → Option (List ℕ) → Option (List ℕ) → Type 0

@@ -1,6 +1,7 @@
 -- The test suite of a job: the values that each test gives to the dummy arguments.
-use Rattle.std.specs.Prelude.{ℕ, ◌+◌, ℤ, pos, negsuc, ◌&&◌, not, int_le, nat_lt, if◌then◌else◌, List, [], ◌∷◌, length, filter_map, position}
-use Rattle.std.specs.Prelude.{Option, Some, None, Result, Ok, Err, is_some, option_map, option_and_then}
+use Rattle.std.specs.Prelude.{ℕ, ℤ, pos, negsuc, ◌&&◌, not, int_le, nat_lt, if◌then◌else◌, List, [], ◌∷◌, ◌++◌, length, map, filter, filter_map}
+use Rattle.std.specs.Prelude.{Option, Some, None, is_some, option_map, option_and_then}
+use Rattle.std.specs.List.{enumerate_from}
 use Rattle.std.specs.Option.{option_or}
 use Rattle.serde_json.specs.Data.{Data, Items, no_items, item}
 use Rattle.serde_json.specs.Find.{as_array, as_bool, as_i64, as_number}
@@ -8,10 +9,6 @@ use Rattle.f77_run.specs.declared.argument.Arg.{Arg}
 use Rattle.f77_run.specs.declared.argument.Arg.TheVariants.{Int, Truth, Ints, Truths}
 use Rattle.mothra_app.specs.declared.job.JobFault.{JobFault}
 use Rattle.mothra_app.specs.declared.job.JobFault.TheVariants.{TooManyTests, Suite}
-
--- the tests of a job, or why there are none
-abbrev pub SuiteRead : Type 0
-SuiteRead = Result (List (List Arg)) JobFault
 
 -- the number, where INTEGER holds it
 abbrev pub in_range : ℤ → Option ℤ
@@ -42,22 +39,19 @@ argument value =
 abbrev pub test : Data → Option (List Arg)
 test value = option_and_then (each argument) (as_array value)
 
-abbrev pub listed : Items → List Data
-listed no_items = []
-listed (item value rest) = value ∷ listed rest
+-- the tests that values are
+abbrev pub tests_of : List Data → List (List Arg)
+tests_of values = filter_map test values
 
--- the place, from 0, of the first value that is no test
-abbrev pub first_no_test : List Data → Option ℕ
-first_no_test values = position (λ value. not (is_some (test value))) values
+-- J6
+abbrev pub count_faults : List Data → List JobFault
+count_faults values = if nat_lt 256 (length values) then TooManyTests ∷ [] else []
 
--- all of the values are tests, or J4 at the first that is none: tests are numbered from 1
-abbrev pub all_or_first : Option ℕ → List Data → SuiteRead
-all_or_first None values = Ok (filter_map test values)
-all_or_first (Some i) values = Err (Suite (i + 1))
+-- J4 of each value that is no test, by its number; that of the first is given
+abbrev pub test_faults : ℕ → List Data → List JobFault
+test_faults first values =
+    map (λ numbered. Suite numbered.0) (filter (λ numbered. not (is_some (test numbered.1))) (enumerate_from first values))
 
-abbrev pub tests : Items → SuiteRead
-tests items = all_or_first (first_no_test (listed items)) (listed items)
-
--- J6 comes before J4
-unfoldable pub suite_of : Items → SuiteRead
-suite_of items = if nat_lt 256 (length (listed items)) then Err TooManyTests else tests items
+-- the faults of a suite, in the order in which they are told
+unfoldable pub suite_faults : List Data → List JobFault
+suite_faults values = count_faults values ++ test_faults 1 values

@@ -1,29 +1,19 @@
 //! The command `exec`: the outcome of the program of a job on one of its tests.
 
-ghost use Rattle.std.specs.Prelude.{◌≡◌, ◌⊎◌, Ok, Err, IfOk, MatchResult, map, string_bytes};
+ghost use Rattle.std.specs.Prelude.{◌≡◌, ◌⊎◌, Ok, Err, Contains, MatchResult, map, string_bytes};
 ghost use Rattle.f77_tree.specs.Parsing.{line_of};
 ghost use Rattle.f77_check.specs.Checked.{shapes};
-ghost use Rattle.mothra_app.specs.Executing.{IsLegalProgramOf, IsRun, IsExecuted};
-ghost use Rattle.mothra_app.specs.Fault.{IsMemory};
+ghost use Rattle.mothra_app.specs.Executing.{IsRun, IsExecuted};
+ghost use Rattle.mothra_app.specs.Fault.{of_runs};
+ghost use Rattle.mothra_app.specs.Program.{IsLegalProgramOf};
 
 use crate::fault::Fault;
 use crate::job::{Job, JobFault};
 use crate::outcome_line::outcome_line;
-use crate::program::program_of;
-use f77_check::{Checked, check};
+use crate::program::legal_program_of;
+use f77_check::Checked;
 use f77_run::{Arg, run};
 use std::alloc::Global;
-
-/// The legal program that a source is.
-fn legal_program_of(alloc: Global, source: &str) -> Result<Checked, Fault>
-    ensures program { MatchResult result
-        (λ checked. IsLegalProgramOf source.now (Ok (map line_of checked.program)))
-        (λ fault. IsLegalProgramOf source.now (Err fault) ⊎ IsMemory fault) }
-    ensures shapes { IfOk result (λ checked. checked.arguments ≡ shapes (map line_of checked.program)) }
-{
-    let program = program_of(alloc, source)?;
-    Ok(check(alloc, &program)?)
-}
 
 /// The line of the outcome of a run.
 fn run_program(
@@ -35,7 +25,7 @@ fn run_program(
     requires { checked.now.arguments ≡ shapes (map line_of checked.now.program) }
     ensures { MatchResult result
         (λ text. IsRun (map line_of checked.now.program) arguments.now steps (Ok (string_bytes text)))
-        (λ fault. IsRun (map line_of checked.now.program) arguments.now steps (Err fault) ⊎ IsMemory fault) }
+        (λ fault. IsRun (map line_of checked.now.program) arguments.now steps (Err fault) ⊎ Contains of_runs fault) }
 {
     let outcome = run(alloc, checked, arguments, steps)?;
     Ok(outcome_line(alloc, &outcome)?)
@@ -53,7 +43,7 @@ fn run_test(
     requires shapes { checked.now.arguments ≡ shapes (map line_of checked.now.program) }
     ensures { MatchResult result
         (λ text. IsExecuted job.now test steps (Ok (string_bytes text)))
-        (λ fault. IsExecuted job.now test steps (Err fault) ⊎ IsMemory fault) }
+        (λ fault. IsExecuted job.now test steps (Err fault) ⊎ Contains of_runs fault) }
 {
     match job.test(test) {
         Some(arguments) => run_program(alloc, checked, arguments, steps),
@@ -65,7 +55,7 @@ fn run_test(
 pub(crate) fn execute(alloc: Global, job: &Job, test: u32, steps: u32) -> Result<String, Fault>
     ensures { MatchResult result
         (λ text. IsExecuted job.now test steps (Ok (string_bytes text)))
-        (λ fault. IsExecuted job.now test steps (Err fault) ⊎ IsMemory fault) }
+        (λ fault. IsExecuted job.now test steps (Err fault) ⊎ Contains of_runs fault) }
 {
     let checked = legal_program_of(alloc, job.source())?;
     run_test(alloc, &checked, job, test, steps)

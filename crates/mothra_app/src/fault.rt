@@ -8,6 +8,7 @@ use f77_check::CheckFault;
 use f77_run::RunFault;
 use f77_source::FormFault;
 use f77_syntax::SyntaxFault;
+use mothra_ops::OpsFault;
 
 /// Why a command has no report: the fault of the call that failed.
 #[derive(Debug, Drop)]
@@ -17,6 +18,7 @@ pub(crate) enum Fault {
     Syntax(SyntaxFault),
     Check(CheckFault),
     Run(RunFault),
+    Ops(OpsFault),
 }
 
 impl From<JobFault> for Fault {
@@ -56,5 +58,13 @@ impl From<RunFault> for Fault {
 
     fn from(fault: RunFault) -> Fault {
         Fault::Run(fault)
+    }
+}
+
+impl From<OpsFault> for Fault {
+    ghost from_gives = { λ f e. e ≡ fault.Ops f };
+
+    fn from(fault: OpsFault) -> Fault {
+        Fault::Ops(fault)
     }
 }

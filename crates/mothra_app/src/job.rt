@@ -1,13 +1,13 @@
 //! Jobs, read from a JSON text (RFC 8259).
 
-ghost use Rattle.std.specs.Prelude.{◌≡◌, ◌⊎◌, ◌<◌, Err, find, length, not, codes, option_map, option_and_then, string_bytes};
+ghost use Rattle.std.specs.Prelude.{◌≡◌, ◌⊎◌, ◌<◌, Err, Some, find, length, map, not, option_map, string_bytes};
 ghost use Rattle.std.specs.BTreeMap.{keys};
 ghost use Rattle.serde_json.specs.Errors.{IsMemory};
-ghost use Rattle.serde_json.specs.Find.{get, as_str};
-ghost use Rattle.serde_json.specs.View.{view as value_of, items_view, members_view};
+ghost use Rattle.serde_json.specs.View.{view as value_of, members_view};
+ghost use Rattle.mothra_app.specs.FirstFault.{first_or};
 ghost use Rattle.mothra_app.specs.Job as definition;
-ghost use Rattle.mothra_app.specs.Job.{job_of, is_known, suite_items, test_at};
-ghost use Rattle.mothra_app.specs.Suite.{suite_of};
+ghost use Rattle.mothra_app.specs.Job.{is_known, job_fields, job_of, job_with, member_faults, test_at, unknown_keys, value_faults};
+ghost use Rattle.mothra_app.specs.Suite.{suite_faults};
 ghost use Rattle.mothra_app.specs.declared.job.JobFault.TheVariants as fault;
 
 use crate::key::Key;
@@ -75,7 +75,7 @@ pub enum JobFault {
     /// J4: the test of this number, from 1, is no list of numbers of the INTEGER range, truth values, and lists of
     /// either that are not empty.
     #[error("number {0} of the tests is no list of values of dummy arguments")]
-    Suite(usize),
+    Suite(u32),
     /// J6: there are more than 256 tests.
     #[error("the suite has more than 256 tests")]
     TooManyTests,
@@ -110,7 +110,6 @@ const MOST_BYTES: usize = 1_048_576;
 /// Of several faults the first in this order is told: J7, J2, J3 at `source`, J3 at `suite`, J3 at the first unknown
 /// key by its bytes, J6, J4 at the first test. J8 is of the command `exec` alone. Of a key that stands twice the last
 /// value counts, and a job without `suite` has no test.
-#[tactic(auto, unfolding(crate::specs::Job::job_of))]
 pub fn read_job(alloc: Global, bytes: &[u8]) -> Result<Job, JobFault>
     ensures job { (result ≡ job_of bytes.now) ⊎ (result ≡ Err JobFault.Memory) }
     ensures too_large { 1048576 < length bytes.now → result ≡ Err JobFault.TooLarge }
@@ -137,26 +136,26 @@ fn fault_of(error: &serde_json::Error) -> JobFault
 }
 
 /// The job that a value is.
-#[tactic(auto, unfolding(crate::specs::Job::job_in))]
 fn job_in(alloc: Global, value: &Value) -> Result<Job, JobFault>
-    ensures { (result ≡ definition.job_in (value_of value.now)) ⊎ (result ≡ Err JobFault.Memory) }
+    ensures { let json = Some (value_of value.now) in
+        (result ≡ first_or (value_faults json) (job_fields json)) ⊎ (result ≡ Err JobFault.Memory) }
 {
     match value.as_object() {
-        Some(members) => with_source(alloc, source_in(value), suite_in(value), members),
+        Some(members) => with_members(alloc, source_in(value), suite_in(value), members),
         None => Err(JobFault::NotJson),
     }
 }
 
 /// The text at the key `source`.
 fn source_in(value: &Value) -> Option<&str>
-    ensures { option_map (λ s. s.now) result ≡ option_and_then as_str (get (codes "source") (value_of value.now)) }
+    ensures { option_map (λ s. s.now) result ≡ definition.source_in (value_of value.now) }
 {
     value.get("source")?.as_str()
 }
 
 /// The values of the list at the key `suite`: none where there is no such key.
 fn suite_in(value: &Value) -> Option<&[Value]>
-    ensures { option_map (λ values. items_view values.now) result ≡ suite_items (get (codes "suite") (value_of value.now)) }
+    ensures { option_map (λ values. map value_of values.now) result ≡ definition.suite_in (value_of value.now) }
 {
     match value.get("suite") {
         Some(suite) => Some(suite.as_array()?.as_slice()),
@@ -166,8 +165,8 @@ fn suite_in(value: &Value) -> Option<&[Value]>
 
 /// The job with this source and the tests that the values are.
 fn with_tests(alloc: Global, source: &str, values: &[Value]) -> Result<Job, JobFault>
-    ensures { (result ≡ definition.with_tests source.now (suite_of (items_view values.now)))
-        ⊎ (result ≡ Err JobFault.Memory) }
+    ensures { let suite = map value_of values.now in
+        (result ≡ first_or (suite_faults suite) (job_with (Some source.now) (Some suite))) ⊎ (result ≡ Err JobFault.Memory) }
 {
     match suite(alloc, values) {
         Ok(suite) => Ok(Job {
@@ -179,14 +178,15 @@ fn with_tests(alloc: Global, source: &str, values: &[Value]) -> Result<Job, JobF
 }
 
 /// The job with this source and these tests, where no key is unknown.
-fn with_source(
+fn with_members(
     alloc: Global,
     source: Option<&str>,
     suite: Option<&[Value]>,
     members: &Map<String, Value>,
 ) -> Result<Job, JobFault>
-    ensures { (result ≡ definition.with_source (option_map (λ s. s.now) source.entry)
-        (option_map (λ values. items_view values.now) suite.entry) (members_view members.now.entries))
+    ensures { let text = option_map (λ s. s.now) source.entry in
+        let tests = option_map (λ values. map value_of values.now) suite.entry in
+        (result ≡ first_or (member_faults text tests (unknown_keys (members_view members.now.entries))) (job_with text tests))
         ⊎ (result ≡ Err JobFault.Memory) }
 {
     let Some(source) = source else {

@@ -8,6 +8,7 @@ ghost use Rattle.mothra_app.specs.declared.status.Status.{Status};
 use f77_run::law::one_outcome;
 use f77_source::law::one_reading;
 use f77_syntax::law::one_program;
+use mothra_ops::law::{one_list, too_long};
 
 /// Words and bytes are served with one status and one text at most.
 pub fn one_answer()
@@ -17,4 +18,6 @@ pub fn one_answer()
     one_reading();
     one_program();
     one_outcome();
+    one_list();
+    too_long();
 }

@@ -8,6 +8,7 @@ mod job;
 mod key;
 pub mod law;
 mod line;
+mod listing;
 mod outcome_line;
 mod printing;
 mod program;

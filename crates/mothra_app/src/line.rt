@@ -9,6 +9,7 @@ use f77_check::CheckFault;
 use f77_run::RunFault;
 use f77_source::FormFault;
 use f77_syntax::SyntaxFault;
+use mothra_ops::OpsFault;
 use std::alloc::{AllocError, Global};
 
 /// The line of a fault without a detail.
@@ -18,7 +19,7 @@ fn plain_line(alloc: Global, code: &str) -> Result<String, AllocError>
     format!(in alloc; "FAULT {code}\n")
 }
 
-/// The line of a fault with the number of a test or an argument.
+/// The line of a fault with the number of an argument.
 fn counted_line(alloc: Global, code: &str, number: usize) -> Result<String, AllocError>
     ensures { IfOk result (λ s. string_bytes s ≡ definition.numbered_line code.now number) }
 {
@@ -61,7 +62,7 @@ fn job_line(alloc: Global, fault: &JobFault) -> Result<String, AllocError>
         JobFault::Memory => plain_line(alloc, "J1"),
         JobFault::NotJson => plain_line(alloc, "J2"),
         JobFault::Key(key) => named_line(alloc, "J3", key.as_str()),
-        JobFault::Suite(test) => counted_line(alloc, "J4", *test),
+        JobFault::Suite(test) => numbered_line(alloc, "J4", *test),
         JobFault::TooManyTests => plain_line(alloc, "J6"),
         JobFault::TooLarge => plain_line(alloc, "J7"),
         JobFault::NoTest(test) => numbered_line(alloc, "J8", *test),
@@ -129,6 +130,16 @@ fn run_line(alloc: Global, fault: RunFault) -> Result<String, AllocError>
     }
 }
 
+fn ops_line(alloc: Global, fault: OpsFault) -> Result<String, AllocError>
+    ensures { IfOk result (λ s. string_bytes s ≡ definition.ops_line fault) }
+{
+    match fault {
+        OpsFault::Memory => plain_line(alloc, "O1"),
+        OpsFault::NotASite => plain_line(alloc, "O2"),
+        OpsFault::TooMany(op) => named_line(alloc, "O3", op.code()),
+    }
+}
+
 /// The line that tells the fault: FAULT, its code, and its detail where it has one, ended by LF.
 #[tactic(auto, unfolding(crate::specs::Line::line_of))]
 pub(crate) fn line_of(alloc: Global, fault: &Fault) -> Result<String, AllocError>
@@ -140,5 +151,6 @@ pub(crate) fn line_of(alloc: Global, fault: &Fault) -> Result<String, AllocError
         Fault::Syntax(fault) => syntax_line(alloc, *fault),
         Fault::Check(fault) => check_line(alloc, fault),
         Fault::Run(fault) => run_line(alloc, *fault),
+        Fault::Ops(fault) => ops_line(alloc, *fault),
     }
 }

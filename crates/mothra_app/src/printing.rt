@@ -1,7 +1,7 @@
 //! The command `print`: the program of a job in fixed form.
 
-ghost use Rattle.std.specs.Prelude.{◌⊎◌, Ok, Err, MatchResult, string_bytes};
-ghost use Rattle.mothra_app.specs.Fault.{IsMemory};
+ghost use Rattle.std.specs.Prelude.{◌⊎◌, Ok, Err, Contains, MatchResult, string_bytes};
+ghost use Rattle.mothra_app.specs.Fault.{of_programs};
 ghost use Rattle.mothra_app.specs.Printing.{IsPrinted};
 
 use crate::fault::Fault;
@@ -13,7 +13,7 @@ use std::alloc::Global;
 pub(crate) fn print_source(alloc: Global, source: &str) -> Result<String, Fault>
     ensures { MatchResult result
         (λ text. IsPrinted source.now (Ok (string_bytes text)))
-        (λ fault. IsPrinted source.now (Err fault) ⊎ IsMemory fault) }
+        (λ fault. IsPrinted source.now (Err fault) ⊎ Contains of_programs fault) }
 {
     let program = program_of(alloc, source)?;
     Ok(print(alloc, &program)?)

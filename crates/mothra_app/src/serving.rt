@@ -4,11 +4,12 @@ ghost use Rattle.std.specs.Prelude.{◌≡◌, ◌≢◌, false, Ok, Err, IfOk, 
 ghost use Rattle.mothra_cli.specs.Input.{limit, IsRead, TakesAtMost};
 ghost use Rattle.mothra_app.specs.Serving.{IsAnswered, IsAnsweredBy, WritesWhole, WritesFront};
 ghost use Rattle.mothra_app.specs.Status.{is_read_fault, is_write_fault};
+ghost use Rattle.mothra_cli.specs.Request.{IsBounded};
 ghost use Rattle.mothra_cli.specs.Watched.{inside, has_failed};
 
-use crate::answer::{Answer, answer_to, refusal};
+use crate::answer::{Answer, answer_to, bad_list, refusal};
 use crate::status::{AppFault, Status};
-use mothra_cli::{Request, Watched, read_input, request_of, write_whole};
+use mothra_cli::{Request, Watched, WordsFault, read_input, request_of, write_whole};
 use std::alloc::Global;
 use std::convert::AsStr;
 use std::io::{Read, Write};
@@ -16,11 +17,12 @@ use std::io::{Read, Write};
 /// The answer to a request, over all the bytes of the reader.
 fn read_and_answer<R: Read>(
     alloc: Global,
-    request: Request,
+    request: &Request,
     reader: &mut Watched<R>,
 ) -> Result<Answer, AppFault>
-    requires { has_failed reader.old ≡ false }
-    ensures answered { IfOk result (λ a. IsAnsweredBy request
+    requires bounded { IsBounded request.now }
+    requires works { has_failed reader.old ≡ false }
+    ensures answered { IfOk result (λ a. IsAnsweredBy request.now
         (R.remaining (inside reader.old)) a.status (string_bytes a.text)) }
     ensures read { IfOk result (λ a. IsRead limit (R.remaining (inside reader.old)) (R.remaining (inside reader.new))) }
     ensures taken { TakesAtMost limit (R.remaining (inside reader.old)) (R.remaining (inside reader.new)) }
@@ -47,8 +49,9 @@ fn prepare<S: AsStr, R: Read>(
     ensures unwritten { result ≢ Err AppFault.Write }
 {
     match request_of(alloc, words) {
-        Ok(request) => read_and_answer(alloc, request, reader),
-        Err(error) => Ok(refusal(alloc, &error)?),
+        Ok(request) => read_and_answer(alloc, &request, reader),
+        Err(WordsFault::Refused(error)) => Ok(refusal(alloc, &error)?),
+        Err(WordsFault::BadOperatorList) => Ok(bad_list(alloc)?),
     }
 }
 

@@ -1,10 +1,11 @@
 //! The test suite of a job.
 
-ghost use Rattle.std.specs.Prelude.{◌≡◌, ◌⊎◌, Err, IfOk};
+ghost use Rattle.std.specs.Prelude.{◌≡◌, ◌⊎◌, ◌≤◌, Err, IfOk, length, map};
 ghost use Rattle.serde_json.specs.Find.{as_bool};
 ghost use Rattle.serde_json.specs.View.{view as value_of, items_view};
 ghost use Rattle.mothra_app.specs.Suite as definition;
-ghost use Rattle.mothra_app.specs.Suite.{each, suite_of};
+ghost use Rattle.mothra_app.specs.FirstFault.{first_or};
+ghost use Rattle.mothra_app.specs.Suite.{each, suite_faults, test_faults, tests_of};
 ghost use Rattle.mothra_app.specs.declared.job.JobFault.TheVariants.{Memory};
 
 use crate::job::JobFault;
@@ -108,13 +109,15 @@ fn test(alloc: Global, value: &Value) -> Result<Option<Values<Arg>>, AllocError>
 
 /// The tests that the values are, or J4 at the first that is none.
 fn tests(alloc: Global, values: &[Value]) -> Result<Values<Values<Arg>>, JobFault>
-    ensures { (result ≡ definition.tests (items_view values.now)) ⊎ (result ≡ Err Memory) }
+    requires { length values.now ≤ 256 }
+    ensures { let suite = map value_of values.now in
+        (result ≡ first_or (test_faults 1 suite) (tests_of suite)) ⊎ (result ≡ Err Memory) }
 {
     let mut tests = Vec::new(alloc);
     for (index, value) in values.iter().enumerate() {
         match test(alloc, value)? {
             Some(test) => tests.push(test)?,
-            None => return Err(JobFault::Suite(index + 1)),
+            None => return Err(JobFault::Suite(index as u32 + 1)),
         }
     }
     Ok(Values::new(tests))
@@ -123,7 +126,8 @@ fn tests(alloc: Global, values: &[Value]) -> Result<Values<Values<Arg>>, JobFaul
 /// The suite that the values are: J6 where there are more than 256, before J4.
 #[tactic(auto, using(crate::proofs::Suites::too_many, crate::proofs::Suites::few_enough))]
 pub(crate) fn suite(alloc: Global, values: &[Value]) -> Result<Values<Values<Arg>>, JobFault>
-    ensures { (result ≡ suite_of (items_view values.now)) ⊎ (result ≡ Err Memory) }
+    ensures { let suite = map value_of values.now in
+        (result ≡ first_or (suite_faults suite) (tests_of suite)) ⊎ (result ≡ Err Memory) }
 {
     if values.len() > MOST_TESTS {
         return Err(JobFault::TooManyTests);

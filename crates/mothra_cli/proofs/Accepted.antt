@@ -8,7 +8,7 @@ use Rattle.std.specs.Str.Parse.{digits_value, without_leading_plus}
 use Rattle.clap.specs.Facts.{explicit_source, parser_of_value}
 use Rattle.clap.specs.Values.{read_as, reading_of}
 use Rattle.clap.specs.ValueTests.{is_unsigned_in}
-use Rattle.clap.specs.Walk.{Row, Rule, Text, action_of, answers_to, default_rows, has_row, is_empty, more_values, nothing_held, one_of, reading_by, row_text, rows_after, settled, stop_after, walk, walk_from, with_default, with_values}
+use Rattle.clap.specs.Walk.{Row, Rule, Text, action_of, answers_to, default_rows, has_row, is_empty, more_values, nothing_held, reading_by, row_text, rows_after, settled, stop_after, walk, walk_from, with_default, with_values}
 use Rattle.clap.specs.Simple.{App, Shape, argument_words, built, entered, label_of, names_of, rows_at, subcommand_of}
 use Rattle.clap.specs.Takes.{is_given}
 use Rattle.clap.specs.Kinds.{check_kinds, request_kinds}
@@ -265,17 +265,31 @@ exec_shapes = (
       (apart, (λ f. record { action = refl; parser = refl; range = omega arith }, (apart, tt))),
       refl,
     ),
-    tt,
+    (apart, tt),
   ),
 )
 
 -- a request for `exec` that is taken has both of its numbers
 pub exec_numbers : (words : List Text) (rows : List Row) → fault_of mothra words ≡ [] → subcommand_of mothra words ≡ Some (codes "exec", rows)
-    → ((n : ℕ) × (option_and_then number_of (one_of (codes "test") rows) ≡ Some n) × (1 ≤ n) × (n ≤ 256))
-    × ((n : ℕ) × (option_and_then number_of (one_of (codes "steps") rows) ≡ Some n) × (1 ≤ n) × (n ≤ 1000000))
+    → HasNumber (codes "test") 1 256 rows × HasNumber (codes "steps") 1 1000000 rows
 exec_numbers words rows e is =
     let level = accepted_level mothra (codes "exec") IsExec exec_shapes words rows e is in
     let asks = level.2 in (
       subst (HasNumber (codes "test") 1 256) level.4 (required_number level.0 level.1 (codes "test") 1 256 (omega arith) asks.0 asks.1 level.3),
       subst (HasNumber (codes "steps") 1 1000000) level.4 (default_number level.0 level.1 (codes "steps") 1 1000000 (omega arith) asks.2 asks.3 level.3),
     )
+
+-- the number of `list`
+abbrev IsList : Shape → Type 0
+IsList s = Each (Serves (codes "every") 1 1048575) s.rules × (list_any (has_default (codes "every")) s.rules ≡ true)
+
+list_shapes : Each (λ s. bytes_eq s.name (codes "list") ≡ true → IsList s) (built mothra).subs
+unfolding clap_on_literals mothra
+list_shapes = (apart, (apart, (λ e. ((apart, (λ f. record { action = refl; parser = refl; range = omega arith }, (apart, tt))), refl), tt)))
+
+-- and one for `list` has its number
+pub list_number : (words : List Text) (rows : List Row) → fault_of mothra words ≡ [] → subcommand_of mothra words ≡ Some (codes "list", rows)
+    → HasNumber (codes "every") 1 1048575 rows
+list_number words rows e is =
+    let level = accepted_level mothra (codes "list") IsList list_shapes words rows e is in
+    subst (HasNumber (codes "every") 1 1048575) level.4 (default_number level.0 level.1 (codes "every") 1 1048575 (omega arith) level.2.0 level.2.1 level.3)

@@ -1,49 +1,97 @@
 -- Each subcommand of the command line asks for something.
-use Rattle.std.proofs.Common.{◌≡◌, ◌∙◌, ◌⊎◌, inl, inr, ap, ap₂, refl, sym, subst, true, true≢false, List, [], Option, Some, None, codes, is_some, IsSome, bytes_eq}
-use Rattle.std.specs.Prelude.{option_and_then}
+use Rattle.std.proofs.Common.{◌≡◌, ◌≤◌, ◌∙◌, ◌⊎◌, ℕ, inl, inr, ap, sym, subst, true, true≢false, List, [], Option, Some, None, Ok, Err, codes, is_some, IsSome, bytes_eq, refl}
+use Rattle.std.specs.Option.{option_map_or}
 use Rattle.clap.specs.Words.{Row, Shape, Text, fault_of, subcommand_of}
 use Rattle.clap.specs.Simple.{built}
 use Rattle.clap.proofs.OnLiterals.{clap_on_literals}
+use Rattle.mothra_codes.specs.declared.op.Op.{Op}
 use Rattle.mothra_cli.specs.Command.{mothra}
-use Rattle.mothra_cli.specs.Request.{exec_request, request_met, request_of}
+use Rattle.mothra_cli.specs.Request.{Meaning, IsBounded, IsFaultOf, Reads, subcommand_meaning, meaning_of, bad_operators, list_meaning, operators_at, refused, request, request_of, request_in}
 use Rattle.mothra_cli.specs.declared.request.Request.{Request}
+use Rattle.mothra_cli.specs.declared.request.WordsFault.{WordsFault}
+use Rattle.mothra_cli.specs.declared.request.WordsFault.TheVariants.{Refused, BadOperatorList}
 use Rattle.mothra_cli.proofs.OptionRows.{Each, same_id}
-use Rattle.mothra_cli.proofs.Accepted.{accepted_level, exec_numbers}
+use Rattle.mothra_cli.proofs.Accepted.{accepted_level, exec_numbers, list_number}
 
 abbrev IsCommand : Text → Type 0
-IsCommand name = (name ≡ codes "print") ⊎ (name ≡ codes "exec")
+IsCommand name = (name ≡ codes "print") ⊎ (name ≡ codes "exec") ⊎ (name ≡ codes "list")
 
 each_command : (name : Text) → Each (λ (s : Shape). bytes_eq s.name name ≡ true → IsCommand name) (built mothra).subs
 unfolding clap_on_literals mothra
-each_command name = (λ e. inl (sym (same_id _ _ e)), (λ e. inr (sym (same_id _ _ e)), tt))
+each_command name = (
+  λ e. inl (sym (same_id _ _ e)),
+  (λ e. inr (inl (sym (same_id _ _ e))), (λ e. inr (inr (sym (same_id _ _ e))), tt)),
+)
 
-command_met : (words : List Text) (name : Text) (rows : List Row) → fault_of mothra words ≡ [] → subcommand_of mothra words ≡ Some (name, rows) → IsCommand name
-command_met words name rows taken is = (accepted_level mothra name (λ _. IsCommand name) (each_command name) words rows taken is).2
+command_met : (words : List Text) (name : Text) (rows : List Row) → fault_of mothra words ≡ []
+    → subcommand_of mothra words ≡ Some (name, rows) → IsCommand name
+command_met words name rows taken is =
+    (accepted_level mothra name (λ _. IsCommand name) (each_command name) words rows taken is).2
+
+-- what the command line takes: a request in its bounds, or operators that are none
+abbrev IsAccepted : Meaning → Type 0
+IsAccepted refused = ⊥
+IsAccepted bad_operators = Unit {0}
+IsAccepted (request r) = IsBounded r
 
 -- `exec` has both of its numbers
-exec_asks : (words : List Text) (rows : List Row) → fault_of mothra words ≡ [] → subcommand_of mothra words ≡ Some (codes "exec", rows)
-    → is_some (request_met (codes "exec", rows)) ≡ true
+exec_asks : (words : List Text) (rows : List Row) → fault_of mothra words ≡ []
+    → subcommand_of mothra words ≡ Some (codes "exec", rows)
+    → IsAccepted (subcommand_meaning (codes "exec", rows))
 exec_asks words rows taken is =
     let numbers = exec_numbers words rows taken is in
-    ap₂ (λ test steps. is_some (exec_request test steps)) numbers.0.1 numbers.1.1
+    let test = numbers.0 in
+    let steps = numbers.1 in
+    rw (test.1, steps.1) (test.2, test.3, steps.2, steps.3)
 
-asks : (words : List Text) (met : Option (Text × List Row)) → fault_of mothra words ≡ [] → subcommand_of mothra words ≡ met → is_some met ≡ true
-    → is_some (option_and_then request_met met) ≡ true
-asks words None taken is some = absurd (true≢false (sym some))
-asks words (Some (name, rows)) taken is some = go (command_met words name rows taken is)
+-- `list` has its number
+list_asks : (words : List Text) (rows : List Row) → fault_of mothra words ≡ []
+    → subcommand_of mothra words ≡ Some (codes "list", rows)
+    → IsAccepted (subcommand_meaning (codes "list", rows))
+list_asks words rows taken is =
+    let every = list_number words rows taken is in
+    rw every.1 (go (operators_at rows) every.0 every.2 every.3)
   where
-    go : IsCommand name → is_some (request_met (name, rows)) ≡ true
-    go (inl named) = subst (λ own. is_some (request_met (own, rows)) ≡ true) (sym named) refl
-    go (inr named) =
-        let exec : subcommand_of mothra words ≡ Some (codes "exec", rows) = is ∙ ap (λ own. Some (own, rows)) named in
-        subst (λ own. is_some (request_met (own, rows)) ≡ true) (sym named) (exec_asks words rows taken exec)
+    go : (o : Option (List Op)) (n : ℕ) → 1 ≤ n → n ≤ 1048575 → IsAccepted (list_meaning o (Some n))
+    go None n above below = tt
+    go (Some ops) n above below = (above, below)
 
 -- the subcommand that was met asks for something
-pub is_asked : (words : List Text) (met : Option (Text × List Row)) (asked : Option Request) → fault_of mothra words ≡ []
-    → met ≡ subcommand_of mothra words → is_some met ≡ true → asked ≡ option_and_then request_met met → IsSome asked
-is_asked words met asked taken is some named = ap is_some named ∙ asks words met taken (sym is) some
+pub asks : (words : List Text) (met : Option (Text × List Row)) → fault_of mothra words ≡ []
+    → met ≡ subcommand_of mothra words → is_some met ≡ true → IsAccepted (option_map_or subcommand_meaning met refused)
+asks words None taken is some = absurd (true≢false (sym some))
+asks words (Some (name, rows)) taken is some = go (command_met words name rows taken (sym is))
+  where
+    renamed : (own : Text) → name ≡ own → subcommand_of mothra words ≡ Some (own, rows)
+    renamed own named = sym is ∙ ap (λ n. Some (n, rows)) named
 
-pub is_request : (words : List Text) (met : Option (Text × List Row)) (request : Request) → fault_of mothra words ≡ []
-    → met ≡ subcommand_of mothra words → Some request ≡ option_and_then request_met met → request_of words ≡ Some request
-unfolding request_of
-is_request words met request taken is named = rw (taken, ← is) (sym named)
+    at : (own : Text) → name ≡ own → IsAccepted (subcommand_meaning (own, rows))
+        → IsAccepted (subcommand_meaning (name, rows))
+    at own named = subst (λ n. IsAccepted (subcommand_meaning (n, rows))) (sym named)
+
+    go : IsCommand name → IsAccepted (subcommand_meaning (name, rows))
+    go (inl named) = at _ named tt
+    go (inr (inl named)) = at _ named (exec_asks words rows taken (renamed _ named))
+    go (inr (inr named)) = at _ named (list_asks words rows taken (renamed _ named))
+
+-- what was met is what the words are
+pub meaning_taken : (words : List Text) (met : Option (Text × List Row)) → fault_of mothra words ≡ []
+    → met ≡ subcommand_of mothra words → meaning_of words ≡ option_map_or subcommand_meaning met refused
+unfolding meaning_of
+meaning_taken words met taken is = rw (taken, ← is) refl
+
+pub some_request : (meaning : Meaning) (o : Option Request) → IsAccepted meaning → Reads meaning (Ok o) → IsSome o
+some_request meaning (Some r) some reads = refl
+some_request meaning None some reads = absurd (subst IsAccepted reads some)
+
+module _ (words : List Text) (meaning : Meaning) (is : meaning_of words ≡ meaning) where
+  pub is_request : (r : Request) (o : Option Request) → o ≡ Some r → Reads meaning (Ok o) → request_of words ≡ Some r
+  is_request r o some reads = ap request_in (is ∙ subst (λ x. Reads meaning (Ok x)) some reads)
+
+  pub is_fault : (fault : WordsFault) → Reads meaning (Err fault) → IsFaultOf words fault
+  is_fault (Refused error) reads = inl reads
+  is_fault BadOperatorList reads = is ∙ reads
+
+pub is_bounded : (meaning : Meaning) (r : Request) (o : Option Request) → IsAccepted meaning → o ≡ Some r → Reads meaning (Ok o)
+    → IsBounded r
+is_bounded meaning r o asks some reads = subst IsAccepted (subst (λ x. Reads meaning (Ok x)) some reads) asks

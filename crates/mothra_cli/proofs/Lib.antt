@@ -2,3 +2,4 @@ mod Commands
 mod Getters
 mod OptionRows
 mod Accepted
+mod CodeLists

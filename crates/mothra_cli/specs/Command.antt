@@ -26,6 +26,21 @@ steps_rule = record (new_rule (codes "steps")) {
 abbrev pub exec_shape : Shape
 exec_shape = record (new_shape (codes "exec")) { rules = test_rule ∷ steps_rule ∷ [] }
 
+-- `--ops`: the codes of operators, joined by commas
+abbrev pub ops_rule : Rule
+ops_rule = record (new_rule (codes "ops")) { long = Some (codes "ops") }
+
+-- `--every`: one mutant in so many, and each of them where it is not given
+abbrev pub every_rule : Rule
+every_rule = record (new_rule (codes "every")) {
+  long = Some (codes "every");
+  parser = Some (Unsigned 1 1048575);
+  defaults = codes "1" ∷ [];
+}
+
+abbrev pub list_shape : Shape
+list_shape = record (new_shape (codes "list")) { rules = ops_rule ∷ every_rule ∷ [] }
+
 -- a subcommand is needed, and `help` is none
 abbrev pub bare : App
 bare = record {
@@ -34,4 +49,4 @@ bare = record {
 }
 
 unfoldable pub mothra : App
-mothra = with_subcommand (with_subcommand bare print_shape) exec_shape
+mothra = with_subcommand (with_subcommand (with_subcommand bare print_shape) exec_shape) list_shape

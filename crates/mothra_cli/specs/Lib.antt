@@ -2,4 +2,5 @@ pub mod Watched
 pub mod Input
 pub mod Output
 pub mod Command
+pub mod Operators
 pub mod Request

@@ -1,13 +1,29 @@
 -- What the words of the command line ask for.
-use Rattle.std.specs.Prelude.{ℕ, ◌^◌, ◌&&◌, nat_lt, List, Option, Some, None, codes, if◌then◌else◌, option_and_then}
+use Rattle.std.specs.Prelude.{◌≡◌, ◌≤◌, ℕ, ◌^◌, ◌&&◌, nat_lt, [], List, Option, Some, None, Result, Ok, Err, ⊤, codes, if◌then◌else◌, option_and_then}
+use Rattle.std.specs.Option.{option_map_or}
 use Rattle.std.specs.Str.{bytes_eq}
 use Rattle.std.specs.Str.Parse.{digits_value, without_leading_plus}
-use Rattle.clap.specs.Words.{Row, Text, fault_of, one_of, subcommand_of}
+use Rattle.clap.specs.Words.{HasKind, Row, Text, fault_of, first_of, kind_of, one_of, subcommand_of}
 use Rattle.clap.specs.ValueTests.{is_numeral}
 use Rattle.clap.specs.Walk.{is_empty}
+use Rattle.clap.specs.declared.error.Error.{Error}
+use Rattle.clap.specs.declared.error.kind.ErrorKind.TheVariants as kind
+use Rattle.mothra_codes.specs.Op.{all_ops}
+use Rattle.mothra_codes.specs.declared.op.Op.{Op}
 use Rattle.mothra_cli.specs.Command.{mothra}
+use Rattle.mothra_cli.specs.Operators.{operators_of}
 use Rattle.mothra_cli.specs.declared.request.Request.{Request}
-use Rattle.mothra_cli.specs.declared.request.Request.TheVariants.{Print, Exec}
+use Rattle.mothra_cli.specs.declared.request.Request.TheVariants as command
+use Rattle.mothra_cli.specs.declared.request.WordsFault.{WordsFault}
+use Rattle.mothra_cli.specs.declared.request.WordsFault.TheVariants as fault
+
+-- What a list of words is, one of three.
+pub data Meaning : Type 0 where
+  -- words that the command line refuses, or a call for its help
+  refused : Meaning
+  -- a command whose value of `--ops` is no list of operators' codes
+  bad_operators : Meaning
+  request : Request → Meaning
 
 -- the number that a text of digits is, where 32 bits hold it
 abbrev pub number_of : Text → Option ℕ
@@ -19,17 +35,74 @@ number_of text =
 abbrev pub number_at : Text → List Row → Option ℕ
 number_at name rows = option_and_then number_of (one_of name rows)
 
-abbrev pub exec_request : Option ℕ → Option ℕ → Option Request
-exec_request (Some test) (Some steps) = Some (Exec test steps)
-exec_request _ _ = None
+-- the operators that `--ops` names, or all where it is absent
+abbrev pub operators_at : List Row → Option (List Op)
+operators_at rows = option_map_or operators_of (first_of (codes "ops") rows) (Some all_ops)
 
--- what the subcommand of this name asks for with these values of its options
-abbrev pub request_met : Text × List Row → Option Request
-request_met met =
-    if bytes_eq met.0 (codes "print") then Some Print
-    else (if bytes_eq met.0 (codes "exec") then exec_request (number_at (codes "test") met.1) (number_at (codes "steps") met.1)
-    else None)
+-- `exec` with these numbers, both of which the command line wants
+abbrev pub exec_meaning : Option ℕ → Option ℕ → Meaning
+exec_meaning (Some test) (Some steps) = request (command.Exec test steps)
+exec_meaning _ _ = refused
 
--- what the words ask for, where the command line takes them
-unfoldable pub request_of : List Text → Option Request
-request_of words = if is_empty (fault_of mothra words) then option_and_then request_met (subcommand_of mothra words) else None
+-- `list` with these operators and this number, which the command line wants
+abbrev pub list_meaning : Option (List Op) → Option ℕ → Meaning
+list_meaning None every = bad_operators
+list_meaning (Some operators) (Some every) = request (command.List operators every)
+list_meaning (Some operators) None = refused
+
+-- the subcommand of this name with these values of its options
+abbrev pub subcommand_meaning : Text × List Row → Meaning
+subcommand_meaning (name, rows) =
+    if bytes_eq name (codes "print") then request command.Print
+    else (if bytes_eq name (codes "exec") then exec_meaning (number_at (codes "test") rows) (number_at (codes "steps") rows)
+    else (if bytes_eq name (codes "list") then list_meaning (operators_at rows) (number_at (codes "every") rows)
+    else refused))
+
+-- the command line takes the words
+abbrev pub IsTaken : List Text → Type 0
+IsTaken words = fault_of mothra words ≡ []
+
+-- what the words are
+unfoldable pub meaning_of : List Text → Meaning
+meaning_of words =
+    if is_empty (fault_of mothra words) then option_map_or subcommand_meaning (subcommand_of mothra words) refused
+    else refused
+
+abbrev pub request_in : Meaning → Option Request
+request_in (request r) = Some r
+request_in _ = None
+
+-- the request that the words are
+abbrev pub request_of : List Text → Option Request
+request_of words = request_in (meaning_of words)
+
+-- the command line takes the words, and their value of `--ops` is no list of operators' codes
+abbrev pub HasBadOperators : List Text → Type 0
+HasBadOperators words = meaning_of words ≡ bad_operators
+
+-- the numbers are in the bounds of their options
+abbrev pub IsBounded : Request → Type 0
+IsBounded command.Print = ⊤
+IsBounded (command.Exec test steps) = (1 ≤ test) × (test ≤ 256) × (1 ≤ steps) × (steps ≤ 1000000)
+IsBounded (command.List operators every) = (1 ≤ every) × (every ≤ 1048575)
+
+-- memory ran out, or the command line refuses the words by such an error, or answers a call for help by it
+abbrev pub IsRefusalOf : List Text → Error → Type 0
+IsRefusalOf words error = HasKind (fault_of mothra words) error
+
+-- why the words are no request, or memory that ran out
+abbrev pub IsFaultOf : List Text → WordsFault → Type 0
+IsFaultOf words (fault.Refused error) = IsRefusalOf words error
+IsFaultOf words fault.BadOperatorList = HasBadOperators words
+
+-- memory ran out
+abbrev pub IsMemory : WordsFault → Type 0
+IsMemory (fault.Refused error) = kind_of error ≡ kind.OutOfMemory
+IsMemory fault.BadOperatorList = ⊥
+
+-- the request that is meant, or why there is none, or memory that ran out
+abbrev pub Reads : Meaning → Result (Option Request) WordsFault → Type 0
+Reads meaning (Ok (Some r)) = meaning ≡ request r
+Reads meaning (Ok None) = meaning ≡ refused
+Reads meaning (Err fault.BadOperatorList) = meaning ≡ bad_operators
+Reads meaning (Err (fault.Refused error)) = kind_of error ≡ kind.OutOfMemory

@@ -3,7 +3,7 @@
 ghost use Rattle.std.specs.Prelude.{◌≡◌, IfOk, map, is_some, true, false};
 ghost use Rattle.clap.specs.Words.{app_of, shape_of, rule_of, fault_of, subcommand_rows_of, subcommand_of, FailsBy};
 ghost use Rattle.clap.specs.declared.builder.command.Command.TheViews.{out-Command};
-ghost use Rattle.mothra_cli.specs.Command.{mothra, bare, print_shape, exec_shape, test_rule, steps_rule};
+ghost use Rattle.mothra_cli.specs.Command.{mothra, bare, print_shape, exec_shape, list_shape, test_rule, steps_rule, ops_rule, every_rule};
 
 use clap::builder::ValueParser;
 use clap::{Arg, ArgMatches, Command, Error};
@@ -50,6 +50,26 @@ fn steps_option<'a>(alloc: Global) -> Arg<'a>
         .default_value("10000")
 }
 
+fn ops_option<'a>(alloc: Global) -> Arg<'a>
+    ensures rule { rule_of result ≡ ops_rule }
+    ensures global { result.global ≡ false }
+{
+    Arg::new(alloc, "ops").long("ops").help(
+        "The codes of the operators, joined by commas: all if not given",
+    )
+}
+
+fn every_option<'a>(alloc: Global) -> Arg<'a>
+    ensures rule { rule_of result ≡ every_rule }
+    ensures global { result.global ≡ false }
+{
+    Arg::new(alloc, "every")
+        .long("every")
+        .help("The step from one mutant of an operator to the next, from its first")
+        .value_parser(ValueParser::unsigned(1, 1_048_575))
+        .default_value("1")
+}
+
 fn exec_command<'a>(alloc: Global) -> Result<Command<'a>, AllocError>
     ensures shape { IfOk result (λ c. shape_of c ≡ exec_shape) }
     ensures globals { IfOk result (λ c. (out-Command c).has_globals ≡ false) }
@@ -61,15 +81,28 @@ fn exec_command<'a>(alloc: Global) -> Result<Command<'a>, AllocError>
     Ok(command)
 }
 
+fn list_command<'a>(alloc: Global) -> Result<Command<'a>, AllocError>
+    ensures shape { IfOk result (λ c. shape_of c ≡ list_shape) }
+    ensures globals { IfOk result (λ c. (out-Command c).has_globals ≡ false) }
+{
+    let command = Command::new(alloc, "list")
+        .about("Prints the mutants of the program of the job")
+        .arg(ops_option(alloc))?
+        .arg(every_option(alloc))?;
+    Ok(command)
+}
+
 fn command<'a>(alloc: Global) -> Result<Command<'a>, AllocError>
     ensures app { IfOk result (λ c. app_of c ≡ mothra) }
     ensures globals { IfOk result (λ c. (out-Command c).has_globals ≡ false) }
     ensures needs { IfOk result (λ c. (out-Command c).subcommand_required ≡ true) }
 {
     let exec = exec_command(alloc)?;
+    let list = list_command(alloc)?;
     let command = bare_command(alloc)
         .subcommand(print_command(alloc))?
-        .subcommand(exec)?;
+        .subcommand(exec)?
+        .subcommand(list)?;
     Ok(command)
 }
 

@@ -3,11 +3,13 @@
 
 mod command;
 mod input;
+mod operators;
 mod output;
 mod request;
 mod watched;
 
 pub use input::{InputFault, read_input};
+pub use operators::Operators;
 pub use output::{OutputFault, write_whole};
-pub use request::{Request, request_of};
+pub use request::{Request, WordsFault, request_of};
 pub use watched::Watched;

@@ -1,22 +1,56 @@
 //! What the words ask for.
 
-ghost use Rattle.std.specs.Prelude.{◌≡◌, IfOk, Some, map, option_and_then};
-ghost use Rattle.clap.specs.Words.{fault_of, found_of, rows_of, subcommand_rows_of, FailsBy};
-ghost use Rattle.mothra_cli.specs.Command.{mothra};
+ghost use Rattle.std.specs.Prelude.{◌≡◌, IfErr, IfOk, Ok, OnOk, Some, codes, map};
+ghost use Rattle.std.specs.Option.{option_map_or};
+ghost use Rattle.clap.specs.Words.{found_of, rows_of, subcommand_rows_of};
+ghost use Rattle.mothra_cli.specs.Request.{subcommand_meaning, refused, IsBounded, IsFaultOf, IsTaken, Reads};
 ghost use Rattle.mothra_cli.specs.Request as asked;
 
 use crate::command::matches_of;
+use crate::operators::Operators;
 use clap::{ArgMatches, Error};
-use std::alloc::Global;
+use std::alloc::{AllocError, Global};
 use std::convert::AsStr;
 
 /// A command with its values.
-#[derive(Debug, Drop, Clone, Copy, PartialEq, Eq)]
+#[derive(Debug, Drop)]
 pub enum Request {
     /// `print`: the program of the job.
     Print,
     /// `exec`: the number of the test, 1 to 256, and the limit on steps, 1 to 1,000,000.
     Exec { test: u32, steps: u32 },
+    /// `list`: the operators, and the step from one mutant of an operator to the next, 1 to 1,048,575.
+    List { operators: Operators, every: u32 },
+}
+
+/// Why words ask for nothing.
+#[derive(Debug, Drop)]
+pub enum WordsFault {
+    /// The command line refuses the words, or they ask for help, or memory ran out: `clap`'s error.
+    Refused(Error),
+    /// The value of `--ops` is no list of operators' codes joined by commas.
+    BadOperatorList,
+}
+
+impl From<Error> for WordsFault {
+    ghost use Rattle.std.specs.Prelude.{◌≡◌};
+    ghost use Rattle.mothra_cli.specs.declared.request.WordsFault.TheVariants.{Refused};
+
+    ghost from_gives = { λ error fault. fault ≡ Refused error };
+
+    fn from(error: Error) -> WordsFault {
+        WordsFault::Refused(error)
+    }
+}
+
+impl From<AllocError> for WordsFault {
+    ghost use Rattle.mothra_cli.specs.Request.{IsMemory};
+
+    ghost from_gives = { λ _ fault. IsMemory fault };
+
+    fn from(error: AllocError) -> WordsFault {
+        WordsFault::Refused(Error::from(error))
+    }
 }
 
 /// The number that an option has.
@@ -26,33 +60,73 @@ fn number_at(matches: &ArgMatches<'_>, name: &str) -> Option<u32>
     matches.get_one(name)
 }
 
+/// The operators that `--ops` names, or all where it is absent.
+fn operators_at(alloc: Global, matches: &ArgMatches<'_>) -> Result<Option<Operators>, AllocError>
+    ensures { IfOk result (λ operators. operators ≡ asked.operators_at (rows_of (found_of matches.now))) }
+{
+    match matches.get_str("ops") {
+        Some(text) => Operators::named(alloc, text),
+        None => Ok(Some(Operators::all(alloc)?)),
+    }
+}
+
+/// What `exec` asks for with these values of its options.
+fn exec_request(matches: &ArgMatches<'_>) -> Option<Request>
+    ensures { Reads (subcommand_meaning (codes "exec", rows_of (found_of matches.now))) (Ok result) }
+{
+    Some(Request::Exec {
+        test: number_at(matches, "test")?,
+        steps: number_at(matches, "steps")?,
+    })
+}
+
+/// What `list` asks for with these values of its options.
+fn list_request(alloc: Global, matches: &ArgMatches<'_>) -> Result<Option<Request>, WordsFault>
+    ensures { Reads (subcommand_meaning (codes "list", rows_of (found_of matches.now))) result }
+{
+    let Some(operators) = operators_at(alloc, matches)? else {
+        return Err(WordsFault::BadOperatorList);
+    };
+    match number_at(matches, "every") {
+        Some(every) => Ok(Some(Request::List { operators, every })),
+        None => Ok(None),
+    }
+}
+
 /// What the subcommand of this name asks for.
-fn request_named(name: &str, matches: &ArgMatches<'_>) -> Option<Request>
-    ensures { result ≡ asked.request_met (name.now, rows_of (found_of matches.now)) }
+fn request_named(
+    alloc: Global,
+    name: &str,
+    matches: &ArgMatches<'_>,
+) -> Result<Option<Request>, WordsFault>
+    ensures { Reads (subcommand_meaning (name.now, rows_of (found_of matches.now))) result }
 {
     match name {
-        "print" => Some(Request::Print),
-        "exec" => Some(Request::Exec {
-            test: number_at(matches, "test")?,
-            steps: number_at(matches, "steps")?,
-        }),
-        _ => None,
+        "print" => Ok(Some(Request::Print)),
+        "exec" => Ok(exec_request(matches)),
+        "list" => list_request(alloc, matches),
+        _ => Ok(None),
     }
 }
 
 /// What the subcommand that was met asks for.
-fn request_met(matches: &ArgMatches<'_>) -> Option<Request>
-    ensures { result ≡ option_and_then asked.request_met (subcommand_rows_of matches.now) }
+fn request_met(alloc: Global, matches: &ArgMatches<'_>) -> Result<Option<Request>, WordsFault>
+    ensures { Reads (option_map_or subcommand_meaning (subcommand_rows_of matches.now) refused) result }
 {
-    let (name, options) = matches.subcommand()?;
-    request_named(name, options)
+    match matches.subcommand() {
+        Some((name, options)) => request_named(alloc, name, options),
+        None => Ok(None),
+    }
 }
 
-/// What the words ask for, or why they are refused. The first word is the program's name.
-pub fn request_of<S: AsStr>(alloc: Global, words: &[S]) -> Result<Request, Error>
-    ensures kinds { FailsBy (fault_of mothra (map S.text words.now)) result }
+/// What the words ask for, or why they ask for nothing. The first word is the program's name.
+pub fn request_of<S: AsStr>(alloc: Global, words: &[S]) -> Result<Request, WordsFault>
     ensures request { IfOk result (λ r. asked.request_of (map S.text words.now) ≡ Some r) }
+    ensures bounds { IfOk result IsBounded }
+    ensures taken { OnOk result (IsTaken (map S.text words.now)) }
+    ensures fault { IfErr result (IsFaultOf (map S.text words.now)) }
 {
     let matches = matches_of(alloc, words)?;
-    Ok(request_met(&matches).unwrap())
+    let request = request_met(alloc, &matches)?;
+    Ok(request.unwrap())
 }

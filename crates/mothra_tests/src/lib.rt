@@ -4,13 +4,19 @@
 #[cfg(test)]
 mod answers;
 #[cfg(test)]
+mod failing_once;
+#[cfg(test)]
 mod fault_texts;
+#[cfg(test)]
+mod help;
 #[cfg(test)]
 mod job_keys;
 #[cfg(test)]
 mod jobs;
 #[cfg(test)]
 mod limits;
+#[cfg(test)]
+mod lists;
 #[cfg(test)]
 mod outcomes;
 #[cfg(test)]

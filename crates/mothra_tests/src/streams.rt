@@ -1,4 +1,4 @@
-//! Readers and writers that move one byte a call, and then fail or end.
+//! Readers and writers that move one byte a call, and fail or end.
 
 use std::io;
 use std::io::{Read, Write};
@@ -46,6 +46,60 @@ impl Write for Narrow<'_> {
         }
         self.taken.push(buf[0])?;
         self.room -= 1;
+        Ok(1)
+    }
+
+    fn flush(&mut self) -> io::Result<()> {
+        Ok(())
+    }
+}
+
+/// Gives its bytes one by one, and fails at one call: behind so many good ones. Then it goes on.
+#[derive(Drop)]
+pub(crate) struct Stumbling<'a> {
+    pub(crate) bytes: &'a [u8],
+    pub(crate) given: usize,
+    pub(crate) good: usize,
+    pub(crate) stumbled: bool,
+}
+
+impl Read for Stumbling<'_> {
+    fn read(&mut self, buf: &mut [u8]) -> io::Result<usize> {
+        if self.given == self.good && !self.stumbled {
+            self.stumbled = true;
+            return Err(io::ErrorKind::Interrupted.into());
+        }
+        if self.given >= self.bytes.len() || buf.is_empty() {
+            return Ok(0);
+        }
+        buf[0] = self.bytes[self.given];
+        self.given += 1;
+        Ok(1)
+    }
+}
+
+/// Takes its bytes one by one, and at one call fails or takes none: behind so many good ones. Then it goes on.
+#[derive(Drop)]
+pub(crate) struct Faltering<'a> {
+    pub(crate) taken: &'a mut Vec<u8>,
+    pub(crate) good: usize,
+    pub(crate) fails: bool,
+    pub(crate) faltered: bool,
+}
+
+impl Write for Faltering<'_> {
+    fn write(&mut self, buf: &[u8]) -> io::Result<usize> {
+        if self.taken.len() == self.good && !self.faltered {
+            self.faltered = true;
+            if self.fails {
+                return Err(io::ErrorKind::Interrupted.into());
+            }
+            return Ok(0);
+        }
+        if buf.is_empty() {
+            return Ok(0);
+        }
+        self.taken.push(buf[0])?;
         Ok(1)
     }
 

@@ -5,12 +5,11 @@ use mothra_app::{Status, Watched, serve};
 use std::process::Abort;
 use std::test::Fail;
 
-/// The words, which stand between blanks, have this answer, some text is written, and nothing is read.
-fn assert_unread(rt: &(impl AllocGlobal + Abort), words: &str, want: Status) -> Result<(), Fail> {
-    let mut list = Vec::new(rt.alloc());
-    for word in words.split_whitespace() {
-        list.push(word)?;
-    }
+/// What is written for the words, for which nothing is read.
+pub(crate) fn unread(
+    rt: &(impl AllocGlobal + Abort),
+    words: &[&str],
+) -> Result<(Status, Vec<u8>), Fail> {
     let mut out: Vec<u8> = Vec::new(rt.alloc());
     let mut reader = Watched::new(Trickle {
         bytes: b"",
@@ -18,10 +17,20 @@ fn assert_unread(rt: &(impl AllocGlobal + Abort), words: &str, want: Status) -> 
         fails: true,
     });
     let mut writer = Watched::new(&mut out);
-    let status = serve(rt, &list, &mut reader, &mut writer)?;
+    let status = serve(rt, words, &mut reader, &mut writer)?;
+    assert!(rt; !reader.failed() && !writer.failed());
+    Ok((status, out))
+}
+
+/// The words, which stand between blanks, have this answer, some text is written, and nothing is read.
+fn assert_unread(rt: &(impl AllocGlobal + Abort), words: &str, want: Status) -> Result<(), Fail> {
+    let mut list = Vec::new(rt.alloc());
+    for word in words.split_whitespace() {
+        list.push(word)?;
+    }
+    let (status, text) = unread(rt, &list)?;
     assert!(rt; status == want, "{words}");
-    assert!(rt; !reader.failed() && !writer.failed(), "{words}");
-    assert!(rt; !out.is_empty(), "{words}");
+    assert!(rt; !text.is_empty(), "{words}");
     Ok(())
 }
 
@@ -46,7 +55,7 @@ fn refuses_words_that_are_no_command(rt: HostRuntime) -> Result<(), Fail> {
 const NO_COMMANDS: &str = "
 mothra
 mothra paint
-mothra list
+mothra run
 mothra help
 mothra print twice
 ";
@@ -68,6 +77,39 @@ mothra exec --test 1 --test 1
 mothra exec --test 1 --steps 0
 mothra exec --test 1 --steps 1000001
 mothra exec --test 1 1
+mothra list 1
+mothra list --test 1
+mothra list --ops
+mothra list --ops AOR --ops AOR
+mothra list --every 0
+mothra list --every 1048576
+mothra list --every -1
+mothra list --every 1 --every 1
+";
+
+#[test]
+fn tells_operators_that_are_none(rt: HostRuntime) -> Result<(), Fail> {
+    for ops in NO_OPERATORS.lines() {
+        let (status, text) = unread(&rt, &["mothra", "list", "--ops", ops])?;
+        assert!(rt; status == Status::Words, "{ops}");
+        assert!(rt;
+            text.as_slice() == b"BAD OPERATOR LIST\n".as_slice(),
+            "{ops}"
+        );
+    }
+    Ok(())
+}
+
+// Each line is a value. The first is empty.
+const NO_OPERATORS: &str = "
+AOR,XYZ
+aor
+AOR, UOI
+AOR,
+,AOR
+ AOR
+AOR,,UOI
+AORS
 ";
 
 #[test]
@@ -78,4 +120,6 @@ fn gives_help(rt: HostRuntime) -> Result<(), Fail> {
 const HELP: &str = "
 mothra --help
 mothra print --help
+mothra exec --help
+mothra list --help
 ";

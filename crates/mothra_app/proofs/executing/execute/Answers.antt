@@ -1,7 +1,8 @@
 use Rattle.std.proofs.Common.{◌⊎◌, Ok, Err, map, subst}
+use Rattle.std.specs.Prelude.{Contains}
 use Rattle.f77_tree.specs.Parsing.{line_of}
-use Rattle.mothra_app.specs.Executing.{IsLegalProgramOf}
-use Rattle.mothra_app.specs.Fault.{IsMemory}
+use Rattle.mothra_app.specs.Program.{IsLegalProgramOf}
+use Rattle.mothra_app.specs.Fault.{of_legal_programs}
 use Rattle.mothra_app.proofs.Executions.{executed_refused}
 use Rattle.mothra_app.proofs.Sources.{told}
 use Rattle.mothra_app.proofs.executing.execute.Goals as goal
@@ -11,7 +12,7 @@ returns-in_err-checked c =
     let fault = c.in_err-checked.field-0.0 in
     told c.from_residual.result _ _ fault c.from_residual.ensures.1
     (executed_refused c.args.job.now c.args.test c.args.steps fault
-    (subst (λ source. IsLegalProgramOf source (Err fault) ⊎ IsMemory fault) c.source.ensures c.in_err-checked.ensures.program))
+    (subst (λ source. IsLegalProgramOf source (Err fault) ⊎ Contains of_legal_programs fault) c.source.ensures c.in_err-checked.ensures.program))
 
 pub run_test-requires-clause-program : goal.run_test-requires-clause-program
 run_test-requires-clause-program c =

@@ -4,9 +4,11 @@ use Rattle.f77_run.specs.Interpreter.{refusal}
 use Rattle.f77_run.specs.declared.outcome.Outcome.{Outcome}
 use Rattle.f77_run.specs.declared.outcome.RunFault.{RunFault}
 use Rattle.f77_run.specs.declared.outcome.RunFault.TheVariants as fault
-use Rattle.mothra_app.specs.Fault.{IsMemory, in_run}
+use Rattle.std.specs.Prelude.{Contains}
+use Rattle.mothra_app.specs.Fault.{of_runs}
 use Rattle.mothra_app.specs.declared.fault.Fault.TheVariants.{Run}
 use Rattle.mothra_app.proofs.Executions.{run_refused, run_is, fits}
+use Rattle.mothra_app.proofs.Memory.{run_in}
 use Rattle.mothra_app.proofs.Sources.{told}
 use Rattle.mothra_app.proofs.executing.run_program.Goals as goal
 
@@ -20,7 +22,7 @@ returns-in_err-outcome c =
 pub returns-in_err-outcome_line : goal.returns-in_err-outcome_line
 returns-in_err-outcome_line c =
     told c.from_residual-in_err-outcome_line.result _ _ (Run c.in_err-outcome_line.field-0.0) c.from_residual-in_err-outcome_line.ensures.1
-    (inr (subst (λ f. IsMemory (Run f)) (sym c.in_err-outcome_line.ensures.memory) in_run))
+    (inr (subst (λ f. Contains of_runs (Run f)) (sym c.in_err-outcome_line.ensures.memory) run_in))
 
 pub returns : goal.returns
 returns c =

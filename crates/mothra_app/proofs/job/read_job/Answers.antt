@@ -1,11 +1,12 @@
-use Rattle.std.proofs.Common.{rules, ◌≡◌, ◌⊎◌, ◌∙◌, ◌≤◌, sym, ap, refl, subst, true, false, Bool, List, ℕ, length, Option, Some, None, inl, inr, IsUtf8, Err}
-use Rattle.std.proofs.lemmas.Bool.{le-ltb}
+use Rattle.std.proofs.Common.{rules, ◌≡◌, ◌⊎◌, ◌∙◌, ◌<◌, ◌≤◌, sym, ap, refl, subst, true, false, Bool, List, ℕ, length, Option, Some, None, inl, inr, IsUtf8, Err}
+use Rattle.std.proofs.lemmas.Bool.{le-ltb, lt-ltb}
 use Rattle.std.specs.Str.{is_utf8}
 use Rattle.std.proofs.lemmas.Str.{IsUtf8-from_is_utf8, is_utf8-from_IsUtf8}
 use Rattle.serde_json.specs.Data.{Data}
 use Rattle.serde_json.specs.Read.{read}
-use Rattle.mothra_app.specs.Job.{JobRead, job_of, json_of, of_json}
-use Rattle.mothra_app.specs.declared.job.JobFault.TheVariants.{Memory}
+use Rattle.mothra_app.specs.FirstFault.{first_or}
+use Rattle.mothra_app.specs.Job.{JobRead, faults, job_fields, job_of, json_of, value_faults}
+use Rattle.mothra_app.specs.declared.job.JobFault.TheVariants.{Memory, TooLarge}
 use Rattle.mothra_app.proofs.job.read_job.Goals as goal
 
 text_is : (bytes : List ℕ) (value : Data) → IsUtf8 bytes → read bytes ≡ Some value → json_of bytes ≡ Some value
@@ -18,9 +19,17 @@ no_text bytes refused = go (is_utf8 bytes) refl
     go true is = rw is (refused (IsUtf8-from_is_utf8 bytes is))
     go false is = rw is refl
 
-small : (bytes : List ℕ) (value : Option Data) → length bytes ≤ 1048576 → json_of bytes ≡ value → job_of bytes ≡ of_json value
-unfolding job_of
-small bytes value few is = rw (le-ltb _ _ few) (ap of_json is)
+small : (bytes : List ℕ) (value : Option Data) → length bytes ≤ 1048576 → json_of bytes ≡ value
+    → job_of bytes ≡ first_or (value_faults value) (job_fields value)
+unfolding job_of faults
+small bytes value few is = rw (le-ltb _ _ few) (ap (λ v. first_or (value_faults v) (job_fields v)) is)
+
+large : (bytes : List ℕ) → 1048576 < length bytes → job_of bytes ≡ Err TooLarge
+unfolding job_of faults
+large bytes many = rw (lt-ltb _ _ many) refl
+
+pub returns-then-bytes-gt-MOST_BYTES-clause-job : goal.returns-then-bytes-gt-MOST_BYTES-clause-job
+returns-then-bytes-gt-MOST_BYTES-clause-job c = inl (sym (large c.args.bytes.now (search rules)))
 
 pub returns-in-Ok-clause-job : goal.returns-in-Ok-clause-job
 returns-in-Ok-clause-job c =

@@ -9,5 +9,7 @@ returns c = λ words bytes status other text also. one_answer words bytes status
   one_program = c.one_program.ensures.lines;
   one_syntax_fault = c.one_program.ensures.fault;
   one_run = c.one_outcome.ensures.answer;
+  one_edit_list = c.one_list.ensures;
+  too_long = c.too_long.ensures;
   program_or_fault = c.one_program.ensures.either;
 }

@@ -1,15 +1,25 @@
-use Rattle.std.proofs.Common.{map, string_bytes}
-use Rattle.mothra_app.proofs.Answered.{answered, refused, IfOk-both}
+use Rattle.std.proofs.Common.{map, string_bytes, subst}
+use Rattle.mothra_cli.specs.Request.{HasBadOperators, IsFaultOf, IsRefusalOf}
+use Rattle.mothra_app.proofs.Answered.{answered, bad_list, refused, IfOk-both}
 use Rattle.mothra_app.proofs.serving.prepare.Goals as goal
 
 pub returns-in-Ok-clause-answered : goal.returns-in-Ok-clause-answered
 returns-in-Ok-clause-answered g c =
     let words = map g.S.AsStr.text c.args.words.now in
-    IfOk-both c.read_and_answer.result _ _ _ (λ a by read. answered words _ _ c.in-Ok.request a.status (string_bytes a.text) c.in-Ok.ensures.request by read)
+    IfOk-both c.read_and_answer.result _ _ _
+    (λ a by read. answered words _ _ c.in-Ok.request a.status (string_bytes a.text) record { is = c.in-Ok.ensures.request; bounded = c.in-Ok.ensures.bounds } by read)
     c.read_and_answer.ensures.answered c.read_and_answer.ensures.read
 
-pub returns-in_ok-refusal-in-Err-clause-answered : goal.returns-in_ok-refusal-in-Err-clause-answered
-returns-in_ok-refusal-in-Err-clause-answered g c =
+pub returns-in_ok-refusal-in-Err-Refused-clause-answered : goal.returns-in_ok-refusal-in-Err-Refused-clause-answered
+returns-in_ok-refusal-in-Err-Refused-clause-answered g c =
     let words = map g.S.AsStr.text c.args.words.now in
-    let a = c.in_ok-refusal-in-Err.field-0 in
-    refused words _ c.in-Err.error a.status (string_bytes a.text) c.in-Err.ensures.kinds c.in_ok-refusal-in-Err.ensures
+    let a = c.in_ok-refusal-in-Err-Refused.field-0 in
+    let refusal : IsRefusalOf words c.in-Err-Refused.error = subst (IsFaultOf words) c.in-Err-Refused.field-0-is c.in-Err-Refused.ensures.fault in
+    refused words _ c.in-Err-Refused.error a.status (string_bytes a.text) refusal c.in_ok-refusal-in-Err-Refused.ensures
+
+pub returns-in_ok-bad_list-in-Err-BadOperatorList-clause-answered : goal.returns-in_ok-bad_list-in-Err-BadOperatorList-clause-answered
+returns-in_ok-bad_list-in-Err-BadOperatorList-clause-answered g c =
+    let words = map g.S.AsStr.text c.args.words.now in
+    let a = c.in_ok-bad_list-in-Err-BadOperatorList.field-0 in
+    let bad : HasBadOperators words = subst (IsFaultOf words) c.in-Err-BadOperatorList.field-0-is c.in-Err-BadOperatorList.ensures.fault in
+    bad_list words _ a.status (string_bytes a.text) bad c.in_ok-bad_list-in-Err-BadOperatorList.ensures.status c.in_ok-bad_list-in-Err-BadOperatorList.ensures.text

@@ -7,5 +7,5 @@ use Rattle.mothra_app.proofs.serving.read_and_answer.Goals as goal
 pub returns-clause-answered : goal.returns-clause-answered
 returns-clause-answered g c =
     let a = c.in_ok-answer_to.field-0 in
-    answered_by _ _ c.in_ok-bytes.bytes.items c.args.request a.status (string_bytes a.text) c.in_ok-bytes.ensures.bytes
-    (subst (λ (bytes : List ℕ). IsAnswer c.args.request (job_of bytes) a.status (string_bytes a.text)) c.deref.ensures.value c.in_ok-answer_to.ensures)
+    answered_by _ _ c.in_ok-bytes.bytes.items c.args.request.now a.status (string_bytes a.text) c.in_ok-bytes.ensures.bytes
+    (subst (λ (bytes : List ℕ). IsAnswer c.args.request.now (job_of bytes) a.status (string_bytes a.text)) c.deref.ensures.value c.in_ok-answer_to.ensures)

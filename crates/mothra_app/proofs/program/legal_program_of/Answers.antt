@@ -1,9 +1,9 @@
 use Rattle.std.proofs.Common.{map}
 use Rattle.f77_tree.specs.Parsing.{line_of}
 use Rattle.mothra_app.specs.declared.fault.Fault.TheVariants.{Check}
-use Rattle.mothra_app.proofs.Executions.{program_refused, check_refused, legal_is}
+use Rattle.mothra_app.proofs.LegalPrograms.{program_refused, check_refused, legal_is}
 use Rattle.mothra_app.proofs.Sources.{told}
-use Rattle.mothra_app.proofs.executing.legal_program_of.Goals as goal
+use Rattle.mothra_app.proofs.program.legal_program_of.Goals as goal
 
 pub returns-in_err-program-clause-program : goal.returns-in_err-program-clause-program
 returns-in_err-program-clause-program c =

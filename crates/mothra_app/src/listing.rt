@@ -1,0 +1,102 @@
+//! The command `list`: the mutants of the program of a job.
+
+ghost use Rattle.std.specs.Prelude.{◌≡◌, ◌⊎◌, ◌++◌, ◌≤◌, Ok, Err, Contains, IfErr, IfOk, MatchResult, OnOk, codes, map, string_bytes};
+ghost use Rattle.f77_tree.specs.Parsing.{line_of};
+ghost use Rattle.mothra_app.specs.Fault.{of_mutants};
+ghost use Rattle.mothra_app.specs.Listing as definition;
+ghost use Rattle.mothra_app.specs.Listing.{IsListed, asked_lines, asked_total, plan_lines, plan_text, total_line};
+ghost use Rattle.mothra_ops.specs.Mutants.{mutant_text};
+ghost use Rattle.mothra_ops.specs.declared.fault.OpsFault.TheVariants.{Memory};
+
+use crate::fault::Fault;
+use crate::program::legal_program_of;
+use mothra_ops::{Mutants, Op, OpsFault, Plan};
+use std::alloc::{AllocError, Global};
+
+/// Adds the line of an operator: how many mutants it has.
+fn push_count(text: &mut String, op: Op, count: u32) -> Result<(), AllocError>
+    ensures { OnOk result (string_bytes text.new ≡ string_bytes text.old ++ definition.count_line op count) }
+{
+    let code = op.code();
+    write!(text, "{code} {count}\n")
+}
+
+/// Adds the line of an operator's mutant.
+fn push_mutant(
+    text: &mut String,
+    mutants: &Mutants<'_>,
+    op: Op,
+    number: u32,
+) -> Result<(), OpsFault>
+    ensures line { OnOk result (string_bytes text.new ≡ string_bytes text.old ++ (mutant_text mutants.now op number ++ codes "\n")) }
+    ensures memory { IfErr result (λ fault. fault ≡ Memory) }
+{
+    mutants.push_text(text, op, number)?;
+    text.push_str("\n")?;
+    Ok(())
+}
+
+/// Adds the lines of an operator: how many mutants it has, and each by its number.
+fn push_operator(
+    text: &mut String,
+    plan: &Plan,
+    mutants: &Mutants<'_>,
+    op: Op,
+) -> Result<(), OpsFault>
+    requires { mutants.now ≡ plan.now }
+    ensures lines { OnOk result (string_bytes text.new ≡ string_bytes text.old ++ plan_lines plan.now op) }
+    ensures memory { IfErr result (λ fault. fault ≡ Memory) }
+{
+    let count = plan.count(op);
+    push_count(text, op, count)?;
+    for index in 0..count {
+        push_mutant(text, mutants, op, index + 1)?;
+    }
+    Ok(())
+}
+
+/// Adds the lines of each operator that was asked for, in their order. It answers how many mutants there are in all.
+fn push_operators(text: &mut String, plan: &Plan, mutants: &Mutants<'_>) -> Result<u64, OpsFault>
+    requires { mutants.now ≡ plan.now }
+    ensures lines { OnOk result (string_bytes text.new ≡ string_bytes text.old ++ asked_lines plan.now) }
+    ensures total { IfOk result (λ total. total ≡ asked_total plan.now) }
+    ensures memory { IfErr result (λ fault. fault ≡ Memory) }
+{
+    let mut total = 0;
+    for op in Op::ALL {
+        if plan.asked(op) {
+            push_operator(text, plan, mutants, op)?;
+            total += u64::from(plan.count(op));
+        }
+    }
+    Ok(total)
+}
+
+/// The text of the list of a plan's mutants.
+fn text_of(alloc: Global, plan: &Plan) -> Result<String, OpsFault>
+    ensures text { IfOk result (λ text. string_bytes text ≡ plan_text plan.now) }
+    ensures memory { IfErr result (λ fault. fault ≡ Memory) }
+{
+    let mutants = Mutants::of(alloc, plan)?;
+    let mut text = String::new(alloc);
+    let total = push_operators(&mut text, plan, &mutants)?;
+    write!(text, "TOTAL {total}\n")?;
+    Ok(text)
+}
+
+/// The list of the mutants of the program that a source is, for these operators: each item of their lists, or one in so many.
+pub(crate) fn list_mutants(
+    alloc: Global,
+    source: &str,
+    ops: &[Op],
+    every: u32,
+) -> Result<String, Fault>
+    requires { 1 ≤ every }
+    ensures { MatchResult result
+        (λ text. IsListed source.now ops.now every (Ok (string_bytes text)))
+        (λ fault. IsListed source.now ops.now every (Err fault) ⊎ Contains of_mutants fault) }
+{
+    let checked = legal_program_of(alloc, source)?;
+    let plan = Plan::new(alloc, checked, ops, every)?;
+    Ok(text_of(alloc, &plan)?)
+}
