@@ -22,7 +22,7 @@ fn heading(stmt: &Stmt) -> Option<(&Name, &[Name])>
 }
 
 /// The name of the unit (15.6).
-pub(crate) fn unit(lines: &[Shared<Line>]) -> Option<&Name>
+pub fn unit(lines: &[Shared<Line>]) -> Option<&Name>
     ensures { option_map (λ name. name.now) result ≡ unit_name (map line_of lines.now) }
 {
     let (name, _) = heading(&lines.first()?.stmt)?;

@@ -43,9 +43,9 @@ pub(crate) fn misfit(shapes: &[Shape], arguments: &[Arg]) -> Option<usize>
         .position(|(shape, argument)| !has_shape(shape, argument))
 }
 
-/// Tells arguments that do not fit: N2 before N3.
+/// Tells arguments that do not fit: N2 before N3. It takes no memory.
 #[tactic(auto, using(crate::proofs::Misfits::misfit_within, crate::proofs::Misfits::all_fit, crate::proofs::Misfits::not_refused))]
-pub(crate) fn fit(shapes: &[Shape], arguments: &[Arg]) -> Result<(), RunFault>
+pub fn fit(shapes: &[Shape], arguments: &[Arg]) -> Result<(), RunFault>
     ensures fitting { IfOk result (λ _. AreFitting shapes.now arguments.now) }
     ensures refused { IfSome (refusal shapes.now arguments.now) (λ e. result ≡ Err e) }
     ensures fault { IfErr result (λ e. refusal shapes.now arguments.now ≡ Some e) }

@@ -18,6 +18,7 @@ mod values;
 
 pub use argument::Arg;
 pub use finish::{Fault, Finish};
+pub use fitting::fit;
 pub use interpreter::run;
 pub use outcome::{Outcome, RunFault};
 pub use value::Value;

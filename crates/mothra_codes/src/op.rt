@@ -5,7 +5,7 @@ ghost use Rattle.mothra_codes.specs.Op.{index, code_of};
 /// An operator of Mothra (King and Offutt 1991, "A Fortran Language System for Mutation-Based
 /// Software Testing"). The variants stand in the alphabetical order of their codes, which is the
 /// order of every list of operators.
-#[derive(Clone, Copy, PartialEq, Eq, Debug, Drop)]
+#[derive(Clone, Copy, PartialEq, Eq, Hash, Debug, Drop)]
 pub enum Op {
     /// Array reference for array reference.
     Aar,

@@ -2,7 +2,7 @@
 use mothra_codes::Op;
 
 /// Mutant `number` of an operator's list, from 1.
-#[derive(Clone, Copy, PartialEq, Eq, Debug, Drop)]
+#[derive(Clone, Copy, PartialEq, Eq, Hash, Debug, Drop)]
 pub struct Ticket {
     pub op: Op,
     pub number: u32,

@@ -16,3 +16,4 @@ mod Made
 mod Applied
 mod Plans
 mod Numbered
+mod Shapes

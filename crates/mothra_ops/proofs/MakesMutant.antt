@@ -17,7 +17,7 @@ line_numbered lines zero = refl
 line_numbered lines (suc k) = slice_get-map line_of lines k
 
 -- a number of a line is from 1
-counted_at : (p : List LineFields) (number : ℕ) → 1 ≤ number → slice_get p (number - 1) ≡ numbered p number
+pub counted_at : (p : List LineFields) (number : ℕ) → 1 ≤ number → slice_get p (number - 1) ≡ numbered p number
 counted_at p zero some = absurd (omega (arith, some))
 counted_at p (suc k) some = let e : suc k - 1 ≡ k = omega arith in ap (slice_get p) e
 

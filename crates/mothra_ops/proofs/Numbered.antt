@@ -19,7 +19,7 @@ use Rattle.mothra_ops.specs.declared.original.Original.{Original}
 use Rattle.mothra_ops.proofs.Thinning.{thinned_items}
 use Rattle.mothra_codes.specs.declared.op.Op.{Op}
 
-nothing_numbered : {X : Type 0} (k : ℕ) → numbered {X = X} [] k ≡ None
+pub nothing_numbered : {X : Type 0} (k : ℕ) → numbered {X = X} [] k ≡ None
 nothing_numbered zero = refl
 nothing_numbered (suc k) = refl
 

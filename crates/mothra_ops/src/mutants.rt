@@ -1,6 +1,8 @@
 //! The mutants of a plan, one at a time.
 
 ghost use Rattle.std.specs.Prelude.{◌≡◌, ◌++◌, ◌≤◌, option_map, string_bytes, codes, None, IfOk, IfErr, IfSome, IfNone, OnOk};
+ghost use Rattle.f77_check.specs.Checked.{shapes};
+ghost use Rattle.f77_tree.specs.Patching.{patched};
 ghost use Rattle.f77_tree.specs.StatementView.{statement_of};
 ghost use Rattle.mothra_ops.specs.Edits.{IsMutant, numbered};
 ghost use Rattle.mothra_ops.specs.Mutants.{change_text, line_at, mutant_fields, mutant_made, mutant_name, mutant_of, mutant_text, program_of};
@@ -77,6 +79,9 @@ impl<'a> Mutants<'a> {
         ensures mutant { IfOk result (λ mutant. option_map mutant_fields mutant ≡ mutant_of self.now op number) }
         // What it makes is legal, and another program.
         ensures legal { IfOk result (λ mutant. IfSome mutant (λ m. IsMutant (program_of self.now) m.number (statement_of m.stmt))) }
+        // It takes the arguments that the program takes.
+        ensures shapes { IfOk result (λ mutant. IfSome mutant
+            (λ m. shapes (patched (program_of self.now) m.number (statement_of m.stmt)) ≡ shapes (program_of self.now))) }
         ensures none { IfOk result (λ mutant. IfNone mutant (numbered (edits_of self.now op) number ≡ None)) }
         ensures memory { IfErr result (λ fault. fault ≡ Memory) }
     {

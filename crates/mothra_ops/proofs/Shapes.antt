@@ -1,0 +1,184 @@
+-- A mutant takes the arguments of its program: what an edit changes says nothing of the dummy arguments.
+use Rattle.std.proofs.Common.{◌≡◌, ◌∙◌, ◌-◌, ◌≤◌, ◌&&◌, arith, ℕ, zero, suc, List, [], ◌∷◌, ◌++◌, Bool, true, false, true≢false, cond, not, Option, Some, None, refl, sym, ap, subst, map, filter}
+use Rattle.std.specs.Prelude.{is_some, option_map, slice_get, if◌then◌else◌}
+use Rattle.std.specs.List.{filter_map}
+use Rattle.std.specs.Option.{IfSome, option_and_then}
+use Rattle.std.specs.Str.{bytes_eq}
+use Rattle.std.proofs.lemmas.List.Elements.{filter-append, filter_map-append}
+use Rattle.std.proofs.lemmas.Option.{none-some, same_Some, option_and_then_some}
+use Rattle.f77_tree.specs.Form.{form_of}
+use Rattle.f77_tree.specs.Group.{group_of}
+use Rattle.f77_tree.specs.Node.{NodeOf, names_of}
+use Rattle.f77_tree.specs.Parsing.{LineFields}
+use Rattle.f77_tree.specs.Patching.{Fits, replaced, patched}
+use Rattle.f77_tree.specs.StatementView.{statement_of}
+use Rattle.f77_tree.specs.Tree.{Statement}
+use Rattle.f77_tree.specs.declared.group.Group.{Group}
+use Rattle.f77_tree.specs.declared.group.Group.TheVariants.{Subroutine, Declaration}
+use Rattle.f77_tree.specs.declared.tree.Kind.TheVariants.{Integer}
+use Rattle.f77_legal.specs.Heading.{dummies_of, dummies}
+use Rattle.f77_legal.specs.Names.{Symbol, Mention, Plain, name_in, mentions_of, mentions, kind_in, bounds_in, some_items, first_or}
+use Rattle.f77_legal.specs.Presets.{product}
+use Rattle.f77_check.specs.Checked.{shapes}
+use Rattle.f77_sites.specs.Sites.{Site, sites}
+use Rattle.mothra_codes.specs.declared.op.Op.{Op}
+use Rattle.mothra_codes.specs.declared.op.Op.TheVariants.{Der, Dsa, Glr}
+use Rattle.mothra_ops.specs.Edits.{IsMutant, made, numbered}
+use Rattle.mothra_ops.specs.Mutants.{MutantFields, mutant_fields, mutant_made}
+use Rattle.mothra_ops.specs.Pools.{PoolFields, pools_of, is_executable}
+use Rattle.mothra_ops.specs.Replacements.{gives, replacements, stands_in, is_form}
+use Rattle.mothra_ops.specs.declared.edit.Edit.{Edit}
+use Rattle.mothra_ops.specs.declared.mutants.Mutant.{Mutant}
+use Rattle.mothra_ops.proofs.MakesMutant.{counted_at}
+use Rattle.mothra_ops.proofs.Numbered.{nothing_numbered}
+
+-- a statement of the group neither has dummy arguments nor declares
+abbrev is_quiet : Group → Bool
+is_quiet Subroutine = false
+is_quiet Declaration = false
+is_quiet _ = true
+
+quiet_mentions : (s : Statement) → is_quiet (group_of s) ≡ true → mentions_of s ≡ map Plain (names_of s)
+quiet_mentions (Statement.Subroutine name names) quiet = absurd (true≢false (sym quiet))
+quiet_mentions (Statement.Declare kind declarations) quiet = absurd (true≢false (sym quiet))
+quiet_mentions (Statement.Dimension declarations) quiet = absurd (true≢false (sym quiet))
+quiet_mentions _ quiet = refl
+
+quiet_dummies : (s : Statement) → is_quiet (group_of s) ≡ true → dummies_of s ≡ []
+quiet_dummies (Statement.Subroutine name names) quiet = absurd (true≢false (sym quiet))
+quiet_dummies _ quiet = refl
+
+dummies_replaced : (p : List LineFields) (i : ℕ) (line : LineFields) (s : Statement) → slice_get p i ≡ Some line → is_quiet (group_of line.stmt) ≡ true
+    → is_quiet (group_of s) ≡ true → dummies (replaced p i s) ≡ dummies p
+dummies_replaced [] i line s at old new = refl
+dummies_replaced (first ∷ lines) zero line s at old new =
+    quiet_dummies s new ∙ sym (quiet_dummies line.stmt old) ∙ ap (λ (l : LineFields). dummies_of l.stmt) (sym (same_Some first line at))
+dummies_replaced (first ∷ lines) (suc i) line s at old new = refl
+
+-- what the mentions of a name give, where a name that is only used gives nothing
+module _ {Y : Type 0} (give : Mention → Option Y) (plain : (name : Symbol) → give (Plain name) ≡ None) (name : Symbol) where
+  abbrev given_in : List Mention → List Y
+  given_in all = filter_map give (filter (λ mention. bytes_eq name (name_in mention)) all)
+
+  given-append : (one other : List Mention) → given_in (one ++ other) ≡ given_in one ++ given_in other
+  given-append one other =
+      ap (filter_map give) (filter-append (λ mention. bytes_eq name (name_in mention)) one other)
+      ∙ filter_map-append give (filter (λ mention. bytes_eq name (name_in mention)) one) (filter (λ mention. bytes_eq name (name_in mention)) other)
+
+  none_given : (names : List Symbol) → given_in (map Plain names) ≡ []
+  none_given [] = refl
+  none_given (other ∷ names) = by (bytes_eq name other) refl (none_given names)
+    where
+      by : (b : Bool) → bytes_eq name other ≡ b → given_in (map Plain names) ≡ [] → given_in (map Plain (other ∷ names)) ≡ []
+      by true same rest = rw (same, plain other) rest
+      by false same rest = rw same rest
+
+  quiet_gives : (s : Statement) → is_quiet (group_of s) ≡ true → given_in (mentions_of s) ≡ []
+  quiet_gives s quiet = ap given_in (quiet_mentions s quiet) ∙ none_given (names_of s)
+
+  given_replaced : (p : List LineFields) (i : ℕ) (line : LineFields) (s : Statement) → slice_get p i ≡ Some line → is_quiet (group_of line.stmt) ≡ true
+      → is_quiet (group_of s) ≡ true → given_in (mentions (replaced p i s)) ≡ given_in (mentions p)
+  given_replaced [] i line s at old new = refl
+  given_replaced (first ∷ lines) zero line s at old new =
+      let before : given_in (mentions_of first.stmt) ≡ [] = ap (λ (l : LineFields). given_in (mentions_of l.stmt)) (same_Some first line at) ∙ quiet_gives line.stmt old in
+      given-append (mentions_of s) (mentions lines)
+      ∙ ap (λ ys. ys ++ given_in (mentions lines)) (quiet_gives s new ∙ sym before)
+      ∙ sym (given-append (mentions_of first.stmt) (mentions lines))
+  given_replaced (first ∷ lines) (suc i) line s at old new =
+      given-append (mentions_of first.stmt) (mentions (replaced lines i s))
+      ∙ ap (λ ys. given_in (mentions_of first.stmt) ++ ys) (given_replaced lines i line s at old new)
+      ∙ sym (given-append (mentions_of first.stmt) (mentions lines))
+
+shapes_replaced : (p : List LineFields) (i : ℕ) (line : LineFields) (s : Statement) → slice_get p i ≡ Some line → is_quiet (group_of line.stmt) ≡ true
+    → is_quiet (group_of s) ≡ true → shapes (replaced p i s) ≡ shapes p
+shapes_replaced p i line s at old new =
+    λ k. map (λ name. record {
+      kind = first_or Integer (given_replaced kind_in (λ other. refl) name p i line s at old new k);
+      elements = if is_some (some_items (first_or [] (given_replaced bounds_in (λ other. refl) name p i line s at old new k)))
+          then Some (product (first_or [] (given_replaced bounds_in (λ other. refl) name p i line s at old new k)))
+          else None;
+    }) (dummies_replaced p i line s at old new k)
+
+-- a statement in which an operator has sites is quiet
+executable_quiet : (s : Statement) → is_executable s ≡ true → is_quiet (group_of s) ≡ true
+executable_quiet (Statement.Subroutine name names) stands = absurd (true≢false (sym stands))
+executable_quiet (Statement.Declare kind declarations) stands = absurd (true≢false (sym stands))
+executable_quiet (Statement.Dimension declarations) stands = absurd (true≢false (sym stands))
+executable_quiet _ stands = refl
+
+loop_quiet : (s : Statement) → stands_in Der s ≡ true → is_quiet (group_of s) ≡ true
+loop_quiet (Statement.Subroutine name names) stands = absurd (true≢false (sym stands))
+loop_quiet (Statement.Declare kind declarations) stands = absurd (true≢false (sym stands))
+loop_quiet (Statement.Dimension declarations) stands = absurd (true≢false (sym stands))
+loop_quiet _ stands = refl
+
+preset_quiet : (s : Statement) → stands_in Dsa s ≡ true → is_quiet (group_of s) ≡ true
+preset_quiet (Statement.Subroutine name names) stands = absurd (true≢false (sym stands))
+preset_quiet (Statement.Declare kind declarations) stands = absurd (true≢false (sym stands))
+preset_quiet (Statement.Dimension declarations) stands = absurd (true≢false (sym stands))
+preset_quiet _ stands = refl
+
+jump_quiet : (s : Statement) → stands_in Glr s ≡ true → is_quiet (group_of s) ≡ true
+jump_quiet (Statement.Subroutine name names) stands = absurd (true≢false (sym stands))
+jump_quiet (Statement.Declare kind declarations) stands = absurd (true≢false (sym stands))
+jump_quiet (Statement.Dimension declarations) stands = absurd (true≢false (sym stands))
+jump_quiet _ stands = refl
+
+site_quiet : (op : Op) (s : Statement) → stands_in op s ≡ true → is_quiet (group_of s) ≡ true
+site_quiet Der s stands = loop_quiet s stands
+site_quiet Dsa s stands = preset_quiet s stands
+site_quiet Glr s stands = jump_quiet s stands
+site_quiet _ s stands = executable_quiet s stands
+
+-- an operator that gives something has a site there
+sites_given : (op : Op) (pools : PoolFields) (s : Statement) (node new : NodeOf) (rank : ℕ) → numbered (gives op pools s node) rank ≡ Some new
+    → stands_in op s ≡ true
+sites_given op pools s node new rank given = by (stands_in op s) refl
+  where
+    by : (b : Bool) → stands_in op s ≡ b → stands_in op s ≡ true
+    by true stands = stands
+    by false not_there =
+        absurd (none-some new (sym (nothing_numbered rank)
+        ∙ ap (λ b. numbered (cond b (replacements op pools node) []) rank) (sym not_there) ∙ given))
+
+-- the statement that an edit changes is one in which its operator has sites
+module _ (program : List LineFields) (edit : Edit) (statement : Statement) (makes : made (pools_of program) program edit ≡ Some statement) where
+  changes_quiet : (line : LineFields) → numbered program edit.statement ≡ Some line → is_quiet (group_of line.stmt) ≡ true
+  changes_quiet line of_line =
+      option_and_then_some at_line (numbered program edit.statement) statement makes
+      (λ there of_there h. option_and_then_some (at_site there.stmt) (slice_get (sites there.stmt) edit.position) statement h
+      (λ site of_site h. option_and_then_some (λ node. Some (site.1 node)) (numbered (gives edit.op (pools_of program) there.stmt site.0) edit.rank) statement h
+      (λ new of_new h.
+      let quiet = site_quiet edit.op there.stmt (sites_given edit.op (pools_of program) there.stmt site.0 new edit.rank of_new) in
+      subst (λ (l : LineFields). is_quiet (group_of l.stmt) ≡ true) (same_Some there line (sym of_there ∙ of_line)) quiet)))
+    where
+      at_site : Statement → Site Statement → Option Statement
+      at_site s site = option_and_then (λ node. Some (site.1 node)) (numbered (gives edit.op (pools_of program) s site.0) edit.rank)
+
+      at_line : LineFields → Option Statement
+      at_line line = option_and_then (at_site line.stmt) (slice_get (sites line.stmt) edit.position)
+
+  pub made_shapes : Fits program edit.statement statement → shapes (patched program edit.statement statement) ≡ shapes program
+  made_shapes fits =
+      let old = changes_quiet fits.line (sym (counted_at program edit.statement fits.counted) ∙ fits.at) in
+      shapes_replaced program (edit.statement - 1) fits.line statement fits.at old (ap is_quiet fits.group ∙ old)
+
+-- what an edit makes takes the arguments of the program
+edit_shapes : (program : List LineFields) (edit : Edit) (mutant : MutantFields) → mutant_made program edit ≡ Some mutant → Fits program mutant.number mutant.statement
+    → shapes (patched program mutant.number mutant.statement) ≡ shapes program
+edit_shapes program edit mutant makes fits = by (made (pools_of program) program edit) refl makes
+  where
+    by : (o : Option Statement) → made (pools_of program) program edit ≡ o
+        → option_map (λ statement. record { number = edit.statement; statement = statement }) o ≡ Some mutant
+        → shapes (patched program mutant.number mutant.statement) ≡ shapes program
+    by None e h = absurd (none-some mutant h)
+    by (Some statement) e h =
+        let same : record { number = edit.statement; statement = statement } ≡ mutant = same_Some _ _ h in
+        subst (λ (m : MutantFields). shapes (patched program m.number m.statement) ≡ shapes program) same
+        (made_shapes program edit statement e (subst (λ (m : MutantFields). Fits program m.number m.statement) (sym same) fits))
+
+pub answer_shapes : (program : List LineFields) (edit : Edit) (answer : Option Mutant) → option_map mutant_fields answer ≡ mutant_made program edit
+    → IfSome answer (λ m. IsMutant program m.number (statement_of m.stmt))
+    → IfSome answer (λ m. shapes (patched program m.number (statement_of m.stmt)) ≡ shapes program)
+answer_shapes program edit None makes mutant = tt
+answer_shapes program edit (Some m) makes mutant = edit_shapes program edit (mutant_fields m) (sym makes) mutant.fits
