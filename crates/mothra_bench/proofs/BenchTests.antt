@@ -1,0 +1,86 @@
+-- Tests on which the program is run in order.
+use Rattle.std.proofs.Common.{◌≡◌, ◌∙◌, ◌+◌, ◌<◌, ◌≤◌, ◌++◌, ◌∷◌, ◌↔◌, ℕ, Bool, true, false, true≢false, IsTrue, List, [], length, take, drop, get_or, sym, ap, subst, arith}
+use Rattle.std.specs.Prelude.{All}
+use Rattle.std.proofs.lemmas.List.{take-append-drop, take_all, take_more, drop_more, length-take-le}
+use Rattle.std.proofs.lemmas.List.Elements.{All-nil, All-cons, All-head, All-tail, All-push, All-more}
+use Rattle.std.proofs.lemmas.Slice.Zip.{all_zipped_more}
+use Rattle.f77_tree.specs.Parsing.{LineFields}
+use Rattle.f77_run.specs.Interpreter.{IsOutcomeOf}
+use Rattle.f77_run.specs.declared.argument.Arg.{Arg}
+use Rattle.f77_run.specs.declared.outcome.Outcome.{Outcome}
+use Rattle.mothra_bench.specs.Bench.{IsEnd, AreOutcomes, Ends, IsFirstNot}
+
+-- a list, cut at an item
+pub cut_at : {X : Type 0} (xs : List X) (i : ℕ) (x : X) → i < length xs → x ≡ get_or xs i x → xs ≡ take i xs ++ x ∷ drop (i + 1) xs
+cut_at xs i x within is =
+    sym (take-append-drop i xs) ∙ ap (λ rest. take i xs ++ rest) (drop_more xs i x within ∙ ap (λ y. y ∷ drop (i + 1) xs) (sym is))
+
+-- with an item more
+pub next_taken : {X : Type 0} (xs : List X) (i : ℕ) (x : X) → i < length xs → x ≡ get_or xs i x → take (i + 1) xs ≡ take i xs ++ x ∷ []
+next_taken xs i x within is = take_more xs i x within ∙ ap (λ y. take i xs ++ y ∷ []) (sym is)
+
+-- the first item that does not hold
+pub first_not : {X : Type 0} (P : X → Type 0) (xs : List X) (i : ℕ) (x : X) → i < length xs → x ≡ get_or xs i x → All P (take i xs) → ¬ (P x)
+    → IsFirstNot P xs (i + 1)
+first_not P xs i x within is hold fails = record {
+  before = take i xs;
+  item = x;
+  after = drop (i + 1) xs;
+  cut = cut_at xs i x within is;
+  number = ap (λ n. n + 1) (sym (length-take-le i xs (omega (arith, within))));
+  hold = hold;
+  fails = fails;
+}
+
+-- one more that holds
+pub one_more : {X : Type 0} (P : X → Type 0) (xs : List X) (i : ℕ) (x : X) → i < length xs → x ≡ get_or xs i x → All P (take i xs) → P x
+    → All P (take (i + 1) xs)
+one_more P xs i x within is hold holds = All-more P xs i x within hold (subst P is holds)
+
+-- all, once none is left out
+pub none_left : {X : Type 0} (P : X → Type 0) (xs : List X) (i : ℕ) → length xs ≤ i → All P (take i xs) → All P xs
+none_left P xs i end hold = subst (All P) (take_all i xs end) hold
+
+-- what a program comes to on tests, on each of which it ends
+pub record AreEndings (program : List LineFields) (steps : ℕ) (tests : List (List Arg)) (outcomes : List Outcome) : Type 0 where
+  pub each : AreOutcomes program steps tests outcomes
+  pub end : All IsEnd outcomes
+
+pub no_endings : (program : List LineFields) (steps : ℕ) → AreEndings program steps [] []
+no_endings program steps = record { each = tt; end = All-nil IsEnd }
+
+pub ending_more : (program : List LineFields) (steps : ℕ) (tests : List (List Arg)) (outcomes : List Outcome) (i : ℕ) (test : List Arg) (outcome : Outcome)
+    → i < length tests → test ≡ get_or tests i test → AreEndings program steps (take i tests) outcomes
+    → IsOutcomeOf program test steps outcome → IsEnd outcome → AreEndings program steps (take (i + 1) tests) (outcomes ++ outcome ∷ [])
+ending_more program steps tests outcomes i test outcome within is are one end = record {
+  each = subst (λ (taken : List (List Arg)). AreOutcomes program steps taken (outcomes ++ outcome ∷ [])) (sym (next_taken tests i test within is))
+      (all_zipped_more (λ arguments outcome. IsOutcomeOf program arguments steps outcome) (take i tests) outcomes test outcome are.each one);
+  end = All-push IsEnd outcomes outcome are.end end;
+}
+
+pub endings_all : (program : List LineFields) (steps : ℕ) (tests : List (List Arg)) (outcomes : List Outcome) (i : ℕ) → length tests ≤ i
+    → AreEndings program steps (take i tests) outcomes → AreEndings program steps tests outcomes
+endings_all program steps tests outcomes i end are =
+    subst (λ (taken : List (List Arg)). AreEndings program steps taken outcomes) (take_all i tests end) are
+
+-- on each of them it ends
+pub ends_all : (program : List LineFields) (steps : ℕ) (tests : List (List Arg)) (outcomes : List Outcome) → AreOutcomes program steps tests outcomes
+    → All IsEnd outcomes → All (Ends program steps) tests
+ends_all program steps [] [] are end = All-nil (Ends program steps)
+ends_all program steps [] (outcome ∷ outcomes) are end = absurd are
+ends_all program steps (test ∷ tests) [] are end = absurd are
+ends_all program steps (test ∷ tests) (outcome ∷ outcomes) are end =
+    All-cons (Ends program steps) test tests (outcome, are.0, All-head IsEnd outcome outcomes end)
+    (ends_all program steps tests outcomes are.1 (All-tail IsEnd outcome outcomes end))
+
+-- it does not end where its one outcome is no end
+pub never_ends : (program : List LineFields) (steps : ℕ) (test : List Arg) (outcome : Outcome)
+    → ((other : Outcome) → IsOutcomeOf program test steps other → other ≡ outcome) → ¬ (IsEnd outcome) → ¬ (Ends program steps test)
+never_ends program steps test outcome only other ends = other (subst IsEnd (only ends.0 ends.1) ends.2)
+
+-- what a test says that decides a fact
+pub passed : {P : Type 0} (answer : Bool) → (IsTrue answer ↔ P) → answer ≡ true → P
+passed answer decides is = decides.0 is
+
+pub failed : {P : Type 0} (answer : Bool) → (IsTrue answer ↔ P) → answer ≡ false → ¬ P
+failed answer decides is holds = true≢false (sym (decides.1 holds) ∙ is)

@@ -1,0 +1,84 @@
+-- Which tests kill a mutant, and that it is told in one way.
+use Rattle.std.proofs.Common.{inl, inr, None, ◌≡◌, ◌≢◌, arith, ◌∙◌, ◌+◌, ℕ, zero, suc, List, [], ◌∷◌, ◌++◌, Bool, true, false, take, length, get_or, refl, sym, ap, subst}
+use Rattle.std.specs.Prelude.{◌<◌, ◌≤◌}
+use Rattle.std.specs.List.{AllZip}
+use Rattle.std.proofs.lemmas.List.{take_more}
+use Rattle.std.proofs.lemmas.Option.{none-some, same_Some, slice_get_cases}
+use Rattle.std.proofs.lemmas.Slice.Zip.{all_zipped_more}
+use Rattle.f77_tree.specs.Parsing.{LineFields}
+use Rattle.f77_run.specs.Interpreter.{IsOutcomeOf, OneAnswer}
+use Rattle.f77_run.specs.declared.argument.Arg.{Arg}
+use Rattle.f77_run.specs.declared.outcome.Outcome.{Outcome}
+use Rattle.mothra_ops.specs.Edits.{numbered}
+use Rattle.mothra_ops.specs.Mutants.{MutantFields, program_of}
+use Rattle.mothra_ops.specs.Plan.{PlanFields, edits_of}
+use Rattle.mothra_exchange.specs.declared.ticket.Ticket.{Ticket}
+use Rattle.mothra_bench.specs.Bench.{BenchFields}
+use Rattle.mothra_bench.specs.Verdict.{Has, IsAlone, IsKill, IsVerdict, killed, mutated, survived}
+
+-- the outcomes differ, or they do not
+pub is_kill : (program mutant : List LineFields) (arguments : List Arg) (steps : ℕ) (outcome other : Outcome) (kill : Bool)
+    → (kill ≡ true → outcome ≢ other) → (kill ≡ false → outcome ≡ other)
+    → IsOutcomeOf program arguments steps outcome → IsOutcomeOf mutant arguments steps other → IsKill program mutant arguments steps kill
+is_kill program mutant arguments steps outcome other true apart same own changed = killed own changed (apart refl)
+is_kill program mutant arguments steps outcome other false apart same own changed =
+    survived own (subst (IsOutcomeOf mutant arguments steps) (sym (same refl)) changed)
+
+-- the items of one place
+pub zipped_at : {A B : Type 0} (R : A → B → Type 0) (xs : List A) (ys : List B) (i : ℕ) (x : A) (y : B) → AllZip R xs ys → i < length xs
+    → ((d : A) → x ≡ get_or xs i d) → ((d : B) → y ≡ get_or ys i d) → R x y
+zipped_at R [] ys i x y all within is are = absurd (omega (arith, within))
+zipped_at R (x' ∷ xs) [] i x y all within is are = absurd all
+zipped_at R (x' ∷ xs) (y' ∷ ys) zero x y all within is are = subst (λ a. R a y) (sym (is x')) (subst (R x') (sym (are y')) all.0)
+zipped_at R (x' ∷ xs) (y' ∷ ys) (suc i) x y all within is are = zipped_at R xs ys i x y all.1 (omega (arith, within)) is are
+
+-- one test more
+pub alone_more : (program mutant : List LineFields) (steps : ℕ) (tests : List (List Arg)) (kills : List Bool) (i : ℕ) (arguments : List Arg) (kill : Bool)
+    → i < length tests → ((d : List Arg) → arguments ≡ get_or tests i d) → IsAlone program mutant steps (take i tests) kills
+    → IsKill program mutant arguments steps kill → IsAlone program mutant steps (take (i + 1) tests) (kills ++ kill ∷ [])
+alone_more program mutant steps tests kills i arguments kill within is before one =
+    subst (λ taken. IsAlone program mutant steps taken (kills ++ kill ∷ []))
+    (sym (take_more tests i arguments within ∙ ap (λ d. take i tests ++ d ∷ []) (sym (is arguments))))
+    (all_zipped_more (λ arguments kill. IsKill program mutant arguments steps kill) (take i tests) kills arguments kill before one)
+
+-- a test kills a mutant or does not
+one_kill : OneAnswer → (program mutant : List LineFields) (arguments : List Arg) (steps : ℕ) (one other : Bool) → IsKill program mutant arguments steps one
+    → IsKill program mutant arguments steps other → one ≡ other
+one_kill answer program mutant arguments steps _ _ (killed own changed apart) (killed own' changed' apart') = refl
+one_kill answer program mutant arguments steps _ _ (survived own changed) (survived own' changed') = refl
+one_kill answer program mutant arguments steps _ _ (killed {outcome = o} {other = p} own changed apart) (survived {outcome = q} own' changed') =
+    absurd (apart (answer program arguments steps o q own own' ∙ answer mutant arguments steps q p changed' changed))
+one_kill answer program mutant arguments steps _ _ (survived {outcome = q} own' changed') (killed {outcome = o} {other = p} own changed apart) =
+    absurd (apart (answer program arguments steps o q own own' ∙ answer mutant arguments steps q p changed' changed))
+
+pub one_row : OneAnswer → (program mutant : List LineFields) (steps : ℕ) (tests : List (List Arg)) (kills others : List Bool)
+    → IsAlone program mutant steps tests kills → IsAlone program mutant steps tests others → kills ≡ others
+one_row answer program mutant steps [] [] [] is are = refl
+one_row answer program mutant steps [] (kill ∷ kills) others is are = absurd is
+one_row answer program mutant steps [] [] (other ∷ others) is are = absurd are
+one_row answer program mutant steps (arguments ∷ tests) [] others is are = absurd is
+one_row answer program mutant steps (arguments ∷ tests) (kill ∷ kills) [] is are = absurd are
+one_row answer program mutant steps (arguments ∷ tests) (kill ∷ kills) (other ∷ others) is are =
+    let here : kill ≡ other = one_kill answer program mutant arguments steps kill other is.0 are.0 in
+    let rest : kills ≡ others = one_row answer program mutant steps tests kills others is.1 are.1 in
+    λ k. here k ∷ rest k
+
+-- a mutant has one verdict at most
+pub one_verdict : OneAnswer → (bench : BenchFields) (ticket : Ticket) (kills others : List Bool) → IsVerdict bench ticket kills → IsVerdict bench ticket others
+    → kills ≡ others
+one_verdict answer bench ticket kills others is are =
+    let program = program_of bench.plan in
+    let same : are.mutant ≡ is.mutant = same_Some _ _ (sym are.is ∙ is.is) in
+    one_row answer program (mutated program is.mutant) bench.steps bench.tests kills others is.alone
+    (subst (λ (mutant : MutantFields). IsAlone program (mutated program mutant) bench.steps bench.tests others) same are.alone)
+
+-- a plan without an edit of this number has no mutant of it
+nothing_numbered : {X : Type 0} (xs : List X) (n : ℕ) → numbered xs n ≡ None → 1 ≤ n → n ≤ length xs → ⊥
+nothing_numbered xs zero none some within = omega (arith, some)
+nothing_numbered xs (suc k) none some within = elim (slice_get_cases xs k).1 [
+  | inl (x, low, at, is) ↦ none-some x (sym none ∙ at)
+  | inr (high, past) ↦ omega (arith, within, high)
+]
+
+pub no_mutant : (plan : PlanFields) (ticket : Ticket) → numbered (edits_of plan ticket.op) ticket.number ≡ None → ¬ (Has plan ticket)
+no_mutant plan ticket none has = nothing_numbered (edits_of plan ticket.op) ticket.number none has.0 has.1

@@ -1,0 +1,14 @@
+mod BenchTests
+mod BenchEntries
+mod BenchSets
+mod BenchFaults
+mod CollectLists
+mod CollectTickets
+mod CollectRows
+mod CollectEntries
+mod CollectMatrix
+mod ReportOperators
+mod ReportRows
+mod ReportTexts
+mod Outcomes
+mod Kills

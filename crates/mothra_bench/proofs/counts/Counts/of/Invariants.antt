@@ -1,0 +1,6 @@
+use Rattle.std.proofs.Common.{◌≡◌, ◌≤◌, take}
+use Rattle.mothra_bench.specs.Matrix.{counts}
+use Rattle.mothra_bench.proofs.counts.Counts.of.Given as goal
+
+abbrev pub invariant-loop-entry : goal.invariant-loop-entry
+invariant-loop-entry l = (l.counts ≡ counts (take l.entry-index l.entries)) × (l.counts.total ≤ l.entry-index)

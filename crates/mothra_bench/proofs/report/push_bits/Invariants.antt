@@ -1,0 +1,7 @@
+use Rattle.std.proofs.Common.{◌≡◌, ◌++◌, map, take}
+use Rattle.std.specs.String.{string_bytes}
+use Rattle.mothra_bench.specs.Report.{bit_of}
+use Rattle.mothra_bench.proofs.report.push_bits.Given as goal
+
+abbrev pub invariant-loop-kill : goal.invariant-loop-kill
+invariant-loop-kill l = string_bytes l.text ≡ string_bytes l.fn.text ++ map bit_of (take l.kill-index l.kills)

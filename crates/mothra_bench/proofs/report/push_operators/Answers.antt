@@ -1,0 +1,20 @@
+use Rattle.std.proofs.Common.{rules, ◌≡◌, ◌++◌, true, false}
+use Rattle.std.specs.String.{string_bytes}
+use Rattle.mothra_codes.specs.Op.{op_at}
+use Rattle.mothra_ops.specs.Plan.{asked}
+use Rattle.mothra_bench.specs.Report.{operator_line}
+use Rattle.mothra_bench.proofs.ReportOperators.{with_line, without_line}
+use Rattle.mothra_bench.proofs.report.push_operators.Goals as goal
+use Rattle.mothra_bench.proofs.report.push_operators.Goals.{then-asked+in_ok-push_counts, else-asked}
+
+pub loop-op-preserved : goal.loop-op-preserved
+loop-op-preserved c = elim c.if-asked.branch [
+  | then-asked+in_ok-push_counts w ↦
+      let yes : asked c.args.plan.now (op_at c.loop-op.op-index) ≡ true = search rules in
+      let added : string_bytes c.if-asked.text ≡ string_bytes c.loop-op.text ++ operator_line c.args.matrix.now (op_at c.loop-op.op-index) = search rules in
+      with_line (operator_line c.args.matrix.now) (asked c.args.plan.now) c.loop-op.op-index c.loop-op-test.true yes _ _ _ c.loop-op.invariant added
+  | else-asked w ↦
+      let no : asked c.args.plan.now (op_at c.loop-op.op-index) ≡ false = search rules in
+      let same : string_bytes c.if-asked.text ≡ string_bytes c.loop-op.text = search rules in
+      without_line (operator_line c.args.matrix.now) (asked c.args.plan.now) c.loop-op.op-index c.loop-op-test.true no _ _ _ c.loop-op.invariant same
+]

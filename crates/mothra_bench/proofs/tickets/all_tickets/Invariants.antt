@@ -1,0 +1,11 @@
+use Rattle.std.proofs.Common.{◌≡◌, ◌*◌, ◌≤◌, take, length}
+use Rattle.std.specs.Prelude.{flat_map}
+use Rattle.mothra_codes.specs.Op.{all_ops}
+use Rattle.mothra_ops.specs.Plan.{edits_of}
+use Rattle.mothra_bench.specs.Matrix.{tickets}
+use Rattle.mothra_bench.proofs.tickets.all_tickets.Given as goal
+
+abbrev pub invariant-loop-op : goal.invariant-loop-op
+invariant-loop-op l =
+    (l.tickets.items ≡ flat_map (λ op. tickets op (length (edits_of l.plan op))) (take l.op-index all_ops))
+    × (length l.tickets.items ≤ 1048575 * l.op-index)

@@ -1,0 +1,9 @@
+pub mod Bench
+pub mod Running
+pub mod Equivalents
+pub mod Verdict
+pub mod Matrix
+pub mod Collecting
+pub mod RowMap
+pub mod Entries
+pub mod Report

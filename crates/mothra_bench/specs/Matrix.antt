@@ -1,0 +1,42 @@
+-- The kill matrix: one entry for each mutant, and what is counted in it.
+use Rattle.std.specs.Prelude.{ℕ, ◌+◌, ◌-◌, ◌*◌, ◌/◌, ◌==◌, ◌&&◌, Bool, not, List, length, map, flat_map, filter, count_by, Option, Some, None, if◌then◌else◌}
+use Rattle.std.specs.List.{list_any, range_with_len}
+use Rattle.mothra_codes.specs.Op.{all_ops, index}
+use Rattle.mothra_codes.specs.declared.op.Op.{Op}
+use Rattle.mothra_ops.specs.Plan.{PlanFields, edits_of}
+use Rattle.mothra_exchange.specs.Ticket.{ticket}
+use Rattle.mothra_exchange.specs.declared.ticket.Ticket.{Ticket}
+use Rattle.mothra_bench.specs.declared.matrix.Entry.{Entry}
+
+-- the tickets of an operator with so many mutants, and those of a plan, by operator and number
+abbrev pub tickets : Op → ℕ → List Ticket
+tickets op count = map (λ k. ticket op (k + 1)) (range_with_len 0 count)
+
+abbrev pub tickets_of : PlanFields → List Ticket
+tickets_of plan = flat_map (λ op. tickets op (length (edits_of plan op))) all_ops
+
+abbrev pub is_killed : Entry → Bool
+is_killed entry = list_any (λ kill. kill) entry.kills
+
+-- declared equivalent, and survived
+abbrev pub is_equivalent : Entry → Bool
+is_equivalent entry = entry.declared && not (is_killed entry)
+
+-- how many mutants there are, are killed, are equivalent
+pub record Counts : Type 0 where
+  pub total : ℕ
+  pub killed : ℕ
+  pub equivalent : ℕ
+
+abbrev pub counts : List Entry → Counts
+counts entries = record { total = length entries; killed = count_by is_killed entries; equivalent = count_by is_equivalent entries }
+
+abbrev pub is_of : Op → Entry → Bool
+is_of op entry = index entry.ticket.op == index op
+
+abbrev pub entries_of : Op → List Entry → List Entry
+entries_of op entries = filter (is_of op) entries
+
+-- the mutation score in hundredths of a percent, rounded down: killed over mutants that are not equivalent
+abbrev pub score_of : Counts → Option ℕ
+score_of counts = if counts.total - counts.equivalent == 0 then None else Some (10000 * counts.killed / (counts.total - counts.equivalent))

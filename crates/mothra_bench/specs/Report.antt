@@ -1,0 +1,97 @@
+-- The text of a report, version 2.
+use Rattle.std.specs.Prelude.{ℕ, ◌/◌, ◌%◌, ◌==◌, ◌&&◌, Bool, not, List, [], ◌++◌, length, map, filter, flat_map, codes, Option, Some, None, unwrap_or, if◌then◌else◌}
+use Rattle.std.specs.Fmt.{decimal}
+use Rattle.f77_tree.specs.Parsing.{LineFields}
+use Rattle.f77_legal.specs.Names.{unit_name}
+use Rattle.mothra_codes.specs.Op.{all_ops, code_of}
+use Rattle.mothra_codes.specs.declared.op.Op.{Op}
+use Rattle.mothra_ops.specs.Mutants.{mutant_name, mutant_text, program_of}
+use Rattle.mothra_ops.specs.Plan.{PlanFields, asked}
+use Rattle.mothra_bench.specs.Bench.{BenchFields}
+use Rattle.mothra_bench.specs.Matrix.{Counts, counts, entries_of, is_killed, score_of}
+use Rattle.mothra_bench.specs.declared.matrix.Entry.{Entry}
+
+abbrev pub line : List ℕ → List ℕ
+line text = text ++ codes "\n"
+
+abbrev pub named_number : List ℕ → ℕ → List ℕ
+named_number name number = name ++ (codes " " ++ decimal number)
+
+abbrev pub unit_line : List LineFields → List ℕ
+unit_line program = line (codes "UNIT " ++ unwrap_or (unit_name program) [])
+
+-- the unit's name, the numbers of tests and steps, and which of each list is kept
+abbrev pub heading : BenchFields → List ℕ
+heading bench =
+    line (codes "REPORT 2")
+    ++ (unit_line (program_of bench.plan)
+    ++ (line (named_number (codes "TESTS") (length bench.tests))
+    ++ (line (named_number (codes "STEPS") bench.steps)
+    ++ line (named_number (codes "EVERY") bench.plan.every))))
+
+-- how many mutants, how many killed, how many equivalent
+abbrev pub counts_line : List ℕ → Counts → List ℕ
+counts_line name counts = line (named_number (named_number (named_number name counts.total) counts.killed) counts.equivalent)
+
+abbrev pub operator_line : List Entry → Op → List ℕ
+operator_line entries op = counts_line (code_of op) (counts (entries_of op entries))
+
+-- a line for each operator that the plan was asked for
+abbrev pub operator_lines : PlanFields → List Entry → List ℕ
+operator_lines plan entries = flat_map (operator_line entries) (filter (asked plan) all_ops)
+
+-- hundredths of a percent as a number with two decimals
+abbrev pub score_text : Option ℕ → List ℕ
+score_text None = codes "NONE"
+score_text (Some score) = decimal (score / 100) ++ (codes "." ++ (decimal (score % 100 / 10) ++ decimal (score % 10)))
+
+abbrev pub score_line : Option ℕ → List ℕ
+score_line score = line (codes "SCORE " ++ score_text score)
+
+-- K killed, S survived, E declared equivalent and survived, W declared and killed
+abbrev pub status_of : Entry → List ℕ
+status_of entry =
+    if entry.declared then (if is_killed entry then codes "W" else codes "E")
+    else (if is_killed entry then codes "K" else codes "S")
+
+-- a digit for each test, 1 where it kills; - where there are no tests
+abbrev pub bit_of : Bool → ℕ
+bit_of kill = if kill then 49 else 48
+
+abbrev pub bits_of : List Bool → List ℕ
+bits_of kills = if length kills == 0 then codes "-" else map bit_of kills
+
+abbrev pub name_of : PlanFields → Entry → List ℕ
+name_of plan entry = mutant_name plan.every entry.ticket.op entry.ticket.number
+
+abbrev pub mutant_line : PlanFields → Entry → List ℕ
+mutant_line plan entry =
+    line (codes "MUTANT " ++ (name_of plan entry ++ (codes " " ++ (status_of entry ++ (codes " " ++ bits_of entry.kills)))))
+
+-- survived, and not declared equivalent
+abbrev pub is_survivor : Entry → Bool
+is_survivor entry = not entry.declared && not (is_killed entry)
+
+abbrev pub survivor_line : PlanFields → Entry → List ℕ
+survivor_line plan entry = if is_survivor entry then line (codes "SURVIVOR " ++ mutant_text plan entry.ticket.op entry.ticket.number) else []
+
+-- declared equivalent, and killed
+abbrev pub is_wrong : Entry → Bool
+is_wrong entry = entry.declared && is_killed entry
+
+abbrev pub wrong_line : PlanFields → Entry → List ℕ
+wrong_line plan entry = if is_wrong entry then line (codes "WRONG " ++ name_of plan entry) else []
+
+-- the lines of all entries, the survivors, and the entries that are wrongly declared
+abbrev pub entry_lines : PlanFields → List Entry → List ℕ
+entry_lines plan entries =
+    flat_map (mutant_line plan) entries ++ (flat_map (survivor_line plan) entries ++ flat_map (wrong_line plan) entries)
+
+-- the whole report
+abbrev pub report_text : BenchFields → List Entry → List ℕ
+report_text bench entries =
+    heading bench
+    ++ (operator_lines bench.plan entries
+    ++ (counts_line (codes "TOTAL") (counts entries)
+    ++ (score_line (score_of (counts entries))
+    ++ (entry_lines bench.plan entries ++ line (codes "END")))))

@@ -1,0 +1,59 @@
+//! The rows of all mutants, put into order and counted against the plan.
+
+ghost use Rattle.std.specs.Prelude.{◌↔◌, All, IfOk, IfErr, IsTrue, MatchOption};
+ghost use Rattle.mothra_bench.specs.Collecting.{AreCollected, IsFirstStranger, IsKnown, IsNoMatrix};
+
+use crate::bench::Bench;
+use crate::entries::entries_of;
+use crate::fault::BenchFault;
+use crate::matrix::Matrix;
+use crate::row_map::RowMap;
+use crate::tickets::all_tickets;
+use crate::verdict::Row;
+use mothra_exchange::{Tally, Ticket};
+use std::alloc::Global;
+
+/// Whether the row is of the plan, with a truth value for each test.
+fn is_known(bench: &Bench, row: &Row) -> bool
+    ensures { IsTrue result ↔ IsKnown bench.now row.now }
+{
+    let number = row.ticket.number;
+    1 <= number
+        && number <= bench.plan().count(row.ticket.op)
+        && row.kills.as_slice().len() == bench.tests().len()
+}
+
+/// The ticket of the first row that is not.
+fn first_stranger(bench: &Bench, rows: &[Row]) -> Option<Ticket>
+    ensures { MatchOption result (All (IsKnown bench.now) rows.now) (IsFirstStranger bench.now rows.now) }
+{
+    for row in rows {
+        if !is_known(bench, row) {
+            return Some(row.ticket);
+        }
+    }
+    None
+}
+
+/// The matrix of the rows: one entry for each mutant of the plan.
+///
+/// Of several faults the first in this order is told: B8 at the first row that is not of the plan or has not a truth value for each test,
+/// B7 at the first row whose ticket stood earlier, B9 at the first mutant, by operator and number, that has no row or is above the number
+/// handed out.
+pub fn collect(
+    alloc: Global,
+    bench: &Bench,
+    tally: &Tally,
+    rows: Vec<Row>,
+) -> Result<Matrix, BenchFault>
+    ensures matrix { IfOk result (λ matrix. AreCollected bench.now tally.now rows.items matrix) }
+    ensures refused { IfErr result (λ fault. IsNoMatrix bench.now tally.now rows.items fault) }
+{
+    if let Some(ticket) = first_stranger(bench, &rows) {
+        return Err(BenchFault::Stranger(ticket));
+    }
+    let map = RowMap::of(alloc, rows)?;
+    let tickets = all_tickets(alloc, bench.plan())?;
+    let entries = entries_of(alloc, bench, tally, &tickets, map)?;
+    Ok(Matrix::new(entries))
+}

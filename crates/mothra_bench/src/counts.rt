@@ -1,0 +1,111 @@
+//! Mutants, counted.
+
+ghost use Rattle.std.specs.Prelude.{◌≡◌, ◌+◌, ◌∷◌, ◌++◌, ◌<◌, ◌≤◌, ◌^◌, [], List, length};
+ghost use Rattle.mothra_bench.specs.Matrix as definition;
+ghost use Rattle.mothra_bench.specs.Matrix.{counts, entries_of, score_of};
+ghost use Rattle.mothra_bench.specs.declared.matrix.Entry.{Entry};
+
+use crate::matrix::Entry;
+use mothra_codes::Op;
+use std::marker::Model;
+
+/// How many mutants there are, are killed, and are equivalent.
+#[derive(Debug, Drop)]
+pub struct Counts {
+    total: u32,
+    killed: u32,
+    equivalent: u32,
+}
+
+impl Model for Counts {
+    ghost Value = { definition.Counts };
+
+    ghost view = { λ counts. record { total = counts.total; killed = counts.killed; equivalent = counts.equivalent } };
+
+    ghost invariant = { λ counts. counts.killed + counts.equivalent ≤ counts.total };
+}
+
+impl Counts {
+    /// Those of these entries. It takes no memory.
+    pub fn of(entries: &[Entry]) -> Counts
+        requires { length entries.now < 2 ^ 32 }
+        ensures { result ≡ counts entries.now }
+    {
+        let mut counts = Counts::none();
+        for entry in entries {
+            counts.add(entry);
+        }
+        counts
+    }
+
+    /// Those of the entries of one operator. It takes no memory.
+    pub fn of_operator(op: Op, entries: &[Entry]) -> Counts
+        requires { length entries.now < 2 ^ 32 }
+        ensures { result ≡ counts (entries_of op entries.now) }
+    {
+        let mut counts = Counts::none();
+        for entry in entries {
+            if entry.ticket.op == op {
+                counts.add(entry);
+            }
+        }
+        counts
+    }
+
+    /// Those of no entries.
+    fn none() -> Counts
+        ensures { result ≡ counts [] }
+    {
+        Counts {
+            total: 0,
+            killed: 0,
+            equivalent: 0,
+        }
+    }
+
+    /// Counts one entry more.
+    fn add(&mut self, entry: &Entry)
+        requires { self.old.total + 1 < 2 ^ 32 }
+        ensures total { self.new.total ≡ self.old.total + 1 }
+        ensures counts { (entries : List Entry) → self.old ≡ counts entries → self.new ≡ counts (entries ++ entry.now ∷ []) }
+    {
+        self.total += 1;
+        if entry.is_killed() {
+            self.killed += 1;
+        } else if entry.declared {
+            self.equivalent += 1;
+        }
+    }
+
+    /// How many entries there are.
+    pub fn total(&self) -> u32
+        ensures { result ≡ self.now.total }
+    {
+        self.total
+    }
+
+    /// How many of them are killed.
+    pub fn killed(&self) -> u32
+        ensures { result ≡ self.now.killed }
+    {
+        self.killed
+    }
+
+    /// How many of them are equivalent.
+    pub fn equivalent(&self) -> u32
+        ensures { result ≡ self.now.equivalent }
+    {
+        self.equivalent
+    }
+
+    /// The mutation score in hundredths of a percent, rounded down; none where every mutant is equivalent, or there is none.
+    pub fn score(&self) -> Option<u32>
+        ensures { result ≡ score_of self.now }
+    {
+        let counted = self.total - self.equivalent;
+        if counted == 0 {
+            return None;
+        }
+        Some((10000 * u64::from(self.killed) / u64::from(counted)) as u32)
+    }
+}

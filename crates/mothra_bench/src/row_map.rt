@@ -1,0 +1,57 @@
+//! Rows by their tickets.
+
+ghost use Rattle.std.specs.Prelude.{◌≡◌, ◌&&◌, ◌==◌, IfOk, IfErr, None, Some, is_none, if◌then◌else◌};
+ghost use Rattle.mothra_codes.specs.Op.{index};
+ghost use Rattle.mothra_exchange.specs.declared.ticket.Ticket.{Ticket};
+ghost use Rattle.mothra_bench.specs.Collecting.{is_row_of};
+ghost use Rattle.mothra_bench.specs.RowMap.{row_at, HasRows, IsNoRowMap};
+
+use crate::fault::BenchFault;
+use crate::verdict::Row;
+use mothra_exchange::Ticket;
+use std::alloc::{AllocError, Global};
+use std::collections::HashMap;
+
+/// Rows by operator and number.
+#[derive(Drop)]
+pub(crate) struct RowMap {
+    rows: HashMap<(usize, u32), Row>,
+}
+
+impl RowMap {
+    /// The rows of a list, refused at the first whose ticket stood earlier.
+    pub(crate) fn of(alloc: Global, rows: Vec<Row>) -> Result<RowMap, BenchFault>
+        ensures rows { IfOk result (λ map. HasRows map rows.items) }
+        ensures refused { IfErr result (λ fault. IsNoRowMap rows.items fault) }
+    {
+        let mut map = RowMap {
+            rows: HashMap::new(alloc),
+        };
+        'placing: for row in rows {
+            let ticket = row.ticket;
+            if !map.put(row)? {
+                return Err(BenchFault::Double(ticket));
+            }
+        }
+        Ok(map)
+    }
+
+    /// Puts a row in. False where its ticket had one.
+    fn put(&mut self, row: Row) -> Result<bool, AllocError>
+        ensures new { IfOk result (λ new. new ≡ is_none (row_at self.old row.ticket)) }
+        ensures rows { IfOk result (λ new. (ticket : Ticket) → row_at self.new ticket
+            ≡ (if is_row_of ticket row then Some row else row_at self.old ticket)) }
+    {
+        let key = (row.ticket.op.index(), row.ticket.number);
+        Ok(self.rows.insert(key, row)?.is_none())
+    }
+
+    /// Takes the row of a ticket out.
+    pub(crate) fn take(&mut self, ticket: Ticket) -> Option<Row>
+        ensures row { result ≡ row_at self.old ticket }
+        ensures rows { (other : Ticket) → row_at self.new other
+            ≡ (if index ticket.op == index other.op && ticket.number == other.number then None else row_at self.old other) }
+    {
+        self.rows.remove(&(ticket.op.index(), ticket.number))
+    }
+}

@@ -1,0 +1,143 @@
+//! The verdict of running a mutant alone.
+
+ghost use Rattle.std.specs.Prelude.{◌≡◌, map, IfOk, IfErr};
+ghost use Rattle.f77_check.specs.Checked.{shapes};
+ghost use Rattle.f77_tree.specs.Parsing.{line_of};
+ghost use Rattle.f77_tree.specs.StatementView.{statement_of};
+ghost use Rattle.mothra_ops.specs.Edits.{IsMutant};
+ghost use Rattle.mothra_ops.specs.Mutants.{mutant_fields, program_of};
+ghost use Rattle.mothra_bench.specs.Bench.{BenchFields, IsBench};
+ghost use Rattle.mothra_bench.specs.Verdict.{IsAlone, IsVerdict, IsNoVerdict, mutated};
+ghost use Rattle.mothra_bench.specs.declared.fault.BenchFault.TheVariants.{Memory};
+
+use crate::bench::Bench;
+use crate::fault::BenchFault;
+use crate::killing::kills_of;
+use f77_check::Checked;
+use f77_run::Values;
+use mothra_exchange::Ticket;
+use mothra_ops::{Mutant, Mutants};
+use std::alloc::Global;
+use std::marker::Model;
+
+/// What the tests say of one mutant.
+#[derive(Debug, Drop)]
+pub struct Row {
+    /// The mutant.
+    pub ticket: Ticket,
+    /// One for each test, in order: whether it kills the mutant.
+    pub kills: Values<bool>,
+}
+
+/// The verdicts on the mutants of a bench. What the operators draw from its program is found once, and not for each mutant.
+#[derive(Drop)]
+pub struct Verdicts<'a> {
+    bench: &'a Bench,
+    mutants: Mutants<'a>,
+}
+
+impl<'a> Model for Verdicts<'a> {
+    ghost use Rattle.std.specs.Prelude.{◌≡◌};
+    ghost use Rattle.std.specs.Coded.{codes};
+    ghost use Rattle.f77_tree.specs.contracts.tree.Expr as expr;
+    ghost use Rattle.f77_tree.specs.contracts.tree.Stmt as stmt;
+    ghost use Rattle.f77_check.specs.contracts.action.Action as action;
+    ghost use Rattle.f77_check.specs.contracts.expression.Condition as condition;
+    ghost use Rattle.f77_check.specs.contracts.expression.Element as element;
+    ghost use Rattle.f77_check.specs.contracts.expression.Number as number;
+    ghost use Rattle.mothra_bench.specs.Bench.{BenchFields, IsBench};
+
+    ghost Value = { BenchFields };
+
+    ghost coded = { Prim.hlevel (
+      codes,
+      expr.the_row.coded,
+      stmt.the_row.coded,
+      element.the_row.coded,
+      number.the_row.coded,
+      condition.the_row.coded,
+      action.the_row.coded,
+    ) };
+
+    ghost view = { λ verdicts. verdicts.bench.now };
+
+    ghost invariant = { λ verdicts. IsBench verdicts.bench.now × (verdicts.mutants ≡ verdicts.bench.now.plan) };
+}
+
+impl<'a> Verdicts<'a> {
+    /// The verdicts of this bench.
+    pub fn of(alloc: Global, bench: &'a Bench) -> Result<Verdicts<'a>, BenchFault>
+        ensures verdicts { IfOk result (λ verdicts. verdicts ≡ bench.now) }
+        ensures memory { IfErr result (λ fault. fault ≡ Memory) }
+    {
+        match Mutants::of(alloc, bench.plan()) {
+            Ok(mutants) => Ok(Verdicts { bench, mutants }),
+            Err(_) => Err(BenchFault::Memory),
+        }
+    }
+
+    /// The program that the mutant is.
+    fn changed(&self, mutant: &Mutant) -> Result<Checked, BenchFault>
+        requires { IsMutant (program_of self.now.plan) mutant.now.number (statement_of mutant.now.stmt) }
+        ensures program { IfOk result (λ checked. map line_of checked.program ≡ mutated (program_of self.now.plan) (mutant_fields mutant.now)) }
+        ensures arguments { IfOk result (λ checked. checked.arguments ≡ shapes (mutated (program_of self.now.plan) (mutant_fields mutant.now))) }
+        ensures memory { IfErr result (λ fault. fault ≡ Memory) }
+    {
+        match self
+            .bench
+            .plan()
+            .program()
+            .patched(mutant.number, &mutant.stmt)
+        {
+            Ok(checked) => Ok(checked),
+            Err(_) => Err(BenchFault::Memory),
+        }
+    }
+
+    /// Which tests kill the mutant.
+    fn kills(&self, alloc: Global, mutant: &Mutant) -> Result<Values<bool>, BenchFault>
+        requires mutant { IsMutant (program_of self.now.plan) mutant.now.number (statement_of mutant.now.stmt) }
+        requires shapes { shapes (mutated (program_of self.now.plan) (mutant_fields mutant.now)) ≡ shapes (program_of self.now.plan) }
+        ensures kills { IfOk result (λ kills. IsAlone (program_of self.now.plan) (mutated (program_of self.now.plan) (mutant_fields mutant.now))
+            self.now.steps self.now.tests kills) }
+        ensures memory { IfErr result (λ fault. fault ≡ Memory) }
+    {
+        let bench = self.bench;
+        match self.changed(mutant) {
+            Ok(changed) => kills_of(
+                alloc,
+                &changed,
+                bench.tests(),
+                bench.steps(),
+                bench.outcomes(),
+            ),
+            Err(fault) => Err(fault),
+        }
+    }
+
+    /// The mutant is run on every test.
+    pub fn row(&self, alloc: Global, ticket: Ticket) -> Result<Row, BenchFault>
+        ensures ticket { IfOk result (λ row. row.ticket ≡ ticket) }
+        ensures kills { IfOk result (λ row. IsVerdict self.now ticket row.kills) }
+        ensures refused { IfErr result (λ fault. IsNoVerdict self.now.plan ticket fault) }
+    {
+        let mutant = match self.mutants.mutant(alloc, ticket.op, ticket.number) {
+            Ok(Some(mutant)) => mutant,
+            Ok(None) => return Err(BenchFault::Stranger(ticket)),
+            Err(_) => return Err(BenchFault::Memory),
+        };
+        match self.kills(alloc, &mutant) {
+            Ok(kills) => Ok(Row { ticket, kills }),
+            Err(fault) => Err(fault),
+        }
+    }
+}
+
+/// The mutant is run on every test: which of them kill it.
+pub fn verdict_of(alloc: Global, bench: &Bench, ticket: Ticket) -> Result<Row, BenchFault>
+    ensures ticket { IfOk result (λ row. row.ticket ≡ ticket) }
+    ensures kills { IfOk result (λ row. IsVerdict bench.now ticket row.kills) }
+    ensures refused { IfErr result (λ fault. IsNoVerdict bench.now.plan ticket fault) }
+{
+    Verdicts::of(alloc, bench)?.row(alloc, ticket)
+}
