@@ -1,10 +1,10 @@
 //! Outcomes of runs as texts.
 
-use crate::arguments::arguments;
 use f77_check::Checked;
 use f77_run::{Arg, Outcome, RunFault, run};
 use std::process::Abort;
 use std::test::Fail;
+use test_arguments::arguments;
 use test_checks::checked;
 use test_programs::parts;
 

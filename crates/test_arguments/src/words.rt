@@ -51,7 +51,7 @@ fn argument(rt: &impl AllocGlobal, word: &str) -> Result<Arg, Fail> {
 }
 
 /// The arguments with blanks between them.
-pub(crate) fn arguments(rt: &impl AllocGlobal, words: &str) -> Result<Vec<Arg>, Fail> {
+pub fn arguments(rt: &impl AllocGlobal, words: &str) -> Result<Vec<Arg>, Fail> {
     let mut arguments = Vec::new(rt.alloc());
     for word in words.split(' ') {
         arguments.push(argument(rt, word)?)?;
