@@ -15,7 +15,7 @@ use Rattle.mothra_exchange.specs.declared.answer.Close.TheVariants.{Already, Bus
 use Rattle.mothra_exchange.specs.Ticket.{one_if, is_ticket, ticket}
 use Rattle.mothra_exchange.specs.View.{first_look, look_at, with_look, view_after_load, view_after_finding, view_after_take, view_after_offer, view_after_close}
 use Rattle.mothra_exchange.specs.Calls.{LostTo, OfferDid, TakeDid, CloseDid}
-use Rattle.mothra_exchange.specs.Laws.{ChangesOnly}
+use Rattle.mothra_exchange.specs.Law.{ChangesOnly}
 use Rattle.mothra_exchange.proofs.Counting.{times-more, is_ticket-other, get_or-set_else}
 use Rattle.mothra_codes.proofs.Operators.{same_op}
 

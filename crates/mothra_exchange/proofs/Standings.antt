@@ -15,7 +15,7 @@ use Rattle.mothra_exchange.specs.Word.{AtMost}
 use Rattle.mothra_exchange.specs.Ticket.{one_if, times, once_up_to}
 use Rattle.mothra_exchange.specs.View.{total, once_if_closed, spent_view, look_at}
 use Rattle.mothra_exchange.specs.Rule.{OpRule, IsLive, IsSound}
-use Rattle.mothra_exchange.specs.Laws.{IsWordOf, IsAmong, StandsInOne, StandsInNone, AreOneTo}
+use Rattle.mothra_exchange.specs.Law.{IsWordOf, IsAmong, StandsInOne, StandsInNone, AreOneTo}
 use Rattle.mothra_exchange.proofs.Counting.{total_has}
 use Rattle.mothra_exchange.proofs.Exchanges.{fits, pack-injective}
 

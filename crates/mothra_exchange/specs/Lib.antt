@@ -2,7 +2,7 @@ pub mod Answer
 pub mod Calls
 pub mod Fault
 pub mod Gate
-pub mod Laws
+pub mod Law
 pub mod Log
 pub mod Rule
 pub mod Sharing

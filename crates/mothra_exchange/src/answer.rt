@@ -1,4 +1,5 @@
-// What the calls of an exchange answer.
+//! What the calls of an exchange answer.
+
 use crate::ticket::Ticket;
 
 /// The answer to an offer. The refusals are tested in the order in which they stand here.

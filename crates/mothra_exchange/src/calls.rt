@@ -1,4 +1,5 @@
-// The try calls of the word form: each is one load and at most one compare-exchange.
+//! The try calls of the word form: each is one load and at most one compare-exchange.
+
 ghost use Rattle.std.specs.Prelude.{◌≡◌};
 ghost use Rattle.mothra_codes.specs.Op.{index};
 ghost use Rattle.mothra_exchange.specs.View.{view_after_load};

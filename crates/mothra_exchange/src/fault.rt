@@ -1,4 +1,5 @@
-// Why an exchange could not be made.
+//! Why an exchange could not be made.
+
 ghost use Rattle.std.specs.Prelude.{IfNone, IfSome};
 ghost use Rattle.mothra_exchange.specs.Fault.{AllCountsFit, IsFaultOf};
 

@@ -1,4 +1,5 @@
-// What offers and takes go through.
+//! What offers and takes go through.
+
 ghost use Rattle.std.specs.Prelude.{◌≡◌, ℕ, ◌+◌, ◌<◌, Bool, true};
 ghost use Rattle.mothra_exchange.specs.declared.view.View.{View};
 ghost use Rattle.mothra_exchange.specs.View.{view_after_split, split_off_view, united_view};

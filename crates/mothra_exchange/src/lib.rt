@@ -10,7 +10,7 @@ mod answer;
 mod calls;
 mod fault;
 mod gate;
-mod laws;
+pub mod law;
 mod locked;
 mod log;
 #[cfg(test)]
@@ -28,11 +28,6 @@ mod word;
 pub use answer::{Close, Offer, Take};
 pub use fault::ExchangeFault;
 pub use gate::Gate;
-pub use laws::{
-    answers_follow_the_word, calls_change_one_operator, closed_once, handed_in_order,
-    legal_logs_stay_in_bounds, none_offered_after_close, offered_are_one_to_offered, stays_over,
-    taken_are_one_to_handed, words_follow_the_log, words_never_fall, words_stay_in_bounds,
-};
 pub use locked::{LockedExchange, LockedPass};
 pub use log::Event;
 pub use state::State;

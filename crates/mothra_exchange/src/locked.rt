@@ -1,4 +1,5 @@
-// The exchange under one lock.
+//! The exchange under one lock.
+
 ghost use Rattle.std.specs.Prelude.{◌≡◌, IfErr, OnOk, true, false};
 ghost use Rattle.mothra_codes.specs.declared.op.Op.{Op};
 ghost use Rattle.mothra_exchange.specs.declared.word.Word.{Word};

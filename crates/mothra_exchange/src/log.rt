@@ -1,4 +1,5 @@
-// What happens in an exchange.
+//! What happens in an exchange.
+
 use crate::ticket::Ticket;
 use mothra_codes::Op;
 

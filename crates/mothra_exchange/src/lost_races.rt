@@ -1,4 +1,5 @@
-// A pass loads a word, another pass changes it, and the exchange of the first is lost.
+//! A pass loads a word, another pass changes it, and the exchange of the first is lost.
+
 ghost use Rattle.std.specs.Prelude.{◌≡◌};
 ghost use Rattle.mothra_exchange.specs.Table.{IsPassOf};
 

@@ -1,4 +1,5 @@
-// The rule that the words and the views keep, and what each kind of step tells.
+//! The rule that the words and the views keep, and what each kind of step tells.
+
 use crate::view::View;
 use atomic_table::{Join, Play, Split, TableRule};
 

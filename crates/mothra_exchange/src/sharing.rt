@@ -1,4 +1,5 @@
-// A pass is split in two, and two are merged into one.
+//! A pass is split in two, and two are merged into one.
+
 ghost use Rattle.std.specs.Prelude.{◌≡◌, ◌<◌};
 ghost use Rattle.mothra_exchange.specs.View.{view_after_split, split_off_view, united_view};
 ghost use Rattle.mothra_exchange.specs.Table.{view_of, IsPassOf};

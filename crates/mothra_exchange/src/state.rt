@@ -1,4 +1,5 @@
-// The exchange that one caller at a time changes, with its log.
+//! The exchange that one caller at a time changes, with its log.
+
 ghost use Rattle.std.specs.Prelude.{◌≡◌, [], map, IfOk, IfErr, OnOk, vec_capacity};
 ghost use Rattle.mothra_codes.specs.declared.op.Op.{Op};
 ghost use Rattle.mothra_exchange.specs.Word.{opening_word};

@@ -1,4 +1,5 @@
-// The word form: how it begins and ends.
+//! The word form: how it begins and ends.
+
 ghost use Rattle.std.specs.Prelude.{◌≡◌, ◌<◌, [], length, IfOk, IfErr, OnOk};
 ghost use Rattle.mothra_exchange.specs.View.{whole_view};
 ghost use Rattle.mothra_exchange.specs.Fault.{AllCountsFit, IsFaultOf};

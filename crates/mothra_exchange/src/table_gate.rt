@@ -1,4 +1,5 @@
-// The word form as a gate.
+//! The word form as a gate.
+
 use crate::answer::{Close, Offer, Take};
 use crate::gate::Gate;
 use crate::table::{Pass, TableExchange};

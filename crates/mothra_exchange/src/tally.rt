@@ -1,4 +1,5 @@
-// The numbers of a finished exchange.
+//! The numbers of a finished exchange.
+
 ghost use Rattle.std.specs.Prelude.{◌≡◌, List};
 ghost use Rattle.mothra_exchange.specs.declared.word.Word.{Word};
 ghost use Rattle.mothra_exchange.specs.Tally.{word_at};

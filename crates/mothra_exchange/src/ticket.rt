@@ -1,4 +1,5 @@
-// The name of one mutant.
+//! The name of one mutant.
+
 use mothra_codes::Op;
 
 /// Mutant `number` of an operator's list, from 1.

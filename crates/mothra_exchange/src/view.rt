@@ -1,4 +1,5 @@
-// What a pass knows.
+//! What a pass knows.
+
 use crate::ticket::Ticket;
 use crate::word::Word;
 use std::collections::LinkedList;

@@ -1,4 +1,5 @@
-// One operator's numbers, and the word that packs them.
+//! One operator's numbers, and the word that packs them.
+
 ghost use Rattle.std.specs.Prelude.{◌≡◌};
 ghost use Rattle.mothra_exchange.specs.declared.word.Word.{Word};
 ghost use Rattle.mothra_exchange.specs.Word.{pack, Fits, opening_word};

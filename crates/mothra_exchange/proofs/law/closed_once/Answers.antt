@@ -1,5 +1,5 @@
 use Rattle.mothra_exchange.proofs.Standings.{closing_stands, no_other_closing}
-use Rattle.mothra_exchange.proofs.laws.closed_once.Goals as goal
+use Rattle.mothra_exchange.proofs.law.closed_once.Goals as goal
 
 pub returns-clause-closed : goal.returns-clause-closed
 returns-clause-closed c = closing_stands

@@ -1,5 +1,5 @@
 use Rattle.mothra_exchange.proofs.Standings.{has_word, in_bounds, same_count}
-use Rattle.mothra_exchange.proofs.laws.words_stay_in_bounds.Goals as goal
+use Rattle.mothra_exchange.proofs.law.words_stay_in_bounds.Goals as goal
 
 pub returns-clause-word : goal.returns-clause-word
 returns-clause-word c = has_word

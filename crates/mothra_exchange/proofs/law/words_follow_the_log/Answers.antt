@@ -1,6 +1,6 @@
 use Rattle.mothra_exchange.specs.Ticket.{ticket}
 use Rattle.mothra_exchange.proofs.Follows.{offer_follows, take_follows, close_follows}
-use Rattle.mothra_exchange.proofs.laws.words_follow_the_log.Goals as goal
+use Rattle.mothra_exchange.proofs.law.words_follow_the_log.Goals as goal
 
 pub returns-clause-offer : goal.returns-clause-offer
 returns-clause-offer c = λ C counts log h op k w. offer_follows C counts log (ticket op k) w h

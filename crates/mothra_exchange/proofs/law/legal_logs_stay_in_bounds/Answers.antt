@@ -1,5 +1,5 @@
 use Rattle.mothra_exchange.proofs.Follows.{bounded}
-use Rattle.mothra_exchange.proofs.laws.legal_logs_stay_in_bounds.Goals as goal
+use Rattle.mothra_exchange.proofs.law.legal_logs_stay_in_bounds.Goals as goal
 
 pub returns-clause-handed : goal.returns-clause-handed
 returns-clause-handed c = λ C counts log h op. (bounded C counts log h).handed _

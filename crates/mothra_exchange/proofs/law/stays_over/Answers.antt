@@ -1,5 +1,5 @@
 use Rattle.mothra_exchange.proofs.Overs.{over_takes, finished_over, split_over, merge_over}
-use Rattle.mothra_exchange.proofs.laws.stays_over.Goals as goal
+use Rattle.mothra_exchange.proofs.law.stays_over.Goals as goal
 
 pub returns-clause-take : goal.returns-clause-take
 returns-clause-take c = over_takes

@@ -1,5 +1,6 @@
-// What follows from the definitions, for every log, every call and every state of an exchange. Each
-// function is its contract: it has nothing to do.
+//! What follows from the definitions, for every log, every call and every state of an exchange. Each
+//! function is its contract: it has nothing to do.
+
 ghost use Rattle.std.specs.Prelude.{◌≡◌, ◌≢◌, ◌⊎◌, ℕ, ◌+◌, ◌<◌, ◌≤◌, true, false, List, slice_index};
 ghost use mathlib.Core.Option.{some};
 ghost use lib.ListN.{get_elem?};
@@ -23,8 +24,8 @@ ghost use Rattle.mothra_exchange.specs.Answer.{offer_answer, take_answer, close_
 ghost use Rattle.mothra_exchange.specs.Calls.{OfferDid, TakeDid, CloseDid};
 ghost use Rattle.mothra_exchange.specs.Sharing.{IsOver, MergesWell};
 ghost use Rattle.mothra_exchange.specs.Log.{offers, hands, taken_in, one_to};
-ghost use Rattle.mothra_exchange.specs.Laws.{IsWordOf, IsAmong, StandsInOne, StandsInNone, AreOneTo, ChangesOnly, BetweenSteps};
-ghost use Rattle.mothra_exchange.specs.Laws.{InLegalLogs, Shows, ShowsNext};
+ghost use Rattle.mothra_exchange.specs.Law.{IsWordOf, IsAmong, StandsInOne, StandsInNone, AreOneTo, ChangesOnly, BetweenSteps};
+ghost use Rattle.mothra_exchange.specs.Law.{InLegalLogs, Shows, ShowsNext};
 
 /// In a legal log the tickets of an operator are handed out in order, each once.
 pub fn handed_in_order()

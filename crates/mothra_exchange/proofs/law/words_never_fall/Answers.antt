@@ -1,5 +1,5 @@
 use Rattle.mothra_exchange.proofs.Standings.{not_below, stays_closed}
-use Rattle.mothra_exchange.proofs.laws.words_never_fall.Goals as goal
+use Rattle.mothra_exchange.proofs.law.words_never_fall.Goals as goal
 
 pub returns-clause-seen : goal.returns-clause-seen
 returns-clause-seen c = not_below

@@ -1,5 +1,5 @@
 use Rattle.mothra_exchange.proofs.Others.{offer_only, take_only, close_only}
-use Rattle.mothra_exchange.proofs.laws.calls_change_one_operator.Goals as goal
+use Rattle.mothra_exchange.proofs.law.calls_change_one_operator.Goals as goal
 
 pub returns-clause-offer : goal.returns-clause-offer
 returns-clause-offer c = offer_only

@@ -1,5 +1,5 @@
 use Rattle.mothra_exchange.proofs.Overs.{taken_next, accepted_open}
-use Rattle.mothra_exchange.proofs.laws.answers_follow_the_word.Goals as goal
+use Rattle.mothra_exchange.proofs.law.answers_follow_the_word.Goals as goal
 
 pub returns-clause-take : goal.returns-clause-take
 returns-clause-take c = taken_next
