@@ -168,5 +168,6 @@ pub closes_at : {S : Type 0} (C : ℕ) (counts : List ℕ) (slots id : ℕ) (me 
     → Allows (Holds C counts) slots id me i (λ n. either (eqb n first) second n) (Closes (step slots i first second none) me)
 closes_at {S} C counts slots id me op i old first second here part loaded seen bounds is_open is becomes =
     subst (λ (j : ℕ). Allows (Holds C counts) slots id me j (λ n. either (eqb n first) second n) (Closes (step slots j first second none) me)) (sym here)
-    (subst (λ (y : Op × Word). Allows (Holds C counts) slots id me (index op) (λ n. either (eqb n first) second n) (λ found new. ((found ≡ first) × (Unit {0}) × (new ≡ (view_after_close me.0 y.0 y.1, me.1))) ⊎ Loses (step slots (index op) first second none) me found new)) (λ k. (sym (op_at-index op) k, sym loaded k))
-    (exchanges C counts slots id me op old (word_after_close old) first second (view_after_close me.0 op old) part loaded seen bounds is becomes (close_apart op me.0 old) (record { handed = omega arith; offered = omega arith; waiting = omega arith; count = omega arith }) refl (close_moves op me.0 old is_open) (Unit {0}) (λ views r e. tt)))
+    (subst (λ (y : Op × Word). Allows (Holds C counts) slots id me (index op) (λ n. either (eqb n first) second n) (λ found new. ((found ≡ first) × ((k : ℕ) → times (index op) k me.0.closings ≡ 0) × (new ≡ (view_after_close me.0 y.0 y.1, me.1))) ⊎ Loses (step slots (index op) first second none) me found new)) (λ k. (sym (op_at-index op) k, sym loaded k))
+    (exchanges C counts slots id me op old (word_after_close old) first second (view_after_close me.0 op old) part loaded seen bounds is becomes (close_apart op me.0 old) (record { handed = omega arith; offered = omega arith; waiting = omega arith; count = omega arith }) refl (close_moves op me.0 old is_open)
+    ((k : ℕ) → times (index op) k me.0.closings ≡ 0) (λ views r e k. let t = r.closings k in let m = total_has (λ u. times (index op) k u.closings) views id me.0 e in let z = once_if_closed-open old k is_open in omega arith)))

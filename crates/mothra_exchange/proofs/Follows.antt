@@ -1,5 +1,5 @@
 -- The word after a winning step shows the log with the step's event.
-use Rattle.std.proofs.Common.{◌≡◌, ◌≢◌, ℕ, ◌+◌, ◌<◌, ◌≤◌, List, [], ◌∷◌, ◌++◌, length, Bool, true, false, true≢false, cond, eqb, ltb, not, refl, sym, ap, ◌∙◌, subst, ⊎_elim, arith, ne_eqb, eq-eqb}
+use Rattle.std.proofs.Common.{◌≡◌, ℕ, ◌+◌, ◌<◌, ◌≤◌, List, [], ◌∷◌, ◌++◌, length, false, eqb, refl, sym, ap, ◌∙◌, subst, ⊎_elim, arith, ne_eqb, eq-eqb}
 use Rattle.std.specs.Prelude.{slice_index}
 use mathlib.Core.Option.{some, some-ne-none}
 use mathlib.Core.Logic.{dite}
@@ -9,11 +9,10 @@ use Rattle.mothra_codes.specs.declared.op.Op.{Op}
 use Rattle.mothra_exchange.specs.declared.ticket.Ticket.{Ticket}
 use Rattle.mothra_exchange.specs.declared.log.Event.{Event}
 use Rattle.mothra_exchange.specs.declared.log.Event.TheVariants.{Offered, Handed, Closed}
-use Rattle.std.proofs.lemmas.Bool.Decides.{nat_tests}
 use Rattle.mothra_exchange.specs.declared.word.Word.{Word}
-use Rattle.mothra_exchange.specs.declared.answer.Offer.TheVariants.{Closed as OfferClosed, PastEnd, OutOfTurn, Full, Accepted}
-use Rattle.mothra_exchange.specs.declared.answer.Take.TheVariants.{Finished, Empty, Taken}
-use Rattle.mothra_exchange.specs.declared.answer.Close.TheVariants.{Already, Done}
+use Rattle.mothra_exchange.specs.declared.answer.Offer.TheVariants.{Accepted}
+use Rattle.mothra_exchange.specs.declared.answer.Take.TheVariants.{Taken}
+use Rattle.mothra_exchange.specs.declared.answer.Close.TheVariants.{Done}
 use Rattle.mothra_exchange.specs.Answer.{offer_answer, take_answer, close_answer}
 use Rattle.mothra_codes.specs.Op.{index}
 use Rattle.mothra_exchange.specs.Ticket.{one_if, ticket}
@@ -21,6 +20,7 @@ use Rattle.mothra_exchange.specs.Word.{word_after_offer, word_after_take, word_a
 use Rattle.mothra_exchange.specs.Log.{word_of, offers, hands, MayFollow, IsLegal}
 use Rattle.mothra_exchange.proofs.Logs.{offers-more, hands-more, legal_more, stands, word-offered, word-handed, word-closed}
 use Rattle.mothra_exchange.proofs.Histories.{legal_induction, at_end}
+use Rattle.mothra_exchange.proofs.Answering.{accepted, taken, done, above}
 
 -- what a legal log keeps of its numbers
 pub record Bounded (C : ℕ) (counts : List ℕ) (log : List Event) : Type 0 where
@@ -69,59 +69,34 @@ more C counts log (Closed op) b m = record {
 pub bounded : (C : ℕ) (counts : List ℕ) (log : List Event) → IsLegal C counts log → Bounded C counts log
 bounded C counts = legal_induction C counts (Bounded C counts) (record { handed = λ i. omega arith; waiting = λ i. omega arith; counted = λ i. omega arith; numbers = λ t j e. absurd (some-ne-none (Offered t) (sym e)) }) (more C counts)
 
-accepted_means : (n : ℕ) (c past turn full : Bool) → cond c OfferClosed (cond past PastEnd (cond (not turn) (OutOfTurn n) (cond full Full Accepted))) ≡ Accepted → (c ≡ false) × (past ≡ false) × (turn ≡ true) × (full ≡ false)
-accepted_means n true p t f e = absurd (cc)
-accepted_means n false true t f e = absurd (cc)
-accepted_means n false false false f e = absurd (cc)
-accepted_means n false false true true e = absurd (cc)
-accepted_means n false false true false e = (refl, refl, refl, refl)
-
-not_past : (a b : ℕ) → ltb a b ≡ false → b ≤ a
-not_past a b e = grind (arith, nat_tests)
-
-is_turn : (a b : ℕ) → eqb a b ≡ true → a ≡ b
-is_turn a b e = grind (arith, nat_tests)
-
-has_gap : (a b : ℕ) → a ≤ b → eqb a b ≡ false → a < b
-has_gap a b le e = grind (arith, nat_tests)
-
 pub offer_follows : (C : ℕ) (counts : List ℕ) (log : List Event) (t : Ticket) (w : Word) → IsLegal C counts log → w ≡ word_of counts log (index t.op) → offer_answer C t.number w ≡ Accepted
     → IsLegal C counts (log ++ Offered t ∷ []) × (word_after_offer w ≡ word_of counts (log ++ Offered t ∷ []) (index t.op))
 offer_follows C counts log t w legal shows answer =
     let s = word_of counts log (index t.op) in
     let a : offer_answer C t.number s ≡ Accepted = subst (λ (x : Word). offer_answer C t.number x ≡ Accepted) shows answer in
-    let m = accepted_means (s.offered + 1) s.closed (ltb s.count t.number) (eqb t.number (s.offered + 1)) (eqb s.offered (s.handed + C)) a in
+    let m = accepted C t.number s a in
     let b = bounded C counts log legal in (
-      legal_more C counts [] log (Offered t) legal (is_turn t.number (s.offered + 1) m.2, not_past s.count t.number m.1, m.0, has_gap s.offered (s.handed + C) (b.waiting (index t.op)) m.3),
+      legal_more C counts [] log (Offered t) legal (m.2, m.1, m.0, m.3 (b.waiting (index t.op))),
       ap word_after_offer shows ∙ sym (word-offered counts log t),
     )
-
-taken_means : (op : Op) (h o : ℕ) (c : Bool) (t : Ticket) (b : Bool) → eqb h o ≡ b → cond b (cond c Finished Empty) (Taken (ticket op (h + 1))) ≡ Taken t → (ticket op (h + 1) ≡ t) × (h ≢ o)
-taken_means op h o true t true f e = absurd (cc)
-taken_means op h o false t true f e = absurd (cc)
-taken_means op h o c t false f e = (cc, λ same. true≢false (sym (eq-eqb h o same) ∙ f))
 
 pub take_follows : (C : ℕ) (counts : List ℕ) (log : List Event) (op : Op) (t : Ticket) (w : Word) → IsLegal C counts log → w ≡ word_of counts log (index op) → take_answer op w ≡ Taken t
     → IsLegal C counts (log ++ Handed t ∷ []) × (word_after_take w ≡ word_of counts (log ++ Handed t ∷ []) (index op))
 take_follows C counts log op t w legal shows answer =
     let s = word_of counts log (index op) in
     let a : take_answer op s ≡ Taken t = subst (λ (x : Word). take_answer op x ≡ Taken t) shows answer in
-    let m = taken_means op s.handed s.offered s.closed t (eqb s.handed s.offered) refl a in
+    let m = taken op t s a in
     let b = bounded C counts log legal in
     let le = b.handed (index op) in
-    let lt : s.handed < s.offered = has_gap s.handed s.offered le (ne_eqb s.handed s.offered m.1) in
+    let lt : s.handed < s.offered = above s.handed s.offered le m.1 in
     subst (λ (x : Ticket). IsLegal C counts (log ++ Handed x ∷ []) × (word_after_take w ≡ word_of counts (log ++ Handed x ∷ []) (index op))) m.0 (
       legal_more C counts [] log (Handed (ticket op (s.handed + 1))) legal (refl, stands C counts op log (s.handed + 1) legal (omega arith) (omega arith)),
       ap word_after_take shows ∙ sym (word-handed counts log (ticket op (s.handed + 1))),
     )
 
-done_means : (c : Bool) → cond c Already Done ≡ Done → c ≡ false
-done_means true e = absurd (cc)
-done_means false e = refl
-
 pub close_follows : (C : ℕ) (counts : List ℕ) (log : List Event) (op : Op) (w : Word) → IsLegal C counts log → w ≡ word_of counts log (index op) → close_answer w ≡ Done
     → IsLegal C counts (log ++ Closed op ∷ []) × (word_after_close w ≡ word_of counts (log ++ Closed op ∷ []) (index op))
 close_follows C counts log op w legal shows answer =
     let s = word_of counts log (index op) in
-    let is_open : s.closed ≡ false = done_means s.closed (subst (λ (x : Word). close_answer x ≡ Done) shows answer) in
+    let is_open : s.closed ≡ false = done s (subst (λ (x : Word). close_answer x ≡ Done) shows answer) in
     (legal_more C counts [] log (Closed op) legal is_open, ap word_after_close shows ∙ sym (word-closed counts log op))

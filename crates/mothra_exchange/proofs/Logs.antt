@@ -1,5 +1,5 @@
 -- A log that grows stays legal, and the words show it.
-use Rattle.std.proofs.Common.{◌≡◌, ◌≢◌, ◌⊎◌, ℕ, zero, suc, ◌+◌, ◌-◌, ◌*◌, ◌<◌, ◌≤◌, List, [], ◌∷◌, ◌++◌, length, set, get_or, Bool, true, false, ◌||◌, eqb, refl, sym, ap, ◌∙◌, subst, ⊎_elim, arith, inl, inr, ne_eqb, eq-eqb, length-append, length-set}
+use Rattle.std.proofs.Common.{◌≡◌, ◌≢◌, ◌⊎◌, ℕ, zero, suc, ◌+◌, ◌*◌, ◌<◌, ◌≤◌, List, [], ◌∷◌, ◌++◌, length, set, get_or, Bool, true, false, ◌||◌, eqb, refl, sym, ap, ◌∙◌, subst, ⊎_elim, arith, inl, inr, ne_eqb, eq-eqb, length-append, length-set}
 use Rattle.std.specs.Prelude.{slice_index}
 use mathlib.Core.Option.{some}
 use mathlib.Core.Logic.{dite}
@@ -11,11 +11,16 @@ use Rattle.mothra_exchange.specs.declared.ticket.Ticket.{Ticket}
 use Rattle.mothra_exchange.specs.declared.word.Word.{Word}
 use Rattle.mothra_exchange.specs.declared.log.Event.{Event}
 use Rattle.mothra_exchange.specs.declared.log.Event.TheVariants.{Offered, Handed, Closed}
+use Rattle.mothra_exchange.specs.declared.answer.Offer.TheVariants.{Accepted}
+use Rattle.mothra_exchange.specs.declared.answer.Take.TheVariants.{Taken}
+use Rattle.mothra_exchange.specs.declared.answer.Close.TheVariants.{Done}
 use Rattle.mothra_codes.specs.Op.{index, op_at}
 use Rattle.mothra_exchange.specs.Word.{bit, InBounds, opening_word, word_after_offer, word_after_take, word_after_close}
 use Rattle.mothra_exchange.specs.Ticket.{one_if, ticket}
 use Rattle.mothra_exchange.specs.Log.{offers_in, hands_in, closes_in, offers, hands, closes, word_of, Stands, MayFollow, IsLegalAfter, IsLegal}
+use Rattle.mothra_exchange.specs.Answer.{offer_answer, take_answer, close_answer}
 use Rattle.mothra_exchange.specs.State.{History, history, used_by, used, room, counts_of, Keeps}
+use Rattle.mothra_exchange.proofs.Answering.{accepted, taken, done, above}
 use Rattle.mothra_exchange.proofs.Counting.{get_or-set_there, get_or-set_else}
 use Rattle.mothra_codes.proofs.Operators.{index_below, index-op_at, same_op}
 
@@ -191,67 +196,75 @@ grows C ws log capacity capacity' e w k le may count is bounds one =
     }
 
 -- what each call leaves
-pub offer_keeps : (C : ℕ) (ws : List Word) (log log' : List Event) (capacity capacity' : ℕ) (t : Ticket) (i : ℕ) → i ≡ index t.op → Keeps C ws log capacity → capacity ≤ capacity' → log' ≡ log ++ Offered t ∷ []
-    → (get_or ws i (opening_word 0)).closed ≡ false → t.number ≤ (get_or ws i (opening_word 0)).count → t.number ≡ (get_or ws i (opening_word 0)).offered + 1 → (get_or ws i (opening_word 0)).offered - (get_or ws i (opening_word 0)).handed ≢ C
+pub offer_keeps : (C : ℕ) (ws : List Word) (log log' : List Event) (capacity capacity' : ℕ) (t : Ticket) (i : ℕ) → i ≡ index t.op → Keeps C ws log capacity → capacity ≤ capacity'
+    → log' ≡ log ++ Offered t ∷ [] → offer_answer C t.number (get_or ws i (opening_word 0)) ≡ Accepted
     → Keeps C (set ws i (word_after_offer (get_or ws i (opening_word 0)))) log' capacity'
-offer_keeps C ws log log' capacity capacity' t i here k le is is_open within turn room =
-    subst (λ (j : ℕ). (get_or ws j (opening_word 0)).closed ≡ false → t.number ≤ (get_or ws j (opening_word 0)).count → t.number ≡ (get_or ws j (opening_word 0)).offered + 1 → (get_or ws j (opening_word 0)).offered - (get_or ws j (opening_word 0)).handed ≢ C → Keeps C (set ws j (word_after_offer (get_or ws j (opening_word 0)))) log' capacity') (sym here)
-    (λ is_open within turn room.
+offer_keeps C ws log log' capacity capacity' t i here k le is answer =
+    subst (λ (j : ℕ). offer_answer C t.number (get_or ws j (opening_word 0)) ≡ Accepted → Keeps C (set ws j (word_after_offer (get_or ws j (opening_word 0)))) log' capacity') (sym here)
+    (λ answer.
     let w = get_or ws (index t.op) (opening_word 0) in
     let b = k.bounds t.op in
     let shown = k.shows t.op in
+    let a = accepted C t.number w answer in
     let o : w.offered ≡ offers (index t.op) log = ap (λ (x : Word). x.offered) shown in
     let h : w.handed ≡ hands (index t.op) log = ap (λ (x : Word). x.handed) shown in
     let n : w.count ≡ slice_index (counts_of ws) (index t.op) = ap (λ (x : Word). x.count) shown in
     let c : w.closed ≡ closes (index t.op) log = ap (λ (x : Word). x.closed) shown in
-    let few : w.offered < w.handed + C = below w.offered w.handed C b.handed b.waiting room in
+    let within : t.number ≤ w.count = a.1 in
+    let turn : t.number ≡ w.offered + 1 = a.2 in
+    let few : w.offered < w.handed + C = a.3 b.waiting in
     subst (λ (l : List Event). Keeps C (set ws (index t.op) (word_after_offer w)) l capacity') (sym is)
-    (grows C ws log capacity capacity' (Offered t) (word_after_offer w) k le (omega arith, omega arith, sym c ∙ is_open, omega arith) refl (ap word_after_offer shown ∙ sym (word-offered (counts_of ws) log t)) (record { handed = omega arith; offered = omega arith; waiting = omega arith; count = omega arith }) (omega arith)))
-    is_open within turn room
-  where
-    below : (o h C : ℕ) → h ≤ o → o ≤ h + C → o - h ≢ C → o < h + C
-    below o h C a b ne = dite (ℕ_discrete (o - h) C) (λ e. absurd (ne e)) (λ n. ⊎_elim (λ (lt : o < h + C). lt) (λ (eq : o ≡ h + C). absurd (n (omega arith))) (split o (h + C) b))
-      where
-        split : (a b : ℕ) → a ≤ b → (a < b) ⊎ (a ≡ b)
-        split a b le = dite (ℕ_discrete a b) (λ e. inr e) (λ n. inl (omega arith))
+    (grows C ws log capacity capacity' (Offered t) (word_after_offer w) k le (omega arith, omega arith, sym c ∙ a.0, omega arith) refl
+    (ap word_after_offer shown ∙ sym (word-offered (counts_of ws) log t))
+    (record { handed = omega arith; offered = omega arith; waiting = omega arith; count = omega arith }) (omega arith)))
+    answer
 
-pub take_keeps : (C : ℕ) (ws : List Word) (log log' : List Event) (capacity capacity' : ℕ) (op : Op) (i n : ℕ) → i ≡ index op → Keeps C ws log capacity → capacity ≤ capacity' → log' ≡ log ++ Handed (ticket op n) ∷ []
-    → (get_or ws i (opening_word 0)).handed ≢ (get_or ws i (opening_word 0)).offered → n ≡ (get_or ws i (opening_word 0)).handed + 1
+pub take_keeps : (C : ℕ) (ws : List Word) (log log' : List Event) (capacity capacity' : ℕ) (op : Op) (t : Ticket) (i : ℕ) → i ≡ index op → Keeps C ws log capacity → capacity ≤ capacity'
+    → log' ≡ log ++ Handed t ∷ [] → take_answer op (get_or ws i (opening_word 0)) ≡ Taken t
     → Keeps C (set ws i (word_after_take (get_or ws i (opening_word 0)))) log' capacity'
-take_keeps C ws log log' capacity capacity' op i n here k le is left turn =
-    subst (λ (j : ℕ). (get_or ws j (opening_word 0)).handed ≢ (get_or ws j (opening_word 0)).offered → n ≡ (get_or ws j (opening_word 0)).handed + 1 → Keeps C (set ws j (word_after_take (get_or ws j (opening_word 0)))) log' capacity') (sym here)
-    (λ left turn.
+take_keeps C ws log log' capacity capacity' op t i here k le is answer =
+    subst (λ (j : ℕ). take_answer op (get_or ws j (opening_word 0)) ≡ Taken t → Keeps C (set ws j (word_after_take (get_or ws j (opening_word 0)))) log' capacity') (sym here)
+    (λ answer.
     let w = get_or ws (index op) (opening_word 0) in
+    let n = w.handed + 1 in
     let b = k.bounds op in
     let shown = k.shows op in
+    let a = taken op t w answer in
     let o : w.offered ≡ offers (index op) log = ap (λ (x : Word). x.offered) shown in
     let h : w.handed ≡ hands (index op) log = ap (λ (x : Word). x.handed) shown in
-    subst (λ (l : List Event). Keeps C (set ws (index op) (word_after_take w)) l capacity') (sym is)
-    (grows C ws log capacity capacity' (Handed (ticket op n)) (word_after_take w) k le (omega arith, stands C (counts_of ws) op log n k.legal (omega arith) (omega arith)) refl (ap word_after_take shown ∙ sym (word-handed (counts_of ws) log (ticket op n))) (record { handed = omega arith; offered = omega arith; waiting = omega arith; count = omega arith }) (omega arith)))
-    left turn
+    let left : w.handed < w.offered = above w.handed w.offered b.handed a.1 in
+    subst (λ (l : List Event). Keeps C (set ws (index op) (word_after_take w)) l capacity') (sym (is ∙ ap (λ (x : Ticket). log ++ Handed x ∷ []) (sym a.0)))
+    (grows C ws log capacity capacity' (Handed (ticket op n)) (word_after_take w) k le (omega arith, stands C (counts_of ws) op log n k.legal (omega arith) (omega arith)) refl
+    (ap word_after_take shown ∙ sym (word-handed (counts_of ws) log (ticket op n)))
+    (record { handed = omega arith; offered = omega arith; waiting = omega arith; count = omega arith }) (omega arith)))
+    answer
 
-pub close_keeps : (C : ℕ) (ws : List Word) (log log' : List Event) (capacity capacity' : ℕ) (op : Op) (i : ℕ) → i ≡ index op → Keeps C ws log capacity → capacity ≤ capacity' → log' ≡ log ++ Closed op ∷ []
-    → (get_or ws i (opening_word 0)).closed ≡ false
+pub close_keeps : (C : ℕ) (ws : List Word) (log log' : List Event) (capacity capacity' : ℕ) (op : Op) (i : ℕ) → i ≡ index op → Keeps C ws log capacity → capacity ≤ capacity'
+    → log' ≡ log ++ Closed op ∷ [] → close_answer (get_or ws i (opening_word 0)) ≡ Done
     → Keeps C (set ws i (word_after_close (get_or ws i (opening_word 0)))) log' capacity'
-close_keeps C ws log log' capacity capacity' op i here k le is is_open =
-    subst (λ (j : ℕ). (get_or ws j (opening_word 0)).closed ≡ false → Keeps C (set ws j (word_after_close (get_or ws j (opening_word 0)))) log' capacity') (sym here)
-    (λ is_open.
+close_keeps C ws log log' capacity capacity' op i here k le is answer =
+    subst (λ (j : ℕ). close_answer (get_or ws j (opening_word 0)) ≡ Done → Keeps C (set ws j (word_after_close (get_or ws j (opening_word 0)))) log' capacity') (sym here)
+    (λ answer.
     let w = get_or ws (index op) (opening_word 0) in
+    let is_open : w.closed ≡ false = done w answer in
     let b = k.bounds op in
     let shown = k.shows op in
     let c : w.closed ≡ closes (index op) log = ap (λ (x : Word). x.closed) shown in
     let z : bit w.closed ≡ 0 = ap bit is_open in
     subst (λ (l : List Event). Keeps C (set ws (index op) (word_after_close w)) l capacity') (sym is)
-    (grows C ws log capacity capacity' (Closed op) (word_after_close w) k le (sym c ∙ is_open) refl (ap word_after_close shown ∙ sym (word-closed (counts_of ws) log op)) (record { handed = omega arith; offered = omega arith; waiting = omega arith; count = omega arith }) (omega arith)))
-    is_open
+    (grows C ws log capacity capacity' (Closed op) (word_after_close w) k le (sym c ∙ is_open) refl
+    (ap word_after_close shown ∙ sym (word-closed (counts_of ws) log op))
+    (record { handed = omega arith; offered = omega arith; waiting = omega arith; count = omega arith }) (omega arith)))
+    answer
 
-pub view_more : (ws : List Word) (i : ℕ) (w : Word) (log log' : List Event) (e : Event) (v : History) → history (counts_of ws) log ≡ v → i < length ws → w.count ≡ (get_or ws i (opening_word 0)).count → log' ≡ log ++ e ∷ [] → history (counts_of (set ws i w)) log' ≡ record v { events = v.events ++ e ∷ [] }
-view_more ws i w log log' e v is small count more =
+pub view_more : (ws : List Word) (i : ℕ) (w : Word) (log log' events : List Event) (e : Event) (v : History) → history (counts_of ws) log ≡ v → i < length ws
+    → w.count ≡ (get_or ws i (opening_word 0)).count → log' ≡ log ++ e ∷ [] → events ≡ v.events ++ e ∷ [] → history (counts_of (set ws i w)) log' ≡ record v { events = events }
+view_more ws i w log log' events e v is small count more same =
     let p = counts_set ws i w count small ∙ ap (λ (x : History). x.counts) is in
-    let q = more ∙ ap (λ (x : History). x.events ++ e ∷ []) is in λ j. history (p j) (q j)
+    let q = more ∙ ap (λ (x : History). x.events ++ e ∷ []) is ∙ sym same in λ j. history (p j) (q j)
 
--- there is room for one event
-pub fits_one : (C : ℕ) (ws : List Word) (log : List Event) (capacity : ℕ) (op : Op) (i : ℕ) → i ≡ index op → Keeps C ws log capacity
+-- there is room for the event of a call that wins
+fits_one : (C : ℕ) (ws : List Word) (log : List Event) (capacity : ℕ) (op : Op) (i : ℕ) → i ≡ index op → Keeps C ws log capacity
     → ((get_or ws i (opening_word 0)).closed ≡ false) ⊎ ((get_or ws i (opening_word 0)).handed ≢ (get_or ws i (opening_word 0)).offered) → length log < capacity
 fits_one C ws log capacity op i here k more = has_room C ws log capacity op k (spare C (get_or ws (index op) (opening_word 0)) (k.bounds op) (subst (λ (j : ℕ). ((get_or ws j (opening_word 0)).closed ≡ false) ⊎ ((get_or ws j (opening_word 0)).handed ≢ (get_or ws j (opening_word 0)).offered)) here more))
   where
@@ -261,3 +274,12 @@ fits_one C ws log capacity op i here k more = has_room C ws log capacity op k (s
 
     spare : (C : ℕ) (w : Word) → InBounds C w → (w.closed ≡ false) ⊎ (w.handed ≢ w.offered) → used_by w < 2 * w.count + 1
     spare C w b more = ⊎_elim (λ (e : w.closed ≡ false). let z : bit w.closed ≡ 0 = ap bit e in omega arith) (λ (ne : w.handed ≢ w.offered). let z = bit_most w.closed in omega arith) more
+
+pub fits_offer : (C : ℕ) (ws : List Word) (log : List Event) (capacity k : ℕ) (op : Op) (i : ℕ) → i ≡ index op → Keeps C ws log capacity → offer_answer C k (get_or ws i (opening_word 0)) ≡ Accepted → length log < capacity
+fits_offer C ws log capacity k op i here keeps answer = fits_one C ws log capacity op i here keeps (inl (accepted C k (get_or ws i (opening_word 0)) answer).0)
+
+pub fits_take : (C : ℕ) (ws : List Word) (log : List Event) (capacity : ℕ) (op : Op) (t : Ticket) (i : ℕ) → i ≡ index op → Keeps C ws log capacity → take_answer op (get_or ws i (opening_word 0)) ≡ Taken t → length log < capacity
+fits_take C ws log capacity op t i here keeps answer = fits_one C ws log capacity op i here keeps (inr (taken op t (get_or ws i (opening_word 0)) answer).1)
+
+pub fits_close : (C : ℕ) (ws : List Word) (log : List Event) (capacity : ℕ) (op : Op) (i : ℕ) → i ≡ index op → Keeps C ws log capacity → close_answer (get_or ws i (opening_word 0)) ≡ Done → length log < capacity
+fits_close C ws log capacity op i here keeps answer = fits_one C ws log capacity op i here keeps (inl (done (get_or ws i (opening_word 0)) answer))

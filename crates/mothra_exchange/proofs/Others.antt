@@ -112,5 +112,5 @@ take_only C v op TakeGaveUp new d = absurd d.2
 pub close_only : (C : ℕ) (v : View) (op : Op) (a : Close) (new : View) → CloseDid C v op a new → ChangesOnly op v new
 close_only C v op Already new d = nothing_more op v d.0 new d.2.1
 close_only C v op CloseBusy new d = lost_only op v d.0 new d.2.1
-close_only C v op Done new d = after_load op v d.0 _ new d.2.1 (only_close op (view_after_load v (index op) d.0) d.0)
+close_only C v op Done new d = after_load op v d.0 _ new d.2.2 (only_close op (view_after_load v (index op) d.0) d.0)
 close_only C v op CloseGaveUp new d = absurd d.2

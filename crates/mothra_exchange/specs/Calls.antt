@@ -42,7 +42,8 @@ TakeLeaves v op w TakeGaveUp new = ⊥
 TakeLeaves v op w a new = (take_answer op w ≡ a) × (new ≡ v)
 
 abbrev pub CloseLeaves : View → Op → Word → Close → View → Type 0
-CloseLeaves v op w Done new = (close_answer w ≡ Done) × (new ≡ view_after_close v op w)
+CloseLeaves v op w Done new =
+    (close_answer w ≡ Done) × ((k : ℕ) → times (index op) k v.closings ≡ 0) × (new ≡ view_after_close v op w)
 CloseLeaves v op w CloseBusy new = (close_answer w ≡ Done) × LostTo v op w new
 CloseLeaves v op w CloseGaveUp new = ⊥
 CloseLeaves v op w a new = (close_answer w ≡ a) × (new ≡ v)

@@ -73,7 +73,8 @@ Offers s me found new =
 
 abbrev pub Closes : {S : Type 0} → Step S → Me S View → ℕ → Me S View → Type 0
 Closes s me found new =
-    ((found ≡ s.first) × (Unit {0}) × (new ≡ (view_after_close me.0 (op_at s.word) (look_at me.0 s.word).loaded, me.1)))
+    ((found ≡ s.first) × ((k : ℕ) → times s.word k me.0.closings ≡ 0)
+    × (new ≡ (view_after_close me.0 (op_at s.word) (look_at me.0 s.word).loaded, me.1)))
     ⊎ Loses s me found new
 
 -- of the operator at the place i, whose word is w: the view and the two that were merged into it had seen no more, and no

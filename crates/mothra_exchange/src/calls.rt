@@ -67,18 +67,10 @@ impl<const C: u32> TableExchange<C> {
         ensures own { IsPassOf self.now pass.new }
         ensures left { OfferLeaves C (view_of pass.old) ticket word result (view_of pass.new) }
     {
-        if word.closed {
-            return Offer::Closed;
-        }
-        if ticket.number > word.count {
-            return Offer::PastEnd;
-        }
-        if ticket.number != word.offered + 1 {
-            return Offer::OutOfTurn(word.offered + 1);
-        }
-        if word.offered - word.handed == C {
-            return Offer::Full;
-        }
+        let answer = word.offer_answer(ticket.number, C);
+        let Offer::Accepted = answer else {
+            return answer;
+        };
         let next = Word {
             offered: word.offered + 1,
             ..word
@@ -88,11 +80,7 @@ impl<const C: u32> TableExchange<C> {
             .table
             .shared
             .compare_exchange::<Offering>(&mut pass.seat, ticket.op.index(), old, next.pack());
-        if found == old {
-            Offer::Accepted
-        } else {
-            Offer::Busy
-        }
+        if found == old { answer } else { Offer::Busy }
     }
 
     // The second half of a take.
@@ -102,13 +90,10 @@ impl<const C: u32> TableExchange<C> {
         ensures own { IsPassOf self.now pass.new }
         ensures left { TakeLeaves (view_of pass.old) op word result (view_of pass.new) }
     {
-        if word.handed == word.offered {
-            return if word.closed {
-                Take::Finished
-            } else {
-                Take::Empty
-            };
-        }
+        let answer = word.take_answer(op);
+        let Take::Taken(_) = answer else {
+            return answer;
+        };
         let next = Word {
             handed: word.handed + 1,
             ..word
@@ -118,14 +103,7 @@ impl<const C: u32> TableExchange<C> {
             .table
             .shared
             .compare_exchange::<Taking>(&mut pass.seat, op.index(), old, next.pack());
-        if found == old {
-            Take::Taken(Ticket {
-                op,
-                number: next.handed,
-            })
-        } else {
-            Take::Busy
-        }
+        if found == old { answer } else { Take::Busy }
     }
 
     // The second half of a close.
@@ -135,9 +113,10 @@ impl<const C: u32> TableExchange<C> {
         ensures own { IsPassOf self.now pass.new }
         ensures left { CloseLeaves (view_of pass.old) op word result (view_of pass.new) }
     {
-        if word.closed {
-            return Close::Already;
-        }
+        let answer = word.close_answer();
+        let Close::Done = answer else {
+            return answer;
+        };
         let next = Word {
             closed: true,
             ..word
@@ -147,10 +126,6 @@ impl<const C: u32> TableExchange<C> {
             .table
             .shared
             .compare_exchange::<Closing>(&mut pass.seat, op.index(), old, next.pack());
-        if found == old {
-            Close::Done
-        } else {
-            Close::Busy
-        }
+        if found == old { answer } else { Close::Busy }
     }
 }

@@ -103,23 +103,14 @@ impl<const C: u32> State<C> {
     {
         let i = ticket.op.index();
         let word = self.words[i];
-        if word.closed {
-            return Offer::Closed;
+        let answer = word.offer_answer(ticket.number, C);
+        if let Offer::Accepted = answer {
+            let Ok(()) = self.log.push(Event::Offered(ticket)) else {
+                unreachable!()
+            };
+            self.words[i].offered = word.offered + 1;
         }
-        if ticket.number > word.count {
-            return Offer::PastEnd;
-        }
-        if ticket.number != word.offered + 1 {
-            return Offer::OutOfTurn(word.offered + 1);
-        }
-        if word.offered - word.handed == C {
-            return Offer::Full;
-        }
-        let Ok(()) = self.log.push(Event::Offered(ticket)) else {
-            unreachable!()
-        };
-        self.words[i].offered = word.offered + 1;
-        Offer::Accepted
+        answer
     }
 
     /// Takes the next ticket of an operator. Only a take that got one is logged.
@@ -129,22 +120,14 @@ impl<const C: u32> State<C> {
     {
         let i = op.index();
         let word = self.words[i];
-        if word.handed == word.offered {
-            return if word.closed {
-                Take::Finished
-            } else {
-                Take::Empty
+        let answer = word.take_answer(op);
+        if let Take::Taken(ticket) = answer {
+            let Ok(()) = self.log.push(Event::Handed(ticket)) else {
+                unreachable!()
             };
+            self.words[i].handed = word.handed + 1;
         }
-        let ticket = Ticket {
-            op,
-            number: word.handed + 1,
-        };
-        let Ok(()) = self.log.push(Event::Handed(ticket)) else {
-            unreachable!()
-        };
-        self.words[i].handed = word.handed + 1;
-        Take::Taken(ticket)
+        answer
     }
 
     /// Closes an operator: no ticket of it is accepted from then on. Only the first close is logged.
@@ -153,14 +136,13 @@ impl<const C: u32> State<C> {
         ensures log { self.new ≡ record self.old { events = log_after_close self.old.events op result } }
     {
         let i = op.index();
-        let word = self.words[i];
-        if word.closed {
-            return Close::Already;
+        let answer = self.words[i].close_answer();
+        if let Close::Done = answer {
+            let Ok(()) = self.log.push(Event::Closed(op)) else {
+                unreachable!()
+            };
+            self.words[i].closed = true;
         }
-        let Ok(()) = self.log.push(Event::Closed(op)) else {
-            unreachable!()
-        };
-        self.words[i].closed = true;
-        Close::Done
+        answer
     }
 }

@@ -2,7 +2,12 @@
 
 ghost use Rattle.std.specs.Prelude.{◌≡◌};
 ghost use Rattle.mothra_exchange.specs.declared.word.Word.{Word};
-ghost use Rattle.mothra_exchange.specs.Word.{pack, Fits, opening_word};
+ghost use Rattle.mothra_exchange.specs.Word.{pack, Fits, InBounds, opening_word};
+ghost use Rattle.mothra_exchange.specs.Answer as table;
+
+use crate::answer::{Close, Offer, Take};
+use crate::ticket::Ticket;
+use mothra_codes::Op;
 
 /// How many tickets an operator has, how many were offered, how many were handed out, and whether
 /// it is closed.
@@ -35,6 +40,7 @@ impl Word {
         }
     }
 
+    /// The word that packs the numbers.
     pub fn pack(self) -> u64
         requires { Fits self }
         ensures { result ≡ pack self }
@@ -55,5 +61,53 @@ impl Word {
             handed: (bits / HANDED % LIMIT) as u32,
             closed: bits / CLOSED == 1,
         }
+    }
+
+    /// The answer to an offer of this number, where `bound` tickets may wait.
+    pub fn offer_answer(self, number: u32, bound: u32) -> Offer
+        requires { InBounds bound self }
+        ensures { result ≡ table.offer_answer bound number self }
+    {
+        if self.closed {
+            return Offer::Closed;
+        }
+        if number > self.count {
+            return Offer::PastEnd;
+        }
+        if number != self.offered + 1 {
+            return Offer::OutOfTurn(self.offered + 1);
+        }
+        if self.offered - self.handed == bound {
+            return Offer::Full;
+        }
+        Offer::Accepted
+    }
+
+    /// The answer to a take.
+    pub fn take_answer(self, op: Op) -> Take
+        requires { Fits self }
+        ensures { result ≡ table.take_answer op self }
+    {
+        if self.handed == self.offered {
+            return if self.closed {
+                Take::Finished
+            } else {
+                Take::Empty
+            };
+        }
+        Take::Taken(Ticket {
+            op,
+            number: self.handed + 1,
+        })
+    }
+
+    /// The answer to a close.
+    pub fn close_answer(self) -> Close
+        ensures { result ≡ table.close_answer self }
+    {
+        if self.closed {
+            return Close::Already;
+        }
+        Close::Done
     }
 }
