@@ -11,7 +11,7 @@ use Rattle.mothra_exchange.specs.declared.view.View.{View}
 use Rattle.mothra_codes.specs.Op.{index}
 use Rattle.mothra_exchange.specs.Word.{pack, AtMost, opening_word, Fits}
 use Rattle.mothra_exchange.specs.Ticket.{times, once_up_to}
-use Rattle.mothra_exchange.specs.View.{total, first_look, whole_view, spent_view}
+use Rattle.mothra_exchange.specs.View.{times_closed, total, first_look, whole_view, spent_view}
 use Rattle.mothra_exchange.specs.Rule.{Knows, IsLive, IsSound, Holds}
 use Rattle.mothra_exchange.specs.Tally.{word_at, EndsAt, Ends}
 use Rattle.mothra_exchange.specs.Fault.{AllCountsFit}
@@ -107,12 +107,12 @@ ends {S} C counts id v bits slots words part fin reads op =
       seen = (r.seen id v at).0;
       taken = λ k. let m = total_has (λ u. times i k u.taken) s.views id v at in let t = r.taken k in omega arith;
       offered = λ k. let m = total_has (λ u. times i k u.offered) s.views id v at in let t = r.offered k in omega arith;
-      closings = λ k. let m = total_has (λ u. times i k u.closings) s.views id v at in let t = r.closings k in omega arith;
+      closings = λ k. let m = total_has (λ u. times_closed i k u.closings) s.views id v at in let t = r.closings k in omega arith;
       whole = λ all.
           let sole : total (λ u. u.part) s.views ≡ v.part = h.parts ∙ sym all in
           let gone : (by : ℕ) (u : View) → get_elem? s.views by ≡ some u → u.part ≡ 0 → u ≡ spent_view = λ by u g z. spent_if counts u z (h.lives by u g) in record {
             taken = λ k. sym (alone (λ u. times i k u.taken) s.views id v at sole (λ by u g z. ap (λ (x : View). times i k x.taken) (gone by u g z))) ∙ r.taken k;
             offered = λ k. sym (alone (λ u. times i k u.offered) s.views id v at sole (λ by u g z. ap (λ (x : View). times i k x.offered) (gone by u g z))) ∙ r.offered k;
-            closings = λ k. sym (alone (λ u. times i k u.closings) s.views id v at sole (λ by u g z. ap (λ (x : View). times i k x.closings) (gone by u g z))) ∙ r.closings k;
+            closings = λ k. sym (alone (λ u. times_closed i k u.closings) s.views id v at sole (λ by u g z. ap (λ (x : View). times_closed i k x.closings) (gone by u g z))) ∙ r.closings k;
           };
     })

@@ -13,9 +13,9 @@ use Rattle.mothra_exchange.specs.declared.view.View.{View}
 use Rattle.mothra_codes.specs.Op.{index}
 use Rattle.mothra_exchange.specs.Word.{bit, pack, Fits, AtMost, InBounds, word_after_take, word_after_offer, word_after_close}
 use Rattle.mothra_exchange.specs.Ticket.{one_if, times, ticket}
-use Rattle.mothra_exchange.specs.View.{look_at, view_after_finding, view_after_take, view_after_offer, view_after_close, once_if_closed}
+use Rattle.mothra_exchange.specs.View.{closing, times_closed, look_at, view_after_finding, view_after_take, view_after_offer, view_after_close, once_if_closed}
 use Rattle.mothra_exchange.specs.Rule.{OpRule, Holds, Takes, Offers, Closes, Loses}
-use Rattle.mothra_exchange.proofs.Counting.{total_has, once_up_to-past, times-more, is_ticket-own, is_ticket-other, once_up_to-suc, AtMost-refl}
+use Rattle.mothra_exchange.proofs.Counting.{total_has, once_up_to-past, times-more, is_ticket-own, is_ticket-other, times_closed-more, is_closing-own, is_closing-other, once_up_to-suc, AtMost-refl}
 use Rattle.mothra_codes.proofs.Operators.{op_at-index}
 use Rattle.mothra_exchange.proofs.Steps.{Moves, Apart, op_moves, lives, turns, looks_apart, new_look}
 
@@ -148,7 +148,7 @@ close_apart op v w =
       counts = refl;
       part = refl;
       looks = a.looks;
-      others = λ i ne. record { taken = λ k. refl; offered = λ k. refl; closings = λ k. let e = times-more i k v.closings (ticket op w.offered) in let f = ap one_if (is_ticket-other op i w.offered k ne) in omega arith; knows = (a.others i ne).knows };
+      others = λ i ne. record { taken = λ k. refl; offered = λ k. refl; closings = λ k. let e = times_closed-more i k v.closings (closing op w.offered) in let f = ap one_if (is_closing-other op i w.offered k ne) in omega arith; knows = (a.others i ne).knows };
     }
 
 close_moves : (op : Op) (v : View) (w : Word) → w.closed ≡ false → length v.looks ≡ 22 → Moves (index op) w (word_after_close w) v (view_after_close v op w)
@@ -156,7 +156,7 @@ close_moves op v w is_open is =
     let look : Look = record { loads = (look_at v (index op)).loads; loaded = (look_at v (index op)).loaded; seen = word_after_close w } in record {
       taken = λ k. refl;
       offered = λ k. refl;
-      closings = λ k. let e = times-more (index op) k v.closings (ticket op w.offered) in let f = ap one_if (is_ticket-own op w.offered k) in let g = once_if_closed-open w k is_open in omega arith;
+      closings = λ k. let e = times_closed-more (index op) k v.closings (closing op w.offered) in let f = ap one_if (is_closing-own op w.offered k) in let g = once_if_closed-open w k is_open in omega arith;
       rises = record { count = omega arith; offered = omega arith; handed = omega arith; close = λ c. absurd (true≢false (sym c ∙ is_open)) };
       seen = subst (λ (x : Look). AtMost x.seen (word_after_close w)) (sym (new_look op v look is)) (AtMost-refl (word_after_close w));
       mine = refl;
@@ -168,6 +168,6 @@ pub closes_at : {S : Type 0} (C : ℕ) (counts : List ℕ) (slots id : ℕ) (me 
     → Allows (Holds C counts) slots id me i (λ n. either (eqb n first) second n) (Closes (step slots i first second none) me)
 closes_at {S} C counts slots id me op i old first second here part loaded seen bounds is_open is becomes =
     subst (λ (j : ℕ). Allows (Holds C counts) slots id me j (λ n. either (eqb n first) second n) (Closes (step slots j first second none) me)) (sym here)
-    (subst (λ (y : Op × Word). Allows (Holds C counts) slots id me (index op) (λ n. either (eqb n first) second n) (λ found new. ((found ≡ first) × ((k : ℕ) → times (index op) k me.0.closings ≡ 0) × (new ≡ (view_after_close me.0 y.0 y.1, me.1))) ⊎ Loses (step slots (index op) first second none) me found new)) (λ k. (sym (op_at-index op) k, sym loaded k))
+    (subst (λ (y : Op × Word). Allows (Holds C counts) slots id me (index op) (λ n. either (eqb n first) second n) (λ found new. ((found ≡ first) × ((k : ℕ) → times_closed (index op) k me.0.closings ≡ 0) × (new ≡ (view_after_close me.0 y.0 y.1, me.1))) ⊎ Loses (step slots (index op) first second none) me found new)) (λ k. (sym (op_at-index op) k, sym loaded k))
     (exchanges C counts slots id me op old (word_after_close old) first second (view_after_close me.0 op old) part loaded seen bounds is becomes (close_apart op me.0 old) (record { handed = omega arith; offered = omega arith; waiting = omega arith; count = omega arith }) refl (close_moves op me.0 old is_open)
-    ((k : ℕ) → times (index op) k me.0.closings ≡ 0) (λ views r e k. let t = r.closings k in let m = total_has (λ u. times (index op) k u.closings) views id me.0 e in let z = once_if_closed-open old k is_open in omega arith)))
+    ((k : ℕ) → times_closed (index op) k me.0.closings ≡ 0) (λ views r e k. let t = r.closings k in let m = total_has (λ u. times_closed (index op) k u.closings) views id me.0 e in let z = once_if_closed-open old k is_open in omega arith)))

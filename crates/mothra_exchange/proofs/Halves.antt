@@ -12,9 +12,9 @@ use Rattle.mothra_exchange.specs.declared.view.View.{View}
 use Rattle.mothra_codes.specs.Op.{index}
 use Rattle.mothra_exchange.specs.Word.{AtMost, greater_word}
 use Rattle.mothra_exchange.specs.Ticket.{times}
-use Rattle.mothra_exchange.specs.View.{total, look_at, first_look, spent_view, view_after_split, split_off_view, joined_look, joined_looks, merging_view, settled_view}
+use Rattle.mothra_exchange.specs.View.{times_closed, total, look_at, first_look, spent_view, view_after_split, split_off_view, joined_look, joined_looks, merging_view, settled_view}
 use Rattle.mothra_exchange.specs.Rule.{Knows, OpRule, IsLive, Holds, Settles}
-use Rattle.mothra_exchange.proofs.Counting.{total_set, total_has, total-snoc, times-append, once_up_to-most, once_if_closed-most}
+use Rattle.mothra_exchange.proofs.Counting.{total_set, total_has, total-snoc, times-append, times_closed-append, once_up_to-most, once_if_closed-most}
 use Rattle.mothra_codes.proofs.Operators.{index_below}
 use Rattle.mothra_exchange.proofs.Steps.{Keeps, op_keeps, lives, turns}
 
@@ -22,13 +22,13 @@ use Rattle.mothra_exchange.proofs.Steps.{Keeps, op_keeps, lives, turns}
 pub blank : (n : ℕ) (w : Word) → n ≡ 0 → AtMost (first_look n).seen w
 blank n w e = record { count = omega arith; offered = omega arith; handed = omega arith; close = λ c. absurd (true≢false (sym c)) }
 
-op_added : (C i n : ℕ) (w : Word) (views : List View) (u : View) → OpRule C i n w views → ((k : ℕ) → times i k u.taken ≡ 0) → ((k : ℕ) → times i k u.offered ≡ 0) → ((k : ℕ) → times i k u.closings ≡ 0) → Knows i u w → OpRule C i n w (views ++ u ∷ [])
+op_added : (C i n : ℕ) (w : Word) (views : List View) (u : View) → OpRule C i n w views → ((k : ℕ) → times i k u.taken ≡ 0) → ((k : ℕ) → times i k u.offered ≡ 0) → ((k : ℕ) → times_closed i k u.closings ≡ 0) → Knows i u w → OpRule C i n w (views ++ u ∷ [])
 op_added C i n w views u h t o c knows = record {
   count = h.count;
   bounds = h.bounds;
   taken = λ k. let s = total-snoc (λ x. times i k x.taken) views u in let a = h.taken k in let b = t k in omega arith;
   offered = λ k. let s = total-snoc (λ x. times i k x.offered) views u in let a = h.offered k in let b = o k in omega arith;
-  closings = λ k. let s = total-snoc (λ x. times i k x.closings) views u in let a = h.closings k in let b = c k in omega arith;
+  closings = λ k. let s = total-snoc (λ x. times_closed i k x.closings) views u in let a = h.closings k in let b = c k in omega arith;
   seen = λ j x e. ⊎_elim (λ was. h.seen j x was) (λ (same : u ≡ x). subst (λ (y : View). Knows i y w) same knows) (at_snoc views u x j e);
 }
 
@@ -103,7 +103,7 @@ joins {S} C counts id v other u part part' s h at ne there =
               bounds = r.bounds;
               taken = λ k. two (λ x. times i k x.taken) s.views id v m other u at there (times-append i k v.taken u.taken) refl ∙ r.taken k;
               offered = λ k. two (λ x. times i k x.offered) s.views id v m other u at there (times-append i k v.offered u.offered) refl ∙ r.offered k;
-              closings = λ k. two (λ x. times i k x.closings) s.views id v m other u at there (times-append i k v.closings u.closings) refl ∙ r.closings k;
+              closings = λ k. two (λ x. times_closed i k x.closings) s.views id v m other u at there (times_closed-append i k v.closings u.closings) refl ∙ r.closings k;
               seen = λ j y e. ⊎_elim
                   (λ (x : (j ≡ other) × (spent_view ≡ y)). subst (λ (z : View). Knows i z w) x.1 (blank 0 w refl, blank 0 w refl, blank 0 w refl))
                   (λ (x : (j ≢ other) × (get_elem? (set s.views id m) j ≡ some y)). ⊎_elim
@@ -146,7 +146,7 @@ settles {S} C counts slots id me part s h homes at small =
                 knows = r.2.seen id v at;
                 taken = λ k. let t = total_has (λ x. times i k x.taken) s.views id v at in let a = r.2.taken k in let b = once_up_to-most r.0.handed k in omega arith;
                 offered = λ k. let t = total_has (λ x. times i k x.offered) s.views id v at in let a = r.2.offered k in let b = once_up_to-most r.0.offered k in omega arith;
-                closings = λ k. let t = total_has (λ x. times i k x.closings) s.views id v at in let a = r.2.closings k in let b = once_if_closed-most r.0 k in omega arith;
+                closings = λ k. let t = total_has (λ x. times_closed i k x.closings) s.views id v at in let a = r.2.closings k in let b = once_if_closed-most r.0 k in omega arith;
               },
             )),
         refl,

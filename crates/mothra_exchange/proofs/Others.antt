@@ -13,10 +13,10 @@ use Rattle.mothra_exchange.specs.declared.answer.Take.TheVariants.{Finished, Emp
 use Rattle.mothra_exchange.specs.declared.answer.Close.{Close}
 use Rattle.mothra_exchange.specs.declared.answer.Close.TheVariants.{Already, Busy as CloseBusy, Done, GaveUp as CloseGaveUp}
 use Rattle.mothra_exchange.specs.Ticket.{one_if, is_ticket, ticket}
-use Rattle.mothra_exchange.specs.View.{first_look, look_at, with_look, view_after_load, view_after_finding, view_after_take, view_after_offer, view_after_close}
+use Rattle.mothra_exchange.specs.View.{closing, is_closing, first_look, look_at, with_look, view_after_load, view_after_finding, view_after_take, view_after_offer, view_after_close}
 use Rattle.mothra_exchange.specs.Calls.{LostTo, OfferDid, TakeDid, CloseDid}
 use Rattle.mothra_exchange.specs.Law.{ChangesOnly}
-use Rattle.mothra_exchange.proofs.Counting.{times-more, is_ticket-other, get_or-set_else}
+use Rattle.mothra_exchange.proofs.Counting.{times-more, times_closed-more, is_ticket-other, is_closing-other, get_or-set_else}
 use Rattle.mothra_codes.proofs.Operators.{same_op}
 
 only_trans : (op : Op) (a b c : View) → ChangesOnly op a b → ChangesOnly op b c → ChangesOnly op a c
@@ -46,6 +46,10 @@ only_finding op v w = only_look op v _
 -- a ticket of op is none of another operator's
 not_more : (op o : Op) (n k : ℕ) → o ≢ op → one_if (is_ticket (index o) k (ticket op n)) ≡ 0
 not_more op o n k ne = ap one_if (is_ticket-other op (index o) n k (λ e. ne (same_op o op e)))
+
+-- nor is a closing
+not_closed_more : (op o : Op) (n k : ℕ) → o ≢ op → one_if (is_closing (index o) k (closing op n)) ≡ 0
+not_closed_more op o n k ne = ap one_if (is_closing-other op (index o) n k (λ e. ne (same_op o op e)))
 
 only_offer : (op : Op) (v : View) (w : Word) → ChangesOnly op v (view_after_offer v op w)
 only_offer op v w = record {
@@ -79,7 +83,7 @@ only_close op v w = record {
     look = other_look op o v _ ne;
     taken = λ k. refl;
     offered = λ k. refl;
-    closings = λ k. let m = times-more (index o) k v.closings (ticket op w.offered) in let z = not_more op o w.offered k ne in omega arith;
+    closings = λ k. let m = times_closed-more (index o) k v.closings (closing op w.offered) in let z = not_closed_more op o w.offered k ne in omega arith;
   };
 }
 

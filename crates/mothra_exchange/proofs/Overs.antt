@@ -16,7 +16,7 @@ use Rattle.mothra_exchange.specs.Rule.{Loads, Agrees}
 use Rattle.mothra_exchange.specs.Sharing.{IsOver, MergesWell}
 use Rattle.mothra_exchange.specs.Answer.{take_answer}
 use Rattle.mothra_exchange.specs.Calls.{TakeDid, OfferDid}
-use Rattle.mothra_exchange.proofs.Counting.{times-append}
+use Rattle.mothra_exchange.proofs.Counting.{times-append, times_closed-append}
 use Rattle.mothra_codes.proofs.Operators.{index_below}
 use Rattle.mothra_exchange.proofs.Steps.{new_look}
 use Rattle.mothra_exchange.proofs.Halves.{joined_at}
@@ -46,7 +46,7 @@ merges_well C v w lv lw agree op =
       same_close = λ p q. sym (mine.close p).1 ∙ (theirs.close q).1;
       taken = λ k. let s = times-append i k v.taken w.taken in let m = a.taken k in omega arith;
       offered = λ k. let s = times-append i k v.offered w.offered in let m = a.offered k in omega arith;
-      closings = λ k. let s = times-append i k v.closings w.closings in let m = a.closings k in omega arith;
+      closings = λ k. let s = times_closed-append i k v.closings w.closings in let m = a.closings k in omega arith;
     }
 
 -- where all that was offered is handed out, and closed, nothing else is loaded

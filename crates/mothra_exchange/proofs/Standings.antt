@@ -13,20 +13,16 @@ use Rattle.mothra_exchange.specs.declared.word.Word.{Word}
 use Rattle.mothra_exchange.specs.declared.view.View.{View}
 use Rattle.mothra_exchange.specs.Word.{AtMost}
 use Rattle.mothra_exchange.specs.Ticket.{one_if, times, once_up_to}
-use Rattle.mothra_exchange.specs.View.{total, once_if_closed, spent_view, look_at}
+use Rattle.mothra_exchange.specs.View.{times_closed, total, once_if_closed, spent_view, look_at}
 use Rattle.mothra_exchange.specs.Rule.{OpRule, IsLive, IsSound}
 use Rattle.mothra_exchange.specs.Law.{IsWordOf, IsAmong, StandsInOne, StandsInNone, AreOneTo}
 use Rattle.mothra_exchange.proofs.Counting.{total_has}
 use Rattle.mothra_exchange.proofs.Exchanges.{fits, pack-injective}
 
--- the one view in which f is 1
-abbrev OneHas : (View → ℕ) → List View → Type 0
-OneHas f views = (by : ℕ) × (v : View) × (get_elem? views by ≡ some v) × (f v ≡ 1) × ((other : ℕ) (u : View) → get_elem? views other ≡ some u → other ≢ by → f u ≡ 0)
-
 pub none_has : (f : View → ℕ) (views : List View) → total f views ≡ 0 → (by : ℕ) (v : View) → get_elem? views by ≡ some v → f v ≡ 0
 none_has f views e by v at = let h = total_has f views by v at in omega arith
 
-pub one_has : (f : View → ℕ) (views : List View) → total f views ≡ 1 → OneHas f views
+pub one_has : (f : View → ℕ) (views : List View) → total f views ≡ 1 → StandsInOne f views
 one_has f [] e = absurd (omega arith)
 one_has f (x ∷ xs) e = dite (ℕ_discrete (f x) 0) (λ z. later z (one_has f xs (omega arith))) (λ ne. (0, x, refl, omega arith, first (omega arith)))
   where
@@ -38,7 +34,7 @@ one_has f (x ∷ xs) e = dite (ℕ_discrete (f x) 0) (λ z. later z (one_has f x
     elsewhere z by h zero u at ne = ap f (sym (some-injective _ _ at)) ∙ z
     elsewhere z by h (suc other) u at ne = h other u at (λ s. ne (ap suc s))
 
-    later : f x ≡ 0 → OneHas f xs → OneHas f (x ∷ xs)
+    later : f x ≡ 0 → StandsInOne f xs → StandsInOne f (x ∷ xs)
     later z h = (suc h.0, h.1, h.2, h.3, elsewhere z h.0 h.4)
 
 once-in : (n k : ℕ) → 0 < k → k ≤ n → once_up_to n k ≡ 1
@@ -84,11 +80,11 @@ closed-else w k ne = rw (ne_eqb w.offered k (λ e. ne (sym e))) (both w.closed)
 open-at : (w : Word) (k : ℕ) → w.closed ≡ false → once_if_closed w k ≡ 0
 open-at w k e = rw e refl
 
-pub closing_stands : (C : ℕ) (counts words : List ℕ) (views : List View) → IsSound C counts words views → (op : Op) (w : Word) → IsWordOf words op w → w.closed ≡ true → StandsInOne (λ v. v.closings) op w.offered views
-closing_stands C counts words views h op w is c = one_has (λ v. times (index op) w.offered v.closings) views ((rule_at C counts words views h op w is).closings w.offered ∙ closed-at w w.offered c refl)
+pub closing_stands : (C : ℕ) (counts words : List ℕ) (views : List View) → IsSound C counts words views → (op : Op) (w : Word) → IsWordOf words op w → w.closed ≡ true → StandsInOne (λ v. times_closed (index op) w.offered v.closings) views
+closing_stands C counts words views h op w is c = one_has (λ v. times_closed (index op) w.offered v.closings) views ((rule_at C counts words views h op w is).closings w.offered ∙ closed-at w w.offered c refl)
 
-pub no_other_closing : (C : ℕ) (counts words : List ℕ) (views : List View) → IsSound C counts words views → (op : Op) (w : Word) → IsWordOf words op w → (k : ℕ) → (w.closed ≡ false) ⊎ (k ≢ w.offered) → StandsInNone (λ v. v.closings) op k views
-no_other_closing C counts words views h op w is k out v at = none_has (λ u. times (index op) k u.closings) views
+pub no_other_closing : (C : ℕ) (counts words : List ℕ) (views : List View) → IsSound C counts words views → (op : Op) (w : Word) → IsWordOf words op w → (k : ℕ) → (w.closed ≡ false) ⊎ (k ≢ w.offered) → StandsInNone (λ v. times_closed (index op) k v.closings) views
+no_other_closing C counts words views h op w is k out v at = none_has (λ u. times_closed (index op) k u.closings) views
     ((rule_at C counts words views h op w is).closings k ∙ ⊎_elim (λ (e : w.closed ≡ false). open-at w k e) (λ (ne : k ≢ w.offered). closed-else w k ne) out) at.0 v at.1
 
 pub in_bounds : (C : ℕ) (counts words : List ℕ) (views : List View) → IsSound C counts words views → (op : Op) (w : Word) → IsWordOf words op w → (w.handed ≤ w.offered) × (w.offered ≤ w.count) × (w.offered ≤ w.handed + C)

@@ -14,7 +14,7 @@ use Rattle.mothra_exchange.specs.declared.view.View.{View}
 use Rattle.mothra_codes.specs.Op.{index}
 use Rattle.mothra_exchange.specs.Word.{pack, AtMost, InBounds}
 use Rattle.mothra_exchange.specs.Ticket.{times, once_up_to}
-use Rattle.mothra_exchange.specs.View.{look_at, view_after_load, spent_view, with_look, first_look, once_if_closed}
+use Rattle.mothra_exchange.specs.View.{times_closed, look_at, view_after_load, spent_view, with_look, first_look, once_if_closed}
 use Rattle.mothra_exchange.specs.Rule.{Knows, OpRule, IsLive, Holds, Looks}
 use Rattle.mothra_exchange.proofs.Counting.{total_set, AtMost-refl, AtMost-trans, get_or-set_there, get_or-set_else}
 use Rattle.mothra_codes.proofs.Operators.{index_below, same_op}
@@ -23,7 +23,7 @@ use Rattle.mothra_codes.proofs.Operators.{index_below, same_op}
 pub record Moves (i : ℕ) (w₀ w : Word) (v v' : View) : Type 0 where
   pub taken : (k : ℕ) → times i k v'.taken + once_up_to w₀.handed k ≡ times i k v.taken + once_up_to w.handed k
   pub offered : (k : ℕ) → times i k v'.offered + once_up_to w₀.offered k ≡ times i k v.offered + once_up_to w.offered k
-  pub closings : (k : ℕ) → times i k v'.closings + once_if_closed w₀ k ≡ times i k v.closings + once_if_closed w k
+  pub closings : (k : ℕ) → times_closed i k v'.closings + once_if_closed w₀ k ≡ times_closed i k v.closings + once_if_closed w k
   pub rises : AtMost w₀ w
   pub seen : AtMost (look_at v' i).seen w
   pub mine : v'.mine ≡ v.mine
@@ -39,7 +39,7 @@ op_moves C i n w₀ w views by v v' at h bounds count m = record {
   bounds = bounds;
   taken = λ k. let t = total_set (λ u. times i k u.taken) views by v v' at in let a = h.taken k in let b = m.taken k in omega arith;
   offered = λ k. let t = total_set (λ u. times i k u.offered) views by v v' at in let a = h.offered k in let b = m.offered k in omega arith;
-  closings = λ k. let t = total_set (λ u. times i k u.closings) views by v v' at in let a = h.closings k in let b = m.closings k in omega arith;
+  closings = λ k. let t = total_set (λ u. times_closed i k u.closings) views by v v' at in let a = h.closings k in let b = m.closings k in omega arith;
   seen = λ j u e. ⊎_elim
       (λ (x : (j ≡ by) × (v' ≡ u)). subst (λ (y : View). Knows i y w) x.1
       (let was = knows_more i v w₀ w (h.seen by v at) m.rises in (
@@ -55,7 +55,7 @@ op_moves C i n w₀ w views by v v' at h bounds count m = record {
 pub record Keeps (i : ℕ) (v v' : View) : Type 0 where
   pub taken : (k : ℕ) → times i k v'.taken ≡ times i k v.taken
   pub offered : (k : ℕ) → times i k v'.offered ≡ times i k v.offered
-  pub closings : (k : ℕ) → times i k v'.closings ≡ times i k v.closings
+  pub closings : (k : ℕ) → times_closed i k v'.closings ≡ times_closed i k v.closings
   pub knows : (w : Word) → Knows i v w → Knows i v' w
 
 pub op_keeps : (C i n : ℕ) (w : Word) (views : List View) (by : ℕ) (v v' : View) → get_elem? views by ≡ some v → OpRule C i n w views → Keeps i v v' → OpRule C i n w (set views by v')
@@ -64,7 +64,7 @@ op_keeps C i n w views by v v' at h m = record {
   bounds = h.bounds;
   taken = λ k. let t = total_set (λ u. times i k u.taken) views by v v' at in let a = h.taken k in let b = m.taken k in omega arith;
   offered = λ k. let t = total_set (λ u. times i k u.offered) views by v v' at in let a = h.offered k in let b = m.offered k in omega arith;
-  closings = λ k. let t = total_set (λ u. times i k u.closings) views by v v' at in let a = h.closings k in let b = m.closings k in omega arith;
+  closings = λ k. let t = total_set (λ u. times_closed i k u.closings) views by v v' at in let a = h.closings k in let b = m.closings k in omega arith;
   seen = λ j u e. ⊎_elim
       (λ (x : (j ≡ by) × (v' ≡ u)). subst (λ (y : View). Knows i y w) x.1 (m.knows w (h.seen by v at)))
       (λ (x : (j ≢ by) × (get_elem? views j ≡ some u)). h.seen j u x.1)

@@ -13,7 +13,7 @@ use Rattle.mothra_exchange.specs.declared.answer.Close.{Close}
 use Rattle.mothra_exchange.specs.declared.answer.Close.TheVariants.{Busy as CloseBusy, Done, GaveUp as CloseGaveUp}
 use Rattle.mothra_exchange.specs.Word.{AtMost, InBounds}
 use Rattle.mothra_exchange.specs.Ticket.{times}
-use Rattle.mothra_exchange.specs.View.{look_at, view_after_load, view_after_finding, view_after_take, view_after_offer, view_after_close}
+use Rattle.mothra_exchange.specs.View.{times_closed, look_at, view_after_load, view_after_finding, view_after_take, view_after_offer, view_after_close}
 use Rattle.mothra_exchange.specs.Rule.{Loads}
 use Rattle.mothra_exchange.specs.Answer.{offer_answer, take_answer, close_answer}
 
@@ -43,7 +43,7 @@ TakeLeaves v op w a new = (take_answer op w ≡ a) × (new ≡ v)
 
 abbrev pub CloseLeaves : View → Op → Word → Close → View → Type 0
 CloseLeaves v op w Done new =
-    (close_answer w ≡ Done) × ((k : ℕ) → times (index op) k v.closings ≡ 0) × (new ≡ view_after_close v op w)
+    (close_answer w ≡ Done) × ((k : ℕ) → times_closed (index op) k v.closings ≡ 0) × (new ≡ view_after_close v op w)
 CloseLeaves v op w CloseBusy new = (close_answer w ≡ Done) × LostTo v op w new
 CloseLeaves v op w CloseGaveUp new = ⊥
 CloseLeaves v op w a new = (close_answer w ≡ a) × (new ≡ v)

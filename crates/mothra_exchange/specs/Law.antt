@@ -10,7 +10,7 @@ use Rattle.mothra_exchange.specs.declared.view.View.{View}
 use Rattle.mothra_exchange.specs.declared.log.Event.{Event}
 use Rattle.mothra_exchange.specs.Word.{pack, Fits}
 use Rattle.mothra_exchange.specs.Ticket.{times}
-use Rattle.mothra_exchange.specs.View.{look_at}
+use Rattle.mothra_exchange.specs.View.{times_closed, look_at}
 use Rattle.mothra_exchange.specs.Rule.{IsSound}
 use Rattle.mothra_exchange.specs.Log.{IsLegal, word_of}
 
@@ -22,26 +22,26 @@ IsWordOf words op w = Fits w × (slice_index words (index op) ≡ pack w)
 abbrev pub IsAmong : List View → View → Type 0
 IsAmong views v = (by : ℕ) × (get_elem? views by ≡ some v)
 
--- exactly one view has number k of the operator in this list of its own, and there it stands once
-abbrev pub StandsInOne : (View → List Ticket) → Op → ℕ → List View → Type 0
-StandsInOne list op k views = (by : ℕ) × (v : View) × (get_elem? views by ≡ some v) × (times (index op) k (list v) ≡ 1)
-    × ((other : ℕ) (u : View) → get_elem? views other ≡ some u → other ≢ by → times (index op) k (list u) ≡ 0)
+-- what `often` counts stands in exactly one view, and there once
+abbrev pub StandsInOne : (View → ℕ) → List View → Type 0
+StandsInOne often views = (by : ℕ) × (v : View) × (get_elem? views by ≡ some v) × (often v ≡ 1)
+    × ((other : ℕ) (u : View) → get_elem? views other ≡ some u → other ≢ by → often u ≡ 0)
 
--- no view has it
-abbrev pub StandsInNone : (View → List Ticket) → Op → ℕ → List View → Type 0
-StandsInNone list op k views = (v : View) → IsAmong views v → times (index op) k (list v) ≡ 0
+-- it stands in no view
+abbrev pub StandsInNone : (View → ℕ) → List View → Type 0
+StandsInNone often views = (v : View) → IsAmong views v → often v ≡ 0
 
--- the operator's numbers in the views are 1 to n, each in exactly one
+-- the operator's numbers in a list of each view are 1 to n, each in exactly one
 pub record AreOneTo (list : View → List Ticket) (op : Op) (n : ℕ) (views : List View) : Type 0 where
-  pub each : (k : ℕ) → 0 < k → k ≤ n → StandsInOne list op k views
-  pub no_other : (k : ℕ) → (k ≡ 0) ⊎ (n < k) → StandsInNone list op k views
+  pub each : (k : ℕ) → 0 < k → k ≤ n → StandsInOne (λ v. times (index op) k (list v)) views
+  pub no_other : (k : ℕ) → (k ≡ 0) ⊎ (n < k) → StandsInNone (λ v. times (index op) k (list v)) views
 
 -- the two views have the same of the operator
 pub record HaveSame (op : Op) (v w : View) : Type 0 where
   pub look : look_at w (index op) ≡ look_at v (index op)
   pub taken : (k : ℕ) → times (index op) k w.taken ≡ times (index op) k v.taken
   pub offered : (k : ℕ) → times (index op) k w.offered ≡ times (index op) k v.offered
-  pub closings : (k : ℕ) → times (index op) k w.closings ≡ times (index op) k v.closings
+  pub closings : (k : ℕ) → times_closed (index op) k w.closings ≡ times_closed (index op) k v.closings
 
 -- from v to w nothing changed but what the view has of op
 pub record ChangesOnly (op : Op) (v w : View) : Type 0 where

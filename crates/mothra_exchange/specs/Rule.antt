@@ -9,7 +9,7 @@ use Rattle.mothra_exchange.specs.declared.word.Word.{Word}
 use Rattle.mothra_exchange.specs.declared.view.View.{View}
 use Rattle.mothra_exchange.specs.Word.{pack, Fits, AtMost, InBounds}
 use Rattle.mothra_exchange.specs.Ticket.{times, once_up_to}
-use Rattle.mothra_exchange.specs.View.{once_if_closed, total, first_look, look_at, whole_part, spent_view, settled_view}
+use Rattle.mothra_exchange.specs.View.{times_closed, once_if_closed, total, first_look, look_at, whole_part, spent_view, settled_view}
 use Rattle.mothra_exchange.specs.View.{view_after_load, view_after_finding, view_after_take, view_after_offer, view_after_close}
 
 -- the last words that a view has seen of the operator at the place i are at most w
@@ -25,7 +25,7 @@ pub record OpRule (C : ℕ) (i : ℕ) (n : ℕ) (w : Word) (views : List View) :
   pub bounds : InBounds C w
   pub taken : (k : ℕ) → total (λ v. times i k v.taken) views ≡ once_up_to w.handed k
   pub offered : (k : ℕ) → total (λ v. times i k v.offered) views ≡ once_up_to w.offered k
-  pub closings : (k : ℕ) → total (λ v. times i k v.closings) views ≡ once_if_closed w k
+  pub closings : (k : ℕ) → total (λ v. times_closed i k v.closings) views ≡ once_if_closed w k
   pub seen : (by : ℕ) (v : View) → get_elem? views by ≡ some v → Knows i v w
 
 -- a pass that is not spent has the counts of the exchange and a look for each operator
@@ -73,7 +73,7 @@ Offers s me found new =
 
 abbrev pub Closes : {S : Type 0} → Step S → Me S View → ℕ → Me S View → Type 0
 Closes s me found new =
-    ((found ≡ s.first) × ((k : ℕ) → times s.word k me.0.closings ≡ 0)
+    ((found ≡ s.first) × ((k : ℕ) → times_closed s.word k me.0.closings ≡ 0)
     × (new ≡ (view_after_close me.0 (op_at s.word) (look_at me.0 s.word).loaded, me.1)))
     ⊎ Loses s me found new
 
@@ -84,7 +84,7 @@ pub record AgreesAt (C : ℕ) (i : ℕ) (v : View) (w : Word) : Type 0 where
   pub knows : Knows i v w
   pub taken : (k : ℕ) → times i k v.taken ≤ 1
   pub offered : (k : ℕ) → times i k v.offered ≤ 1
-  pub closings : (k : ℕ) → times i k v.closings ≤ 1
+  pub closings : (k : ℕ) → times_closed i k v.closings ≤ 1
 
 abbrev pub Agrees : ℕ → View → Type 0
 Agrees C v = (op : Op) → (w : Word) × AgreesAt C (index op) v w

@@ -4,7 +4,7 @@ use Rattle.mothra_codes.specs.declared.op.Op.{Op}
 use Rattle.mothra_codes.specs.Op.{index}
 use Rattle.mothra_exchange.specs.declared.view.View.{View}
 use Rattle.mothra_exchange.specs.Ticket.{times}
-use Rattle.mothra_exchange.specs.View.{look_at, united_view}
+use Rattle.mothra_exchange.specs.View.{times_closed, look_at, united_view}
 
 -- the view shows that the operator is closed and all that was offered is handed out
 abbrev pub IsOver : View → Op → Type 0
@@ -18,7 +18,7 @@ pub record MergesAt (v w : View) (op : Op) : Type 0 where
       → (look_at v (index op)).seen.offered ≡ (look_at w (index op)).seen.offered
   pub taken : (k : ℕ) → times (index op) k v.taken + times (index op) k w.taken ≤ 1
   pub offered : (k : ℕ) → times (index op) k v.offered + times (index op) k w.offered ≤ 1
-  pub closings : (k : ℕ) → times (index op) k v.closings + times (index op) k w.closings ≤ 1
+  pub closings : (k : ℕ) → times_closed (index op) k v.closings + times_closed (index op) k w.closings ≤ 1
 
 abbrev pub MergesWell : View → View → Type 0
 MergesWell v w = (op : Op) → MergesAt v w op

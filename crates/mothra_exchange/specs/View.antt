@@ -1,12 +1,25 @@
 -- The view of a pass, and how each step changes it.
-use Rattle.std.specs.Prelude.{ℕ, ◌+◌, ◌-◌, ◌&&◌, ◌==◌, List, [], ◌∷◌, ◌++◌, map, slice_index_or, slice_set}
+use Rattle.std.specs.Prelude.{ℕ, ◌+◌, ◌-◌, Bool, ◌&&◌, ◌==◌, List, [], ◌∷◌, ◌++◌, map, slice_index_or, slice_set}
 use Rattle.mothra_codes.specs.declared.op.Op.{Op}
 use Rattle.mothra_codes.specs.Op.{index}
 use Rattle.mothra_exchange.specs.declared.word.Word.{Word}
 use Rattle.mothra_exchange.specs.declared.view.Look.{Look}
+use Rattle.mothra_exchange.specs.declared.view.Closing.{Closing}
 use Rattle.mothra_exchange.specs.declared.view.View.{View}
 use Rattle.mothra_exchange.specs.Word.{opening_word, word_after_offer, word_after_take, word_after_close, greater_word}
 use Rattle.mothra_exchange.specs.Ticket.{one_if, ticket}
+
+abbrev pub closing : Op → ℕ → Closing
+closing op k = record { op = op; offered = k }
+
+-- c closes the operator at the place i with k offered
+abbrev pub is_closing : ℕ → ℕ → Closing → Bool
+is_closing i k c = index c.op == i && c.offered == k
+
+-- how often the closings close the operator at the place i with k offered
+abbrev pub times_closed : ℕ → ℕ → List Closing → ℕ
+times_closed i k [] = 0
+times_closed i k (c ∷ cs) = one_if (is_closing i k c) + times_closed i k cs
 
 -- f of each view, added up
 abbrev pub total : (View → ℕ) → List View → ℕ
@@ -64,7 +77,7 @@ abbrev pub view_after_take : View → Op → Word → View
 view_after_take v op w = record (view_after_finding v (index op) (word_after_take w)) { taken = v.taken ++ ticket op (w.handed + 1) ∷ [] }
 
 abbrev pub view_after_close : View → Op → Word → View
-view_after_close v op w = record (view_after_finding v (index op) (word_after_close w)) { closings = v.closings ++ ticket op w.offered ∷ [] }
+view_after_close v op w = record (view_after_finding v (index op) (word_after_close w)) { closings = v.closings ++ closing op w.offered ∷ [] }
 
 -- a split: the pass that is lent gives one share, and the new pass knows what it knew
 abbrev pub view_after_split : View → View

@@ -8,7 +8,7 @@ ghost use Rattle.mothra_exchange.specs.Calls.{HasLoaded, OfferDid, TakeDid, Clos
 ghost use Rattle.mothra_exchange.specs.Table.{view_of, IsPassOf};
 
 use crate::answer::{Close, Offer, Take};
-use crate::rule::{Closing, Loading, Offering, Taking};
+use crate::rule::{ClosePlay, LoadPlay, OfferPlay, TakePlay};
 use crate::table::{Pass, TableExchange};
 use crate::ticket::Ticket;
 use crate::word::Word;
@@ -56,7 +56,7 @@ impl<const C: u32> TableExchange<C> {
         Word::unpack(
             self.table
                 .shared
-                .load::<Loading<C>>(&mut pass.seat, op.index()),
+                .load::<LoadPlay<C>>(&mut pass.seat, op.index()),
         )
     }
 
@@ -79,7 +79,7 @@ impl<const C: u32> TableExchange<C> {
         let found = self
             .table
             .shared
-            .compare_exchange::<Offering>(&mut pass.seat, ticket.op.index(), old, next.pack());
+            .compare_exchange::<OfferPlay>(&mut pass.seat, ticket.op.index(), old, next.pack());
         if found == old { answer } else { Offer::Busy }
     }
 
@@ -102,7 +102,7 @@ impl<const C: u32> TableExchange<C> {
         let found = self
             .table
             .shared
-            .compare_exchange::<Taking>(&mut pass.seat, op.index(), old, next.pack());
+            .compare_exchange::<TakePlay>(&mut pass.seat, op.index(), old, next.pack());
         if found == old { answer } else { Take::Busy }
     }
 
@@ -125,7 +125,7 @@ impl<const C: u32> TableExchange<C> {
         let found = self
             .table
             .shared
-            .compare_exchange::<Closing>(&mut pass.seat, op.index(), old, next.pack());
+            .compare_exchange::<ClosePlay>(&mut pass.seat, op.index(), old, next.pack());
         if found == old { answer } else { Close::Busy }
     }
 }

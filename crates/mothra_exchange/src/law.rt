@@ -18,7 +18,7 @@ ghost use Rattle.mothra_exchange.specs.declared.answer.Close.{Close};
 ghost use Rattle.mothra_exchange.specs.declared.answer.Close.TheVariants.{Done};
 ghost use Rattle.mothra_exchange.specs.Word.{AtMost, word_after_offer, word_after_take, word_after_close};
 ghost use Rattle.mothra_exchange.specs.Ticket.{ticket};
-ghost use Rattle.mothra_exchange.specs.View.{total, look_at, whole_part, spent_view, view_after_split, split_off_view, united_view};
+ghost use Rattle.mothra_exchange.specs.View.{times_closed, total, look_at, whole_part, spent_view, view_after_split, split_off_view, united_view};
 ghost use Rattle.mothra_exchange.specs.Rule.{IsSound};
 ghost use Rattle.mothra_exchange.specs.Answer.{offer_answer, take_answer, close_answer};
 ghost use Rattle.mothra_exchange.specs.Calls.{OfferDid, TakeDid, CloseDid};
@@ -77,9 +77,9 @@ pub fn offered_are_one_to_offered()
 /// offered then and now, and an open one has none.
 pub fn closed_once()
     ensures closed { BetweenSteps (λ C views op w. w.closed ≡ true
-        → StandsInOne (λ v. v.closings) op w.offered views) }
+        → StandsInOne (λ v. times_closed (index op) w.offered v.closings) views) }
     ensures no_other { BetweenSteps (λ C views op w. (k : ℕ) → (w.closed ≡ false) ⊎ (k ≢ w.offered)
-        → StandsInNone (λ v. v.closings) op k views) }
+        → StandsInNone (λ v. times_closed (index op) k v.closings) views) }
 {}
 
 /// Between any two steps each operator has a word, in bounds, with the count of every view that is

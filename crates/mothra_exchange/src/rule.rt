@@ -15,41 +15,41 @@ impl<const C: u32> TableRule<(), View, [u32; 22]> for Bound<C> {
     ghost first = { whole_view };
 }
 
-pub(crate) struct Loading<const C: u32>;
+pub(crate) struct LoadPlay<const C: u32>;
 
-impl<const C: u32> Play<(), View> for Loading<C> {
+impl<const C: u32> Play<(), View> for LoadPlay<C> {
     ghost use Rattle.mothra_exchange.specs.Rule.{Looks};
 
     ghost then = { Looks C };
 }
 
-pub(crate) struct Offering;
+pub(crate) struct OfferPlay;
 
-impl Play<(), View> for Offering {
+impl Play<(), View> for OfferPlay {
     ghost use Rattle.mothra_exchange.specs.Rule.{Offers};
 
     ghost then = { Offers };
 }
 
-pub(crate) struct Taking;
+pub(crate) struct TakePlay;
 
-impl Play<(), View> for Taking {
+impl Play<(), View> for TakePlay {
     ghost use Rattle.mothra_exchange.specs.Rule.{Takes};
 
     ghost then = { Takes };
 }
 
-pub(crate) struct Closing;
+pub(crate) struct ClosePlay;
 
-impl Play<(), View> for Closing {
+impl Play<(), View> for ClosePlay {
     ghost use Rattle.mothra_exchange.specs.Rule.{Closes};
 
     ghost then = { Closes };
 }
 
-pub(crate) struct Settling<const C: u32>;
+pub(crate) struct SettlePlay<const C: u32>;
 
-impl<const C: u32> Play<(), View> for Settling<C> {
+impl<const C: u32> Play<(), View> for SettlePlay<C> {
     ghost use Rattle.mothra_exchange.specs.Rule.{Settles};
 
     ghost then = { Settles C };

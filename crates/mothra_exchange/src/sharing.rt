@@ -5,7 +5,7 @@ ghost use Rattle.mothra_exchange.specs.View.{view_after_split, split_off_view, u
 ghost use Rattle.mothra_exchange.specs.Table.{view_of, IsPassOf};
 ghost use Rattle.mothra_exchange.specs.Sharing.{MergesWell};
 
-use crate::rule::{Settling, Sharing};
+use crate::rule::{SettlePlay, Sharing};
 use crate::table::{Pass, TableExchange};
 
 impl<const C: u32> TableExchange<C> {
@@ -32,6 +32,6 @@ impl<const C: u32> TableExchange<C> {
     {
         let Pass { seat } = other;
         self.table.shared.join_seat::<Sharing>(&mut pass.seat, seat);
-        self.table.shared.load::<Settling<C>>(&mut pass.seat, 0);
+        self.table.shared.load::<SettlePlay<C>>(&mut pass.seat, 0);
     }
 }

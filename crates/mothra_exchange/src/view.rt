@@ -2,6 +2,7 @@
 
 use crate::ticket::Ticket;
 use crate::word::Word;
+use mothra_codes::Op;
 use std::collections::LinkedList;
 
 /// What a pass knows of one operator. No value of it is made.
@@ -14,6 +15,13 @@ pub struct Look {
     pub seen: Word,
 }
 
+/// The close of an operator. No value of it is made.
+pub struct Closing {
+    pub op: Op,
+    /// How many tickets had been offered.
+    pub offered: u32,
+}
+
 /// What a pass has done and seen. No value of it is made: contracts speak of it.
 pub struct View {
     /// The count of each operator.
@@ -24,8 +32,8 @@ pub struct View {
     pub offered: LinkedList<Ticket>,
     /// The tickets that it took, in order.
     pub taken: LinkedList<Ticket>,
-    /// The operators that it closed, each with the number of tickets offered at that moment.
-    pub closings: LinkedList<Ticket>,
+    /// The closes that it did, in order.
+    pub closings: LinkedList<Closing>,
     /// One for each operator, in order.
     pub looks: LinkedList<Look>,
     /// While another pass is merged into this one, the looks of this one from before, else empty.
