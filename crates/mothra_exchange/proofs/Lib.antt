@@ -9,6 +9,7 @@ pub mod Logs
 pub mod Others
 pub mod Outcomes
 pub mod Overs
+pub mod Showing
 pub mod Standings
 pub mod Starts
 pub mod Steps

@@ -15,7 +15,7 @@ use Rattle.mothra_exchange.specs.Word.{AtMost}
 use Rattle.mothra_exchange.specs.Ticket.{one_if, times, once_up_to}
 use Rattle.mothra_exchange.specs.View.{times_closed, total, once_if_closed, spent_view, look_at}
 use Rattle.mothra_exchange.specs.Rule.{OpRule, IsLive, IsSound}
-use Rattle.mothra_exchange.specs.Law.{IsWordOf, IsAmong, StandsInOne, StandsInNone, AreOneTo}
+use Rattle.mothra_exchange.specs.Law.{IsWordOf, IsAmong, StandsInOne, StandsInNone, AreOneTo, AreInOrder}
 use Rattle.mothra_exchange.proofs.Counting.{total_has}
 use Rattle.mothra_exchange.proofs.Exchanges.{fits, pack-injective}
 
@@ -102,3 +102,15 @@ not_below C counts words views h op w is v at = ((rule_at C counts words views h
 pub stays_closed : (C : ℕ) (counts words : List ℕ) (views : List View) → IsSound C counts words views → (op : Op) (w : Word) → IsWordOf words op w → (v : View) → IsAmong views v → (look_at v (index op)).seen.closed ≡ true
     → (w.closed ≡ true) × (w.offered ≡ (look_at v (index op)).seen.offered)
 stays_closed C counts words views h op w is v at c = (not_below C counts words views h op w is v at).close c
+
+pub are_in_order : (C : ℕ) (counts words : List ℕ) (views : List View) → IsSound C counts words views → AreInOrder words views
+are_in_order C counts words views h op =
+    let x = has_word C counts words views h op in (
+      x.0,
+      x.1,
+      record {
+        taken = taken_stand C counts words views h op x.0 x.1;
+        offered = offered_stand C counts words views h op x.0 x.1;
+        closed = closing_stands C counts words views h op x.0 x.1;
+      },
+    )

@@ -1,5 +1,5 @@
 -- The words of the laws: where a ticket stands among the views of an exchange.
-use Rattle.std.specs.Prelude.{◌≡◌, ◌≢◌, ◌⊎◌, ℕ, ◌<◌, ◌≤◌, List, [], ◌∷◌, ◌++◌, slice_index}
+use Rattle.std.specs.Prelude.{◌≡◌, ◌≢◌, ◌⊎◌, ℕ, ◌<◌, ◌≤◌, true, List, [], ◌∷◌, ◌++◌, slice_index}
 use mathlib.Core.Option.{some}
 use lib.ListN.{get_elem?}
 use Rattle.mothra_codes.specs.declared.op.Op.{Op}
@@ -36,6 +36,17 @@ pub record AreOneTo (list : View → List Ticket) (op : Op) (n : ℕ) (views : L
   pub each : (k : ℕ) → 0 < k → k ≤ n → StandsInOne (λ v. times (index op) k (list v)) views
   pub no_other : (k : ℕ) → (k ≡ 0) ⊎ (n < k) → StandsInNone (λ v. times (index op) k (list v)) views
 
+-- of one operator, whose word is w: the tickets taken are 1 to h, each in exactly one view, and those offered 1 to o; where it is closed its
+-- closing stands in exactly one view, with as many offered as now, so that none was accepted after it
+pub record IsInOrder (op : Op) (w : Word) (views : List View) : Type 0 where
+  pub taken : AreOneTo (λ v. v.taken) op w.handed views
+  pub offered : AreOneTo (λ v. v.offered) op w.offered views
+  pub closed : w.closed ≡ true → StandsInOne (λ v. times_closed (index op) w.offered v.closings) views
+
+-- every operator has a word and is in order
+abbrev pub AreInOrder : List ℕ → List View → Type 0
+AreInOrder words views = (op : Op) → (w : Word) × IsWordOf words op w × IsInOrder op w views
+
 -- the two views have the same of the operator
 pub record HaveSame (op : Op) (v w : View) : Type 0 where
   pub look : look_at w (index op) ≡ look_at v (index op)
@@ -65,3 +76,11 @@ Shows counts log op w = w ≡ word_of counts log (index op)
 -- the log with e at its end is legal, and w shows it
 abbrev pub ShowsNext : ℕ → List ℕ → List Event → Event → Op → Word → Type 0
 ShowsNext C counts log e op w = IsLegal C counts (log ++ e ∷ []) × Shows counts (log ++ e ∷ []) op w
+
+-- some legal log has the numbers of every operator's word
+abbrev pub ShowOneLog : ℕ → List ℕ → List ℕ → List View → Type 0
+ShowOneLog C counts words views = (log : List Event) × IsLegal C counts log × ((op : Op) (w : Word) → IsWordOf words op w → Shows counts log op w)
+
+-- some legal log has the numbers w of the operator
+abbrev pub ShowsLog : ℕ → List ℕ → Op → Word → Type 0
+ShowsLog C counts op w = (log : List Event) × IsLegal C counts log × Shows counts log op w

@@ -42,7 +42,7 @@ pub record IsSound (C : ℕ) (counts : List ℕ) (words : List ℕ) (views : Lis
 abbrev pub Holds : {S : Type 0} → ℕ → List ℕ → State S View → Type 0
 Holds C counts s = IsSound C counts s.words s.views
 
--- a load finds a word w of a legal log, with no field below what the view had seen
+-- a load finds a word w with numbers that a legal log can have, with no field below what the view had seen
 pub record Loads (C : ℕ) (v : View) (i : ℕ) (w : Word) : Type 0 where
   pub bounds : InBounds C w
   pub rises : AtMost (look_at v i).seen w

@@ -19,13 +19,13 @@ ghost use Rattle.mothra_exchange.specs.declared.answer.Close.TheVariants.{Done};
 ghost use Rattle.mothra_exchange.specs.Word.{AtMost, word_after_offer, word_after_take, word_after_close};
 ghost use Rattle.mothra_exchange.specs.Ticket.{ticket};
 ghost use Rattle.mothra_exchange.specs.View.{times_closed, total, look_at, whole_part, spent_view, view_after_split, split_off_view, united_view};
-ghost use Rattle.mothra_exchange.specs.Rule.{IsSound};
+ghost use Rattle.mothra_exchange.specs.Rule.{IsSound, Loads};
 ghost use Rattle.mothra_exchange.specs.Answer.{offer_answer, take_answer, close_answer};
 ghost use Rattle.mothra_exchange.specs.Calls.{OfferDid, TakeDid, CloseDid};
 ghost use Rattle.mothra_exchange.specs.Sharing.{IsOver, MergesWell};
 ghost use Rattle.mothra_exchange.specs.Log.{offers, hands, taken_in, one_to};
 ghost use Rattle.mothra_exchange.specs.Law.{IsWordOf, IsAmong, StandsInOne, StandsInNone, AreOneTo, ChangesOnly, BetweenSteps};
-ghost use Rattle.mothra_exchange.specs.Law.{InLegalLogs, Shows, ShowsNext};
+ghost use Rattle.mothra_exchange.specs.Law.{InLegalLogs, Shows, ShowsNext, ShowOneLog, ShowsLog};
 
 /// In a legal log the tickets of an operator are handed out in order, each once.
 pub fn handed_in_order()
@@ -91,6 +91,15 @@ pub fn words_stay_in_bounds()
         (w.handed ≤ w.offered) × (w.offered ≤ w.count) × (w.offered ≤ w.handed + C)) }
     ensures count { BetweenSteps (λ C views op w. (v : View) → IsAmong views v → v ≢ spent_view
         → slice_index v.counts (index op) ≡ w.count) }
+{}
+
+/// Where a ticket may wait, the words show a legal log between any two steps, one log for all
+/// operators, and so does each word that a call loads.
+pub fn words_show_a_legal_log()
+    ensures words { (C : ℕ) (counts words : List ℕ) (views : List View) → IsSound C counts words views → 0 < C
+        → ShowOneLog C counts words views }
+    ensures loaded { (C : ℕ) (v : View) (op : Op) (w : Word) → Loads C v (index op) w → 0 < C
+        → ShowsLog C v.counts op w }
 {}
 
 /// Between any two steps no number of a word is below what any view saw of it. Where a view saw it

@@ -4,13 +4,15 @@ ghost use Rattle.std.specs.Prelude.{◌≡◌, ◌<◌, [], length, IfOk, IfErr,
 ghost use Rattle.mothra_exchange.specs.View.{whole_view};
 ghost use Rattle.mothra_exchange.specs.Fault.{AllCountsFit, IsFaultOf};
 ghost use Rattle.mothra_exchange.specs.Tally.{Ends};
+ghost use Rattle.mothra_exchange.specs.Rule.{IsSound};
+ghost use Rattle.mothra_exchange.specs.Law.{AreInOrder, ShowOneLog};
 
 use crate::fault::{ExchangeFault, first_too_large};
 use crate::rule::Bound;
 use crate::tally::Tally;
 use crate::view::View;
 use crate::word::Word;
-use atomic_table::{Seat, Table};
+use atomic_table::{Seat, Table, TableRule};
 use std::alloc::Global;
 
 /// The exchange in which each operator is one packed word. Up to `C` tickets of an operator wait, 1 to
@@ -43,13 +45,19 @@ fn opening_words(counts: &[u32; 22]) -> [u64; 22]
 }
 
 impl<const C: u32> TableExchange<C> {
-    ghost use Rattle.mothra_exchange.specs.Table.{view_of, IsPassOf};
+    ghost use Rattle.mothra_exchange.specs.Table.{view_of, IsPassOf, BetweenStepsOf};
 
     /// An exchange with these counts, in the order of the operators, in which nothing was offered,
     /// and its whole pass.
     pub fn new(alloc: Global, counts: [u32; 22]) -> Result<(TableExchange<C>, Pass), ExchangeFault>
         ensures own { IfOk result (λ r. IsPassOf r.0 r.1) }
         ensures view { IfOk result (λ r. view_of r.1 ≡ whole_view counts) }
+        ensures between { IfOk result (λ r.
+            BetweenStepsOf ⟦<Bound<C> as TableRule<(), View, [u32; 22]>>⟧.holds r.0 (IsSound C counts)) }
+        ensures in_order { IfOk result (λ r.
+            BetweenStepsOf ⟦<Bound<C> as TableRule<(), View, [u32; 22]>>⟧.holds r.0 AreInOrder) }
+        ensures log { 0 < C → IfOk result (λ r.
+            BetweenStepsOf ⟦<Bound<C> as TableRule<(), View, [u32; 22]>>⟧.holds r.0 (ShowOneLog C counts)) }
         ensures fits { OnOk result (AllCountsFit counts) }
         ensures fault { IfErr result (IsFaultOf counts) }
     {
