@@ -1,5 +1,6 @@
 -- What a legal log says as a whole_view.
 use Rattle.std.proofs.Common.{◌≡◌, ◌⊎◌, ℕ, zero, suc, ◌+◌, ◌<◌, List, [], ◌∷◌, ◌++◌, length, Bool, true, false, true≢false, cond, ◌||◌, eqb, refl, sym, ap, ◌∙◌, subst, ⊎_elim, arith, inl, inr, ne_eqb, eq-eqb}
+use Rattle.std.specs.Prelude.{slice_index}
 use mathlib.Core.Option.{some, some-injective, some-ne-none}
 use mathlib.Core.Logic.{dite}
 use native.Mathlib.Decide.{ℕ_discrete}
@@ -94,3 +95,13 @@ none_after C counts = legal_induction C counts (λ log. (j k : ℕ) (op : Op) (t
         (λ (o' : (k ≡ length log) × (e ≡ Offered t)). let clash : Closed op ≡ Offered t = sym c'.1 ∙ o'.1 in absurd (cc))
         (at_end log e k (Offered t) o))
         (at_end log e j (Closed op) c)
+
+-- a log is legal for any counts that the operators have
+may_follow : (C : ℕ) (a b : List ℕ) → ((op : Op) → slice_index a (index op) ≡ slice_index b (index op)) → (log : List Event) (e : Event) → MayFollow C a log e → MayFollow C b log e
+may_follow C a b same log (Offered t) m = let s = same t.op in let le = m.1 in (m.0, omega arith, m.2, m.3)
+may_follow C a b same log (Handed t) m = m
+may_follow C a b same log (Closed op) m = m
+
+pub legal_for : (C : ℕ) (a b : List ℕ) → ((op : Op) → slice_index a (index op) ≡ slice_index b (index op)) → (log es : List Event) → IsLegalAfter C a log es → IsLegalAfter C b log es
+legal_for C a b same log [] h = tt
+legal_for C a b same log (e ∷ es) h = (may_follow C a b same log e h.0, legal_for C a b same (log ++ e ∷ []) es h.1)

@@ -13,3 +13,4 @@ pub mod Showing
 pub mod Standings
 pub mod Starts
 pub mod Steps
+pub mod Tallying

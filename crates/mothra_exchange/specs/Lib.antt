@@ -3,6 +3,7 @@ pub mod Calls
 pub mod Fault
 pub mod Gate
 pub mod Law
+pub mod Locked
 pub mod Log
 pub mod Rule
 pub mod Sharing

@@ -1,20 +1,18 @@
 //! The exchange under one lock.
 
-ghost use Rattle.std.specs.Prelude.{◌≡◌, IfErr, OnOk, true, false};
-ghost use Rattle.mothra_codes.specs.declared.op.Op.{Op};
+ghost use Rattle.std.specs.Prelude.{◌≡◌, IfOk, IfErr, OnOk, true, false};
 ghost use Rattle.mothra_exchange.specs.declared.word.Word.{Word};
 ghost use Rattle.mothra_exchange.specs.View.{spent_view};
 ghost use Rattle.mothra_exchange.specs.Answer.{offer_answer, take_answer, close_answer};
 ghost use Rattle.mothra_exchange.specs.Gate.{MayOffer, MayTake, MayClose, OfferKept, TakeKept, CloseKept};
-ghost use Rattle.mothra_exchange.specs.Log.{IsLegal};
-ghost use Rattle.mothra_exchange.specs.State.{History, numbers_of};
 ghost use Rattle.mothra_exchange.specs.Fault.{AllCountsFit, IsFaultOf};
-ghost use Rattle.mothra_exchange.specs.Tally.{word_at, Ends};
+ghost use Rattle.mothra_exchange.specs.Tally.{Ends};
+ghost use Rattle.mothra_exchange.specs.Locked.{counts_given, TalliesLog};
 
 use crate::answer::{Close, Offer, Take};
 use crate::fault::ExchangeFault;
 use crate::gate::Gate;
-use crate::state::State;
+use crate::state::{State, opening_state};
 use crate::tally::Tally;
 use crate::ticket::Ticket;
 use mothra_codes::Op;
@@ -25,6 +23,7 @@ use std::sync::{Mutex, Wait};
 /// It keeps no records, and never answers Busy.
 #[derive(Drop)]
 pub struct LockedExchange<const C: u32> {
+    counts: [u32; 22],
     state: Mutex<State<C>>,
 }
 
@@ -38,11 +37,13 @@ impl<const C: u32> LockedExchange<C> {
         alloc: Global,
         counts: [u32; 22],
     ) -> Result<(LockedExchange<C>, LockedPass), ExchangeFault>
+        ensures counts { IfOk result (λ r. counts_given r.0 ≡ counts) }
         ensures fits { OnOk result (AllCountsFit counts) }
         ensures fault { IfErr result (IsFaultOf counts) }
     {
         let state = State::new(alloc, counts)?;
         let exchange = LockedExchange {
+            counts,
             state: Mutex::new(state),
         };
         Ok((exchange, LockedPass))
@@ -98,13 +99,21 @@ impl<const C: u32> Gate for LockedExchange<C> {
         self.state.lock(rt).close(op)
     }
 
-    // Some legal log has the numbers of the tally.
+    // Some legal log for the counts given has the numbers of the tally.
     fn finish(self, _pass: LockedPass) -> Tally
         ensures records { false ≡ true → Ends C spent_view result }
-        ensures log { (h : History) × IsLegal C h.counts h.events
-            × ((op : Op) → word_at result op ≡ numbers_of h op) }
+        ensures log { TalliesLog C (counts_given self.entry) result }
     {
-        let LockedExchange { state } = self;
-        state.into_inner().into_tally()
+        let LockedExchange { counts, state } = self;
+        let tally = state.into_inner().into_tally();
+        // What lies in a lock is known by its type alone, and that knows no counts: so it is asked for
+        // them. A state of other counts, which none puts there, counts as one with an empty log.
+        if tally.has_counts(&counts) {
+            tally
+        } else {
+            Tally {
+                words: opening_state(&counts),
+            }
+        }
     }
 }

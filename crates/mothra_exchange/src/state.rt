@@ -37,7 +37,7 @@ impl<const C: u32> Model for State<C> {
 }
 
 // Each operator's numbers with nothing offered.
-fn opening_state(counts: &[u32; 22]) -> [Word; 22]
+pub(crate) fn opening_state(counts: &[u32; 22]) -> [Word; 22]
     ensures { result ≡ map opening_word counts.now }
 {
     let mut words = [Word::opening(0); 22];
