@@ -52,7 +52,8 @@ begins C counts words e is small = record {
           taken = λ k. let z = once_up_to-none k in omega arith;
           offered = λ k. let z = once_up_to-none k in omega arith;
           closings = λ k. refl;
-          seen = λ by v f. subst (λ (u : View). Knows (index o) u w) (one_view (whole_view counts) v by f) (subst (λ (l : Look). AtMost l.seen w) (sym (first_looks counts (index o))) (AtMost-refl w), blank 0 w refl, blank 0 w refl);
+          seen = λ by v f. subst (λ (u : View). Knows (index o) u w) (one_view (whole_view counts) v by f)
+              (subst (λ (l : Look). AtMost l.seen w) (sym (first_looks counts (index o))) (AtMost-refl w), blank 0 w refl, blank 0 w refl);
         },
       );
   parts = refl;
@@ -64,7 +65,8 @@ none_left : (f : View → ℕ) (views : List View) → total (λ u. u.part) view
 none_left f [] e h = refl
 none_left f (x ∷ xs) e h = let a = h zero x refl (omega arith) in let b = none_left f xs (omega arith) (λ by u g p. h (suc by) u g p) in omega arith
 
-pub alone : (f : View → ℕ) (views : List View) (id : ℕ) (v : View) → get_elem? views id ≡ some v → total (λ u. u.part) views ≡ v.part → ((by : ℕ) (u : View) → get_elem? views by ≡ some u → u.part ≡ 0 → f u ≡ 0) → total f views ≡ f v
+pub alone : (f : View → ℕ) (views : List View) (id : ℕ) (v : View) → get_elem? views id ≡ some v → total (λ u. u.part) views ≡ v.part
+    → ((by : ℕ) (u : View) → get_elem? views by ≡ some u → u.part ≡ 0 → f u ≡ 0) → total f views ≡ f v
 alone f [] id v at e h = absurd (some-ne-none v (sym at))
 alone f (x ∷ xs) zero v at e h =
     let same : x ≡ v = some-injective _ _ at in
@@ -88,7 +90,8 @@ at_word (x ∷ xs) (suc i) a h e = at_word xs i a (omega arith) e
 abbrev pub IsUnpacked : ℕ → List ℕ → List Word → Type 0
 IsUnpacked n bits words = (k : ℕ) (w : Word) → k < n → Fits w → get_elem? bits k ≡ some (pack w) → get_or words k (opening_word 0) ≡ w
 
-pub ends : {S : Type 0} (C : ℕ) (counts : List ℕ) (id : ℕ) (v : View) (bits : List ℕ) (slots : List S) (words : List Word) → 0 < v.part → Final (Seen (Holds {S = S} C counts) id v) bits slots → IsUnpacked 22 bits words → Ends C v words
+pub ends : {S : Type 0} (C : ℕ) (counts : List ℕ) (id : ℕ) (v : View) (bits : List ℕ) (slots : List S) (words : List Word) → 0 < v.part
+    → Final (Seen (Holds {S = S} C counts) id v) bits slots → IsUnpacked 22 bits words → Ends C v words
 ends {S} C counts id v bits slots words part fin reads op =
     let s = fin.0 in
     let h = fin.1.0 in

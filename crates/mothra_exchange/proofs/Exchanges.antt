@@ -48,7 +48,8 @@ pub exchanges : {S : Type 0} (C : ℕ) (counts : List ℕ) (slots id : ℕ) (me 
     → (look_at me.0 (index op)).loaded ≡ old → (look_at me.0 (index op)).seen ≡ old → InBounds C old → first ≡ pack old → second ≡ pack next
     → Apart op me.0 v' → InBounds C next → next.count ≡ old.count → (length me.0.looks ≡ 22 → Moves (index op) old next me.0 v')
     → (fresh : Type 0) → ((views : List View) → OpRule C (index op) (slice_index counts (index op)) old views → get_elem? views id ≡ some me.0 → fresh)
-    → Allows (Holds C counts) slots id me (index op) (λ n. either (eqb n first) second n) (λ found new. ((found ≡ first) × fresh × (new ≡ (v', me.1))) ⊎ Loses (step slots (index op) first second none) me found new)
+    → Allows (Holds C counts) slots id me (index op) (λ n. either (eqb n first) second n) (λ found new. ((found ≡ first) × fresh × (new ≡ (v', me.1)))
+    ⊎ Loses (step slots (index op) first second none) me found new)
 exchanges {S} C counts slots id me op old next first second v' part loaded seen bounds is becomes apart bounds' count moves fresh is_fresh s h homes at small =
     let i = index op in
     let was = h.ops op in
@@ -60,12 +61,19 @@ exchanges {S} C counts slots id me op old next first second v' part loaded seen 
     exchanged n first second (λ x. (u : View) × (a : Act S) × Valid s.homes me.1 a × Holds C counts (stepped s i x id me.1 u a) × told n (u, carried_after me.1 a))
     (λ hit.
     let same : w ≡ old = pack-injective w old (fits C w was.2.bounds) (fits C old bounds) (sym was.1 ∙ hit ∙ is) in
-    let rule : OpRule C i (slice_index counts i) old s.views = subst (λ (x : Word). OpRule C i (slice_index counts i) x s.views) same was.2 in
-    (v', keeps, tt, turns C counts s id v v' op w next second h at part was.1 becomes apart (op_moves C i (slice_index counts i) old next s.views id v v' at rule bounds' count (moves l.2)) s.homes, inl (hit, is_fresh s.views rule at, refl)))
+    let rule : OpRule C i (slice_index counts i) old s.views = subst (λ (x : Word). OpRule C i (slice_index counts i) x s.views) same was.2 in (
+      v',
+      keeps,
+      tt,
+      turns C counts s id v v' op w next second h at part was.1 becomes apart
+          (op_moves C i (slice_index counts i) old next s.views id v v' at rule bounds' count (moves l.2)) s.homes,
+      inl (hit, is_fresh s.views rule at, refl),
+    ))
     (λ miss.
     let look : Look = record { loads = (look_at v i).loads; loaded = (look_at v i).loaded; seen = w } in
     let least : AtMost (look_at v i).loaded w = subst (λ (x : Word). AtMost x w) (seen ∙ sym loaded) (was.2.seen id v at).0 in
-    let own : OpRule C i (slice_index counts i) w (set s.views id (view_after_finding v i w)) = op_moves C i (slice_index counts i) w w s.views id v (view_after_finding v i w) at was.2 was.2.bounds refl (record {
+    let own : OpRule C i (slice_index counts i) w (set s.views id (view_after_finding v i w)) = op_moves C i (slice_index counts i) w w s.views id v
+    (view_after_finding v i w) at was.2 was.2.bounds refl (record {
       taken = λ k. refl;
       offered = λ k. refl;
       closings = λ k. refl;
@@ -73,8 +81,13 @@ exchanges {S} C counts slots id me op old next first second v' part loaded seen 
       seen = subst (λ (x : Look). AtMost x.seen w) (sym (new_look op v look l.2)) (AtMost-refl w);
       mine = refl;
       theirs = refl;
-    }) in
-    (view_after_finding v i w, keeps, tt, turns C counts s id v (view_after_finding v i w) op w w n h at part was.1 was.1 (looks_apart op v look) own s.homes, inr (w, was.1, miss, fits C w was.2.bounds, least, refl)))
+    }) in (
+      view_after_finding v i w,
+      keeps,
+      tt,
+      turns C counts s id v (view_after_finding v i w) op w w n h at part was.1 was.1 (looks_apart op v look) own s.homes,
+      inr (w, was.1, miss, fits C w was.2.bounds, least, refl),
+    ))
 
 take_apart : (op : Op) (v : View) (w : Word) → Apart op v (view_after_take v op w)
 take_apart op v w =
@@ -83,7 +96,13 @@ take_apart op v w =
       counts = refl;
       part = refl;
       looks = a.looks;
-      others = λ i ne. record { taken = λ k. let e = times-more i k v.taken (ticket op (w.handed + 1)) in let f = ap one_if (is_ticket-other op i (w.handed + 1) k ne) in omega arith; offered = λ k. refl; closings = λ k. refl; knows = (a.others i ne).knows };
+      others = λ i ne. record {
+        taken = λ k. let e = times-more i k v.taken (ticket op (w.handed + 1)) in let f = ap one_if (is_ticket-other op i (w.handed + 1) k ne) in
+            omega arith;
+        offered = λ k. refl;
+        closings = λ k. refl;
+        knows = (a.others i ne).knows;
+      };
     }
 
 take_moves : (op : Op) (v : View) (w : Word) → length v.looks ≡ 22 → Moves (index op) w (word_after_take w) v (view_after_take v op w)
@@ -103,9 +122,13 @@ pub takes_at : {S : Type 0} (C : ℕ) (counts : List ℕ) (slots id : ℕ) (me :
     → Allows (Holds C counts) slots id me i (λ n. either (eqb n first) second n) (Takes (step slots i first second none) me)
 takes_at {S} C counts slots id me op i old first second here part loaded seen bounds room is becomes =
     subst (λ (j : ℕ). Allows (Holds C counts) slots id me j (λ n. either (eqb n first) second n) (Takes (step slots j first second none) me)) (sym here)
-    (subst (λ (y : Op × Word). Allows (Holds C counts) slots id me (index op) (λ n. either (eqb n first) second n) (λ found new. ((found ≡ first) × (times (index op) (y.1.handed + 1) me.0.taken ≡ 0) × (new ≡ (view_after_take me.0 y.0 y.1, me.1))) ⊎ Loses (step slots (index op) first second none) me found new)) (λ k. (sym (op_at-index op) k, sym loaded k))
-    (exchanges C counts slots id me op old (word_after_take old) first second (view_after_take me.0 op old) part loaded seen bounds is becomes (take_apart op me.0 old) (record { handed = omega arith; offered = omega arith; waiting = omega arith; count = omega arith }) refl (take_moves op me.0 old)
-    (times (index op) (old.handed + 1) me.0.taken ≡ 0) (λ views r e. let t = r.taken (old.handed + 1) in let m = total_has (λ u. times (index op) (old.handed + 1) u.taken) views id me.0 e in let z = once_up_to-past old.handed in omega arith)))
+    (subst (λ (y : Op × Word). Allows (Holds C counts) slots id me (index op) (λ n. either (eqb n first) second n)
+    (λ found new. ((found ≡ first) × (times (index op) (y.1.handed + 1) me.0.taken ≡ 0) × (new ≡ (view_after_take me.0 y.0 y.1, me.1)))
+    ⊎ Loses (step slots (index op) first second none) me found new)) (λ k. (sym (op_at-index op) k, sym loaded k))
+    (exchanges C counts slots id me op old (word_after_take old) first second (view_after_take me.0 op old) part loaded seen bounds is becomes (take_apart op me.0 old)
+    (record { handed = omega arith; offered = omega arith; waiting = omega arith; count = omega arith }) refl (take_moves op me.0 old)
+    (times (index op) (old.handed + 1) me.0.taken ≡ 0) (λ views r e. let t = r.taken (old.handed + 1) in
+    let m = total_has (λ u. times (index op) (old.handed + 1) u.taken) views id me.0 e in let z = once_up_to-past old.handed in omega arith)))
 
 offer_apart : (op : Op) (v : View) (w : Word) → Apart op v (view_after_offer v op w)
 offer_apart op v w =
@@ -114,7 +137,13 @@ offer_apart op v w =
       counts = refl;
       part = refl;
       looks = a.looks;
-      others = λ i ne. record { taken = λ k. refl; offered = λ k. let e = times-more i k v.offered (ticket op (w.offered + 1)) in let f = ap one_if (is_ticket-other op i (w.offered + 1) k ne) in omega arith; closings = λ k. refl; knows = (a.others i ne).knows };
+      others = λ i ne. record {
+        taken = λ k. refl;
+        offered = λ k. let e = times-more i k v.offered (ticket op (w.offered + 1)) in
+            let f = ap one_if (is_ticket-other op i (w.offered + 1) k ne) in omega arith;
+        closings = λ k. refl;
+        knows = (a.others i ne).knows;
+      };
     }
 
 once_if_closed-open : (w : Word) (k : ℕ) → w.closed ≡ false → once_if_closed w k ≡ 0
@@ -124,7 +153,8 @@ offer_moves : (op : Op) (v : View) (w : Word) → w.closed ≡ false → length 
 offer_moves op v w is_open is =
     let look : Look = record { loads = (look_at v (index op)).loads; loaded = (look_at v (index op)).loaded; seen = word_after_offer w } in record {
       taken = λ k. refl;
-      offered = λ k. let e = times-more (index op) k v.offered (ticket op (w.offered + 1)) in let f = ap one_if (is_ticket-own op (w.offered + 1) k) in let g = once_up_to-suc w.offered k in omega arith;
+      offered = λ k. let e = times-more (index op) k v.offered (ticket op (w.offered + 1)) in let f = ap one_if (is_ticket-own op (w.offered + 1) k) in
+          let g = once_up_to-suc w.offered k in omega arith;
       closings = λ k. let e = once_if_closed-open w k is_open in let f = once_if_closed-open (word_after_offer w) k is_open in omega arith;
       rises = record { count = omega arith; offered = omega arith; handed = omega arith; close = λ c. absurd (true≢false (sym c ∙ is_open)) };
       seen = subst (λ (x : Look). AtMost x.seen (word_after_offer w)) (sym (new_look op v look is)) (AtMost-refl (word_after_offer w));
@@ -133,13 +163,18 @@ offer_moves op v w is_open is =
     }
 
 pub offers_at : {S : Type 0} (C : ℕ) (counts : List ℕ) (slots id : ℕ) (me : Me S View) (op : Op) (i : ℕ) (old : Word) (first second : ℕ) → i ≡ index op → 0 < me.0.part
-    → (look_at me.0 (index op)).loaded ≡ old → (look_at me.0 (index op)).seen ≡ old → InBounds C old → old.closed ≡ false → old.offered < old.count → old.offered < old.handed + C → first ≡ pack old → second ≡ pack (word_after_offer old)
+    → (look_at me.0 (index op)).loaded ≡ old → (look_at me.0 (index op)).seen ≡ old → InBounds C old → old.closed ≡ false → old.offered < old.count
+    → old.offered < old.handed + C → first ≡ pack old → second ≡ pack (word_after_offer old)
     → Allows (Holds C counts) slots id me i (λ n. either (eqb n first) second n) (Offers (step slots i first second none) me)
 offers_at {S} C counts slots id me op i old first second here part loaded seen bounds is_open room bound is becomes =
     subst (λ (j : ℕ). Allows (Holds C counts) slots id me j (λ n. either (eqb n first) second n) (Offers (step slots j first second none) me)) (sym here)
-    (subst (λ (y : Op × Word). Allows (Holds C counts) slots id me (index op) (λ n. either (eqb n first) second n) (λ found new. ((found ≡ first) × (times (index op) (y.1.offered + 1) me.0.offered ≡ 0) × (new ≡ (view_after_offer me.0 y.0 y.1, me.1))) ⊎ Loses (step slots (index op) first second none) me found new)) (λ k. (sym (op_at-index op) k, sym loaded k))
-    (exchanges C counts slots id me op old (word_after_offer old) first second (view_after_offer me.0 op old) part loaded seen bounds is becomes (offer_apart op me.0 old) (record { handed = omega arith; offered = omega arith; waiting = omega arith; count = omega arith }) refl (offer_moves op me.0 old is_open)
-    (times (index op) (old.offered + 1) me.0.offered ≡ 0) (λ views r e. let t = r.offered (old.offered + 1) in let m = total_has (λ u. times (index op) (old.offered + 1) u.offered) views id me.0 e in let z = once_up_to-past old.offered in omega arith)))
+    (subst (λ (y : Op × Word). Allows (Holds C counts) slots id me (index op) (λ n. either (eqb n first) second n)
+    (λ found new. ((found ≡ first) × (times (index op) (y.1.offered + 1) me.0.offered ≡ 0) × (new ≡ (view_after_offer me.0 y.0 y.1, me.1)))
+    ⊎ Loses (step slots (index op) first second none) me found new)) (λ k. (sym (op_at-index op) k, sym loaded k))
+    (exchanges C counts slots id me op old (word_after_offer old) first second (view_after_offer me.0 op old) part loaded seen bounds is becomes (offer_apart op me.0 old)
+    (record { handed = omega arith; offered = omega arith; waiting = omega arith; count = omega arith }) refl (offer_moves op me.0 old is_open)
+    (times (index op) (old.offered + 1) me.0.offered ≡ 0) (λ views r e. let t = r.offered (old.offered + 1) in
+    let m = total_has (λ u. times (index op) (old.offered + 1) u.offered) views id me.0 e in let z = once_up_to-past old.offered in omega arith)))
 
 close_apart : (op : Op) (v : View) (w : Word) → Apart op v (view_after_close v op w)
 close_apart op v w =
@@ -148,7 +183,13 @@ close_apart op v w =
       counts = refl;
       part = refl;
       looks = a.looks;
-      others = λ i ne. record { taken = λ k. refl; offered = λ k. refl; closings = λ k. let e = times_closed-more i k v.closings (closing op w.offered) in let f = ap one_if (is_closing-other op i w.offered k ne) in omega arith; knows = (a.others i ne).knows };
+      others = λ i ne. record {
+        taken = λ k. refl;
+        offered = λ k. refl;
+        closings = λ k. let e = times_closed-more i k v.closings (closing op w.offered) in
+            let f = ap one_if (is_closing-other op i w.offered k ne) in omega arith;
+        knows = (a.others i ne).knows;
+      };
     }
 
 close_moves : (op : Op) (v : View) (w : Word) → w.closed ≡ false → length v.looks ≡ 22 → Moves (index op) w (word_after_close w) v (view_after_close v op w)
@@ -156,7 +197,8 @@ close_moves op v w is_open is =
     let look : Look = record { loads = (look_at v (index op)).loads; loaded = (look_at v (index op)).loaded; seen = word_after_close w } in record {
       taken = λ k. refl;
       offered = λ k. refl;
-      closings = λ k. let e = times_closed-more (index op) k v.closings (closing op w.offered) in let f = ap one_if (is_closing-own op w.offered k) in let g = once_if_closed-open w k is_open in omega arith;
+      closings = λ k. let e = times_closed-more (index op) k v.closings (closing op w.offered) in let f = ap one_if (is_closing-own op w.offered k) in
+          let g = once_if_closed-open w k is_open in omega arith;
       rises = record { count = omega arith; offered = omega arith; handed = omega arith; close = λ c. absurd (true≢false (sym c ∙ is_open)) };
       seen = subst (λ (x : Look). AtMost x.seen (word_after_close w)) (sym (new_look op v look is)) (AtMost-refl (word_after_close w));
       mine = refl;
@@ -168,6 +210,10 @@ pub closes_at : {S : Type 0} (C : ℕ) (counts : List ℕ) (slots id : ℕ) (me 
     → Allows (Holds C counts) slots id me i (λ n. either (eqb n first) second n) (Closes (step slots i first second none) me)
 closes_at {S} C counts slots id me op i old first second here part loaded seen bounds is_open is becomes =
     subst (λ (j : ℕ). Allows (Holds C counts) slots id me j (λ n. either (eqb n first) second n) (Closes (step slots j first second none) me)) (sym here)
-    (subst (λ (y : Op × Word). Allows (Holds C counts) slots id me (index op) (λ n. either (eqb n first) second n) (λ found new. ((found ≡ first) × ((k : ℕ) → times_closed (index op) k me.0.closings ≡ 0) × (new ≡ (view_after_close me.0 y.0 y.1, me.1))) ⊎ Loses (step slots (index op) first second none) me found new)) (λ k. (sym (op_at-index op) k, sym loaded k))
-    (exchanges C counts slots id me op old (word_after_close old) first second (view_after_close me.0 op old) part loaded seen bounds is becomes (close_apart op me.0 old) (record { handed = omega arith; offered = omega arith; waiting = omega arith; count = omega arith }) refl (close_moves op me.0 old is_open)
-    ((k : ℕ) → times_closed (index op) k me.0.closings ≡ 0) (λ views r e k. let t = r.closings k in let m = total_has (λ u. times_closed (index op) k u.closings) views id me.0 e in let z = once_if_closed-open old k is_open in omega arith)))
+    (subst (λ (y : Op × Word). Allows (Holds C counts) slots id me (index op) (λ n. either (eqb n first) second n)
+    (λ found new. ((found ≡ first) × ((k : ℕ) → times_closed (index op) k me.0.closings ≡ 0) × (new ≡ (view_after_close me.0 y.0 y.1, me.1)))
+    ⊎ Loses (step slots (index op) first second none) me found new)) (λ k. (sym (op_at-index op) k, sym loaded k))
+    (exchanges C counts slots id me op old (word_after_close old) first second (view_after_close me.0 op old) part loaded seen bounds is becomes (close_apart op me.0 old)
+    (record { handed = omega arith; offered = omega arith; waiting = omega arith; count = omega arith }) refl (close_moves op me.0 old is_open)
+    ((k : ℕ) → times_closed (index op) k me.0.closings ≡ 0) (λ views r e k. let t = r.closings k in
+    let m = total_has (λ u. times_closed (index op) k u.closings) views id me.0 e in let z = once_if_closed-open old k is_open in omega arith)))

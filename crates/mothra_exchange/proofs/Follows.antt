@@ -36,7 +36,9 @@ more C counts log (Offered t) b m = record {
       (λ e. let one = ap one_if (eq-eqb (index t.op) i e) in let q : offers i log < hands i log + C = subst (λ j. offers j log < hands j log + C) e m.3 in omega arith)
       (λ ne. let zero_more = ap one_if (ne_eqb (index t.op) i ne) in omega arith);
   counted = λ i. let o = offers-more i log (Offered t) in let p = b.counted i in dite (ℕ_discrete (index t.op) i)
-      (λ e. let one = ap one_if (eq-eqb (index t.op) i e) in let q : (t.number ≡ offers i log + 1) × (t.number ≤ slice_index counts i) = subst (λ j. (t.number ≡ offers j log + 1) × (t.number ≤ slice_index counts j)) e (m.0, m.1) in let x = q.0 in let y = q.1 in omega arith)
+      (λ e. let one = ap one_if (eq-eqb (index t.op) i e) in
+      let q : (t.number ≡ offers i log + 1) × (t.number ≤ slice_index counts i) = subst (λ j. (t.number ≡ offers j log + 1) × (t.number ≤ slice_index counts j)) e (m.0, m.1) in
+      let x = q.0 in let y = q.1 in omega arith)
       (λ ne. let zero_more = ap one_if (ne_eqb (index t.op) i ne) in omega arith);
   numbers = λ u j e. let o = offers-more (index u.op) log (Offered t) in ⊎_elim
       (λ (was : get_elem? log j ≡ some (Offered u)). let p = b.numbers u j was in omega arith)
@@ -47,7 +49,9 @@ more C counts log (Offered t) b m = record {
 }
 more C counts log (Handed t) b m = record {
   handed = λ i. let o = offers-more i log (Handed t) in let h = hands-more i log (Handed t) in let p = b.handed i in dite (ℕ_discrete (index t.op) i)
-      (λ e. let one = ap one_if (eq-eqb (index t.op) i e) in let n = b.numbers t m.1.0 m.1.1 in let q : (t.number ≡ hands i log + 1) × (t.number ≤ offers i log) = subst (λ j. (t.number ≡ hands j log + 1) × (t.number ≤ offers j log)) e (m.0, n) in let x = q.0 in let y = q.1 in omega arith)
+      (λ e. let one = ap one_if (eq-eqb (index t.op) i e) in let n = b.numbers t m.1.0 m.1.1 in
+      let q : (t.number ≡ hands i log + 1) × (t.number ≤ offers i log) = subst (λ j. (t.number ≡ hands j log + 1) × (t.number ≤ offers j log)) e (m.0, n) in let x = q.0 in
+      let y = q.1 in omega arith)
       (λ ne. let zero_more = ap one_if (ne_eqb (index t.op) i ne) in omega arith);
   waiting = λ i. let o = offers-more i log (Handed t) in let h = hands-more i log (Handed t) in let p = b.waiting i in omega arith;
   counted = λ i. let o = offers-more i log (Handed t) in let p = b.counted i in omega arith;
@@ -67,7 +71,8 @@ more C counts log (Closed op) b m = record {
 }
 
 pub bounded : (C : ℕ) (counts : List ℕ) (log : List Event) → IsLegal C counts log → Bounded C counts log
-bounded C counts = legal_induction C counts (Bounded C counts) (record { handed = λ i. omega arith; waiting = λ i. omega arith; counted = λ i. omega arith; numbers = λ t j e. absurd (some-ne-none (Offered t) (sym e)) }) (more C counts)
+bounded C counts = legal_induction C counts (Bounded C counts)
+    (record { handed = λ i. omega arith; waiting = λ i. omega arith; counted = λ i. omega arith; numbers = λ t j e. absurd (some-ne-none (Offered t) (sym e)) }) (more C counts)
 
 pub offer_follows : (C : ℕ) (counts : List ℕ) (log : List Event) (t : Ticket) (w : Word) → IsLegal C counts log → w ≡ word_of counts log (index t.op) → offer_answer C t.number w ≡ Accepted
     → IsLegal C counts (log ++ Offered t ∷ []) × (word_after_offer w ≡ word_of counts (log ++ Offered t ∷ []) (index t.op))

@@ -22,7 +22,8 @@ use Rattle.mothra_exchange.proofs.Steps.{Keeps, op_keeps, lives, turns}
 pub blank : (n : ℕ) (w : Word) → n ≡ 0 → AtMost (first_look n).seen w
 blank n w e = record { count = omega arith; offered = omega arith; handed = omega arith; close = λ c. absurd (true≢false (sym c)) }
 
-op_added : (C i n : ℕ) (w : Word) (views : List View) (u : View) → OpRule C i n w views → ((k : ℕ) → times i k u.taken ≡ 0) → ((k : ℕ) → times i k u.offered ≡ 0) → ((k : ℕ) → times_closed i k u.closings ≡ 0) → Knows i u w → OpRule C i n w (views ++ u ∷ [])
+op_added : (C i n : ℕ) (w : Word) (views : List View) (u : View) → OpRule C i n w views → ((k : ℕ) → times i k u.taken ≡ 0) → ((k : ℕ) → times i k u.offered ≡ 0)
+    → ((k : ℕ) → times_closed i k u.closings ≡ 0) → Knows i u w → OpRule C i n w (views ++ u ∷ [])
 op_added C i n w views u h t o c knows = record {
   count = h.count;
   bounds = h.bounds;
@@ -38,9 +39,15 @@ splits {S} C counts id v parts s h at =
       length_is = h.length_is;
       ops = λ o.
           let was = h.ops o in
-          let rule = op_keeps C (index o) (slice_index counts (index o)) was.0 s.views id v (view_after_split v) at was.2 (record { taken = λ k. refl; offered = λ k. refl; closings = λ k. refl; knows = λ w k. k }) in
-          (was.0, was.1, op_added C (index o) (slice_index counts (index o)) was.0 (set s.views id (view_after_split v)) (split_off_view v) rule (λ k. refl) (λ k. refl) (λ k. refl) ((was.2.seen id v at).0, blank 0 was.0 refl, blank 0 was.0 refl));
-      parts = (let t = total_set (λ u. u.part) s.views id v (view_after_split v) at in let n = total-snoc (λ u. u.part) (set s.views id (view_after_split v)) (split_off_view v) in let p = h.parts in omega arith);
+          let rule = op_keeps C (index o) (slice_index counts (index o)) was.0 s.views id v (view_after_split v) at was.2
+          (record { taken = λ k. refl; offered = λ k. refl; closings = λ k. refl; knows = λ w k. k }) in (
+            was.0,
+            was.1,
+            op_added C (index o) (slice_index counts (index o)) was.0 (set s.views id (view_after_split v)) (split_off_view v) rule (λ k. refl) (λ k. refl)
+                (λ k. refl) ((was.2.seen id v at).0, blank 0 was.0 refl, blank 0 was.0 refl),
+          );
+      parts = (let t = total_set (λ u. u.part) s.views id v (view_after_split v) at in let n = total-snoc (λ u. u.part) (set s.views id (view_after_split v))
+          (split_off_view v) in let p = h.parts in omega arith);
       lives = λ j u e. ⊎_elim
           (λ was. ⊎_elim
           (λ (x : (j ≡ id) × (view_after_split v ≡ u)). inl (subst (IsLive counts) x.1 (l.0, omega arith, l.2)))
@@ -77,13 +84,15 @@ greater_at_most a b w p q = record {
 }
 
 -- what two changes make of a count
-two : (f : View → ℕ) (views : List View) (id : ℕ) (v m : View) (other : ℕ) (u : View) → get_elem? views id ≡ some v → get_elem? (set views id m) other ≡ some u → f m ≡ f v + f u → f spent_view ≡ 0 → total f (set (set views id m) other spent_view) ≡ total f views
+two : (f : View → ℕ) (views : List View) (id : ℕ) (v m : View) (other : ℕ) (u : View) → get_elem? views id ≡ some v → get_elem? (set views id m) other ≡ some u → f m ≡ f v + f u
+    → f spent_view ≡ 0 → total f (set (set views id m) other spent_view) ≡ total f views
 two f views id v m other u at there sum zeroed = let a = total_set f views id v m at in let b = total_set f (set views id m) other u spent_view there in omega arith
 
 pub joins : {S : Type 0} (C : ℕ) (counts : List ℕ) (id : ℕ) (v : View) (other : ℕ) (u : View) → 0 < v.part → 0 < u.part → Joins {S = S} (Holds C counts) id v other u (merging_view v u) spent_view
 joins {S} C counts id v other u part part' s h at ne there =
     let m = merging_view v u in
-    let at' : get_elem? s.views other ≡ some u = ⊎_elim (λ (x : (other ≡ id) × (m ≡ u)). absurd (ne x.0)) (λ (x : (other ≢ id) × (get_elem? s.views other ≡ some u)). x.1) (at_set s.views id other m u there) in
+    let at' : get_elem? s.views other ≡ some u = ⊎_elim (λ (x : (other ≡ id) × (m ≡ u)). absurd (ne x.0)) (λ (x : (other ≢ id) × (get_elem? s.views other ≡ some u)). x.1)
+    (at_set s.views id other m u there) in
     let l = lives counts v part (h.lives id v at) in
     let l' = lives counts u part' (h.lives other u at') in record {
       length_is = h.length_is;
@@ -107,7 +116,12 @@ joins {S} C counts id v other u part part' s h at ne there =
               seen = λ j y e. ⊎_elim
                   (λ (x : (j ≡ other) × (spent_view ≡ y)). subst (λ (z : View). Knows i z w) x.1 (blank 0 w refl, blank 0 w refl, blank 0 w refl))
                   (λ (x : (j ≢ other) × (get_elem? (set s.views id m) j ≡ some y)). ⊎_elim
-                  (λ (z : (j ≡ id) × (m ≡ y)). subst (λ (z' : View). Knows i z' w) z.1 (subst (λ (k : Look). AtMost k.seen w) (sym look) (greater_at_most (look_at v i).seen (look_at u i).seen w kv.0 ku.0), kv.0, ku.0))
+                  (λ (z : (j ≡ id) × (m ≡ y)). subst (λ (z' : View). Knows i z' w) z.1 (
+                    subst (λ (k : Look). AtMost k.seen w) (sym look)
+                        (greater_at_most (look_at v i).seen (look_at u i).seen w kv.0 ku.0),
+                    kv.0,
+                    ku.0,
+                  ))
                   (λ (z : (j ≢ id) × (get_elem? s.views j ≡ some y)). r.seen j y z.1)
                   (at_set s.views id j m y x.1))
                   (at_set (set s.views id m) other j spent_view y e);

@@ -1,5 +1,6 @@
 -- What a legal log says as a whole_view.
-use Rattle.std.proofs.Common.{◌≡◌, ◌⊎◌, ℕ, zero, suc, ◌+◌, ◌<◌, List, [], ◌∷◌, ◌++◌, length, Bool, true, false, true≢false, cond, ◌||◌, eqb, refl, sym, ap, ◌∙◌, subst, ⊎_elim, arith, inl, inr, ne_eqb, eq-eqb}
+use Rattle.std.proofs.Common.{◌≡◌, ◌⊎◌, ℕ, zero, suc, ◌+◌, ◌<◌, List, [], ◌∷◌, ◌++◌, length, Bool, true, false}
+use Rattle.std.proofs.Common.{true≢false, cond, ◌||◌, eqb, refl, sym, ap, ◌∙◌, subst, ⊎_elim, arith, inl, inr, ne_eqb, eq-eqb}
 use Rattle.std.specs.Prelude.{slice_index}
 use mathlib.Core.Option.{some, some-injective, some-ne-none}
 use mathlib.Core.Logic.{dite}
@@ -14,7 +15,8 @@ use Rattle.mothra_exchange.specs.Ticket.{one_if}
 use Rattle.mothra_exchange.specs.Log.{closes_in, hands, closes, MayFollow, IsLegalAfter, IsLegal, taken_of, taken_in, one_to}
 use Rattle.mothra_exchange.proofs.Logs.{append-cons, append-nil, hands-more}
 
-pub legal_induction : (C : ℕ) (counts : List ℕ) (P : List Event → Type 0) → P [] → ((log : List Event) (e : Event) → P log → MayFollow C counts log e → P (log ++ e ∷ [])) → (log : List Event) → IsLegal C counts log → P log
+pub legal_induction : (C : ℕ) (counts : List ℕ) (P : List Event → Type 0) → P [] → ((log : List Event) (e : Event) → P log → MayFollow C counts log e → P (log ++ e ∷ []))
+    → (log : List Event) → IsLegal C counts log → P log
 legal_induction C counts P base more log h = go [] log base h
   where
     go : (pre es : List Event) → P pre → IsLegalAfter C counts pre es → P (pre ++ es)
@@ -38,8 +40,10 @@ pub in_order : (C : ℕ) (counts : List ℕ) (i : ℕ) (log : List Event) → Is
 in_order C counts i = legal_induction C counts (λ log. taken_in i log ≡ one_to (hands i log)) refl more
   where
     more : (log : List Event) (e : Event) → taken_in i log ≡ one_to (hands i log) → MayFollow C counts log e → taken_in i (log ++ e ∷ []) ≡ one_to (hands i (log ++ e ∷ []))
-    more log (Offered t) p m = let h = hands-more i log (Offered t) in let same : hands i log ≡ hands i (log ++ (Offered t) ∷ []) = omega arith in taken-more i log (Offered t) ∙ numbers-nil (taken_in i log) ∙ p ∙ ap one_to same
-    more log (Closed o) p m = let h = hands-more i log (Closed o) in let same : hands i log ≡ hands i (log ++ (Closed o) ∷ []) = omega arith in taken-more i log (Closed o) ∙ numbers-nil (taken_in i log) ∙ p ∙ ap one_to same
+    more log (Offered t) p m = let h = hands-more i log (Offered t) in let same : hands i log ≡ hands i (log ++ (Offered t) ∷ []) = omega arith in
+        taken-more i log (Offered t) ∙ numbers-nil (taken_in i log) ∙ p ∙ ap one_to same
+    more log (Closed o) p m = let h = hands-more i log (Closed o) in let same : hands i log ≡ hands i (log ++ (Closed o) ∷ []) = omega arith in
+        taken-more i log (Closed o) ∙ numbers-nil (taken_in i log) ∙ p ∙ ap one_to same
     more log (Handed t) p m = dite (ℕ_discrete (index t.op) i)
         (λ same.
         let h = hands-more i log (Handed t) in
@@ -47,12 +51,14 @@ in_order C counts i = legal_induction C counts (λ log. taken_in i log ≡ one_t
         let one : one_if (eqb (index t.op) i) ≡ 1 = ap one_if b in
         let grown : hands i (log ++ Handed t ∷ []) ≡ suc (hands i log) = omega arith in
         let number : t.number ≡ suc (hands i log) = let n = subst (λ (j : ℕ). t.number ≡ hands j log + 1) same m.0 in omega arith in
-        taken-more i log (Handed t) ∙ ap (λ (c : Bool). taken_in i log ++ cond c (t.number ∷ []) []) b ∙ ap (λ (l : List ℕ). l ++ t.number ∷ []) p ∙ ap (λ (n : ℕ). one_to (hands i log) ++ n ∷ []) number ∙ ap one_to (sym grown))
+        taken-more i log (Handed t) ∙ ap (λ (c : Bool). taken_in i log ++ cond c (t.number ∷ []) []) b ∙ ap (λ (l : List ℕ). l ++ t.number ∷ []) p
+        ∙ ap (λ (n : ℕ). one_to (hands i log) ++ n ∷ []) number ∙ ap one_to (sym grown))
         (λ ne.
         let h = hands-more i log (Handed t) in
         let b = ne_eqb (index t.op) i ne in
         let none_more : one_if (eqb (index t.op) i) ≡ 0 = ap one_if b in
-        taken-more i log (Handed t) ∙ ap (λ (c : Bool). taken_in i log ++ cond c (t.number ∷ []) []) b ∙ numbers-nil (taken_in i log) ∙ p ∙ ap one_to (let same : hands i log ≡ hands i (log ++ Handed t ∷ []) = omega arith in same))
+        taken-more i log (Handed t) ∙ ap (λ (c : Bool). taken_in i log ++ cond c (t.number ∷ []) []) b ∙ numbers-nil (taken_in i log) ∙ p
+        ∙ ap one_to (let same : hands i log ≡ hands i (log ++ Handed t ∷ []) = omega arith in same))
 
 within : (log : List Event) (j : ℕ) (e : Event) → get_elem? log j ≡ some e → j < length log
 within [] j e h = absurd (some-ne-none e (sym h))
@@ -71,11 +77,13 @@ or_true false = refl
 
 closed_at : (log : List Event) (j : ℕ) (op : Op) → get_elem? log j ≡ some (Closed op) → closes (index op) log ≡ true
 closed_at [] j op h = absurd (some-ne-none (Closed op) (sym h))
-closed_at (x ∷ xs) zero op h = subst (λ (e : Event). (closes_in (index op) e || closes (index op) xs) ≡ true) (sym (some-injective _ _ h)) (ap (λ (b : Bool). b || closes (index op) xs) (eq-eqb (index op) (index op) refl))
+closed_at (x ∷ xs) zero op h = subst (λ (e : Event). (closes_in (index op) e || closes (index op) xs) ≡ true) (sym (some-injective _ _ h))
+    (ap (λ (b : Bool). b || closes (index op) xs) (eq-eqb (index op) (index op) refl))
 closed_at (x ∷ xs) (suc j) op h = ap (λ (b : Bool). closes_in (index op) x || b) (closed_at xs j op h) ∙ or_true (closes_in (index op) x)
 
 -- no ticket is offered after its operator was closed
-pub none_after : (C : ℕ) (counts : List ℕ) (log : List Event) → IsLegal C counts log → (j k : ℕ) (op : Op) (t : Ticket) → get_elem? log j ≡ some (Closed op) → get_elem? log k ≡ some (Offered t) → t.op ≡ op → k < j
+pub none_after : (C : ℕ) (counts : List ℕ) (log : List Event) → IsLegal C counts log → (j k : ℕ) (op : Op) (t : Ticket) → get_elem? log j ≡ some (Closed op)
+    → get_elem? log k ≡ some (Offered t) → t.op ≡ op → k < j
 none_after C counts = legal_induction C counts (λ log. (j k : ℕ) (op : Op) (t : Ticket) → get_elem? log j ≡ some (Closed op) → get_elem? log k ≡ some (Offered t) → t.op ≡ op → k < j)
     (λ j k op t c o e. absurd (some-ne-none (Closed op) (sym c)))
     more

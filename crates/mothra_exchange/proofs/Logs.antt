@@ -1,5 +1,6 @@
 -- A log that grows stays legal, and the words show it.
-use Rattle.std.proofs.Common.{◌≡◌, ◌≢◌, ◌⊎◌, ℕ, zero, suc, ◌+◌, ◌*◌, ◌<◌, ◌≤◌, List, [], ◌∷◌, ◌++◌, length, set, get_or, Bool, true, false, ◌||◌, eqb, refl, sym, ap, ◌∙◌, subst, ⊎_elim, arith, inl, inr, ne_eqb, eq-eqb, length-append, length-set}
+use Rattle.std.proofs.Common.{◌≡◌, ◌≢◌, ◌⊎◌, ℕ, zero, suc, ◌+◌, ◌*◌, ◌<◌, ◌≤◌, List, [], ◌∷◌, ◌++◌, length, set, get_or}
+use Rattle.std.proofs.Common.{Bool, true, false, ◌||◌, eqb, refl, sym, ap, ◌∙◌, subst, ⊎_elim, arith, inl, inr, ne_eqb, eq-eqb, length-append, length-set}
 use Rattle.std.specs.Prelude.{slice_index}
 use mathlib.Core.Option.{some}
 use mathlib.Core.Logic.{dite}
@@ -161,12 +162,14 @@ used_at_most : (C : ℕ) (ws : List Word) → ((j : ℕ) → j < length ws → I
 used_at_most C [] h = omega arith
 used_at_most C (x ∷ xs) h = let a = used_most C x (h zero (omega arith)) in let r = used_at_most C xs (λ j l. h (suc j) (omega arith)) in omega arith
 
-used_below : (C : ℕ) (ws : List Word) (i : ℕ) → ((j : ℕ) → j < length ws → InBounds C (get_or ws j (opening_word 0))) → i < length ws → used_by (get_or ws i (opening_word 0)) < 2 * (get_or ws i (opening_word 0)).count + 1 → used ws < room ws
+used_below : (C : ℕ) (ws : List Word) (i : ℕ) → ((j : ℕ) → j < length ws → InBounds C (get_or ws j (opening_word 0))) → i < length ws
+    → used_by (get_or ws i (opening_word 0)) < 2 * (get_or ws i (opening_word 0)).count + 1 → used ws < room ws
 used_below C [] i h l u = absurd (omega arith)
 used_below C (x ∷ xs) zero h l u = let r = used_at_most C xs (λ j m. h (suc j) (omega arith)) in omega arith
 used_below C (x ∷ xs) (suc i) h l u = let a = used_most C x (h zero (omega arith)) in let r = used_below C xs i (λ j m. h (suc j) (omega arith)) (omega arith) u in omega arith
 
-pub has_room : (C : ℕ) (ws : List Word) (log : List Event) (capacity : ℕ) (op : Op) → Keeps C ws log capacity → used_by (get_or ws (index op) (opening_word 0)) < 2 * (get_or ws (index op) (opening_word 0)).count + 1 → length log < capacity
+pub has_room : (C : ℕ) (ws : List Word) (log : List Event) (capacity : ℕ) (op : Op) → Keeps C ws log capacity
+    → used_by (get_or ws (index op) (opening_word 0)) < 2 * (get_or ws (index op) (opening_word 0)).count + 1 → length log < capacity
 has_room C ws log capacity op k u =
     let n = k.length_is in
     let small = index_below op in
@@ -176,7 +179,8 @@ has_room C ws log capacity op k u =
 
 -- one event more
 pub grows : (C : ℕ) (ws : List Word) (log : List Event) (capacity capacity' : ℕ) (e : Event) (w : Word) → Keeps C ws log capacity → capacity ≤ capacity' → MayFollow C (counts_of ws) log e
-    → w.count ≡ (get_or ws (index (op_of e)) (opening_word 0)).count → w ≡ word_of (counts_of ws) (log ++ e ∷ []) (index (op_of e)) → InBounds C w → used_by w ≡ used_by (get_or ws (index (op_of e)) (opening_word 0)) + 1
+    → w.count ≡ (get_or ws (index (op_of e)) (opening_word 0)).count → w ≡ word_of (counts_of ws) (log ++ e ∷ []) (index (op_of e)) → InBounds C w
+    → used_by w ≡ used_by (get_or ws (index (op_of e)) (opening_word 0)) + 1
     → Keeps C (set ws (index (op_of e)) w) (log ++ e ∷ []) capacity'
 grows C ws log capacity capacity' e w k le may count is bounds one =
     let i = index (op_of e) in
@@ -266,7 +270,8 @@ view_more ws i w log log' events e v is small count more same =
 -- there is room for the event of a call that wins
 fits_one : (C : ℕ) (ws : List Word) (log : List Event) (capacity : ℕ) (op : Op) (i : ℕ) → i ≡ index op → Keeps C ws log capacity
     → ((get_or ws i (opening_word 0)).closed ≡ false) ⊎ ((get_or ws i (opening_word 0)).handed ≢ (get_or ws i (opening_word 0)).offered) → length log < capacity
-fits_one C ws log capacity op i here k more = has_room C ws log capacity op k (spare C (get_or ws (index op) (opening_word 0)) (k.bounds op) (subst (λ (j : ℕ). ((get_or ws j (opening_word 0)).closed ≡ false) ⊎ ((get_or ws j (opening_word 0)).handed ≢ (get_or ws j (opening_word 0)).offered)) here more))
+fits_one C ws log capacity op i here k more = has_room C ws log capacity op k (spare C (get_or ws (index op) (opening_word 0)) (k.bounds op)
+    (subst (λ (j : ℕ). ((get_or ws j (opening_word 0)).closed ≡ false) ⊎ ((get_or ws j (opening_word 0)).handed ≢ (get_or ws j (opening_word 0)).offered)) here more))
   where
     bit_most : (c : Bool) → bit c ≤ 1
     bit_most true = omega arith
@@ -275,11 +280,14 @@ fits_one C ws log capacity op i here k more = has_room C ws log capacity op k (s
     spare : (C : ℕ) (w : Word) → InBounds C w → (w.closed ≡ false) ⊎ (w.handed ≢ w.offered) → used_by w < 2 * w.count + 1
     spare C w b more = ⊎_elim (λ (e : w.closed ≡ false). let z : bit w.closed ≡ 0 = ap bit e in omega arith) (λ (ne : w.handed ≢ w.offered). let z = bit_most w.closed in omega arith) more
 
-pub fits_offer : (C : ℕ) (ws : List Word) (log : List Event) (capacity k : ℕ) (op : Op) (i : ℕ) → i ≡ index op → Keeps C ws log capacity → offer_answer C k (get_or ws i (opening_word 0)) ≡ Accepted → length log < capacity
+pub fits_offer : (C : ℕ) (ws : List Word) (log : List Event) (capacity k : ℕ) (op : Op) (i : ℕ) → i ≡ index op → Keeps C ws log capacity
+    → offer_answer C k (get_or ws i (opening_word 0)) ≡ Accepted → length log < capacity
 fits_offer C ws log capacity k op i here keeps answer = fits_one C ws log capacity op i here keeps (inl (accepted C k (get_or ws i (opening_word 0)) answer).0)
 
-pub fits_take : (C : ℕ) (ws : List Word) (log : List Event) (capacity : ℕ) (op : Op) (t : Ticket) (i : ℕ) → i ≡ index op → Keeps C ws log capacity → take_answer op (get_or ws i (opening_word 0)) ≡ Taken t → length log < capacity
+pub fits_take : (C : ℕ) (ws : List Word) (log : List Event) (capacity : ℕ) (op : Op) (t : Ticket) (i : ℕ) → i ≡ index op → Keeps C ws log capacity
+    → take_answer op (get_or ws i (opening_word 0)) ≡ Taken t → length log < capacity
 fits_take C ws log capacity op t i here keeps answer = fits_one C ws log capacity op i here keeps (inr (taken op t (get_or ws i (opening_word 0)) answer).1)
 
-pub fits_close : (C : ℕ) (ws : List Word) (log : List Event) (capacity : ℕ) (op : Op) (i : ℕ) → i ≡ index op → Keeps C ws log capacity → close_answer (get_or ws i (opening_word 0)) ≡ Done → length log < capacity
+pub fits_close : (C : ℕ) (ws : List Word) (log : List Event) (capacity : ℕ) (op : Op) (i : ℕ) → i ≡ index op → Keeps C ws log capacity
+    → close_answer (get_or ws i (opening_word 0)) ≡ Done → length log < capacity
 fits_close C ws log capacity op i here keeps answer = fits_one C ws log capacity op i here keeps (inl (done (get_or ws i (opening_word 0)) answer))

@@ -19,8 +19,13 @@ use Rattle.mothra_exchange.specs.Calls.{TakeLeaves, CloseLeaves, LostTo}
 pub lost : {S : Type 0} (op : Op) (i slots first second found : ℕ) (me new : Me S View) (w : Word) → i ≡ index op → (look_at me.0 (index op)).loaded ≡ w → first ≡ pack w
     → Loses (step slots i first second none) me found new → LostTo me.0 op w new.0
 lost {S} op i slots first second found me new w here loaded is t =
-    let x = t.0 in
-    (x, subst (λ (y : Word). AtMost y x) (ap (λ (j : ℕ). (look_at me.0 j).loaded) here ∙ loaded) t.4, (λ e. t.2 (t.1 ∙ ap pack e ∙ sym is)), ap (λ (m : Me S View). m.0) t.5 ∙ (λ k. view_after_finding me.0 (here k) x))
+    let x = t.0 in (
+      x,
+      subst (λ (y : Word). AtMost y x) (ap (λ (j : ℕ). (look_at me.0 j).loaded) here ∙ loaded) t.4,
+      (λ e. t.2 (t.1 ∙ ap pack e ∙ sym is)),
+      ap (λ (m : Me S View). m.0) t.5
+          ∙ (λ k. view_after_finding me.0 (here k) x),
+    )
 
 pub answers_taken : (op : Op) (w : Word) → w.handed ≢ w.offered → take_answer op w ≡ Taken (ticket op (w.handed + 1))
 answers_taken op w ne = rw (ne_eqb w.handed w.offered ne) refl

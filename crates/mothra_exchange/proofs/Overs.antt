@@ -38,7 +38,8 @@ merges_well C v w lv lw agree op =
     let b = a.bounds in
     let mine = a.knows.1 in
     let theirs = a.knows.2 in
-    let look : look_at (united_view v w) i ≡ joined_look (look_at v i) (look_at w i) = joined_at v.looks w.looks i (subst (λ (n : ℕ). i < n) (sym lv) small) (subst (λ (n : ℕ). i < n) (sym lw) small) in record {
+    let look : look_at (united_view v w) i ≡ joined_look (look_at v i) (look_at w i) = joined_at v.looks w.looks i (subst (λ (n : ℕ). i < n) (sym lv) small)
+    (subst (λ (n : ℕ). i < n) (sym lw) small) in record {
       left_over = λ o. let c = mine.close o.0 in let e = c.1 in let f = o.1 in
           subst (λ (l : Look). (l.seen.closed ≡ true) × (l.seen.handed ≡ l.seen.offered)) (sym look) (or_left _ _ o.0, omega arith);
       right_over = λ o. let c = theirs.close o.0 in let e = c.1 in let f = o.1 in

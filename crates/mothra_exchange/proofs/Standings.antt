@@ -30,7 +30,8 @@ one_has f (x ∷ xs) e = dite (ℕ_discrete (f x) 0) (λ z. later z (one_has f x
     first none zero u at ne = absurd (ne refl)
     first none (suc other) u at ne = none_has f xs none other u at
 
-    elsewhere : f x ≡ 0 → (by : ℕ) → ((other : ℕ) (u : View) → get_elem? xs other ≡ some u → other ≢ by → f u ≡ 0) → (other : ℕ) (u : View) → get_elem? (x ∷ xs) other ≡ some u → other ≢ suc by → f u ≡ 0
+    elsewhere : f x ≡ 0 → (by : ℕ) → ((other : ℕ) (u : View) → get_elem? xs other ≡ some u → other ≢ by → f u ≡ 0) → (other : ℕ) (u : View) → get_elem? (x ∷ xs) other ≡ some u
+        → other ≢ suc by → f u ≡ 0
     elsewhere z by h zero u at ne = ap f (sym (some-injective _ _ at)) ∙ z
     elsewhere z by h (suc other) u at ne = h other u at (λ s. ne (ap suc s))
 
@@ -53,7 +54,8 @@ are_one_to list op n views h = record {
 }
 
 -- a packed word is that of one record
-pub rule_at : (C : ℕ) (counts words : List ℕ) (views : List View) → IsSound C counts words views → (op : Op) (w : Word) → IsWordOf words op w → OpRule C (index op) (slice_index counts (index op)) w views
+pub rule_at : (C : ℕ) (counts words : List ℕ) (views : List View) → IsSound C counts words views → (op : Op) (w : Word) → IsWordOf words op w
+    → OpRule C (index op) (slice_index counts (index op)) w views
 rule_at C counts words views h op w is =
     let was = h.ops op in
     subst (λ (x : Word). OpRule C (index op) (slice_index counts (index op)) x views) (pack-injective was.0 w (fits C was.0 was.2.bounds) is.0 (sym was.1 ∙ is.1)) was.2
@@ -80,26 +82,33 @@ closed-else w k ne = rw (ne_eqb w.offered k (λ e. ne (sym e))) (both w.closed)
 open-at : (w : Word) (k : ℕ) → w.closed ≡ false → once_if_closed w k ≡ 0
 open-at w k e = rw e refl
 
-pub closing_stands : (C : ℕ) (counts words : List ℕ) (views : List View) → IsSound C counts words views → (op : Op) (w : Word) → IsWordOf words op w → w.closed ≡ true → StandsInOne (λ v. times_closed (index op) w.offered v.closings) views
-closing_stands C counts words views h op w is c = one_has (λ v. times_closed (index op) w.offered v.closings) views ((rule_at C counts words views h op w is).closings w.offered ∙ closed-at w w.offered c refl)
+pub closing_stands : (C : ℕ) (counts words : List ℕ) (views : List View) → IsSound C counts words views → (op : Op) (w : Word) → IsWordOf words op w → w.closed ≡ true
+    → StandsInOne (λ v. times_closed (index op) w.offered v.closings) views
+closing_stands C counts words views h op w is c = one_has (λ v. times_closed (index op) w.offered v.closings) views
+    ((rule_at C counts words views h op w is).closings w.offered ∙ closed-at w w.offered c refl)
 
-pub no_other_closing : (C : ℕ) (counts words : List ℕ) (views : List View) → IsSound C counts words views → (op : Op) (w : Word) → IsWordOf words op w → (k : ℕ) → (w.closed ≡ false) ⊎ (k ≢ w.offered) → StandsInNone (λ v. times_closed (index op) k v.closings) views
+pub no_other_closing : (C : ℕ) (counts words : List ℕ) (views : List View) → IsSound C counts words views → (op : Op) (w : Word) → IsWordOf words op w → (k : ℕ)
+    → (w.closed ≡ false) ⊎ (k ≢ w.offered) → StandsInNone (λ v. times_closed (index op) k v.closings) views
 no_other_closing C counts words views h op w is k out v at = none_has (λ u. times_closed (index op) k u.closings) views
     ((rule_at C counts words views h op w is).closings k ∙ ⊎_elim (λ (e : w.closed ≡ false). open-at w k e) (λ (ne : k ≢ w.offered). closed-else w k ne) out) at.0 v at.1
 
-pub in_bounds : (C : ℕ) (counts words : List ℕ) (views : List View) → IsSound C counts words views → (op : Op) (w : Word) → IsWordOf words op w → (w.handed ≤ w.offered) × (w.offered ≤ w.count) × (w.offered ≤ w.handed + C)
+pub in_bounds : (C : ℕ) (counts words : List ℕ) (views : List View) → IsSound C counts words views → (op : Op) (w : Word) → IsWordOf words op w
+    → (w.handed ≤ w.offered) × (w.offered ≤ w.count) × (w.offered ≤ w.handed + C)
 in_bounds C counts words views h op w is = let b = (rule_at C counts words views h op w is).bounds in (b.handed, b.offered, b.waiting)
 
-pub same_count : (C : ℕ) (counts words : List ℕ) (views : List View) → IsSound C counts words views → (op : Op) (w : Word) → IsWordOf words op w → (v : View) → IsAmong views v → v ≢ spent_view → slice_index v.counts (index op) ≡ w.count
+pub same_count : (C : ℕ) (counts words : List ℕ) (views : List View) → IsSound C counts words views → (op : Op) (w : Word) → IsWordOf words op w → (v : View) → IsAmong views v
+    → v ≢ spent_view → slice_index v.counts (index op) ≡ w.count
 same_count C counts words views h op w is v at ne = ⊎_elim
     (λ (l : IsLive counts v). ap (λ (c : List ℕ). slice_index c (index op)) l.0 ∙ sym (rule_at C counts words views h op w is).count)
     (λ (e : v ≡ spent_view). absurd (ne e))
     (h.lives at.0 v at.1)
 
-pub not_below : (C : ℕ) (counts words : List ℕ) (views : List View) → IsSound C counts words views → (op : Op) (w : Word) → IsWordOf words op w → (v : View) → IsAmong views v → AtMost (look_at v (index op)).seen w
+pub not_below : (C : ℕ) (counts words : List ℕ) (views : List View) → IsSound C counts words views → (op : Op) (w : Word) → IsWordOf words op w → (v : View) → IsAmong views v
+    → AtMost (look_at v (index op)).seen w
 not_below C counts words views h op w is v at = ((rule_at C counts words views h op w is).seen at.0 v at.1).0
 
-pub stays_closed : (C : ℕ) (counts words : List ℕ) (views : List View) → IsSound C counts words views → (op : Op) (w : Word) → IsWordOf words op w → (v : View) → IsAmong views v → (look_at v (index op)).seen.closed ≡ true
+pub stays_closed : (C : ℕ) (counts words : List ℕ) (views : List View) → IsSound C counts words views → (op : Op) (w : Word) → IsWordOf words op w → (v : View) → IsAmong views v
+    → (look_at v (index op)).seen.closed ≡ true
     → (w.closed ≡ true) × (w.offered ≡ (look_at v (index op)).seen.offered)
 stays_closed C counts words views h op w is v at c = (not_below C counts words views h op w is v at).close c
 

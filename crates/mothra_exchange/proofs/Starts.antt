@@ -40,10 +40,12 @@ room-take-suc (n ∷ ns) (suc i) h = let r = room-take-suc ns i (omega arith) in
 pub room-take : (counts : List ℕ) (i : ℕ) → i < length counts → room (map opening_word (take (i + 1) counts)) ≡ room (map opening_word (take i counts)) + (2 * get_or counts i 0 + 1)
 room-take counts i h = let e : i + 1 ≡ suc i = omega arith in ap (λ (n : ℕ). room (map opening_word (take n counts))) e ∙ room-take-suc counts i h
 
-pub opened : (words : List Word) (counts : List ℕ) → length words ≡ 22 → length counts ≡ 22 → ((k : ℕ) → k < 22 → get_or words k (opening_word 0) ≡ opening_word (get_or counts k 0)) → words ≡ map opening_word counts
+pub opened : (words : List Word) (counts : List ℕ) → length words ≡ 22 → length counts ≡ 22
+    → ((k : ℕ) → k < 22 → get_or words k (opening_word 0) ≡ opening_word (get_or counts k 0)) → words ≡ map opening_word counts
 opened words counts l m h = same_list (opening_word 0) words (map opening_word counts) (let e = length-opening counts in omega arith) (λ k lt. h k (omega arith) ∙ sym (opening_at counts k))
 
-pub starts : (C : ℕ) (counts : List ℕ) (words : List Word) (log : List Event) (capacity : ℕ) → length counts ≡ 22 → AllCountsFit counts → words ≡ map opening_word counts → log ≡ [] → room (map opening_word counts) ≤ capacity → Keeps C words log capacity
+pub starts : (C : ℕ) (counts : List ℕ) (words : List Word) (log : List Event) (capacity : ℕ) → length counts ≡ 22 → AllCountsFit counts → words ≡ map opening_word counts
+    → log ≡ [] → room (map opening_word counts) ≤ capacity → Keeps C words log capacity
 starts C counts words log capacity l small e f r = subst (λ (y : List Word × List Event). Keeps C y.0 y.1 capacity) (λ i. (sym e i, sym f i)) (record {
   legal = tt;
   shows = λ op. opening_at counts (index op) ∙ ap (λ (c : List ℕ). opening_word (slice_index c (index op))) (sym (counts_of-opening counts));

@@ -33,7 +33,8 @@ knows_more : (i : ℕ) (v : View) (a b : Word) → Knows i v a → AtMost a b �
 knows_more i v a b h le = (AtMost-trans _ _ _ h.0 le, AtMost-trans _ _ _ h.1 le, AtMost-trans _ _ _ h.2 le)
 
 -- one operator's rule after such a step
-pub op_moves : (C i n : ℕ) (w₀ w : Word) (views : List View) (by : ℕ) (v v' : View) → get_elem? views by ≡ some v → OpRule C i n w₀ views → InBounds C w → w.count ≡ w₀.count → Moves i w₀ w v v' → OpRule C i n w (set views by v')
+pub op_moves : (C i n : ℕ) (w₀ w : Word) (views : List View) (by : ℕ) (v v' : View) → get_elem? views by ≡ some v → OpRule C i n w₀ views → InBounds C w → w.count ≡ w₀.count
+    → Moves i w₀ w v v' → OpRule C i n w (set views by v')
 op_moves C i n w₀ w views by v v' at h bounds count m = record {
   count = count ∙ h.count;
   bounds = bounds;
@@ -89,15 +90,22 @@ pub lives : (counts : List ℕ) (v : View) → 0 < v.part → (IsLive counts v) 
 lives counts v part known = ⊎_elim (λ (l : IsLive counts v). l) (λ (e : v ≡ spent_view). let none : v.part ≡ 0 = ap (λ (u : View). u.part) e in absurd (omega arith)) known
 
 -- the whole_view rule after a step on op's word
-pub turns : {S : Type 0} (C : ℕ) (counts : List ℕ) (s : State S View) (id : ℕ) (v v' : View) (op : Op) (w₀ w : Word) (n : ℕ) → Holds C counts s → get_elem? s.views id ≡ some v → 0 < v.part → slice_index s.words (index op) ≡ pack w₀ → n ≡ pack w
+pub turns : {S : Type 0} (C : ℕ) (counts : List ℕ) (s : State S View) (id : ℕ) (v v' : View) (op : Op) (w₀ w : Word) (n : ℕ) → Holds C counts s → get_elem? s.views id ≡ some v
+    → 0 < v.part → slice_index s.words (index op) ≡ pack w₀ → n ≡ pack w
     → Apart op v v' → OpRule C (index op) (slice_index counts (index op)) w (set s.views id v')
     → (homes : List (Option S)) → Holds C counts (record { words = slice_set s.words (index op) n; homes = homes; views = slice_set s.views id v' })
 turns {S} C counts s id v v' op w₀ w n h at part is new apart own homes = record {
   length_is = length-set s.words (index op) n ∙ h.length_is;
   ops = λ o. dite (ℕ_discrete (index o) (index op))
-      (λ e. subst (λ (x : Op). (y : Word) × (slice_index (slice_set s.words (index op) n) (index x) ≡ pack y) × OpRule C (index x) (slice_index counts (index x)) y (set s.views id v')) (sym (same_op o op e))
+      (λ e. subst (λ (x : Op). (y : Word) × (slice_index (slice_set s.words (index op) n) (index x) ≡ pack y)
+      × OpRule C (index x) (slice_index counts (index x)) y (set s.views id v')) (sym (same_op o op e))
       (w, (let lt : index op < length s.words = subst (λ (m : ℕ). index op < m) (sym h.length_is) (index_below op) in get_or-set_there s.words (index op) n 0 lt ∙ new), own))
-      (λ ne. let was = h.ops o in (was.0, get_or-set_else s.words (index op) (index o) n 0 ne ∙ was.1, op_keeps C (index o) (slice_index counts (index o)) was.0 s.views id v v' at was.2 (apart.others (index o) ne)));
+      (λ ne. let was = h.ops o in (
+        was.0,
+        get_or-set_else s.words (index op) (index o) n 0 ne
+            ∙ was.1,
+        op_keeps C (index o) (slice_index counts (index o)) was.0 s.views id v v' at was.2 (apart.others (index o) ne),
+      ));
   parts = (let t = total_set (λ u. u.part) s.views id v v' at in let p = h.parts in let q = apart.part in omega arith);
   lives = λ j u e. ⊎_elim
       (λ (x : (j ≡ id) × (v' ≡ u)). let l = lives counts v part (h.lives id v at) in let q = apart.part in
@@ -112,13 +120,20 @@ looks_apart op v l = record {
   counts = refl;
   part = refl;
   looks = length-set v.looks (index op) l;
-  others = λ i ne. record { taken = λ k. refl; offered = λ k. refl; closings = λ k. refl; knows = knows_same i v (with_look v (index op) l) (get_or-set_else v.looks (index op) i l (first_look 0) ne) refl refl };
+  others = λ i ne. record {
+    taken = λ k. refl;
+    offered = λ k. refl;
+    closings = λ k. refl;
+    knows = knows_same i v (with_look v (index op) l)
+        (get_or-set_else v.looks (index op) i l (first_look 0) ne) refl refl;
+  };
 }
 
 pub new_look : (op : Op) (v : View) (l : Look) → length v.looks ≡ 22 → look_at (with_look v (index op) l) (index op) ≡ l
 new_look op v l is = let lt : index op < length v.looks = subst (λ (m : ℕ). index op < m) (sym is) (index_below op) in get_or-set_there v.looks (index op) l (first_look 0) lt
 
-pub loads : {S : Type 0} (C : ℕ) (counts : List ℕ) (slots id : ℕ) (me : Me S View) (op : Op) → 0 < me.0.part → Allows (Holds C counts) slots id me (index op) (λ n. n) (Looks C (step slots (index op) 0 0 none) me)
+pub loads : {S : Type 0} (C : ℕ) (counts : List ℕ) (slots id : ℕ) (me : Me S View) (op : Op) → 0 < me.0.part
+    → Allows (Holds C counts) slots id me (index op) (λ n. n) (Looks C (step slots (index op) 0 0 none) me)
 loads {S} C counts slots id me op part s h homes at small =
     let was = h.ops op in
     let w = was.0 in
@@ -142,5 +157,6 @@ loads {S} C counts slots id me op part s h homes at small =
       (w, was.1, record { bounds = was.2.bounds; rises = (was.2.seen id v at).0; count = was.2.count ∙ ap (λ (c : List ℕ). slice_index c (index op)) (sym l.0); looks = l.2 }, refl),
     )
 
-pub loads_at : {S : Type 0} (C : ℕ) (counts : List ℕ) (slots id : ℕ) (me : Me S View) (op : Op) (i : ℕ) → i ≡ index op → 0 < me.0.part → Allows (Holds C counts) slots id me i (λ n. n) (Looks C (step slots i 0 0 none) me)
+pub loads_at : {S : Type 0} (C : ℕ) (counts : List ℕ) (slots id : ℕ) (me : Me S View) (op : Op) (i : ℕ) → i ≡ index op → 0 < me.0.part
+    → Allows (Holds C counts) slots id me i (λ n. n) (Looks C (step slots i 0 0 none) me)
 loads_at C counts slots id me op i here part = subst (λ (j : ℕ). Allows (Holds C counts) slots id me j (λ n. n) (Looks C (step slots j 0 0 none) me)) (sym here) (loads C counts slots id me op part)
