@@ -1,10 +1,11 @@
 //! The exchange under one lock.
 
 ghost use Rattle.std.specs.Prelude.{◌≡◌, IfOk, IfErr, OnOk, true, false};
-ghost use Rattle.mothra_exchange.specs.declared.word.Word.{Word};
 ghost use Rattle.mothra_exchange.specs.View.{spent_view};
 ghost use Rattle.mothra_exchange.specs.Answer.{offer_answer, take_answer, close_answer};
 ghost use Rattle.mothra_exchange.specs.Gate.{MayOffer, MayTake, MayClose, OfferKept, TakeKept, CloseKept};
+ghost use Rattle.mothra_exchange.specs.Log.{IsLegal};
+ghost use Rattle.mothra_exchange.specs.State.{History, numbers_of};
 ghost use Rattle.mothra_exchange.specs.Fault.{AllCountsFit, IsFaultOf};
 ghost use Rattle.mothra_exchange.specs.Tally.{Ends};
 ghost use Rattle.mothra_exchange.specs.Locked.{counts_given, TalliesLog};
@@ -74,11 +75,12 @@ impl<const C: u32> Gate for LockedExchange<C> {
 
     fn merge(&self, _pass: &mut LockedPass, _other: LockedPass) {}
 
-    // The answer of the table for some numbers, so never Busy.
+    // The answer of the table for the numbers of a legal log, so never Busy.
     fn offer<R: Wait>(&self, rt: &R, _pass: &mut LockedPass, ticket: Ticket) -> Offer
         ensures gives_up { MayOffer false result }
         ensures records { false ≡ true → OfferKept C spent_view ticket result spent_view }
-        ensures answer { (w : Word) × (result ≡ offer_answer C ticket.number w) }
+        ensures answer { (h : History) × IsLegal C h.counts h.events
+            × (result ≡ offer_answer C ticket.number (numbers_of h ticket.op)) }
     {
         self.state.lock(rt).offer(ticket)
     }
@@ -86,7 +88,8 @@ impl<const C: u32> Gate for LockedExchange<C> {
     fn take<R: Wait>(&self, rt: &R, _pass: &mut LockedPass, op: Op) -> Take
         ensures gives_up { MayTake false result }
         ensures records { false ≡ true → TakeKept C spent_view op result spent_view }
-        ensures answer { (w : Word) × (result ≡ take_answer op w) }
+        ensures answer { (h : History) × IsLegal C h.counts h.events
+            × (result ≡ take_answer op (numbers_of h op)) }
     {
         self.state.lock(rt).take(op)
     }
@@ -94,7 +97,8 @@ impl<const C: u32> Gate for LockedExchange<C> {
     fn close<R: Wait>(&self, rt: &R, _pass: &mut LockedPass, op: Op) -> Close
         ensures gives_up { MayClose false result }
         ensures records { false ≡ true → CloseKept C spent_view op result spent_view }
-        ensures answer { (w : Word) × (result ≡ close_answer w) }
+        ensures answer { (h : History) × IsLegal C h.counts h.events
+            × (result ≡ close_answer (numbers_of h op)) }
     {
         self.state.lock(rt).close(op)
     }

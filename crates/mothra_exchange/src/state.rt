@@ -98,6 +98,7 @@ impl<const C: u32> State<C> {
 
     /// Offers a ticket. Only an accepted one is logged.
     pub fn offer(&mut self, ticket: Ticket) -> Offer
+        ensures legal { IsLegal C self.old.counts self.old.events }
         ensures answer { result ≡ offer_answer C ticket.number (numbers_of self.old ticket.op) }
         ensures log { self.new ≡ record self.old { events = log_after_offer self.old.events ticket result } }
     {
@@ -115,6 +116,7 @@ impl<const C: u32> State<C> {
 
     /// Takes the next ticket of an operator. Only a take that got one is logged.
     pub fn take(&mut self, op: Op) -> Take
+        ensures legal { IsLegal C self.old.counts self.old.events }
         ensures answer { result ≡ take_answer op (numbers_of self.old op) }
         ensures log { self.new ≡ record self.old { events = log_after_take self.old.events result } }
     {
@@ -132,6 +134,7 @@ impl<const C: u32> State<C> {
 
     /// Closes an operator: no ticket of it is accepted from then on. Only the first close is logged.
     pub fn close(&mut self, op: Op) -> Close
+        ensures legal { IsLegal C self.old.counts self.old.events }
         ensures answer { result ≡ close_answer (numbers_of self.old op) }
         ensures log { self.new ≡ record self.old { events = log_after_close self.old.events op result } }
     {
