@@ -17,10 +17,10 @@ pub enum BenchFault {
     #[error("a thread could not begin")]
     Thread,
     /// B3: the values of the test of this number, from 1, are not those of the dummy arguments.
-    #[error("the values of test {0} are not those of the dummy arguments")]
+    #[error("number {0} of the tests gives values that are not those of the dummy arguments")]
     TestShape(usize),
     /// B4: on the test of this number, from 1, the program neither returns nor stops within the limit on steps.
-    #[error("on test {0} the program neither returns nor stops")]
+    #[error("on number {0} of the tests the program neither returns nor stops")]
     OriginalFails(usize),
     /// B5: the declared entry of this number, from 1, names no mutant.
     #[error("entry {0} of the declared equivalents names no mutant")]
