@@ -3,7 +3,7 @@
 ghost use Rattle.mothra_exchange.specs.Table.{IsPassOf};
 
 use f77_run::Values;
-use mothra_bench::{Bench, BenchFault, Row, collect, render, verdict_of};
+use mothra_bench::{Bench, BenchFault, Row, Verdicts, collect, render};
 use mothra_exchange::{Gate, Pass, TableExchange, Tally, Ticket};
 use mothra_ops::{Op, Plan};
 use std::test::Fail;
@@ -83,7 +83,7 @@ pub(crate) fn bench(
 }
 
 /// How many mutants each operator has.
-fn counts(plan: &Plan) -> [u32; 22] {
+pub(crate) fn counts(plan: &Plan) -> [u32; 22] {
     let mut counts = [0u32; 22];
     for op in Op::ALL {
         counts[op.index()] = plan.count(op);
@@ -124,11 +124,12 @@ pub(crate) fn whole_tally(rt: &impl AllocGlobal, bench: &Bench) -> Result<Tally,
 
 /// The row of each mutant, by operator and number.
 pub(crate) fn rows(rt: &impl AllocGlobal, bench: &Bench) -> Result<Vec<Row>, Fail> {
+    let verdicts = Verdicts::of(rt.alloc(), bench)?;
     let mut rows = Vec::new(rt.alloc());
     for op in Op::ALL {
         for before in 0..bench.plan().count(op) {
             let number = before + 1;
-            rows.push(verdict_of(rt.alloc(), bench, Ticket { op, number })?)?;
+            rows.push(verdicts.row(rt.alloc(), Ticket { op, number })?)?;
         }
     }
     Ok(rows)

@@ -12,3 +12,9 @@ mod ReportRows
 mod ReportTexts
 mod Outcomes
 mod Kills
+mod PassSteps
+mod WorkerSteps
+mod WorkerRows
+mod ReportEntries
+mod Crossings
+mod CountSteps

@@ -7,3 +7,8 @@ pub mod Collecting
 pub mod RowMap
 pub mod Entries
 pub mod Report
+pub mod Gathered
+pub mod Working
+pub mod Feeding
+pub mod Driving
+pub mod Analysis

@@ -1,7 +1,9 @@
 //! The tickets of a plan.
 
-ghost use Rattle.std.specs.Prelude.{◌≡◌, ◌++◌, ◌<◌, ◌^◌, OnOk, IfOk, length, vec_len};
-ghost use Rattle.mothra_ops.specs.Plan.{edits_of};
+ghost use Rattle.std.specs.Prelude.{◌≡◌, ◌++◌, ◌<◌, ◌^◌, OnOk, IfOk, length, slice_index, vec_len};
+ghost use Rattle.mothra_codes.specs.Op.{index};
+ghost use Rattle.mothra_codes.specs.declared.op.Op.{Op as OpModel};
+ghost use Rattle.mothra_ops.specs.Plan.{IsPlan, edits_of};
 ghost use Rattle.mothra_bench.specs.Matrix as definition;
 ghost use Rattle.mothra_bench.specs.Matrix.{tickets_of};
 
@@ -9,6 +11,18 @@ use mothra_codes::Op;
 use mothra_exchange::Ticket;
 use mothra_ops::Plan;
 use std::alloc::{AllocError, Global};
+
+/// How many mutants each operator has, in the order of the operators.
+pub(crate) fn counts(plan: &Plan) -> [u32; 22]
+    ensures counts { (op : OpModel) → slice_index result (index op) ≡ length (edits_of plan.now op) }
+    ensures plan { IsPlan plan.now }
+{
+    let mut counts = [0u32; 22];
+    for op in Op::ALL {
+        counts[op.index()] = plan.count(op);
+    }
+    counts
+}
 
 /// Appends the tickets of an operator that has so many mutants.
 fn push_tickets(tickets: &mut Vec<Ticket>, op: Op, count: u32) -> Result<(), AllocError>

@@ -1,7 +1,8 @@
 //! Each allocation can be refused: a change is then answered with want of memory, and else undisturbed, and the program
 //! that is changed stays as it was.
 
-use f77_check::CheckFault;
+use f77_check::{CheckFault, Checked};
+use f77_syntax::Stmt;
 use std::process::Abort;
 use std::test::Fail;
 use test_checks::{checked, held, holder, number_and_text, patch_fault, patched_fault};
@@ -29,23 +30,48 @@ fn assert_answer(rt: &impl Abort, answer: Option<Option<CheckFault>>, want: &Opt
     }
 }
 
-/// Asks twice, by both calls. Where a program or a statement is not made for want of memory nothing is asked.
+/// Asks by both calls.
+fn assert_answers(
+    rt: &impl Abort,
+    old: &Checked,
+    number: usize,
+    stmt: &Stmt,
+    want: &Option<CheckFault>,
+) {
+    assert_answer(rt, patched_fault(old, number, stmt), want);
+    assert_answer(rt, patch_fault(old, number, stmt), want);
+}
+
+/// Asks twice. Where a statement is not made for want of memory nothing is asked.
+fn assert_asked(
+    rt: &(impl AllocGlobal + Abort),
+    old: &Checked,
+    change: &str,
+    want: &Option<CheckFault>,
+) -> Result<(), Fail> {
+    let (number, text) = number_and_text(change)?;
+    let holder = holder(rt, text)?;
+    let stmt = held(&holder, text)?;
+    assert_answers(rt, old, number, stmt, want);
+    assert_answers(rt, old, number, stmt, want);
+    Ok(())
+}
+
+/// The program is still that of these statements. Where there is no memory for another nothing is compared.
+fn assert_kept(rt: &(impl AllocGlobal + Abort), old: &Checked) -> Result<(), Fail> {
+    assert!(rt; *old.program() == program(rt, LOOP)?);
+    Ok(())
+}
+
+/// Asks, and compares the program with what it was.
 fn assert_undisturbed(
     rt: &(impl AllocGlobal + Abort),
     change: &str,
     want: Option<CheckFault>,
 ) -> Result<(), Fail> {
-    let given = program(rt, LOOP)?;
     let old = checked(rt, LOOP)?;
-    let (number, text) = number_and_text(change)?;
-    let holder = holder(rt, text)?;
-    let stmt = held(&holder, text)?;
-    for _ in 0..2 {
-        assert_answer(rt, patched_fault(&old, number, stmt), &want);
-        assert_answer(rt, patch_fault(&old, number, stmt), &want);
-        assert!(rt; *old.program() == given);
-    }
-    Ok(())
+    assert_asked(rt, &old, change, &want)?;
+    assert_kept(rt, &old)
 }
 
 #[test]

@@ -56,31 +56,41 @@ fn tells_of_a_program_without_any(rt: HostRuntime) -> Result<(), Fail> {
     assert_symbols(&rt, &checked(&rt, "SUBROUTINE S; END")?, "", &[])
 }
 
+/// Compares the variables and arrays of the program with one statement changed, and its labels, which stay.
+fn assert_changed(
+    rt: &(impl AllocGlobal + Abort),
+    old: &Checked,
+    change: &str,
+    variables: &str,
+) -> Result<(), Fail> {
+    assert_symbols(rt, &changed(rt, old, change)?, variables, &[30, 10, 20, 5])
+}
+
+/// A change, and the variables and arrays then.
+const CHANGES: &[(&str, &str)] = &[
+    (
+        "7 V(N)=I",
+        "K INTEGER;P LOGICAL;M INTEGER 2 3;L INTEGER;V INTEGER 4;Q LOGICAL 5;N INTEGER;I INTEGER;",
+    ),
+    (
+        "3 INTEGER V(6),N",
+        "K INTEGER;P LOGICAL;M INTEGER 2 3;V INTEGER 6;N INTEGER;Q LOGICAL 5;I INTEGER;J INTEGER;",
+    ),
+    (
+        "7 N=NEW",
+        "K INTEGER;P LOGICAL;M INTEGER 2 3;L INTEGER;V INTEGER 4;Q LOGICAL 5;N INTEGER;I INTEGER;NEW INTEGER;",
+    ),
+    (
+        "6 DO 10 J=1,3",
+        "K INTEGER;P LOGICAL;M INTEGER 2 3;L INTEGER;V INTEGER 4;Q LOGICAL 5;N INTEGER;J INTEGER;I INTEGER;",
+    ),
+];
+
 #[test]
 fn tells_of_the_changed_program(rt: HostRuntime) -> Result<(), Fail> {
     let old = checked(&rt, PROGRAM)?;
-    assert_symbols(
-        &rt,
-        &changed(&rt, &old, "7 V(N)=I")?,
-        "K INTEGER;P LOGICAL;M INTEGER 2 3;L INTEGER;V INTEGER 4;Q LOGICAL 5;N INTEGER;I INTEGER;",
-        &[30, 10, 20, 5],
-    )?;
-    assert_symbols(
-        &rt,
-        &changed(&rt, &old, "3 INTEGER V(6),N")?,
-        "K INTEGER;P LOGICAL;M INTEGER 2 3;V INTEGER 6;N INTEGER;Q LOGICAL 5;I INTEGER;J INTEGER;",
-        &[30, 10, 20, 5],
-    )?;
-    assert_symbols(
-        &rt,
-        &changed(&rt, &old, "7 N=NEW")?,
-        "K INTEGER;P LOGICAL;M INTEGER 2 3;L INTEGER;V INTEGER 4;Q LOGICAL 5;N INTEGER;I INTEGER;NEW INTEGER;",
-        &[30, 10, 20, 5],
-    )?;
-    assert_symbols(
-        &rt,
-        &changed(&rt, &old, "6 DO 10 J=1,3")?,
-        "K INTEGER;P LOGICAL;M INTEGER 2 3;L INTEGER;V INTEGER 4;Q LOGICAL 5;N INTEGER;J INTEGER;I INTEGER;",
-        &[30, 10, 20, 5],
-    )
+    for (change, variables) in CHANGES {
+        assert_changed(&rt, &old, change, variables)?;
+    }
+    Ok(())
 }

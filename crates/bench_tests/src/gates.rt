@@ -1,0 +1,162 @@
+//! Workers over gates that hold the first of them, or hold tickets back.
+
+ghost use Rattle.std.specs.Prelude.{◌≡◌, ◌+◌, ◌≤◌, true};
+
+use crate::benches::{bench, counts, report, ticket};
+use crate::cheating::{Dropping, Ending};
+use crate::holding::Holding;
+use crate::workers::SUM;
+use mothra_bench::{Bench, BenchFault, collect, drive, render};
+use mothra_exchange::{Gate, LockedExchange, TableExchange, Ticket};
+use std::process::Abort;
+use std::sync::Wait;
+use std::sync::atomic::AtomicU64;
+use std::test::Fail;
+use std::thread::Threads;
+
+/// The report that so many workers come to through a gate.
+fn driven<G: Gate + Sync, R: AllocGlobal + Threads + Wait + Sync>(
+    rt: &R,
+    bench: &Bench,
+    gate: G,
+    pass: G::Pass,
+    workers: u32,
+) -> Result<String, BenchFault>
+where
+    G::Pass: Send + Drop,
+    requires own { G.is_pass gate pass }
+    requires workers { (1 ≤ workers) × (workers ≤ 32) }
+    requires part { G.needs_parts ≡ true → workers + 3 ≤ (G.view pass).part }
+{
+    let (rows, tally) = drive(rt, rt.alloc(), gate, pass, bench, workers)?;
+    let matrix = collect(rt.alloc(), bench, &tally, rows)?;
+    render(rt.alloc(), bench, &matrix)
+}
+
+/// The same, where the gate holds the first worker, round an exchange of words.
+fn held<R: AllocGlobal + Threads + Wait + Sync>(
+    rt: &R,
+    bench: &Bench,
+    workers: u32,
+) -> Result<Result<String, BenchFault>, Fail>
+    requires { (1 ≤ workers) × (workers ≤ 32) }
+{
+    let (inner, pass) = TableExchange::<64>::new(rt.alloc(), counts(bench.plan()))?;
+    let (gate, pass) = Holding::of(inner, pass);
+    Ok(driven(rt, bench, gate, pass, workers))
+}
+
+/// Round a locked exchange.
+fn held_locked<R: AllocGlobal + Threads + Wait + Sync>(
+    rt: &R,
+    bench: &Bench,
+    workers: u32,
+) -> Result<Result<String, BenchFault>, Fail>
+    requires { (1 ≤ workers) × (workers ≤ 32) }
+{
+    let (inner, pass) = LockedExchange::<64>::new(rt.alloc(), counts(bench.plan()))?;
+    let (gate, pass) = Holding::of(inner, pass);
+    Ok(driven(rt, bench, gate, pass, workers))
+}
+
+fn ending<G>(inner: G) -> Ending<G>
+    ensures { result.inner ≡ inner }
+{
+    Ending {
+        inner,
+        taken: AtomicU64::new(0),
+        most: 16,
+    }
+}
+
+/// The same, by four workers, where the gate ends after sixteen tickets.
+fn ended<R: AllocGlobal + Threads + Wait + Sync>(
+    rt: &R,
+    bench: &Bench,
+) -> Result<Result<String, BenchFault>, Fail> {
+    let (inner, pass) = TableExchange::<64>::new(rt.alloc(), counts(bench.plan()))?;
+    Ok(driven(rt, bench, ending(inner), pass, 4))
+}
+
+fn ended_locked<R: AllocGlobal + Threads + Wait + Sync>(
+    rt: &R,
+    bench: &Bench,
+) -> Result<Result<String, BenchFault>, Fail> {
+    let (inner, pass) = LockedExchange::<64>::new(rt.alloc(), counts(bench.plan()))?;
+    Ok(driven(rt, bench, ending(inner), pass, 4))
+}
+
+/// The same, where the gate drops a ticket.
+fn dropped<R: AllocGlobal + Threads + Wait + Sync>(
+    rt: &R,
+    bench: &Bench,
+    dropped: Ticket,
+) -> Result<Result<String, BenchFault>, Fail> {
+    let (inner, pass) = TableExchange::<64>::new(rt.alloc(), counts(bench.plan()))?;
+    Ok(driven(rt, bench, Dropping { inner, dropped }, pass, 4))
+}
+
+fn dropped_locked<R: AllocGlobal + Threads + Wait + Sync>(
+    rt: &R,
+    bench: &Bench,
+    dropped: Ticket,
+) -> Result<Result<String, BenchFault>, Fail> {
+    let (inner, pass) = LockedExchange::<64>::new(rt.alloc(), counts(bench.plan()))?;
+    Ok(driven(rt, bench, Dropping { inner, dropped }, pass, 4))
+}
+
+/// Compares what was driven with the report.
+fn assert_report(rt: &impl Abort, report: Result<String, BenchFault>, want: &str) {
+    match report {
+        Ok(report) => assert_eq!(rt; report.as_str(), want),
+        Err(fault) => assert!(rt; false, "{fault:?}"),
+    }
+}
+
+/// Compares the fault of what was driven.
+fn assert_fault(rt: &impl Abort, report: Result<String, BenchFault>, want: BenchFault) {
+    assert_eq!(rt; report.err(), Some(want));
+}
+
+fn sum_bench(rt: &impl AllocGlobal) -> Result<Bench, Fail> {
+    Ok(bench(rt, &SUM)??)
+}
+
+#[test]
+fn run_two_workers_at_once(rt: HostRuntime) -> Result<(), Fail> {
+    let want = report(&rt, &SUM)?;
+    let bench = sum_bench(&rt)?;
+    assert_report(&rt, held(&rt, &bench, 2)?, want.as_str());
+    assert_report(&rt, held_locked(&rt, &bench, 2)?, want.as_str());
+    Ok(())
+}
+
+#[test]
+fn give_up_where_one_worker_waits_for_another(rt: HostRuntime) -> Result<(), Fail> {
+    let bench = sum_bench(&rt)?;
+    assert_fault(&rt, held(&rt, &bench, 1)?, BenchFault::Stalled);
+    assert_fault(&rt, held_locked(&rt, &bench, 1)?, BenchFault::Stalled);
+    Ok(())
+}
+
+/// Whether some ticket is told to be missing.
+fn is_short(report: Result<String, BenchFault>) -> bool {
+    matches!(report.err(), Some(BenchFault::Missing(_)))
+}
+
+#[test]
+fn miss_mutants_where_a_gate_ends_early(rt: HostRuntime) -> Result<(), Fail> {
+    let bench = sum_bench(&rt)?;
+    assert!(&rt; is_short(ended(&rt, &bench)?));
+    assert!(&rt; is_short(ended_locked(&rt, &bench)?));
+    Ok(())
+}
+
+#[test]
+fn miss_the_mutant_that_a_gate_drops(rt: HostRuntime) -> Result<(), Fail> {
+    let bench = sum_bench(&rt)?;
+    let last = ticket("UOI 9")?;
+    assert_fault(&rt, dropped(&rt, &bench, last)?, BenchFault::Missing(last));
+    assert_fault(&rt, dropped_locked(&rt, &bench, last)?, BenchFault::Missing(last));
+    Ok(())
+}

@@ -1,0 +1,32 @@
+//! Each allocation can be refused: four workers then end all the same, with each row, or with want of memory or of a thread.
+
+use crate::benches::{bench, counts};
+use crate::workers::SUM;
+use mothra_bench::{Bench, BenchFault, drive};
+use mothra_exchange::TableExchange;
+use std::process::Abort;
+use std::sync::Wait;
+use std::test::Fail;
+use std::thread::Threads;
+
+/// Drives four workers through an exchange, whose making may be refused, too.
+fn assert_undisturbed<R: Abort + AllocGlobal + Threads + Wait + Sync>(
+    rt: &R,
+    bench: &Bench,
+    rows: usize,
+) {
+    let Ok((gate, pass)) = TableExchange::<64>::new(rt.alloc(), counts(bench.plan())) else {
+        return;
+    };
+    match drive(rt, rt.alloc(), gate, pass, bench, 4) {
+        Ok(driven) => assert_eq!(rt; driven.0.len(), rows),
+        Err(fault) => assert!(rt; matches!(fault, BenchFault::Memory | BenchFault::Thread)),
+    }
+}
+
+#[test]
+fn refused_memory_ends_the_workers(rt: HostRuntime) -> Result<(), Fail> {
+    let bench = bench(&rt, &SUM)??;
+    assert_undisturbed(&rt, &bench, 33);
+    Ok(())
+}

@@ -1,0 +1,12 @@
+use Rattle.std.proofs.Common.{◌≡◌, true, length}
+use Rattle.mothra_bench.specs.Feeding.{OnlyGave}
+use Rattle.mothra_bench.specs.declared.feeding.Round.TheVariants as round
+use Rattle.mothra_bench.proofs.feeding.feed_round.Given as goal
+
+abbrev pub invariant-loop-op : goal.invariant-loop-op
+invariant-loop-op g l =
+    g.G.Gate.is_pass l.gate l.pass
+    × (l.round ≡ round.GaveUp → g.G.Gate.may_give_up ≡ true)
+    × (g.G.Gate.needs_parts ≡ true → (g.G.Gate.view l.pass).part ≡ (g.G.Gate.view l.fn.pass).part)
+    × (g.G.Gate.keeps_records ≡ true → OnlyGave (g.G.Gate.view l.fn.pass) (g.G.Gate.view l.pass))
+    × (length l.stages ≡ 22)

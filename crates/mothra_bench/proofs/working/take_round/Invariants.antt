@@ -1,0 +1,11 @@
+use Rattle.std.proofs.Common.{◌≡◌, true, IfSome}
+use Rattle.mothra_bench.specs.Bench.{BenchFields}
+use Rattle.mothra_bench.specs.Working.{Went}
+use Rattle.mothra_bench.proofs.working.take_round.Given as goal
+
+abbrev pub invariant-loop-op : goal.invariant-loop-op
+invariant-loop-op g l =
+    g.G.Gate.is_pass l.gate l.pass
+    × (g.G.Gate.needs_parts ≡ true → (g.G.Gate.view l.pass).part ≡ (g.G.Gate.view l.fn.pass).part)
+    × ((bench : BenchFields) → IfSome l.verdicts (λ verdicts. verdicts.now ≡ bench)
+    → Went bench g.G.Gate.may_give_up g.G.Gate.keeps_records (g.G.Gate.view l.fn.pass) (g.G.Gate.view l.pass) l.fn.gathered l.gathered)

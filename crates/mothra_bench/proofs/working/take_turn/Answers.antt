@@ -1,0 +1,25 @@
+use Rattle.std.proofs.Common.{inl, inr}
+use Rattle.mothra_bench.proofs.PassSteps.{take_none, take_only}
+use Rattle.mothra_bench.proofs.WorkerSteps.{went_idle, went_one}
+use Rattle.mothra_bench.proofs.working.take_turn.Goals as goal
+
+pub returns-in-Finished-clause-went : goal.returns-in-Finished-clause-went
+returns-in-Finished-clause-went g c bench of =
+    let old = g.G.Gate.view c.args.pass.now in
+    let new = g.G.Gate.view c.take.new.pass in
+    went_idle bench g.G.Gate.may_give_up g.G.Gate.keeps_records old new c.args.gathered.now
+    (λ keeps. take_only g.G.Gate.bound old c.args.op c.take.result new (c.take.ensures.records keeps))
+    (λ keeps. take_none g.G.Gate.bound old c.args.op c.take.result new (λ ticket e. let is = c.in-Finished.is in cc) (c.take.ensures.records keeps))
+
+pub returns-in-Empty-clause-went : goal.returns-in-Empty-clause-went
+returns-in-Empty-clause-went g c bench of =
+    let old = g.G.Gate.view c.args.pass.now in
+    let new = g.G.Gate.view c.take.new.pass in
+    went_idle bench g.G.Gate.may_give_up g.G.Gate.keeps_records old new c.args.gathered.now
+    (λ keeps. take_only g.G.Gate.bound old c.args.op c.take.result new (c.take.ensures.records keeps))
+    (λ keeps. take_none g.G.Gate.bound old c.args.op c.take.result new (λ ticket e. elim c.in-Empty.is [ inl is ↦ cc | inr is ↦ cc ]) (c.take.ensures.records keeps))
+
+pub returns-in-Taken-clause-went : goal.returns-in-Taken-clause-went
+returns-in-Taken-clause-went g c bench of =
+    went_one bench g.G.Gate.may_give_up g.G.Gate.keeps_records g.G.Gate.bound (g.G.Gate.view c.args.pass.now) (g.G.Gate.view c.take.new.pass) c.args.op c.in-Taken.ticket
+    c.args.gathered.now c.run.new.self c.in-Taken.ensures.records (c.run.ensures.row bench of) (c.run.ensures.fault bench of)

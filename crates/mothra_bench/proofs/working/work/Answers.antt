@@ -1,0 +1,42 @@
+use Rattle.std.proofs.Common.{◌≡◌, ◌∙◌, IfSome, rules}
+use Rattle.mothra_bench.proofs.WorkerSteps.{answers, lent_verdicts, went_on}
+use Rattle.mothra_bench.proofs.working.work.Goals as goal
+
+pub loop-preserved-in-Ran : goal.loop-preserved-in-Ran
+loop-preserved-in-Ran g c =
+    let of = lent_verdicts c.of.result c.ok-found.result c.as_ref-verdicts.result c.args.bench.now c.of.ensures.verdicts c.ok-found.ensures.value c.as_ref-verdicts.ensures.value in (
+      tt,
+      tt,
+      c.take_round.ensures.own,
+      λ parts. c.take_round.ensures.part parts ∙ c.loop.invariant.3 parts,
+      went_on _ _ _ _ _ _ _ _ _ c.loop.invariant.4 (c.take_round.ensures.went c.args.bench.now of),
+    )
+
+pub loop-preserved : goal.loop-preserved
+loop-preserved g c =
+    let of = lent_verdicts c.of.result c.ok-found.result c.as_ref-verdicts.result c.args.bench.now c.of.ensures.verdicts c.ok-found.ensures.value c.as_ref-verdicts.ensures.value in (
+      tt,
+      tt,
+      c.take_round.ensures.own,
+      λ parts. c.take_round.ensures.part parts ∙ c.loop.invariant.3 parts,
+      went_on _ _ _ _ _ _ _ _ _ c.loop.invariant.4 (c.take_round.ensures.went c.args.bench.now of),
+    )
+
+pub returns-in-Finished : goal.returns-in-Finished
+returns-in-Finished g c =
+    let bench = c.args.bench.now in
+    let old = g.G.Gate.view c.args.pass in
+    let new = g.G.Gate.view c.take_round.new.pass in
+    let of = lent_verdicts c.of.result c.ok-found.result c.as_ref-verdicts.result bench c.of.ensures.verdicts c.ok-found.ensures.value c.as_ref-verdicts.ensures.value in
+    let went = went_on bench g.G.Gate.may_give_up g.G.Gate.keeps_records old (g.G.Gate.view c.loop.pass) new c.new-gathered.result c.loop.gathered
+    c.take_round.new.gathered c.loop.invariant.4 (c.take_round.ensures.went bench of) in
+    let answer = answers bench g.G.Gate.may_give_up g.G.Gate.keeps_records old new c.new-gathered.result c.take_round.new.gathered c.outcome.result
+    c.new-gathered.ensures.rows c.new-gathered.ensures.fault went c.outcome.ensures in
+    record {
+      own = c.take_round.ensures.own;
+      verdicts = answer.verdicts;
+      refused = answer.refused;
+      part = λ parts. c.take_round.ensures.part parts ∙ c.loop.invariant.3 parts;
+      pass = went.pass;
+      records = answer.records;
+    }

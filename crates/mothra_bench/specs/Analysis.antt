@@ -1,0 +1,30 @@
+-- The report of a bench. The number of workers is no argument of it.
+use Rattle.std.specs.Prelude.{◌≡◌, ◌↔◌, ⊤, ℕ, IsTrue, List, map, All}
+use Rattle.mothra_bench.specs.Bench.{BenchFields}
+use Rattle.mothra_bench.specs.Collecting.{IsDeclared}
+use Rattle.mothra_bench.specs.Matrix.{tickets_of}
+use Rattle.mothra_bench.specs.Report.{report_text}
+use Rattle.mothra_bench.specs.Verdict.{IsVerdict}
+use Rattle.mothra_bench.specs.declared.fault.BenchFault.{BenchFault}
+use Rattle.mothra_bench.specs.declared.fault.BenchFault.TheVariants as fault
+use Rattle.mothra_bench.specs.declared.matrix.Entry.{Entry}
+
+-- each mutant of the plan once, in order, with the verdict of running it alone, and whether it is declared equivalent
+pub record AreEntries (bench : BenchFields) (entries : List Entry) : Type 0 where
+  pub tickets : map (λ entry. entry.ticket) entries ≡ tickets_of bench.plan
+  pub verdicts : All (λ entry. IsVerdict bench entry.ticket entry.kills) entries
+  pub declared : All (λ entry. IsTrue entry.declared ↔ IsDeclared bench entry.ticket) entries
+
+pub record IsReport (bench : BenchFields) (text : List ℕ) : Type 0 where
+  pub entries : List Entry
+  pub are : AreEntries bench entries
+  pub is : text ≡ report_text bench entries
+
+-- why there is no report: want of memory; a thread that could not begin; two rows of a mutant, a row of none, or none of a mutant
+abbrev pub IsNoReport : BenchFault → Type 0
+IsNoReport fault.Memory = ⊤
+IsNoReport fault.Thread = ⊤
+IsNoReport (fault.Double ticket) = ⊤
+IsNoReport (fault.Stranger ticket) = ⊤
+IsNoReport (fault.Missing ticket) = ⊤
+IsNoReport _ = ⊥

@@ -1,0 +1,23 @@
+-- The rows that were come to.
+use Rattle.std.specs.Prelude.{◌≡◌, List, [], ◌∷◌, ◌++◌, map, All}
+use Rattle.mothra_exchange.specs.declared.ticket.Ticket.{Ticket}
+use Rattle.mothra_bench.specs.Bench.{BenchFields}
+use Rattle.mothra_bench.specs.Verdict.{IsVerdict}
+use Rattle.mothra_bench.specs.declared.verdict.Row.{Row}
+
+-- the row's kills are those of its mutant, run alone
+abbrev pub IsOwn : BenchFields → Row → Type 0
+IsOwn bench row = IsVerdict bench row.ticket row.kills
+
+abbrev pub AreVerdicts : BenchFields → List Row → Type 0
+AreVerdicts bench rows = All (IsOwn bench) rows
+
+abbrev pub tickets_in : List Row → List Ticket
+tickets_in rows = map (λ row. row.ticket) rows
+
+-- the ticket's row came last
+pub record AddsRow (bench : BenchFields) (ticket : Ticket) (rows more : List Row) : Type 0 where
+  pub row : Row
+  pub added : more ≡ rows ++ row ∷ []
+  pub of : row.ticket ≡ ticket
+  pub own : IsOwn bench row

@@ -1,0 +1,50 @@
+-- What a worker does with its pass, and what it answers.
+use Rattle.std.specs.Prelude.{◌≡◌, ℕ, ◌-◌, ◌≤◌, ⊤, Bool, true, List, ◌++◌, None, IfSome, IfNone, MatchOption}
+use Rattle.mothra_codes.specs.declared.op.Op.{Op}
+use Rattle.mothra_codes.specs.Op.{index}
+use Rattle.mothra_exchange.specs.declared.ticket.Ticket.{Ticket}
+use Rattle.mothra_exchange.specs.declared.view.View.{View}
+use Rattle.mothra_exchange.specs.Ticket.{times}
+use Rattle.mothra_ops.specs.Plan.{PlanFields}
+use Rattle.mothra_bench.specs.Bench.{BenchFields}
+use Rattle.mothra_bench.specs.Gathered.{AreVerdicts, tickets_in}
+use Rattle.mothra_bench.specs.Verdict.{Has}
+use Rattle.mothra_bench.specs.declared.fault.BenchFault.{BenchFault}
+use Rattle.mothra_bench.specs.declared.fault.BenchFault.TheVariants as fault
+use Rattle.mothra_bench.specs.declared.gathered.Gathered.{Gathered}
+use Rattle.mothra_bench.specs.declared.verdict.Row.{Row}
+
+-- none of the tickets stands twice, or among the old ones
+abbrev pub AreFresh : List Ticket → List Ticket → Type 0
+AreFresh old tickets = (op : Op) (k : ℕ) → times (index op) k tickets ≤ 1 - times (index op) k old
+
+-- a worker's pass offers and closes nothing, and keeps its part
+pub record OnlyTook (old new : View) : Type 0 where
+  pub part : new.part ≡ old.part
+  pub offered : new.offered ≡ old.offered
+  pub closings : new.closings ≡ old.closings
+
+-- the tickets of the rows are those that the pass took, each once
+pub record TookRows (old new : View) (rows : List Row) : Type 0 where
+  pub taken : new.taken ≡ old.taken ++ tickets_in rows
+  pub once : AreFresh old.taken (tickets_in rows)
+
+-- Why a worker gives no rows: want of memory; a ticket of no mutant of the plan; or the gate gave up, which only some may.
+abbrev pub IsNoWork : Bool → PlanFields → BenchFault → Type 0
+IsNoWork may plan fault.Memory = ⊤
+IsNoWork may plan (fault.Stranger ticket) = ¬ (Has plan ticket)
+IsNoWork may plan fault.Stalled = may ≡ true
+IsNoWork may plan _ = ⊥
+
+-- some rows were added, each with its verdict, and where records are kept the pass took their tickets
+pub record Adds (bench : BenchFields) (keeps : Bool) (old new : View) (rows more : List Row) : Type 0 where
+  pub extra : List Row
+  pub added : more ≡ rows ++ extra
+  pub verdicts : AreVerdicts bench extra
+  pub took : keeps ≡ true → TookRows old new extra
+
+-- a worker went on, and its pass and what it has gathered with it; the first fault stays
+pub record Went (bench : BenchFields) (may keeps : Bool) (old new : View) (before after : Gathered) : Type 0 where
+  pub fault : IfSome after.fault (λ fault. MatchOption before.fault (IsNoWork may bench.plan fault) (λ first. fault ≡ first))
+  pub rows : IfNone after.fault ((before.fault ≡ None) × Adds bench keeps old new before.rows.items after.rows.items)
+  pub pass : keeps ≡ true → OnlyTook old new

@@ -1,0 +1,34 @@
+//! The report of a bench, by many threads.
+
+ghost use Rattle.std.specs.Prelude.{◌≤◌, IfOk, IfErr, string_bytes};
+ghost use Rattle.mothra_bench.specs.Analysis.{IsNoReport, IsReport};
+
+use crate::bench::Bench;
+use crate::collecting::collect;
+use crate::driving::drive;
+use crate::fault::BenchFault;
+use crate::report::render;
+use crate::tickets::counts;
+use mothra_exchange::{ExchangeFault, Pass, TableExchange};
+use std::alloc::Global;
+use std::sync::Wait;
+use std::thread::Threads;
+
+/// The report of the bench, by so many workers: each mutant with the verdict of running it alone. It is the same for each number of workers.
+pub fn analyse<R: Threads + Wait + Sync>(
+    rt: &R,
+    alloc: Global,
+    bench: &Bench,
+    workers: u32,
+) -> Result<String, BenchFault>
+    requires { (1 ≤ workers) × (workers ≤ 32) }
+    ensures report { IfOk result (λ text. IsReport bench.now (string_bytes text)) }
+    ensures refused { IfErr result IsNoReport }
+{
+    let Ok((exchange, pass)) = TableExchange::<64>::new(alloc, counts(bench.plan())) else {
+        return Err(BenchFault::Memory);
+    };
+    let (rows, tally) = drive(rt, alloc, exchange, pass, bench, workers)?;
+    let matrix = collect(alloc, bench, &tally, rows)?;
+    render(alloc, bench, &matrix)
+}

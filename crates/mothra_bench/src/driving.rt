@@ -1,0 +1,242 @@
+//! Workers and feeders, started, joined, and their passes merged.
+
+ghost use Rattle.std.specs.Prelude.{◌≡◌, ◌+◌, ◌++◌, ◌<◌, ◌≤◌, [], true, None, All, IfOk, IfErr, IfSome, IfNone, IsSome};
+ghost use Rattle.mothra_bench.specs.Driving.{AreHandedOnce, IsNoDrive};
+ghost use Rattle.mothra_bench.specs.Feeding.{IsStalled};
+ghost use Rattle.mothra_bench.specs.Gathered.{AreVerdicts, tickets_in};
+
+use crate::bench::Bench;
+use crate::closing::close_each;
+use crate::fault::BenchFault;
+use crate::gathered::Gathered;
+use crate::threads::{Feeder, Worker, join_feeder, join_worker, start_feeder, start_worker};
+use crate::verdict::Row;
+use mothra_codes::Op;
+use mothra_exchange::{Gate, Tally};
+use mothra_ops::Plan;
+use std::alloc::Global;
+use std::sync::Wait;
+use std::thread;
+use std::thread::{Scope, Threads};
+
+/// Starts the workers, until a thread cannot begin or there is no memory.
+fn start_workers<'s, E, G: Gate + Sync, R: Threads + Wait + Sync>(
+    scope: &Scope<'s, E>,
+    rt: &'s R,
+    alloc: Global,
+    gate: &'s G,
+    pass: &mut G::Pass,
+    bench: &'s Bench,
+    workers: u32,
+) -> (Vec<Worker<'s, G>>, Option<BenchFault>)
+where
+    G::Pass: Send + Drop + 's,
+    requires own { G.is_pass gate.now pass.old }
+    requires part { G.needs_parts ≡ true → workers < (G.view pass.old).part }
+    ensures own { G.is_pass gate.now pass.new }
+    ensures workers { All (λ worker. (worker.promise.gate.now ≡ gate.now) × (worker.promise.bench.now ≡ bench.now)
+        × (G.keeps_records ≡ true → (G.view worker.promise.pass.value).taken ≡ [])) result.0.items }
+    ensures part { G.needs_parts ≡ true → (G.view pass.old).part ≤ (G.view pass.new).part + workers }
+    ensures records { G.keeps_records ≡ true → (G.view pass.new).taken ≡ (G.view pass.old).taken }
+    ensures refused { IfSome result.1 (IsNoDrive G.may_give_up bench.now.plan) }
+{
+    let Ok(mut started) = Vec::with_capacity(alloc, workers as usize) else {
+        return (Vec::new(alloc), Some(BenchFault::Memory));
+    };
+    for _ in 0..workers {
+        let own = gate.split(pass);
+        let Some(worker) = start_worker(scope, rt, alloc, gate, own, bench) else {
+            return (started, Some(BenchFault::Thread));
+        };
+        if started.push(worker).is_err() {
+            return (started, Some(BenchFault::Memory));
+        }
+    }
+    (started, None)
+}
+
+/// Starts a feeder; closes its operators where there was a fault, or no thread can begin.
+fn start_or_close<'s, E, G: Gate + Sync, R: Threads + Wait + Sync>(
+    scope: &Scope<'s, E>,
+    rt: &'s R,
+    gate: &'s G,
+    pass: &mut G::Pass,
+    ops: &'s [Op],
+    plan: &'s Plan,
+    fault: &mut Option<BenchFault>,
+) -> Option<Feeder<'s, G>>
+where
+    G::Pass: Send + Drop + 's,
+    requires own { G.is_pass gate.now pass.old }
+    requires part { G.needs_parts ≡ true → 1 < (G.view pass.old).part }
+    requires fault { IfSome fault.old (IsNoDrive G.may_give_up plan.now) }
+    ensures own { G.is_pass gate.now pass.new }
+    ensures feeder { IfSome result (λ feeder. (feeder.promise.gate.now ≡ gate.now)
+        × (G.keeps_records ≡ true → (G.view feeder.promise.pass.value).taken ≡ [])) }
+    ensures part { G.needs_parts ≡ true → (G.view pass.old).part ≤ (G.view pass.new).part + 1 }
+    ensures records { G.keeps_records ≡ true → (G.view pass.new).taken ≡ (G.view pass.old).taken }
+    ensures started { IfNone fault.new ((fault.old ≡ None) × IsSome result) }
+    ensures refused { IfSome fault.new (IsNoDrive G.may_give_up plan.now) }
+{
+    if fault.is_none() {
+        let own = gate.split(pass);
+        if let Some(feeder) = start_feeder(scope, rt, gate, own, ops, plan) {
+            return Some(feeder);
+        }
+        *fault = Some(BenchFault::Thread);
+    }
+    close_each(rt, gate, pass, ops);
+    None
+}
+
+/// Waits for a feeder that was started.
+fn join_started<G: Gate, R: Threads>(
+    rt: &R,
+    gate: &G,
+    pass: &mut G::Pass,
+    feeder: Option<Feeder<'_, G>>,
+) -> Result<(), BenchFault>
+    requires own { G.is_pass gate.now pass.old }
+    requires feeder { IfSome feeder (λ feeder. (feeder.promise.gate.now ≡ gate.now)
+        × (G.keeps_records ≡ true → (G.view feeder.promise.pass.value).taken ≡ [])) }
+    ensures own { G.is_pass gate.now pass.new }
+    ensures refused { IfErr result (IsStalled G.may_give_up) }
+    ensures records { G.keeps_records ≡ true → (G.view pass.new).taken ≡ (G.view pass.old).taken }
+{
+    match feeder {
+        Some(feeder) => join_feeder(rt, gate, pass, feeder),
+        None => Ok(()),
+    }
+}
+
+/// Waits for the workers, merges their passes, and gives all rows, or the first fault in their order.
+fn join_workers<G: Gate, R: Threads>(
+    rt: &R,
+    alloc: Global,
+    gate: &G,
+    bench: &Bench,
+    pass: &mut G::Pass,
+    workers: Vec<Worker<'_, G>>,
+) -> Result<Vec<Row>, BenchFault>
+where
+    G::Pass: Drop,
+    requires own { G.is_pass gate.now pass.old }
+    requires workers { All (λ worker. (worker.promise.gate.now ≡ gate.now) × (worker.promise.bench.now ≡ bench.now)
+        × (G.keeps_records ≡ true → (G.view worker.promise.pass.value).taken ≡ [])) workers.items }
+    ensures own { G.is_pass gate.now pass.new }
+    ensures verdicts { IfOk result (λ rows. AreVerdicts bench.now rows.items) }
+    ensures refused { IfErr result (IsNoDrive G.may_give_up bench.now.plan) }
+    ensures records { G.keeps_records ≡ true
+        → IfOk result (λ rows. (G.view pass.new).taken ≡ (G.view pass.old).taken ++ tickets_in rows.items) }
+{
+    let mut gathered = Gathered::new(alloc);
+    for worker in workers {
+        let outcome = join_worker(rt, gate, bench, pass, worker);
+        gathered.add(outcome);
+    }
+    gathered.outcome()
+}
+
+/// Starts the threads, joins them all, and merges their passes.
+fn run_threads<'s, E, G: Gate + Sync, R: Threads + Wait + Sync>(
+    scope: &Scope<'s, E>,
+    rt: &'s R,
+    alloc: Global,
+    gate: &'s G,
+    mut pass: G::Pass,
+    bench: &'s Bench,
+    front: &'s [Op],
+    back: &'s [Op],
+    workers: u32,
+) -> (G::Pass, Result<Vec<Row>, BenchFault>)
+where
+    G::Pass: Send + Drop + 's,
+    requires own { G.is_pass gate.now pass }
+    requires part { G.needs_parts ≡ true → workers + 3 ≤ (G.view pass).part }
+    ensures own { G.is_pass gate.now result.0 }
+    ensures verdicts { IfOk result.1 (λ rows. AreVerdicts bench.now rows.items) }
+    ensures refused { IfErr result.1 (IsNoDrive G.may_give_up bench.now.plan) }
+    ensures records { G.keeps_records ≡ true
+        → IfOk result.1 (λ rows. (G.view result.0).taken ≡ (G.view pass).taken ++ tickets_in rows.items) }
+{
+    let (crew, mut fault) = start_workers(scope, rt, alloc, gate, &mut pass, bench, workers);
+    let one = start_or_close(scope, rt, gate, &mut pass, front, bench.plan(), &mut fault);
+    let other = start_or_close(scope, rt, gate, &mut pass, back, bench.plan(), &mut fault);
+    let first = join_started(rt, gate, &mut pass, one);
+    let second = join_started(rt, gate, &mut pass, other);
+    let gathered = join_workers(rt, alloc, gate, bench, &mut pass, crew);
+    if let Some(fault) = fault {
+        return (pass, Err(fault));
+    }
+    if let Err(fault) = first.and(second) {
+        return (pass, Err(fault));
+    }
+    (pass, gathered)
+}
+
+/// The same, in a scope that ends with the last thread.
+fn run_scope<'x, G: Gate + Sync, R: Threads + Wait + Sync>(
+    rt: &'x R,
+    alloc: Global,
+    gate: &'x G,
+    pass: G::Pass,
+    bench: &'x Bench,
+    front: &'x [Op],
+    back: &'x [Op],
+    workers: u32,
+) -> (G::Pass, Result<Vec<Row>, BenchFault>)
+where
+    G::Pass: Send + Drop,
+    requires own { G.is_pass gate.now pass }
+    requires part { G.needs_parts ≡ true → workers + 3 ≤ (G.view pass).part }
+    ensures own { G.is_pass gate.now result.0 }
+    ensures verdicts { IfOk result.1 (λ rows. AreVerdicts bench.now rows.items) }
+    ensures refused { IfErr result.1 (IsNoDrive G.may_give_up bench.now.plan) }
+    ensures records { G.keeps_records ≡ true
+        → IfOk result.1 (λ rows. (G.view result.0).taken ≡ (G.view pass).taken ++ tickets_in rows.items) }
+{
+    thread::scope(
+        thread::scope_env(),
+        rt,
+        move |scope| -> (G::Pass, Result<Vec<Row>, BenchFault>)
+            requires { G.is_pass gate.now pass × (G.needs_parts ≡ true → workers + 3 ≤ (G.view pass).part) }
+            ensures { G.is_pass gate.entry.now result.0
+                × IfOk result.1 (λ rows. AreVerdicts bench.entry.now rows.items)
+                × IfErr result.1 (IsNoDrive G.may_give_up bench.entry.now.plan)
+                × (G.keeps_records ≡ true → IfOk result.1 (λ rows. (G.view result.0).taken ≡ (G.view pass).taken ++ tickets_in rows.items)) }
+        { run_threads(scope, rt, alloc, gate, pass, bench, front, back, workers) },
+    )
+}
+
+/// Runs the mutants of a bench's plan in so many workers, through a gate that two feeders fill: the first with the operators from AAR to DSA,
+/// the second with those from GLR to UOI. It joins all, merges their passes, which are split from the caller's, and finishes.
+///
+/// Where there is no memory, or a thread cannot begin, no further one is started, the operators of a feeder that was not started are closed, and
+/// the rest is joined; the answer is then B1 or B2. Else it is the fault of the first thread that has one: of the feeders, then of the workers,
+/// in their order.
+pub fn drive<G: Gate + Sync, R: Threads + Wait + Sync>(
+    rt: &R,
+    alloc: Global,
+    gate: G,
+    pass: G::Pass,
+    bench: &Bench,
+    workers: u32,
+) -> Result<(Vec<Row>, Tally), BenchFault>
+where
+    G::Pass: Send + Drop,
+    requires own { G.is_pass gate pass }
+    requires workers { (1 ≤ workers) × (workers ≤ 32) }
+    requires part { G.needs_parts ≡ true → workers + 3 ≤ (G.view pass).part }
+    ensures verdicts { IfOk result (λ driven. AreVerdicts bench.now driven.0.items) }
+    ensures refused { IfErr result (IsNoDrive G.may_give_up bench.now.plan) }
+    ensures records { G.keeps_records ≡ true → IfOk result (λ driven. AreHandedOnce driven.1 (tickets_in driven.0.items)) }
+{
+    let all = Op::ALL;
+    let (front, back) = all.split_at(11);
+    let (pass, outcome) = run_scope(rt, alloc, &gate, pass, bench, front, back, workers);
+    let tally = gate.finish(pass);
+    match outcome {
+        Ok(rows) => Ok((rows, tally)),
+        Err(fault) => Err(fault),
+    }
+}

@@ -1,0 +1,111 @@
+//! What a worker, or all workers, have come to.
+
+ghost use Rattle.std.specs.Prelude.{◌≡◌, ◌∷◌, ◌++◌, [], None, Some, Ok, Err, IfOk, IfErr, IfSome, IfNone, IsOkAnd, MatchOption, MatchResult};
+ghost use Rattle.mothra_bench.specs.Bench.{BenchFields};
+ghost use Rattle.mothra_bench.specs.Gathered.{AddsRow};
+ghost use Rattle.mothra_bench.specs.Verdict.{IsNoVerdict, IsVerdict};
+ghost use Rattle.mothra_bench.specs.declared.fault.BenchFault.TheVariants.{Memory};
+
+use crate::fault::BenchFault;
+use crate::verdict::{Row, Verdicts};
+use mothra_exchange::Ticket;
+use std::alloc::Global;
+
+/// The rows so far, or the first fault.
+#[derive(Drop)]
+pub(crate) struct Gathered {
+    pub(crate) rows: Vec<Row>,
+    pub(crate) fault: Option<BenchFault>,
+}
+
+impl Gathered {
+    /// No rows.
+    pub(crate) fn new(alloc: Global) -> Gathered
+        ensures rows { result.rows.items ≡ [] }
+        ensures fault { result.fault ≡ None }
+    {
+        Gathered {
+            rows: Vec::new(alloc),
+            fault: None,
+        }
+    }
+
+    /// Runs a ticket's mutant, unless there was a fault. With no verdicts to ask there was no memory for them.
+    pub(crate) fn run(&mut self, alloc: Global, verdicts: Option<&Verdicts<'_>>, ticket: Ticket)
+        ensures row { (bench : BenchFields) → IfSome verdicts.entry (λ verdicts. verdicts.now ≡ bench)
+            → IfNone self.new.fault ((self.old.fault ≡ None) × AddsRow bench ticket self.old.rows.items self.new.rows.items) }
+        ensures fault { (bench : BenchFields) → IfSome verdicts.entry (λ verdicts. verdicts.now ≡ bench)
+            → IfSome self.new.fault (λ fault. MatchOption self.old.fault (IsNoVerdict bench.plan ticket fault) (λ first. fault ≡ first)) }
+    {
+        if self.fault.is_some() {
+            return;
+        }
+        match row_of(alloc, verdicts, ticket) {
+            Ok(row) => self.push(row),
+            Err(fault) => self.fault = Some(fault),
+        }
+    }
+
+    /// Appends a row.
+    fn push(&mut self, row: Row)
+        requires { self.old.fault ≡ None }
+        ensures row { IfNone self.new.fault (self.new.rows.items ≡ self.old.rows.items ++ row ∷ []) }
+        ensures memory { IfSome self.new.fault (λ fault. fault ≡ Memory) }
+    {
+        if self.rows.push(row).is_err() {
+            self.fault = Some(BenchFault::Memory);
+        }
+    }
+
+    /// Appends the rows of a worker, or notes its fault, unless there was one.
+    pub(crate) fn add(&mut self, outcome: Result<Vec<Row>, BenchFault>)
+        ensures rows { IfNone self.new.fault ((self.old.fault ≡ None) × IsOkAnd outcome (λ rows. self.new.rows.items ≡ self.old.rows.items ++ rows.items)) }
+        ensures fault { IfSome self.new.fault
+            (λ fault. MatchOption self.old.fault (MatchResult outcome (λ rows. fault ≡ Memory) (λ other. fault ≡ other)) (λ first. fault ≡ first)) }
+    {
+        if self.fault.is_some() {
+            return;
+        }
+        match outcome {
+            Ok(mut rows) => {
+                if self.rows.append(&mut rows).is_err() {
+                    self.fault = Some(BenchFault::Memory);
+                }
+            }
+            Err(fault) => self.fault = Some(fault),
+        }
+    }
+
+    /// Notes a fault, unless there was one.
+    pub(crate) fn fail(&mut self, fault: BenchFault)
+        ensures { MatchOption self.old.fault (self.new.fault ≡ Some fault) (λ first. self.new.fault ≡ Some first) }
+    {
+        if self.fault.is_none() {
+            self.fault = Some(fault);
+        }
+    }
+
+    /// The rows, or the first fault.
+    pub(crate) fn outcome(self) -> Result<Vec<Row>, BenchFault>
+        ensures { MatchOption self.fault (result ≡ Ok self.rows) (λ fault. result ≡ Err fault) }
+    {
+        let Gathered { rows, fault } = self;
+        match fault {
+            None => Ok(rows),
+            Some(fault) => Err(fault),
+        }
+    }
+}
+
+/// The row of a ticket's mutant.
+fn row_of(alloc: Global, verdicts: Option<&Verdicts<'_>>, ticket: Ticket) -> Result<Row, BenchFault>
+    ensures ticket { IfOk result (λ row. row.ticket ≡ ticket) }
+    ensures kills { IfOk result (λ row. (bench : BenchFields) → IfSome verdicts.entry (λ verdicts. verdicts.now ≡ bench) → IsVerdict bench ticket row.kills) }
+    ensures refused { IfErr result (λ fault. (bench : BenchFields) → IfSome verdicts.entry (λ verdicts. verdicts.now ≡ bench)
+        → IsNoVerdict bench.plan ticket fault) }
+{
+    match verdicts {
+        Some(verdicts) => verdicts.row(alloc, ticket),
+        None => Err(BenchFault::Memory),
+    }
+}

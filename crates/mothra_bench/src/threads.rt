@@ -1,0 +1,153 @@
+//! Workers and feeders in threads of their own: what each promises, how it is started and joined.
+
+ghost use Rattle.std.specs.Prelude.{◌≡◌, ◌+◌, ◌++◌, [], true, IfOk, IfErr, IfSome};
+ghost use Rattle.mothra_bench.specs.Feeding.{IsStalled, OnlyGave};
+ghost use Rattle.mothra_bench.specs.Gathered.{AreVerdicts, tickets_in};
+ghost use Rattle.mothra_bench.specs.Working.{IsNoWork, OnlyTook, TookRows};
+
+use crate::bench::Bench;
+use crate::fault::BenchFault;
+use crate::feeding::feed;
+use crate::verdict::Row;
+use crate::working::work;
+use mothra_codes::Op;
+use mothra_exchange::Gate;
+use mothra_ops::Plan;
+use std::alloc::Global;
+use std::snapshot::Snapshot;
+use std::sync::Wait;
+use std::thread::{Promise, PromisedHandle, Scope, Threads};
+
+/// What a worker promises of the pass and the rows that it gives back: the contract of `work`.
+#[derive(Drop)]
+pub(crate) struct WorkerPromise<'a, G: Gate> {
+    pub(crate) gate: &'a G,
+    pub(crate) bench: &'a Bench,
+    /// The pass that the worker was given.
+    pub(crate) pass: Snapshot<G::Pass>,
+}
+
+impl<'a, G: Gate> Promise<(G::Pass, Result<Vec<Row>, BenchFault>)> for WorkerPromise<'a, G> {
+    ghost kept_by = { λ p r. G.is_pass p.gate.now r.0
+        × IfOk r.1 (λ rows. AreVerdicts p.bench.now rows.items)
+        × IfErr r.1 (IsNoWork G.may_give_up p.bench.now.plan)
+        × (G.needs_parts ≡ true → (G.view r.0).part ≡ (G.view p.pass.value).part)
+        × (G.keeps_records ≡ true → OnlyTook (G.view p.pass.value) (G.view r.0))
+        × (G.keeps_records ≡ true → IfOk r.1 (λ rows. TookRows (G.view p.pass.value) (G.view r.0) rows.items)) };
+}
+
+/// What a feeder promises: the contract of `feed`.
+#[derive(Drop)]
+pub(crate) struct FeederPromise<'a, G: Gate> {
+    pub(crate) gate: &'a G,
+    /// The pass that the feeder was given.
+    pub(crate) pass: Snapshot<G::Pass>,
+}
+
+impl<'a, G: Gate> Promise<(G::Pass, Result<(), BenchFault>)> for FeederPromise<'a, G> {
+    ghost kept_by = { λ p r. G.is_pass p.gate.now r.0
+        × IfErr r.1 (IsStalled G.may_give_up)
+        × (G.needs_parts ≡ true → (G.view r.0).part ≡ (G.view p.pass.value).part)
+        × (G.keeps_records ≡ true → OnlyGave (G.view p.pass.value) (G.view r.0)) };
+}
+
+/// A worker in its thread.
+pub(crate) type Worker<'a, G> = PromisedHandle<
+    (<G as Gate>::Pass, Result<Vec<Row>, BenchFault>),
+    WorkerPromise<'a, G>,
+>;
+
+/// A feeder in its thread.
+pub(crate) type Feeder<'a, G> = PromisedHandle<
+    (<G as Gate>::Pass, Result<(), BenchFault>),
+    FeederPromise<'a, G>,
+>;
+
+/// Starts a worker; none where no thread can begin.
+pub(crate) fn start_worker<'s, E, G: Gate + Sync, R: Threads + Wait + Sync>(
+    scope: &Scope<'s, E>,
+    rt: &'s R,
+    alloc: Global,
+    gate: &'s G,
+    pass: G::Pass,
+    bench: &'s Bench,
+) -> Option<Worker<'s, G>>
+where
+    G::Pass: Send + Drop + 's,
+    requires { G.is_pass gate.now pass }
+    ensures { IfSome result
+        (λ worker. (worker.promise.gate.now ≡ gate.now) × (worker.promise.bench.now ≡ bench.now) × (worker.promise.pass.value ≡ pass)) }
+{
+    let promise = WorkerPromise {
+        gate,
+        bench,
+        pass: Snapshot::of(&pass),
+    };
+    match scope.spawn_with(promise, move || work(rt, alloc, gate, pass, bench)) {
+        Ok(worker) => Some(worker),
+        Err(_) => None,
+    }
+}
+
+/// Starts a feeder; none where no thread can begin.
+pub(crate) fn start_feeder<'s, E, G: Gate + Sync, R: Threads + Wait + Sync>(
+    scope: &Scope<'s, E>,
+    rt: &'s R,
+    gate: &'s G,
+    pass: G::Pass,
+    ops: &'s [Op],
+    plan: &'s Plan,
+) -> Option<Feeder<'s, G>>
+where
+    G::Pass: Send + Drop + 's,
+    requires { G.is_pass gate.now pass }
+    ensures { IfSome result (λ feeder. (feeder.promise.gate.now ≡ gate.now) × (feeder.promise.pass.value ≡ pass)) }
+{
+    let promise = FeederPromise {
+        gate,
+        pass: Snapshot::of(&pass),
+    };
+    match scope.spawn_with(promise, move || feed(rt, gate, pass, ops, plan)) {
+        Ok(feeder) => Some(feeder),
+        Err(_) => None,
+    }
+}
+
+/// Waits for a feeder, and merges its pass.
+pub(crate) fn join_feeder<G: Gate, R: Threads>(
+    rt: &R,
+    gate: &G,
+    pass: &mut G::Pass,
+    feeder: Feeder<'_, G>,
+) -> Result<(), BenchFault>
+    requires own { G.is_pass gate.now pass.old × (feeder.promise.gate.now ≡ gate.now) }
+    ensures own { G.is_pass gate.now pass.new }
+    ensures refused { IfErr result (IsStalled G.may_give_up) }
+    ensures records { G.keeps_records ≡ true
+        → (G.view pass.new).taken ≡ (G.view pass.old).taken ++ (G.view feeder.entry.promise.pass.value).taken }
+{
+    let (other, outcome) = feeder.join(rt);
+    gate.merge(pass, other);
+    outcome
+}
+
+/// Waits for a worker, and merges its pass.
+pub(crate) fn join_worker<G: Gate, R: Threads>(
+    rt: &R,
+    gate: &G,
+    bench: &Bench,
+    pass: &mut G::Pass,
+    worker: Worker<'_, G>,
+) -> Result<Vec<Row>, BenchFault>
+    requires own { G.is_pass gate.now pass.old × (worker.promise.gate.now ≡ gate.now) × (worker.promise.bench.now ≡ bench.now) }
+    requires fresh { G.keeps_records ≡ true → (G.view worker.promise.pass.value).taken ≡ [] }
+    ensures own { G.is_pass gate.now pass.new }
+    ensures verdicts { IfOk result (λ rows. AreVerdicts bench.now rows.items) }
+    ensures refused { IfErr result (IsNoWork G.may_give_up bench.now.plan) }
+    ensures records { G.keeps_records ≡ true
+        → IfOk result (λ rows. (G.view pass.new).taken ≡ (G.view pass.old).taken ++ tickets_in rows.items) }
+{
+    let (other, outcome) = worker.join(rt);
+    gate.merge(pass, other);
+    outcome
+}

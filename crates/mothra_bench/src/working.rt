@@ -1,0 +1,120 @@
+//! Workers: they take tickets, and run their mutants.
+
+ghost use Rattle.std.specs.Prelude.{◌≡◌, true, IfOk, IfErr, IfSome};
+ghost use Rattle.mothra_bench.specs.Bench.{BenchFields};
+ghost use Rattle.mothra_bench.specs.Gathered.{AreVerdicts};
+ghost use Rattle.mothra_bench.specs.Working.{IsNoWork, OnlyTook, TookRows, Went};
+
+use crate::bench::Bench;
+use crate::fault::BenchFault;
+use crate::gathered::Gathered;
+use crate::verdict::{Row, Verdicts};
+use crossbeam_utils::Backoff;
+use mothra_codes::Op;
+use mothra_exchange::{Gate, Take};
+use std::alloc::Global;
+use std::sync::Wait;
+
+/// How a take of one operator, or of all, ended.
+#[derive(Clone, Copy, PartialEq, Eq, Drop)]
+enum Turn {
+    /// There is nothing to come.
+    Finished,
+    /// There was nothing.
+    Idle,
+    Ran,
+    GaveUp,
+}
+
+/// Tries to take a ticket of an operator, and runs its mutant.
+fn take_turn<G: Gate, R: Wait>(
+    rt: &R,
+    alloc: Global,
+    gate: &G,
+    pass: &mut G::Pass,
+    verdicts: Option<&Verdicts<'_>>,
+    gathered: &mut Gathered,
+    op: Op,
+) -> Turn
+    requires { G.is_pass gate.now pass.old }
+    ensures own { G.is_pass gate.now pass.new }
+    ensures part { G.needs_parts ≡ true → (G.view pass.new).part ≡ (G.view pass.old).part }
+    ensures went { (bench : BenchFields) → IfSome verdicts.entry (λ verdicts. verdicts.now ≡ bench)
+        → Went bench G.may_give_up G.keeps_records (G.view pass.old) (G.view pass.new) gathered.old gathered.new }
+{
+    match gate.take(rt, pass, op) {
+        Take::Finished => Turn::Finished,
+        Take::Empty | Take::Busy => Turn::Idle,
+        Take::Taken(ticket) => {
+            gathered.run(alloc, verdicts, ticket);
+            Turn::Ran
+        }
+        Take::GaveUp => {
+            gathered.fail(BenchFault::Stalled);
+            Turn::GaveUp
+        }
+    }
+}
+
+/// Tries each operator once.
+fn take_round<G: Gate, R: Wait>(
+    rt: &R,
+    alloc: Global,
+    gate: &G,
+    pass: &mut G::Pass,
+    verdicts: Option<&Verdicts<'_>>,
+    gathered: &mut Gathered,
+) -> Turn
+    requires { G.is_pass gate.now pass.old }
+    ensures own { G.is_pass gate.now pass.new }
+    ensures part { G.needs_parts ≡ true → (G.view pass.new).part ≡ (G.view pass.old).part }
+    ensures went { (bench : BenchFields) → IfSome verdicts.entry (λ verdicts. verdicts.now ≡ bench)
+        → Went bench G.may_give_up G.keeps_records (G.view pass.old) (G.view pass.new) gathered.old gathered.new }
+{
+    let mut round = Turn::Finished;
+    for op in Op::ALL {
+        match take_turn(rt, alloc, gate, pass, verdicts, gathered, op) {
+            Turn::Finished => {}
+            Turn::Idle => {
+                if round == Turn::Finished {
+                    round = Turn::Idle;
+                }
+            }
+            Turn::Ran => round = Turn::Ran,
+            Turn::GaveUp => return Turn::GaveUp,
+        }
+    }
+    round
+}
+
+/// Goes round the operators, runs the mutants of the tickets that it takes, and ends when a whole round answered that all is finished. After a
+/// fault of its own it takes on without running, so that feeders can end, and answers its first fault. Where the gate gives up it ends at
+/// once, with B10 where it has no earlier fault.
+pub fn work<G: Gate, R: Wait>(
+    rt: &R,
+    alloc: Global,
+    gate: &G,
+    mut pass: G::Pass,
+    bench: &Bench,
+) -> (G::Pass, Result<Vec<Row>, BenchFault>)
+    requires { G.is_pass gate.now pass }
+    ensures own { G.is_pass gate.now result.0 }
+    ensures verdicts { IfOk result.1 (λ rows. AreVerdicts bench.now rows.items) }
+    ensures refused { IfErr result.1 (IsNoWork G.may_give_up bench.now.plan) }
+    ensures part { G.needs_parts ≡ true → (G.view result.0).part ≡ (G.view pass).part }
+    ensures pass { G.keeps_records ≡ true → OnlyTook (G.view pass) (G.view result.0) }
+    ensures records { G.keeps_records ≡ true → IfOk result.1 (λ rows. TookRows (G.view pass) (G.view result.0) rows.items) }
+{
+    let found = Verdicts::of(alloc, bench).ok();
+    let verdicts = found.as_ref();
+    let mut gathered = Gathered::new(alloc);
+    let backoff = Backoff::new();
+    for _ in rt.forever() {
+        match take_round(rt, alloc, gate, &mut pass, verdicts, &mut gathered) {
+            Turn::Finished | Turn::GaveUp => return (pass, gathered.outcome()),
+            Turn::Ran => backoff.reset(),
+            Turn::Idle => backoff.snooze(),
+        }
+    }
+    unreachable!()
+}
