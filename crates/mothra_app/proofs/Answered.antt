@@ -1,5 +1,5 @@
 -- From what was read and answered to what is served.
-use Rattle.std.proofs.Common.{arith, ◌≡◌, ◌∙◌, ℕ, ◌<◌, ◌≤◌, ◌++◌, Bool, true, false, sym, ap, refl, subst, inl, inr, List, [], Option, Some, None, Result, Ok, Err, IfOk, length, length-append, append-nil, nat_lt}
+use Rattle.std.proofs.Common.{arith, ◌≡◌, ◌≢◌, ◌∙◌, ℕ, ◌<◌, ◌≤◌, ◌++◌, Bool, true, false, sym, ap, refl, subst, inl, inr, List, [], Option, Some, None, Result, Ok, Err, IfOk, length, length-append, append-nil, nat_lt, string_bytes}
 use Rattle.std.proofs.lemmas.Bool.{ltb-true, ltb-false, lt-ltb}
 use Rattle.std.proofs.KnownBytes.{Keeps-refl}
 use Rattle.clap.specs.Words.{Text, fault_of}
@@ -7,15 +7,19 @@ use Rattle.clap.specs.Kinds.{HasKind, IsAmong}
 use Rattle.clap.specs.Values.{kind_of}
 use Rattle.clap.specs.declared.error.Error.{Error}
 use Rattle.clap.specs.declared.error.kind.ErrorKind.TheVariants as kind
-use Rattle.mothra_app.specs.Answer.{IsTold, IsAnswer, IsRefusal}
+use Rattle.mothra_app.specs.Answer.{IsTold, IsAnswer, IsReady, IsRefusal, IsReportAnswer}
 use Rattle.mothra_cli.specs.Command.{mothra}
 use Rattle.mothra_cli.specs.Input.{limit, AreAll, IsRead, ReadsUpTo}
 use Rattle.mothra_app.specs.Job.{faults, job_of}
 use Rattle.mothra_cli.specs.Request.{HasBadOperators}
-use Rattle.mothra_app.specs.Serving.{AsksFor, MayBeWritten, IsReadFor, IsAnswered, IsAnsweredBy, bad_operators}
+use Rattle.mothra_app.specs.Serving.{AsksFor, MayBeWritten, IsReadFor, IsAnswered, IsReadyBy, IsReadyFor, bad_operators}
+use Rattle.mothra_app.specs.declared.answer.Ready.{Ready}
+use Rattle.mothra_app.specs.declared.answer.Ready.TheVariants as ready
+use Rattle.mothra_bench.specs.Bench.{BenchFields}
 use Rattle.mothra_cli.specs.declared.request.Request.{Request}
 use Rattle.mothra_app.specs.declared.status.Status.{Status}
 use Rattle.mothra_app.specs.declared.status.Status.TheVariants as status
+use Rattle.mothra_app.proofs.Outcomes.{report_answered, within}
 
 -- ---- what was read stands for all the bytes
 
@@ -30,15 +34,15 @@ job_same xs v rest split end = job_at xs v (nat_lt 1048576 (length v)) refl
     (omega (arith, ap length split, length-append v rest))
     (λ few. split ∙ ap (λ l. v ++ l) (end few) ∙ append-nil v)
 
--- the answer about what was read is that about all the bytes
-pub answered_by : (old new : Option (List ℕ)) (v : List ℕ) (request : Request) (s : Status) (t : List ℕ) → ReadsUpTo limit old new v
-    → IsAnswer request (job_of v) s t → IsAnsweredBy request old s t
-answered_by None new v request s t reads answer = record { bytes = v; all = tt; answer = answer }
-answered_by (Some xs) None v request s t reads answer = absurd reads.0
-answered_by (Some xs) (Some rest) v request s t reads answer = record {
+-- what is ready for what was read is ready for all the bytes
+pub ready_by : (old new : Option (List ℕ)) (v : List ℕ) (request : Request) (r : Ready) → ReadsUpTo limit old new v → IsReady request (job_of v) r
+    → IsReadyBy request old r
+ready_by None new v request r reads is = record { bytes = v; all = tt; is = is }
+ready_by (Some xs) None v request r reads is = absurd reads.0
+ready_by (Some xs) (Some rest) v request r reads is = record {
   bytes = xs;
   all = refl;
-  answer = subst (λ r. IsAnswer request r s t) (sym (job_same xs v rest reads.0 reads.2)) answer;
+  is = subst (λ read. IsReady request read r) (sym (job_same xs v rest reads.0 reads.2)) is;
 }
 
 -- ---- what may be written
@@ -48,16 +52,39 @@ read_for : (request : Request) (bytes : List ℕ) (left now : Option (List ℕ))
     → IsRead limit left now → IsReadFor s left now
 read_for request bytes left now s t (IsAnswer.told (IsTold.report is)) read = read
 read_for request bytes left now s t (IsAnswer.told (IsTold.fault f is)) read = read
-read_for request bytes left now s t (IsAnswer.memory f is) read = read
+read_for request bytes left now s t (IsAnswer.broken_off f is) read = read
 
-pub answered : (words : List Text) (left now : Option (List ℕ)) (request : Request) (s : Status) (t : List ℕ) → AsksFor words request
-    → IsAnsweredBy request left s t → IsRead limit left now → IsAnswered words left now s t
-answered words left now request s t is by read = record {
-  bytes = by.bytes;
-  all = by.all;
-  may = MayBeWritten.answer is by.answer;
-  read = read_for request by.bytes left now s t by.answer read;
+answered : (words : List Text) (left now : Option (List ℕ)) (request : Request) (bytes : List ℕ) (s : Status) (t : List ℕ) → AsksFor words request
+    → AreAll left bytes → IsAnswer request (job_of bytes) s t → IsRead limit left now → IsAnswered words left now s t
+answered words left now request bytes s t asks all is read = record {
+  bytes = bytes;
+  all = all;
+  may = MayBeWritten.answer asks is;
+  read = read_for request bytes left now s t is read;
 }
+
+pub ready_for : (words : List Text) (left now : Option (List ℕ)) (request : Request) (r : Ready) → AsksFor words request → IsReadyBy request left r
+    → IsRead limit left now → IsReadyFor words left now r
+ready_for words left now request (ready.Answer a) asks by read = answered words left now request by.bytes a.status (string_bytes a.text) asks by.all by.is read
+ready_for words left now request (ready.Bench bench workers) asks by read = (request, asks, by, read)
+
+-- the report of a bench that is ready
+pub reported : (words : List Text) (left now : Option (List ℕ)) (bench : BenchFields) (workers : ℕ) (s : Status) (t : List ℕ)
+    → IsReadyFor words left now (ready.Bench bench workers) → IsReportAnswer bench s t → IsAnswered words left now s t
+reported words left now bench workers s t (request, asks, by, read) reports =
+    answered words left now request by.bytes s t asks by.all (report_answered request (job_of by.bytes) bench workers s t by.is reports) read
+
+pub few_workers : (words : List Text) (left now : Option (List ℕ)) (bench : BenchFields) (workers : ℕ)
+    → IsReadyFor words left now (ready.Bench bench workers) → (1 ≤ workers) × (workers ≤ 32)
+few_workers words left now bench workers (request, asks, by, read) = within request (job_of by.bytes) bench workers by.is
+
+-- a report or its fault is neither a refusal of words nor help
+pub report_never : {A : Type 0} (bench : BenchFields) (s other : Status) (t : List ℕ) → IsReportAnswer bench s t → s ≡ other → other ≢ status.Report
+    → other ≢ status.Fault → A
+report_never bench s other t (IsReportAnswer.report is) e other_than unlike = absurd (other_than (sym e))
+report_never bench s other t (IsReportAnswer.broken_off f is) e other_than unlike = absurd (unlike (sym e))
+
+-- ---- words that are refused or ask for help
 
 refused_so : (words : List Text) (bytes : List ℕ) (e : Error) (s : Status) (t : List ℕ) → HasKind (fault_of mothra words) e
     → IsRefusal (kind_of e) s → MayBeWritten words bytes s t

@@ -1,4 +1,5 @@
 mod Suites
+mod Entries
 mod EachValue
 mod Memory
 mod Sources
@@ -8,8 +9,14 @@ mod Outcomes
 mod Chosen
 mod ListedLines
 mod Listings
+mod FewTests
+mod Reports
 mod Answered
 mod OneProgram
 mod OneExecution
 mod OneListing
+mod FirstBreaks
+mod AlikePlans
+mod OneBench
+mod OneReport
 mod OneAnswer

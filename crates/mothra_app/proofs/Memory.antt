@@ -1,14 +1,15 @@
--- Want of memory, among the faults that may come in place of an answer.
-use Rattle.std.proofs.Common.{arith, ℕ, suc, List, [], ◌∷◌, refl}
+-- The faults that may come in place of an answer.
+use Rattle.std.proofs.Common.{arith, ◌≡◌, ℕ, zero, suc, List, [], ◌∷◌, refl}
 use Rattle.std.specs.Prelude.{Contains}
 use Rattle.f77_source.specs.declared.fault.FormFault.TheVariants as form
 use Rattle.f77_tree.specs.declared.fault.SyntaxFault.TheVariants as syntax
 use Rattle.f77_legal.specs.declared.fault.CheckFault.TheVariants as check
 use Rattle.f77_run.specs.declared.outcome.RunFault.TheVariants as run
-use Rattle.mothra_app.specs.Fault.{IsMemory, of_programs, of_legal_programs, of_runs, of_mutants}
+use Rattle.mothra_app.specs.Fault.{MayFailBy, MayFailRun, of_programs, of_legal_programs, of_runs, of_mutants}
 use Rattle.mothra_app.specs.declared.fault.Fault.{Fault}
-use Rattle.mothra_app.specs.declared.fault.Fault.TheVariants.{Job, Form, Syntax, Check, Run, Ops}
+use Rattle.mothra_app.specs.declared.fault.Fault.TheVariants.{Job, Form, Syntax, Check, Run, Ops, Bench}
 use Rattle.mothra_app.specs.declared.job.JobFault.TheVariants as job
+use Rattle.mothra_bench.specs.declared.fault.BenchFault.{BenchFault}
 use Rattle.mothra_cli.specs.declared.request.Request.{Request}
 use Rattle.mothra_cli.specs.declared.request.Request.TheVariants as command
 use Rattle.mothra_codes.specs.declared.op.Op.{Op}
@@ -44,16 +45,33 @@ ops_in = first_in (Ops ops.Memory) of_legal_programs
 pub legal_in_mutants : (fault : Fault) → Contains of_legal_programs fault → Contains of_mutants fault
 legal_in_mutants fault has = later_in (Ops ops.Memory) of_legal_programs fault has
 
-pub job_in : (request : Request) → IsMemory request (Job job.Memory)
+no_bench_in : (fault : BenchFault) → Contains of_mutants (Bench fault) → ⊥
+no_bench_in fault (zero, low, at) = let no : Ops ops.Memory ≡ Bench fault = at in cc
+no_bench_in fault (suc zero, low, at) = let no : Check check.Memory ≡ Bench fault = at in cc
+no_bench_in fault (suc (suc zero), low, at) = let no : Form form.Memory ≡ Bench fault = at in cc
+no_bench_in fault (suc (suc (suc zero)), low, at) = let no : Syntax syntax.Memory ≡ Bench fault = at in cc
+no_bench_in fault (suc (suc (suc (suc k))), low, at) = omega (arith, low)
+
+pub in_run : (fault : Fault) → Contains of_mutants fault → MayFailRun fault
+in_run (Bench fault) has = absurd (no_bench_in fault has)
+in_run (Job fault) has = later_in (Job job.Memory) of_mutants (Job fault) has
+in_run (Form fault) has = later_in (Job job.Memory) of_mutants (Form fault) has
+in_run (Syntax fault) has = later_in (Job job.Memory) of_mutants (Syntax fault) has
+in_run (Check fault) has = later_in (Job job.Memory) of_mutants (Check fault) has
+in_run (Run fault) has = later_in (Job job.Memory) of_mutants (Run fault) has
+in_run (Ops fault) has = later_in (Job job.Memory) of_mutants (Ops fault) has
+
+pub job_in : (request : Request) → MayFailBy request (Job job.Memory)
 job_in command.Print = first_in (Job job.Memory) of_programs
 job_in (command.Exec test steps) = first_in (Job job.Memory) of_runs
 job_in (command.List operators every) = first_in (Job job.Memory) of_mutants
+job_in (command.Run operators every steps workers) = first_in (Job job.Memory) of_mutants
 
-pub in_print : (fault : Fault) → Contains of_programs fault → IsMemory command.Print fault
+pub in_print : (fault : Fault) → Contains of_programs fault → MayFailBy command.Print fault
 in_print fault has = later_in (Job job.Memory) of_programs fault has
 
-pub in_exec : (test steps : ℕ) (fault : Fault) → Contains of_runs fault → IsMemory (command.Exec test steps) fault
+pub in_exec : (test steps : ℕ) (fault : Fault) → Contains of_runs fault → MayFailBy (command.Exec test steps) fault
 in_exec test steps fault has = later_in (Job job.Memory) of_runs fault has
 
-pub in_list : (operators : List Op) (every : ℕ) (fault : Fault) → Contains of_mutants fault → IsMemory (command.List operators every) fault
+pub in_list : (operators : List Op) (every : ℕ) (fault : Fault) → Contains of_mutants fault → MayFailBy (command.List operators every) fault
 in_list operators every fault has = later_in (Job job.Memory) of_mutants fault has

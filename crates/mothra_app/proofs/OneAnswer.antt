@@ -8,15 +8,17 @@ use Rattle.mothra_app.specs.Job.{JobRead, job_of}
 use Rattle.mothra_app.specs.Line.{line_of}
 use Rattle.mothra_app.specs.Printing.{IsPrinted}
 use Rattle.mothra_cli.specs.Request.{IsBounded, request_of}
-use Rattle.mothra_app.specs.Serving.{IsServed}
+use Rattle.mothra_app.specs.Serving.{AsksFor, IsServed}
 use Rattle.mothra_app.specs.declared.fault.Fault.{Fault}
 use Rattle.mothra_app.specs.declared.fault.Fault.TheVariants.{Syntax}
 use Rattle.mothra_cli.specs.declared.request.Request.{Request}
 use Rattle.mothra_cli.specs.declared.request.Request.TheVariants as command
 use Rattle.mothra_app.specs.declared.status.Status.{Status}
+use Rattle.mothra_codes.specs.declared.op.Op.{Op}
 use Rattle.mothra_app.proofs.OneProgram.{Laws, one_read, same_fault, same_program, never_both, first_of_none}
 use Rattle.mothra_app.proofs.OneExecution.{one_executed}
 use Rattle.mothra_app.proofs.OneListing.{one_listed}
+use Rattle.mothra_app.proofs.OneReport.{one_reported}
 
 one_printed : {source : List ℕ} {outcome other : Outcome} → Laws → IsPrinted source outcome → IsPrinted source other → outcome ≡ other
 one_printed laws (IsPrinted.no_program p) (IsPrinted.no_program q) = ap Err (same_fault _ _ (one_read laws p q))
@@ -43,6 +45,7 @@ one_outcome request (Err fault) outcome other laws bounded is also = is ∙ sym 
 one_outcome command.Print (Ok job) outcome other laws bounded is also = one_printed laws is also
 one_outcome (command.Exec test steps) (Ok job) outcome other laws bounded is also = one_executed laws is also
 one_outcome (command.List operators every) (Ok job) outcome other laws bounded is also = one_listed laws bounded.0 is also
+one_outcome (command.Run operators every steps workers) (Ok job) outcome other laws bounded is also = one_reported laws bounded.0 is also
 
 same_text : (text other : List ℕ) → (let one : Outcome = Ok text in let two : Outcome = Ok other in one ≡ two) → text ≡ other
 same_text text other e = cc
@@ -72,3 +75,30 @@ pub one_answer : (words : List Text) (bytes : List ℕ) (status other : Status) 
 one_answer words bytes status other text also laws one two =
     let same = same_request one.0 two.0 (request_of words) one.1.is two.1.is in
     one_told two.0 (job_of bytes) status other text also laws two.1.bounded (subst (λ request. IsTold request (job_of bytes) status text) same one.2) two.2
+
+-- ---- the number of workers
+
+module _ (operators : List Op) (every steps workers more : ℕ) where
+  other_outcome : (read : JobRead) (outcome : Outcome) → IsOutcome (command.Run operators every steps workers) read outcome
+      → IsOutcome (command.Run operators every steps more) read outcome
+  other_outcome (Ok job) outcome is = is
+  other_outcome (Err fault) outcome is = is
+
+  other_told : {read : JobRead} {status : Status} {text : List ℕ} → IsTold (command.Run operators every steps workers) read status text
+      → IsTold (command.Run operators every steps more) read status text
+  other_told {read = read} (IsTold.report is) = IsTold.report (other_outcome read _ is)
+  other_told {read = read} (IsTold.fault f is) = IsTold.fault f (other_outcome read _ is)
+
+asked_told : (words : List Text) (bytes : List ℕ) (request : Request) (status : Status) (text : List ℕ) → AsksFor words request → IsServed words bytes status text
+    → IsTold request (job_of bytes) status text
+asked_told words bytes request status text asks served =
+    subst (λ r. IsTold r (job_of bytes) status text) (same_request served.0 request (request_of words) served.1.is asks.is) served.2
+
+pub any_workers : (words others : List Text) (operators : List Op) (every steps workers more : ℕ) (bytes : List ℕ) (status other : Status) (text also : List ℕ)
+    → Laws → AsksFor words (command.Run operators every steps workers) → AsksFor others (command.Run operators every steps more)
+    → IsServed words bytes status text → IsServed others bytes other also → (status ≡ other) × (text ≡ also)
+any_workers words others operators every steps workers more bytes status other text also laws asks asks_too one two =
+    let request = command.Run operators every steps more in
+    let told = asked_told words bytes (command.Run operators every steps workers) status text asks one in
+    one_told request (job_of bytes) status other text also laws asks_too.bounded (other_told operators every steps workers more told)
+    (asked_told others bytes request other also asks_too two)

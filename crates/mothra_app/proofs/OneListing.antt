@@ -19,12 +19,12 @@ Text = Result (List ℕ) Fault
 
 -- ---- an operator has one list, or too long a one
 
-one_of : {op : Op} {program : List LineFields} {every : ℕ} {edits others : List Edit} → Laws → IsList op program every edits → IsList op program every others
+pub one_of : {op : Op} {program : List LineFields} {every : ℕ} {edits others : List Edit} → Laws → IsList op program every edits → IsList op program every others
     → edits ≡ others
 one_of {op} {program} {every} laws one two =
     one.is ∙ ap (thinned every) (laws.one_edit_list op program one.whole two.whole one.lists two.lists) ∙ sym two.is
 
-never_long : {op : Op} {program : List LineFields} {every : ℕ} {edits : List Edit} {A : Type 0} → Laws → 1 ≤ every → IsTooLong op program every
+pub never_long : {op : Op} {program : List LineFields} {every : ℕ} {edits : List Edit} {A : Type 0} → Laws → 1 ≤ every → IsTooLong op program every
     → IsList op program every edits → A
 never_long {op} {program} {every} {edits} {A} laws some long list = go (laws.too_long op program every list.whole some long list.lists)
   where
@@ -36,7 +36,7 @@ never_long {op} {program} {every} {edits} {A} laws some long list = go (laws.too
     go (inr many) = absurd (omega (arith, list.few_whole, many))
 
 -- one operator is the first whose list is too long
-one_first : {ops : List Op} {program : List LineFields} {every : ℕ} (op other : Op) → Laws → 1 ≤ every → IsFirstTooLong ops program every op
+pub one_first : {ops : List Op} {program : List LineFields} {every : ℕ} (op other : Op) → Laws → 1 ≤ every → IsFirstTooLong ops program every op
     → IsFirstTooLong ops program every other → op ≡ other
 one_first op other laws some first also = go (same_index op other)
   where
@@ -79,7 +79,7 @@ same_list program every ops lists others same =
 
 -- ---- the command
 
-long_moved : {ops : List Op} {every : ℕ} {op : Op} (p q : List LineFields) → p ≡ q → IsFirstTooLong ops p every op → IsFirstTooLong ops q every op
+pub long_moved : {ops : List Op} {every : ℕ} {op : Op} (p q : List LineFields) → p ≡ q → IsFirstTooLong ops p every op → IsFirstTooLong ops q every op
 long_moved {ops} {every} {op} p q same first = subst (λ program. IsFirstTooLong ops program every op) same first
 
 pub one_listed : {source : List ℕ} {ops : List Op} {every : ℕ} {list other : Text} → Laws → 1 ≤ every → IsListed source ops every list

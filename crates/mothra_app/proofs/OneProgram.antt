@@ -14,6 +14,8 @@ use Rattle.f77_run.specs.Interpreter.{OneAnswer}
 use Rattle.mothra_app.specs.Program.{IsProgramOf, IsLegalProgramOf}
 use Rattle.mothra_app.specs.declared.fault.Fault.{Fault}
 use Rattle.mothra_app.specs.declared.fault.Fault.TheVariants.{Form, Syntax, Check}
+use Rattle.mothra_bench.specs.Analysis.{IsReport}
+use Rattle.mothra_bench.specs.Bench.{BenchFields}
 use Rattle.mothra_codes.specs.declared.op.Op.{Op}
 use Rattle.mothra_ops.specs.Edits.{IsMember, IsTooLong, Lists, most_edits, most_whole, thinned}
 use Rattle.mothra_ops.specs.declared.edit.Edit.{Edit}
@@ -29,6 +31,7 @@ pub record Laws : Type 0 where
   pub one_edit_list : (op : Op) (program : List LineFields) (one other : List Edit) → Lists (IsMember op program) one → Lists (IsMember op program) other → one ≡ other
   pub too_long : (op : Op) (program : List LineFields) (q : ℕ) (whole : List Edit) → 1 ≤ q → IsTooLong op program q → Lists (IsMember op program) whole
       → (most_edits < length (thinned q whole)) ⊎ (most_whole < length whole)
+  pub one_report : (bench : BenchFields) (one other : List ℕ) → IsReport bench one → IsReport bench other → one ≡ other
   pub program_or_fault : (cards : List CardFields) (program : List LineFields) (fault : SyntaxFault) → AreLines None cards program → syntax.IsFirstFault None cards fault → ⊥
 
 abbrev pub Read : Type 0

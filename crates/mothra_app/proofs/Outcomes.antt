@@ -1,16 +1,25 @@
 -- From what the call of a command answers to what the command comes to, and to the answer.
-use Rattle.std.proofs.Common.{◌≡◌, ◌⊎◌, inl, inr, ℕ, List, sym, subst, Result, Ok, Err, MatchResult, String, Global, string_bytes}
+use Rattle.std.proofs.Common.{◌≡◌, ◌≤◌, ◌⊎◌, inl, inr, ℕ, List, sym, subst, Result, Ok, Err, MatchResult, String, Global, string_bytes}
 use Rattle.std.specs.Prelude.{Contains}
-use Rattle.mothra_app.specs.Answer.{IsOutcome, IsTold, IsAnswer}
+use Rattle.mothra_app.specs.Answer.{IsMade, IsOutcome, IsTold, IsAnswer, IsReportAnswer}
 use Rattle.mothra_app.specs.Executing.{IsExecuted}
-use Rattle.mothra_app.specs.Fault.{IsMemory, of_programs, of_runs, of_mutants}
+use Rattle.mothra_app.specs.Fault.{MayFailBy, of_programs, of_runs, of_mutants}
 use Rattle.mothra_app.specs.Job.{JobFields, JobRead}
 use Rattle.mothra_app.specs.Line.{line_of}
 use Rattle.mothra_app.specs.Listing.{IsListed}
 use Rattle.mothra_app.specs.Printing.{IsPrinted}
+use Rattle.mothra_app.specs.Reporting.{IsBenchOf, IsReported}
+use Rattle.mothra_app.specs.declared.answer.Product.{Product}
+use Rattle.mothra_app.specs.declared.answer.Product.TheVariants as product
 use Rattle.mothra_app.specs.declared.fault.Fault.{Fault}
+use Rattle.mothra_app.specs.declared.fault.Fault.TheVariants.{Bench}
 use Rattle.mothra_app.specs.declared.job.JobFault.TheVariants.{Memory}
+use Rattle.mothra_app.specs.declared.status.Status.{Status}
 use Rattle.mothra_app.specs.declared.status.Status.TheVariants as status
+use Rattle.mothra_bench.specs.Analysis.{IsNoReport}
+use Rattle.mothra_bench.specs.Bench.{BenchFields}
+use Rattle.mothra_bench.specs.declared.fault.BenchFault.{BenchFault}
+use Rattle.mothra_cli.specs.Request.{IsBounded}
 use Rattle.mothra_cli.specs.declared.request.Request.{Request}
 use Rattle.mothra_cli.specs.declared.request.Request.TheVariants as command
 use Rattle.mothra_codes.specs.declared.op.Op.{Op}
@@ -22,7 +31,7 @@ Text = Result (String Global) Fault
 -- the command comes to this text or this fault, or memory ran out
 abbrev pub Comes : Request → JobRead → Text → Type 0
 Comes request read text =
-    MatchResult text (λ t. IsOutcome request read (Ok (string_bytes t))) (λ fault. IsOutcome request read (Err fault) ⊎ IsMemory request fault)
+    MatchResult text (λ t. IsOutcome request read (Ok (string_bytes t))) (λ fault. IsOutcome request read (Err fault) ⊎ MayFailBy request fault)
 
 print_comes : (job : JobFields) (source : List ℕ) (text : Text) → source ≡ job.source
     → MatchResult text (λ t. IsPrinted source (Ok (string_bytes t))) (λ fault. IsPrinted source (Err fault) ⊎ Contains of_programs fault)
@@ -47,7 +56,7 @@ list_comes job source named operators every (Err fault) same own (inl is) =
     inl (subst (λ s. IsListed s operators every (Err fault)) same (subst (λ ops. IsListed source ops every (Err fault)) own is))
 list_comes job source named operators every (Err fault) same own (inr memory) = inr (in_list operators every fault memory)
 
-read_so : (job : JobFields) (read : JobRead) → (let own : JobRead = Ok job in (own ≡ read) ⊎ (own ≡ Err Memory)) → (let own : JobRead = Ok job in own ≡ read)
+pub read_so : (job : JobFields) (read : JobRead) → (let own : JobRead = Ok job in (own ≡ read) ⊎ (own ≡ Err Memory)) → (let own : JobRead = Ok job in own ≡ read)
 read_so job read (inl is) = is
 read_so job read (inr is) = absurd (cc)
 
@@ -75,9 +84,55 @@ pub listed : (request : Request) (job : JobFields) (read : JobRead) (source : Li
 listed request job read source named operators every text is of_job same own comes =
     moved request _ job read text is of_job (list_comes job source named operators every text same own comes)
 
+-- ---- what it comes to without threads
+
+-- the command is made into this, or comes to this fault, or another comes in its place
+abbrev pub Makes : Request → JobRead → Result Product Fault → Type 0
+Makes request read result =
+    MatchResult result (IsMade read request) (λ fault. IsOutcome request read (Err fault) ⊎ MayFailBy request fault)
+
+pub text_made : (request : Request) (read : JobRead) (text : String Global) → Comes request read (Ok text) → Makes request read (Ok (product.Text text))
+text_made request read text is = IsMade.of_text is
+
+pub bench_made : (request : Request) (job : JobFields) (read : JobRead) (named operators : List Op) (every steps workers : ℕ) (bench : BenchFields)
+    → request ≡ command.Run operators every steps workers → (let ok : JobRead = Ok job in (ok ≡ read) ⊎ (ok ≡ Err Memory)) → named ≡ operators
+    → IsBounded request → IsBenchOf job named every steps bench → Makes request read (Ok (product.Bench bench workers))
+bench_made request job read named operators every steps workers bench is of_job own bounded made =
+    let bounds : IsBounded (command.Run operators every steps workers) = subst IsBounded is bounded in
+    subst (λ r. IsMade read r (product.Bench bench workers)) (sym is)
+    (IsMade.of_bench (sym (read_so job read of_job)) (subst (λ ops. IsBenchOf job ops every steps bench) own made) (bounds.4, bounds.5))
+
 -- ---- the answer
 
-pub fault_answered : (request : Request) (read : JobRead) (fault : Fault) (text : List ℕ) → text ≡ line_of fault
-    → IsOutcome request read (Err fault) ⊎ IsMemory request fault → IsAnswer request read status.Fault text
+pub text_told : (request : Request) (read : JobRead) (text : String Global) → IsMade read request (product.Text text)
+    → IsAnswer request read status.Report (string_bytes text)
+text_told request read text (IsMade.of_text is) = IsAnswer.told (IsTold.report is)
+
+fault_answered : (request : Request) (read : JobRead) (fault : Fault) (text : List ℕ) → text ≡ line_of fault
+    → IsOutcome request read (Err fault) ⊎ MayFailBy request fault → IsAnswer request read status.Fault text
 fault_answered request read fault text line (inl is) = subst (IsAnswer request read status.Fault) (sym line) (IsAnswer.told (IsTold.fault fault is))
-fault_answered request read fault text line (inr memory) = subst (IsAnswer request read status.Fault) (sym line) (IsAnswer.memory fault memory)
+fault_answered request read fault text line (inr may) = subst (IsAnswer request read status.Fault) (sym line) (IsAnswer.broken_off fault may)
+
+pub fault_told : (request : Request) (read : JobRead) (fault : Fault) (s : Status) (text : List ℕ) → s ≡ status.Fault → text ≡ line_of fault
+    → IsOutcome request read (Err fault) ⊎ MayFailBy request fault → IsAnswer request read s text
+fault_told request read fault s text is line told =
+    subst (λ v. IsAnswer request read v text) (sym is) (fault_answered request read fault text line told)
+
+-- so many workers may report on the bench
+pub within : (request : Request) (read : JobRead) (bench : BenchFields) (workers : ℕ) → IsMade read request (product.Bench bench workers)
+    → (1 ≤ workers) × (workers ≤ 32)
+within request read bench workers (IsMade.of_bench is of few) = few
+
+pub report_answered : (request : Request) (read : JobRead) (bench : BenchFields) (workers : ℕ) (s : Status) (text : List ℕ)
+    → IsMade read request (product.Bench bench workers) → IsReportAnswer bench s text → IsAnswer request read s text
+report_answered request read bench workers s text (IsMade.of_bench {operators = operators} {every = every} {steps = steps} is of few) (IsReportAnswer.report {text = report} reports) =
+    IsAnswer.told
+    (IsTold.report (subst (λ r. IsOutcome (command.Run operators every steps workers) r (Ok report)) (sym is) (IsReported.report of reports)))
+report_answered request read bench workers s text (IsMade.of_bench is of few) (IsReportAnswer.broken_off fault none) =
+    IsAnswer.broken_off (Bench fault) none
+
+pub report_refused : (bench : BenchFields) (fault : BenchFault) (s : Status) (text : List ℕ) → IsNoReport fault → s ≡ status.Fault
+    → text ≡ line_of (Bench fault) → IsReportAnswer bench s text
+report_refused bench fault s text none is line =
+    subst (λ v. IsReportAnswer bench v text) (sym is)
+    (subst (IsReportAnswer bench status.Fault) (sym line) (IsReportAnswer.broken_off fault none))

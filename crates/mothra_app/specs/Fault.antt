@@ -1,7 +1,8 @@
 -- Faults of the calls that a command makes.
 use Rattle.std.specs.Prelude.{List, [], ◌∷◌, Contains}
+use Rattle.mothra_bench.specs.Analysis.{IsNoReport}
 use Rattle.mothra_app.specs.declared.fault.Fault.{Fault}
-use Rattle.mothra_app.specs.declared.fault.Fault.TheVariants.{Job, Form, Syntax, Check, Run, Ops}
+use Rattle.mothra_app.specs.declared.fault.Fault.TheVariants.{Job, Form, Syntax, Check, Run, Ops, Bench}
 use Rattle.mothra_app.specs.declared.job.JobFault.TheVariants as job
 use Rattle.f77_source.specs.declared.fault.FormFault.TheVariants as form
 use Rattle.f77_tree.specs.declared.fault.SyntaxFault.TheVariants as syntax
@@ -24,11 +25,18 @@ of_runs = Run run.Memory ∷ of_legal_programs
 abbrev pub of_mutants : List Fault
 of_mutants = Ops ops.Memory ∷ of_legal_programs
 
--- want of memory, which may come in place of any other answer of the command
+-- want of memory, which may come in place of any other answer of the command; of `run` there are more
 abbrev pub memory_faults : Request → List Fault
 memory_faults command.Print = Job job.Memory ∷ of_programs
 memory_faults (command.Exec test steps) = Job job.Memory ∷ of_runs
 memory_faults (command.List operators every) = Job job.Memory ∷ of_mutants
+memory_faults (command.Run operators every steps workers) = Job job.Memory ∷ of_mutants
 
-abbrev pub IsMemory : Request → Fault → Type 0
-IsMemory request fault = Contains (memory_faults request) fault
+-- what may come in place of any other answer of the command: want of memory, and of `run` what keeps its threads from a report
+abbrev pub MayFailRun : Fault → Type 0
+MayFailRun (Bench fault) = IsNoReport fault
+MayFailRun fault = Contains (Job job.Memory ∷ of_mutants) fault
+
+abbrev pub MayFailBy : Request → Fault → Type 0
+MayFailBy (command.Run operators every steps workers) fault = MayFailRun fault
+MayFailBy request fault = Contains (memory_faults request) fault

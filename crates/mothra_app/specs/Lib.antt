@@ -1,5 +1,6 @@
 pub mod FirstFault
 pub mod Suite
+pub mod Equivalent
 pub mod Job
 pub mod Fault
 pub mod Line
@@ -8,6 +9,7 @@ pub mod Printing
 pub mod OutcomeLine
 pub mod Executing
 pub mod Listing
+pub mod Reporting
 pub mod Status
 pub mod Answer
 pub mod Serving

@@ -11,10 +11,13 @@ use Rattle.f77_legal.specs.declared.fault.CheckFault.TheVariants as check
 use Rattle.f77_run.specs.declared.outcome.RunFault.{RunFault}
 use Rattle.f77_run.specs.declared.outcome.RunFault.TheVariants as run
 use Rattle.mothra_app.specs.declared.fault.Fault.{Fault}
-use Rattle.mothra_app.specs.declared.fault.Fault.TheVariants.{Job, Form, Syntax, Check, Run, Ops}
+use Rattle.mothra_app.specs.declared.fault.Fault.TheVariants.{Job, Form, Syntax, Check, Run, Ops, Bench}
 use Rattle.mothra_app.specs.declared.job.JobFault.{JobFault}
 use Rattle.mothra_app.specs.declared.job.JobFault.TheVariants as job
+use Rattle.mothra_bench.specs.declared.fault.BenchFault.{BenchFault}
+use Rattle.mothra_bench.specs.declared.fault.BenchFault.TheVariants as bench
 use Rattle.mothra_codes.specs.Op.{code_of}
+use Rattle.mothra_exchange.specs.declared.ticket.Ticket.{Ticket}
 use Rattle.mothra_ops.specs.declared.fault.OpsFault.{OpsFault}
 use Rattle.mothra_ops.specs.declared.fault.OpsFault.TheVariants as ops
 
@@ -39,6 +42,7 @@ job_line job.Memory = plain_line (codes "J1")
 job_line job.NotJson = plain_line (codes "J2")
 job_line (job.Key name) = named_line (codes "J3") name
 job_line (job.Suite test) = numbered_line (codes "J4") test
+job_line (job.Equivalent entry) = numbered_line (codes "J5") entry
 job_line job.TooManyTests = plain_line (codes "J6")
 job_line job.TooLarge = plain_line (codes "J7")
 job_line (job.NoTest test) = numbered_line (codes "J8") test
@@ -90,6 +94,22 @@ ops_line ops.Memory = plain_line (codes "O1")
 ops_line ops.NotASite = plain_line (codes "O2")
 ops_line (ops.TooMany op) = named_line (codes "O3") (code_of op)
 
+-- the detail is the name of a mutant
+abbrev pub mutant_line : List ℕ → Ticket → List ℕ
+mutant_line code t = codes "FAULT " ++ (code ++ (codes " " ++ (code_of t.op ++ (codes " " ++ (decimal t.number ++ codes "\n")))))
+
+abbrev pub bench_line : BenchFault → List ℕ
+bench_line bench.Memory = plain_line (codes "B1")
+bench_line bench.Thread = plain_line (codes "B2")
+bench_line (bench.TestShape test) = numbered_line (codes "B3") test
+bench_line (bench.OriginalFails test) = numbered_line (codes "B4") test
+bench_line (bench.EquivalentUnknown entry) = numbered_line (codes "B5") entry
+bench_line (bench.EquivalentTwice entry) = numbered_line (codes "B6") entry
+bench_line (bench.Double ticket) = mutant_line (codes "B7") ticket
+bench_line (bench.Stranger ticket) = mutant_line (codes "B8") ticket
+bench_line (bench.Missing ticket) = mutant_line (codes "B9") ticket
+bench_line bench.Stalled = plain_line (codes "B10")
+
 unfoldable pub line_of : Fault → List ℕ
 line_of (Job fault) = job_line fault
 line_of (Form fault) = form_line fault
@@ -97,3 +117,4 @@ line_of (Syntax fault) = syntax_line fault
 line_of (Check fault) = check_line fault
 line_of (Run fault) = run_line fault
 line_of (Ops fault) = ops_line fault
+line_of (Bench fault) = bench_line fault

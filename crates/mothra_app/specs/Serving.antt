@@ -1,11 +1,13 @@
 -- What is served: a status and a text, by the words and all the bytes of the reader.
-use Rattle.std.specs.Prelude.{◌≡◌, ◌≢◌, ℕ, List, Option, Some, codes}
+use Rattle.std.specs.Prelude.{◌≡◌, ◌≢◌, ℕ, List, Option, Some, codes, string_bytes}
 use Rattle.std.specs.Io.KnownBytes.{Appends, Keeps}
 use Rattle.clap.specs.Words.{Text, fault_of}
 use Rattle.clap.specs.Kinds.{IsAmong}
 use Rattle.clap.specs.declared.error.kind.ErrorKind.{ErrorKind}
 use Rattle.clap.specs.declared.error.kind.ErrorKind.TheVariants as kind
-use Rattle.mothra_app.specs.Answer.{IsTold, IsAnswer}
+use Rattle.mothra_app.specs.Answer.{IsTold, IsAnswer, IsReady}
+use Rattle.mothra_app.specs.declared.answer.Ready.{Ready}
+use Rattle.mothra_app.specs.declared.answer.Ready.TheVariants as ready
 use Rattle.mothra_cli.specs.Command.{mothra}
 use Rattle.mothra_cli.specs.Input.{limit, AreAll, IsRead}
 use Rattle.mothra_app.specs.Job.{job_of}
@@ -58,11 +60,22 @@ pub record IsAnswered (words : List Text) (left now : Option (List ℕ)) (status
   pub may : MayBeWritten words bytes status text
   pub read : IsReadFor status left now
 
--- the text answers the request, where the reader had these bytes left
-pub record IsAnsweredBy (request : Request) (left : Option (List ℕ)) (status : Status) (text : List ℕ) : Type 0 where
+-- an answer of this status, which takes no threads
+abbrev pub IsTelling : Status → Ready → Type 0
+IsTelling status (ready.Answer reply) = reply.status ≡ status
+IsTelling status (ready.Bench bench workers) = ⊥
+
+-- what is ready answers the request, where the reader had these bytes left
+pub record IsReadyBy (request : Request) (left : Option (List ℕ)) (ready : Ready) : Type 0 where
   pub bytes : List ℕ
   pub all : AreAll left bytes
-  pub answer : IsAnswer request (job_of bytes) status text
+  pub is : IsReady request (job_of bytes) ready
+
+-- what is ready answers the words, where the reader had the bytes `left` and now has `now`: an answer, or the bench of `run`
+abbrev pub IsReadyFor : List Text → Option (List ℕ) → Option (List ℕ) → Ready → Type 0
+IsReadyFor words left now (ready.Answer reply) = IsAnswered words left now reply.status (string_bytes reply.text)
+IsReadyFor words left now (ready.Bench bench workers) =
+    (request : Request) × AsksFor words request × IsReadyBy request left (ready.Bench bench workers) × IsRead limit left now
 
 -- the whole of such a text was written to the writer that held the bytes `old` and now holds `new`, and nothing else
 pub record WritesWhole (words : List Text) (left now old new : Option (List ℕ)) (status : Status) : Type 0 where

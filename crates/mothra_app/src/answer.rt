@@ -1,10 +1,11 @@
 //! The answer to a request: a text, and what it is.
 
-ghost use Rattle.std.specs.Prelude.{◌≡◌, ◌⊎◌, Ok, Err, IfOk, MatchResult, string_bytes};
+ghost use Rattle.std.specs.Prelude.{◌≡◌, ◌⊎◌, ◌≤◌, Err, IfOk, MatchResult, string_bytes};
 ghost use Rattle.clap.specs.Values.{kind_of};
-ghost use Rattle.mothra_app.specs.Answer.{IsOutcome, IsAnswer, IsRefusal};
-ghost use Rattle.mothra_app.specs.Fault.{IsMemory};
+ghost use Rattle.mothra_app.specs.Answer.{IsMade, IsOutcome, IsAnswer, IsReady, IsRefusal, IsReportAnswer};
+ghost use Rattle.mothra_app.specs.Fault.{MayFailBy};
 ghost use Rattle.mothra_app.specs.Job.{job_of};
+ghost use Rattle.mothra_app.specs.Line as Line;
 ghost use Rattle.mothra_app.specs.Serving.{bad_operators};
 ghost use Rattle.mothra_cli.specs.Request.{IsBounded};
 
@@ -14,11 +15,15 @@ use crate::job::read_job;
 use crate::line::line_of;
 use crate::listing::list_mutants;
 use crate::printing::print_source;
+use crate::reporting::bench_of;
 use crate::status::Status;
 use clap::Error;
 use clap::error::ErrorKind;
+use mothra_bench::{Bench, analyse};
 use mothra_cli::Request;
 use std::alloc::{AllocError, Global};
+use std::sync::Wait;
+use std::thread::Threads;
 
 /// A text, and what it is.
 #[derive(Debug, Drop)]
@@ -27,41 +32,95 @@ pub(crate) struct Answer {
     pub(crate) text: String,
 }
 
-/// What the command comes to on the job that the bytes are.
-fn outcome_of(alloc: Global, request: &Request, bytes: &[u8]) -> Result<String, Fault>
+/// What a command comes to without threads.
+#[derive(Drop)]
+pub(crate) enum Product {
+    /// The text of its report.
+    Text(String),
+    /// The bench that `run` reports on, and by how many workers.
+    Bench(Bench, u32),
+}
+
+/// An answer, or what it takes threads to answer.
+#[derive(Drop)]
+pub(crate) enum Ready {
+    /// The answer.
+    Answer(Answer),
+    /// The bench that `run` reports on, and by how many workers.
+    Bench(Bench, u32),
+}
+
+/// What the command comes to, without threads, on the job that the bytes are.
+fn product_of(alloc: Global, request: &Request, bytes: &[u8]) -> Result<Product, Fault>
     requires { IsBounded request.now }
     ensures { MatchResult result
-        (λ text. IsOutcome request.now (job_of bytes.now) (Ok (string_bytes text)))
-        (λ fault. IsOutcome request.now (job_of bytes.now) (Err fault) ⊎ IsMemory request.now fault) }
+        (IsMade (job_of bytes.now) request.now)
+        (λ fault. IsOutcome request.now (job_of bytes.now) (Err fault) ⊎ MayFailBy request.now fault) }
 {
     let job = read_job(alloc, bytes)?;
     match request {
-        Request::Print => print_source(alloc, job.source()),
-        Request::Exec { test, steps } => execute(alloc, &job, *test, *steps),
-        Request::List { operators, every } => {
-            list_mutants(alloc, job.source(), operators.as_slice(), *every)
+        Request::Print => Ok(Product::Text(print_source(alloc, job.source())?)),
+        Request::Exec { test, steps } => { Ok(Product::Text(execute(alloc, &job, *test, *steps)?)) }
+        Request::List { operators, every } => Ok(Product::Text(list_mutants(
+            alloc,
+            job.source(),
+            operators.as_slice(),
+            *every,
+        )?)),
+        Request::Run {
+            operators,
+            every,
+            steps,
+            workers,
+        } => {
+            let bench = bench_of(alloc, job, operators.as_slice(), *every, *steps)?;
+            Ok(Product::Bench(bench, *workers))
         }
     }
 }
 
-/// The answer to the request on the job that the bytes are.
-pub(crate) fn answer_to(
-    alloc: Global,
-    request: &Request,
-    bytes: &[u8],
-) -> Result<Answer, AllocError>
-    requires { IsBounded request.now }
-    ensures { IfOk result (λ a. IsAnswer request.now (job_of bytes.now) a.status (string_bytes a.text)) }
+/// The answer that tells a fault.
+fn told(alloc: Global, fault: &Fault) -> Result<Answer, AllocError>
+    ensures status { IfOk result (λ a. a.status ≡ Status.Fault) }
+    ensures text { IfOk result (λ a. string_bytes a.text ≡ Line.line_of fault.now) }
 {
-    match outcome_of(alloc, request, bytes) {
+    Ok(Answer {
+        status: Status::Fault,
+        text: line_of(alloc, fault)?,
+    })
+}
+
+/// The answer to the request on the job that the bytes are, as far as it takes no threads.
+pub(crate) fn ready_for(alloc: Global, request: &Request, bytes: &[u8]) -> Result<Ready, AllocError>
+    requires { IsBounded request.now }
+    ensures { IfOk result (IsReady request.now (job_of bytes.now)) }
+{
+    match product_of(alloc, request, bytes) {
+        Ok(Product::Text(text)) => Ok(Ready::Answer(Answer {
+            status: Status::Report,
+            text,
+        })),
+        Ok(Product::Bench(bench, workers)) => Ok(Ready::Bench(bench, workers)),
+        Err(fault) => Ok(Ready::Answer(told(alloc, &fault)?)),
+    }
+}
+
+/// The answer to `run`: the report of its bench by so many workers.
+pub(crate) fn report_on<R: Threads + Wait + Sync>(
+    rt: &R,
+    alloc: Global,
+    bench: &Bench,
+    workers: u32,
+) -> Result<Answer, AllocError>
+    requires { (1 ≤ workers) × (workers ≤ 32) }
+    ensures { IfOk result (λ a. IsReportAnswer bench.now a.status (string_bytes a.text)) }
+{
+    match analyse(rt, alloc, bench, workers) {
         Ok(text) => Ok(Answer {
             status: Status::Report,
             text,
         }),
-        Err(fault) => Ok(Answer {
-            status: Status::Fault,
-            text: line_of(alloc, &fault)?,
-        }),
+        Err(fault) => told(alloc, &Fault::Bench(fault)),
     }
 }
 

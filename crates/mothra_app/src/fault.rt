@@ -8,6 +8,7 @@ use f77_check::CheckFault;
 use f77_run::RunFault;
 use f77_source::FormFault;
 use f77_syntax::SyntaxFault;
+use mothra_bench::BenchFault;
 use mothra_ops::OpsFault;
 
 /// Why a command has no report: the fault of the call that failed.
@@ -19,6 +20,7 @@ pub(crate) enum Fault {
     Check(CheckFault),
     Run(RunFault),
     Ops(OpsFault),
+    Bench(BenchFault),
 }
 
 impl From<JobFault> for Fault {
@@ -66,5 +68,13 @@ impl From<OpsFault> for Fault {
 
     fn from(fault: OpsFault) -> Fault {
         Fault::Ops(fault)
+    }
+}
+
+impl From<BenchFault> for Fault {
+    ghost from_gives = { λ f e. e ≡ fault.Bench f };
+
+    fn from(fault: BenchFault) -> Fault {
+        Fault::Bench(fault)
     }
 }

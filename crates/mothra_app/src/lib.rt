@@ -2,6 +2,7 @@
 #![tactic(auto)]
 
 mod answer;
+mod equivalent;
 mod executing;
 mod fault;
 mod job;
@@ -12,6 +13,7 @@ mod listing;
 mod outcome_line;
 mod printing;
 mod program;
+mod reporting;
 mod serving;
 mod status;
 mod suite;

@@ -9,6 +9,8 @@ use f77_check::CheckFault;
 use f77_run::RunFault;
 use f77_source::FormFault;
 use f77_syntax::SyntaxFault;
+use mothra_bench::BenchFault;
+use mothra_exchange::Ticket;
 use mothra_ops::OpsFault;
 use std::alloc::{AllocError, Global};
 
@@ -19,7 +21,7 @@ fn plain_line(alloc: Global, code: &str) -> Result<String, AllocError>
     format!(in alloc; "FAULT {code}\n")
 }
 
-/// The line of a fault with the number of an argument.
+/// The line of a fault with the number of an argument or an entry.
 fn counted_line(alloc: Global, code: &str, number: usize) -> Result<String, AllocError>
     ensures { IfOk result (λ s. string_bytes s ≡ definition.numbered_line code.now number) }
 {
@@ -63,6 +65,7 @@ fn job_line(alloc: Global, fault: &JobFault) -> Result<String, AllocError>
         JobFault::NotJson => plain_line(alloc, "J2"),
         JobFault::Key(key) => named_line(alloc, "J3", key.as_str()),
         JobFault::Suite(test) => numbered_line(alloc, "J4", *test),
+        JobFault::Equivalent(entry) => counted_line(alloc, "J5", *entry),
         JobFault::TooManyTests => plain_line(alloc, "J6"),
         JobFault::TooLarge => plain_line(alloc, "J7"),
         JobFault::NoTest(test) => numbered_line(alloc, "J8", *test),
@@ -140,6 +143,32 @@ fn ops_line(alloc: Global, fault: OpsFault) -> Result<String, AllocError>
     }
 }
 
+/// The line of a fault with the name of a mutant.
+fn mutant_line(alloc: Global, code: &str, ticket: Ticket) -> Result<String, AllocError>
+    ensures { IfOk result (λ s. string_bytes s ≡ definition.mutant_line code.now ticket) }
+{
+    let op = ticket.op.code();
+    let number = ticket.number;
+    format!(in alloc; "FAULT {code} {op} {number}\n")
+}
+
+fn bench_line(alloc: Global, fault: BenchFault) -> Result<String, AllocError>
+    ensures { IfOk result (λ s. string_bytes s ≡ definition.bench_line fault) }
+{
+    match fault {
+        BenchFault::Memory => plain_line(alloc, "B1"),
+        BenchFault::Thread => plain_line(alloc, "B2"),
+        BenchFault::TestShape(test) => counted_line(alloc, "B3", test),
+        BenchFault::OriginalFails(test) => counted_line(alloc, "B4", test),
+        BenchFault::EquivalentUnknown(entry) => counted_line(alloc, "B5", entry),
+        BenchFault::EquivalentTwice(entry) => counted_line(alloc, "B6", entry),
+        BenchFault::Double(ticket) => mutant_line(alloc, "B7", ticket),
+        BenchFault::Stranger(ticket) => mutant_line(alloc, "B8", ticket),
+        BenchFault::Missing(ticket) => mutant_line(alloc, "B9", ticket),
+        BenchFault::Stalled => plain_line(alloc, "B10"),
+    }
+}
+
 /// The line that tells the fault: FAULT, its code, and its detail where it has one, ended by LF.
 #[tactic(auto, unfolding(crate::specs::Line::line_of))]
 pub(crate) fn line_of(alloc: Global, fault: &Fault) -> Result<String, AllocError>
@@ -152,5 +181,6 @@ pub(crate) fn line_of(alloc: Global, fault: &Fault) -> Result<String, AllocError
         Fault::Check(fault) => check_line(alloc, fault),
         Fault::Run(fault) => run_line(alloc, *fault),
         Fault::Ops(fault) => ops_line(alloc, *fault),
+        Fault::Bench(fault) => bench_line(alloc, *fault),
     }
 }

@@ -2,40 +2,64 @@
 
 ghost use Rattle.std.specs.Prelude.{◌≡◌, ◌≢◌, false, Ok, Err, IfOk, map, string_bytes};
 ghost use Rattle.mothra_cli.specs.Input.{limit, IsRead, TakesAtMost};
-ghost use Rattle.mothra_app.specs.Serving.{IsAnswered, IsAnsweredBy, WritesWhole, WritesFront};
+ghost use Rattle.mothra_app.specs.Serving.{IsAnswered, IsReadyBy, IsReadyFor, IsTelling, WritesWhole, WritesFront};
 ghost use Rattle.mothra_app.specs.Status.{is_read_fault, is_write_fault};
 ghost use Rattle.mothra_cli.specs.Request.{IsBounded};
 ghost use Rattle.mothra_cli.specs.Watched.{inside, has_failed};
 
-use crate::answer::{Answer, answer_to, bad_list, refusal};
+use crate::answer::{Answer, Ready, bad_list, ready_for, refusal, report_on};
 use crate::status::{AppFault, Status};
 use mothra_cli::{Request, Watched, WordsFault, read_input, request_of, write_whole};
 use std::alloc::Global;
 use std::convert::AsStr;
 use std::io::{Read, Write};
+use std::sync::Wait;
+use std::thread::Threads;
 
-/// The answer to a request, over all the bytes of the reader.
-fn read_and_answer<R: Read>(
+/// The answer to a request, over all the bytes of the reader, as far as it takes no threads.
+fn read_and_prepare<R: Read>(
     alloc: Global,
     request: &Request,
     reader: &mut Watched<R>,
-) -> Result<Answer, AppFault>
+) -> Result<Ready, AppFault>
     requires bounded { IsBounded request.now }
     requires works { has_failed reader.old ≡ false }
-    ensures answered { IfOk result (λ a. IsAnsweredBy request.now
-        (R.remaining (inside reader.old)) a.status (string_bytes a.text)) }
+    ensures ready { IfOk result (IsReadyBy request.now (R.remaining (inside reader.old))) }
     ensures read { IfOk result (λ a. IsRead limit (R.remaining (inside reader.old)) (R.remaining (inside reader.new))) }
     ensures taken { TakesAtMost limit (R.remaining (inside reader.old)) (R.remaining (inside reader.new)) }
     ensures failed { has_failed reader.new ≡ is_read_fault result }
     ensures unwritten { result ≢ Err AppFault.Write }
 {
     let bytes = read_input(alloc, reader)?;
-    Ok(answer_to(alloc, request, &bytes)?)
+    Ok(ready_for(alloc, request, &bytes)?)
+}
+
+/// The answer to the words, over all the bytes of the reader where the command line takes them, as far as it takes no
+/// threads. So it waits for nobody.
+fn prepare<S: AsStr, R: Read>(
+    alloc: Global,
+    words: &[S],
+    reader: &mut Watched<R>,
+) -> Result<Ready, AppFault>
+    requires { has_failed reader.old ≡ false }
+    ensures ready { IfOk result (IsReadyFor (map S.text words.now)
+        (R.remaining (inside reader.old)) (R.remaining (inside reader.new))) }
+    ensures words { IfOk result (λ r. IsTelling Status.Words r → reader.new ≡ reader.old) }
+    ensures help { IfOk result (λ r. IsTelling Status.Help r → reader.new ≡ reader.old) }
+    ensures taken { TakesAtMost limit (R.remaining (inside reader.old)) (R.remaining (inside reader.new)) }
+    ensures failed { has_failed reader.new ≡ is_read_fault result }
+    ensures unwritten { result ≢ Err AppFault.Write }
+{
+    match request_of(alloc, words) {
+        Ok(request) => read_and_prepare(alloc, &request, reader),
+        Err(WordsFault::Refused(error)) => Ok(Ready::Answer(refusal(alloc, &error)?)),
+        Err(WordsFault::BadOperatorList) => Ok(Ready::Answer(bad_list(alloc)?)),
+    }
 }
 
 /// The answer to the words, over all the bytes of the reader where the command line takes them.
-fn prepare<S: AsStr, R: Read>(
-    alloc: Global,
+fn answer_for<S: AsStr, R: Read>(
+    rt: &(impl AllocGlobal + Threads + Wait + Sync),
     words: &[S],
     reader: &mut Watched<R>,
 ) -> Result<Answer, AppFault>
@@ -48,10 +72,9 @@ fn prepare<S: AsStr, R: Read>(
     ensures failed { has_failed reader.new ≡ is_read_fault result }
     ensures unwritten { result ≢ Err AppFault.Write }
 {
-    match request_of(alloc, words) {
-        Ok(request) => read_and_answer(alloc, &request, reader),
-        Err(WordsFault::Refused(error)) => Ok(refusal(alloc, &error)?),
-        Err(WordsFault::BadOperatorList) => Ok(bad_list(alloc)?),
+    match prepare(rt.alloc(), words, reader)? {
+        Ready::Answer(answer) => Ok(answer),
+        Ready::Bench(bench, workers) => Ok(report_on(rt, rt.alloc(), &bench, workers)?),
     }
 }
 
@@ -60,7 +83,7 @@ fn prepare<S: AsStr, R: Read>(
 /// Nothing is written before the whole text stands, and the writer is not flushed. An interrupted call of the reader or
 /// the writer has failed, and is not tried again.
 pub fn serve<S: AsStr, R: Read, W: Write>(
-    rt: &impl AllocGlobal,
+    rt: &(impl AllocGlobal + Threads + Wait + Sync),
     words: &[S],
     reader: &mut Watched<R>,
     writer: &mut Watched<W>,
@@ -87,7 +110,7 @@ pub fn serve<S: AsStr, R: Read, W: Write>(
     ensures read_failed { has_failed reader.new ≡ is_read_fault result }
     ensures write_failed { has_failed writer.new ≡ is_write_fault result }
 {
-    let answer = prepare(rt.alloc(), words, reader)?;
+    let answer = answer_for(rt, words, reader)?;
     if write_whole(writer, answer.text.as_bytes()).is_err() {
         return Err(AppFault::Write);
     }

@@ -265,7 +265,7 @@ exec_shapes = (
       (apart, (λ f. record { action = refl; parser = refl; range = omega arith }, (apart, tt))),
       refl,
     ),
-    (apart, tt),
+    (apart, (apart, tt)),
   ),
 )
 
@@ -285,7 +285,13 @@ IsList s = Each (Serves (codes "every") 1 1048575) s.rules × (list_any (has_def
 
 list_shapes : Each (λ s. bytes_eq s.name (codes "list") ≡ true → IsList s) (built mothra).subs
 unfolding clap_on_literals mothra
-list_shapes = (apart, (apart, (λ e. ((apart, (λ f. record { action = refl; parser = refl; range = omega arith }, (apart, tt))), refl), tt)))
+list_shapes = (
+  apart,
+  (
+    apart,
+    (λ e. ((apart, (λ f. record { action = refl; parser = refl; range = omega arith }, (apart, tt))), refl), (apart, tt)),
+  ),
+)
 
 -- and one for `list` has its number
 pub list_number : (words : List Text) (rows : List Row) → fault_of mothra words ≡ [] → subcommand_of mothra words ≡ Some (codes "list", rows)
@@ -293,3 +299,43 @@ pub list_number : (words : List Text) (rows : List Row) → fault_of mothra word
 list_number words rows e is =
     let level = accepted_level mothra (codes "list") IsList list_shapes words rows e is in
     subst (HasNumber (codes "every") 1 1048575) level.4 (default_number level.0 level.1 (codes "every") 1 1048575 (omega arith) level.2.0 level.2.1 level.3)
+
+-- the numbers of `run`
+abbrev IsRun : Shape → Type 0
+IsRun s = Each (Serves (codes "every") 1 1048575) s.rules × (list_any (has_default (codes "every")) s.rules ≡ true)
+    × Each (Serves (codes "steps") 1 1000000) s.rules × (list_any (has_default (codes "steps")) s.rules ≡ true)
+    × Each (Serves (codes "workers") 1 32) s.rules × (list_any (has_default (codes "workers")) s.rules ≡ true)
+
+run_shapes : Each (λ s. bytes_eq s.name (codes "run") ≡ true → IsRun s) (built mothra).subs
+unfolding clap_on_literals mothra
+run_shapes = (
+  apart,
+  (
+    apart,
+    (
+      apart,
+      (
+        λ e. (
+          (apart, (λ f. record { action = refl; parser = refl; range = omega arith }, (apart, (apart, (apart, tt))))),
+          refl,
+          (apart, (apart, (λ f. record { action = refl; parser = refl; range = omega arith }, (apart, (apart, tt))))),
+          refl,
+          (apart, (apart, (apart, (λ f. record { action = refl; parser = refl; range = omega arith }, (apart, tt))))),
+          refl,
+        ),
+        tt,
+      ),
+    ),
+  ),
+)
+
+-- and one for `run` has its three
+pub run_numbers : (words : List Text) (rows : List Row) → fault_of mothra words ≡ [] → subcommand_of mothra words ≡ Some (codes "run", rows)
+    → HasNumber (codes "every") 1 1048575 rows × HasNumber (codes "steps") 1 1000000 rows × HasNumber (codes "workers") 1 32 rows
+run_numbers words rows e is =
+    let level = accepted_level mothra (codes "run") IsRun run_shapes words rows e is in
+    let asks = level.2 in (
+      subst (HasNumber (codes "every") 1 1048575) level.4 (default_number level.0 level.1 (codes "every") 1 1048575 (omega arith) asks.0 asks.1 level.3),
+      subst (HasNumber (codes "steps") 1 1000000) level.4 (default_number level.0 level.1 (codes "steps") 1 1000000 (omega arith) asks.2 asks.3 level.3),
+      subst (HasNumber (codes "workers") 1 32) level.4 (default_number level.0 level.1 (codes "workers") 1 32 (omega arith) asks.4 asks.5 level.3),
+    )

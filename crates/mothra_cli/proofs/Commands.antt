@@ -6,21 +6,24 @@ use Rattle.clap.specs.Simple.{built}
 use Rattle.clap.proofs.OnLiterals.{clap_on_literals}
 use Rattle.mothra_codes.specs.declared.op.Op.{Op}
 use Rattle.mothra_cli.specs.Command.{mothra}
-use Rattle.mothra_cli.specs.Request.{Meaning, IsBounded, IsFaultOf, Reads, subcommand_meaning, meaning_of, bad_operators, list_meaning, operators_at, refused, request, request_of, request_in}
+use Rattle.mothra_cli.specs.Request.{Meaning, IsBounded, IsFaultOf, Reads, subcommand_meaning, meaning_of, bad_operators, list_meaning, run_meaning, operators_at, refused, request, request_of, request_in}
 use Rattle.mothra_cli.specs.declared.request.Request.{Request}
 use Rattle.mothra_cli.specs.declared.request.WordsFault.{WordsFault}
 use Rattle.mothra_cli.specs.declared.request.WordsFault.TheVariants.{Refused, BadOperatorList}
 use Rattle.mothra_cli.proofs.OptionRows.{Each, same_id}
-use Rattle.mothra_cli.proofs.Accepted.{accepted_level, exec_numbers, list_number}
+use Rattle.mothra_cli.proofs.Accepted.{accepted_level, exec_numbers, list_number, run_numbers}
 
 abbrev IsCommand : Text → Type 0
-IsCommand name = (name ≡ codes "print") ⊎ (name ≡ codes "exec") ⊎ (name ≡ codes "list")
+IsCommand name = (name ≡ codes "print") ⊎ (name ≡ codes "exec") ⊎ (name ≡ codes "list") ⊎ (name ≡ codes "run")
 
 each_command : (name : Text) → Each (λ (s : Shape). bytes_eq s.name name ≡ true → IsCommand name) (built mothra).subs
 unfolding clap_on_literals mothra
 each_command name = (
   λ e. inl (sym (same_id _ _ e)),
-  (λ e. inr (inl (sym (same_id _ _ e))), (λ e. inr (inr (sym (same_id _ _ e))), tt)),
+  (
+    λ e. inr (inl (sym (same_id _ _ e))),
+    (λ e. inr (inr (inl (sym (same_id _ _ e)))), (λ e. inr (inr (inr (sym (same_id _ _ e)))), tt)),
+  ),
 )
 
 command_met : (words : List Text) (name : Text) (rows : List Row) → fault_of mothra words ≡ []
@@ -56,6 +59,24 @@ list_asks words rows taken is =
     go None n above below = tt
     go (Some ops) n above below = (above, below)
 
+-- `run` has its three numbers
+run_asks : (words : List Text) (rows : List Row) → fault_of mothra words ≡ []
+    → subcommand_of mothra words ≡ Some (codes "run", rows)
+    → IsAccepted (subcommand_meaning (codes "run", rows))
+run_asks words rows taken is =
+    let numbers = run_numbers words rows taken is in
+    let every = numbers.0 in
+    let steps = numbers.1 in
+    let workers = numbers.2 in
+    rw (every.1, steps.1, workers.1)
+    (go (operators_at rows) every.0 steps.0 workers.0 (every.2, every.3, steps.2, steps.3, workers.2, workers.3))
+  where
+    go : (o : Option (List Op)) (q n w : ℕ)
+        → (1 ≤ q) × (q ≤ 1048575) × (1 ≤ n) × (n ≤ 1000000) × (1 ≤ w) × (w ≤ 32)
+        → IsAccepted (run_meaning o (Some q) (Some n) (Some w))
+    go None q n w bounds = tt
+    go (Some ops) q n w bounds = bounds
+
 -- the subcommand that was met asks for something
 pub asks : (words : List Text) (met : Option (Text × List Row)) → fault_of mothra words ≡ []
     → met ≡ subcommand_of mothra words → is_some met ≡ true → IsAccepted (option_map_or subcommand_meaning met refused)
@@ -72,7 +93,8 @@ asks words (Some (name, rows)) taken is some = go (command_met words name rows t
     go : IsCommand name → IsAccepted (subcommand_meaning (name, rows))
     go (inl named) = at _ named tt
     go (inr (inl named)) = at _ named (exec_asks words rows taken (renamed _ named))
-    go (inr (inr named)) = at _ named (list_asks words rows taken (renamed _ named))
+    go (inr (inr (inl named))) = at _ named (list_asks words rows taken (renamed _ named))
+    go (inr (inr (inr named))) = at _ named (run_asks words rows taken (renamed _ named))
 
 -- what was met is what the words are
 pub meaning_taken : (words : List Text) (met : Option (Text × List Row)) → fault_of mothra words ≡ []

@@ -41,6 +41,17 @@ every_rule = record (new_rule (codes "every")) {
 abbrev pub list_shape : Shape
 list_shape = record (new_shape (codes "list")) { rules = ops_rule ∷ every_rule ∷ [] }
 
+-- `--workers`: how many threads run the mutants, 2 where it is not given
+abbrev pub workers_rule : Rule
+workers_rule = record (new_rule (codes "workers")) {
+  long = Some (codes "workers");
+  parser = Some (Unsigned 1 32);
+  defaults = codes "2" ∷ [];
+}
+
+abbrev pub run_shape : Shape
+run_shape = record (new_shape (codes "run")) { rules = ops_rule ∷ every_rule ∷ steps_rule ∷ workers_rule ∷ [] }
+
 -- a subcommand is needed, and `help` is none
 abbrev pub bare : App
 bare = record {
@@ -49,4 +60,4 @@ bare = record {
 }
 
 unfoldable pub mothra : App
-mothra = with_subcommand (with_subcommand (with_subcommand bare print_shape) exec_shape) list_shape
+mothra = with_subcommand (with_subcommand (with_subcommand (with_subcommand bare print_shape) exec_shape) list_shape) run_shape

@@ -50,13 +50,25 @@ list_meaning None every = bad_operators
 list_meaning (Some operators) (Some every) = request (command.List operators every)
 list_meaning (Some operators) None = refused
 
+-- `run` with these operators and these numbers, which the command line wants
+abbrev pub run_meaning : Option (List Op) → Option ℕ → Option ℕ → Option ℕ → Meaning
+run_meaning None every steps workers = bad_operators
+run_meaning (Some operators) (Some every) (Some steps) (Some workers) = request (command.Run operators every steps workers)
+run_meaning (Some operators) _ _ _ = refused
+
+-- the values of the options of `run`
+abbrev pub run_options : List Row → Meaning
+run_options rows =
+    run_meaning (operators_at rows) (number_at (codes "every") rows) (number_at (codes "steps") rows) (number_at (codes "workers") rows)
+
 -- the subcommand of this name with these values of its options
 abbrev pub subcommand_meaning : Text × List Row → Meaning
 subcommand_meaning (name, rows) =
     if bytes_eq name (codes "print") then request command.Print
     else (if bytes_eq name (codes "exec") then exec_meaning (number_at (codes "test") rows) (number_at (codes "steps") rows)
     else (if bytes_eq name (codes "list") then list_meaning (operators_at rows) (number_at (codes "every") rows)
-    else refused))
+    else (if bytes_eq name (codes "run") then run_options rows
+    else refused)))
 
 -- the command line takes the words
 abbrev pub IsTaken : List Text → Type 0
@@ -85,6 +97,8 @@ abbrev pub IsBounded : Request → Type 0
 IsBounded command.Print = ⊤
 IsBounded (command.Exec test steps) = (1 ≤ test) × (test ≤ 256) × (1 ≤ steps) × (steps ≤ 1000000)
 IsBounded (command.List operators every) = (1 ≤ every) × (every ≤ 1048575)
+IsBounded (command.Run operators every steps workers) =
+    (1 ≤ every) × (every ≤ 1048575) × (1 ≤ steps) × (steps ≤ 1000000) × (1 ≤ workers) × (workers ≤ 32)
 
 -- memory ran out, or the command line refuses the words by such an error, or answers a call for help by it
 abbrev pub IsRefusalOf : List Text → Error → Type 0

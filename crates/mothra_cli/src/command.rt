@@ -3,7 +3,7 @@
 ghost use Rattle.std.specs.Prelude.{◌≡◌, IfOk, map, is_some, true, false};
 ghost use Rattle.clap.specs.Words.{app_of, shape_of, rule_of, fault_of, subcommand_rows_of, subcommand_of, FailsBy};
 ghost use Rattle.clap.specs.declared.builder.command.Command.TheViews.{out-Command};
-ghost use Rattle.mothra_cli.specs.Command.{mothra, bare, print_shape, exec_shape, list_shape, test_rule, steps_rule, ops_rule, every_rule};
+ghost use Rattle.mothra_cli.specs.Command.{mothra, bare, print_shape, exec_shape, list_shape, run_shape, test_rule, steps_rule, ops_rule, every_rule, workers_rule};
 
 use clap::builder::ValueParser;
 use clap::{Arg, ArgMatches, Command, Error};
@@ -70,6 +70,17 @@ fn every_option<'a>(alloc: Global) -> Arg<'a>
         .default_value("1")
 }
 
+fn workers_option<'a>(alloc: Global) -> Arg<'a>
+    ensures rule { rule_of result ≡ workers_rule }
+    ensures global { result.global ≡ false }
+{
+    Arg::new(alloc, "workers")
+        .long("workers")
+        .help("The number of threads that run the mutants")
+        .value_parser(ValueParser::unsigned(1, 32))
+        .default_value("2")
+}
+
 fn exec_command<'a>(alloc: Global) -> Result<Command<'a>, AllocError>
     ensures shape { IfOk result (λ c. shape_of c ≡ exec_shape) }
     ensures globals { IfOk result (λ c. (out-Command c).has_globals ≡ false) }
@@ -92,6 +103,19 @@ fn list_command<'a>(alloc: Global) -> Result<Command<'a>, AllocError>
     Ok(command)
 }
 
+fn run_command<'a>(alloc: Global) -> Result<Command<'a>, AllocError>
+    ensures shape { IfOk result (λ c. shape_of c ≡ run_shape) }
+    ensures globals { IfOk result (λ c. (out-Command c).has_globals ≡ false) }
+{
+    let command = Command::new(alloc, "run")
+        .about("Prints which mutants of the program of the job its tests kill")
+        .arg(ops_option(alloc))?
+        .arg(every_option(alloc))?
+        .arg(steps_option(alloc))?
+        .arg(workers_option(alloc))?;
+    Ok(command)
+}
+
 fn command<'a>(alloc: Global) -> Result<Command<'a>, AllocError>
     ensures app { IfOk result (λ c. app_of c ≡ mothra) }
     ensures globals { IfOk result (λ c. (out-Command c).has_globals ≡ false) }
@@ -99,10 +123,12 @@ fn command<'a>(alloc: Global) -> Result<Command<'a>, AllocError>
 {
     let exec = exec_command(alloc)?;
     let list = list_command(alloc)?;
+    let run = run_command(alloc)?;
     let command = bare_command(alloc)
         .subcommand(print_command(alloc))?
         .subcommand(exec)?
-        .subcommand(list)?;
+        .subcommand(list)?
+        .subcommand(run)?;
     Ok(command)
 }
 

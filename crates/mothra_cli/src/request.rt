@@ -3,7 +3,7 @@
 ghost use Rattle.std.specs.Prelude.{◌≡◌, IfErr, IfOk, Ok, OnOk, Some, codes, map};
 ghost use Rattle.std.specs.Option.{option_map_or};
 ghost use Rattle.clap.specs.Words.{found_of, rows_of, subcommand_rows_of};
-ghost use Rattle.mothra_cli.specs.Request.{subcommand_meaning, refused, IsBounded, IsFaultOf, IsTaken, Reads};
+ghost use Rattle.mothra_cli.specs.Request.{subcommand_meaning, run_meaning, refused, IsBounded, IsFaultOf, IsTaken, Reads};
 ghost use Rattle.mothra_cli.specs.Request as asked;
 
 use crate::command::matches_of;
@@ -18,9 +18,23 @@ pub enum Request {
     /// `print`: the program of the job.
     Print,
     /// `exec`: the number of the test, 1 to 256, and the limit on steps, 1 to 1,000,000.
-    Exec { test: u32, steps: u32 },
+    Exec {
+        test: u32,
+        steps: u32,
+    },
     /// `list`: the operators, and the step from one mutant of an operator to the next, 1 to 1,048,575.
-    List { operators: Operators, every: u32 },
+    List {
+        operators: Operators,
+        every: u32,
+    },
+    /// `run`: the operators, the step from one mutant of an operator to the next, 1 to 1,048,575, the limit on steps, 1 to
+    /// 1,000,000, and the number of threads that run mutants, 1 to 32.
+    Run {
+        operators: Operators,
+        every: u32,
+        steps: u32,
+        workers: u32,
+    },
 }
 
 /// Why words ask for nothing.
@@ -93,6 +107,38 @@ fn list_request(alloc: Global, matches: &ArgMatches<'_>) -> Result<Option<Reques
     }
 }
 
+/// What `run` asks for with these operators and numbers.
+fn run_with(
+    operators: Operators,
+    every: Option<u32>,
+    steps: Option<u32>,
+    workers: Option<u32>,
+) -> Option<Request>
+    ensures { Reads (run_meaning (Some operators) every steps workers) (Ok result) }
+{
+    Some(Request::Run {
+        operators,
+        every: every?,
+        steps: steps?,
+        workers: workers?,
+    })
+}
+
+/// What `run` asks for with these values of its options.
+fn run_request(alloc: Global, matches: &ArgMatches<'_>) -> Result<Option<Request>, WordsFault>
+    ensures { Reads (subcommand_meaning (codes "run", rows_of (found_of matches.now))) result }
+{
+    match operators_at(alloc, matches)? {
+        Some(operators) => Ok(run_with(
+            operators,
+            number_at(matches, "every"),
+            number_at(matches, "steps"),
+            number_at(matches, "workers"),
+        )),
+        None => Err(WordsFault::BadOperatorList),
+    }
+}
+
 /// What the subcommand of this name asks for.
 fn request_named(
     alloc: Global,
@@ -105,6 +151,7 @@ fn request_named(
         "print" => Ok(Some(Request::Print)),
         "exec" => Ok(exec_request(matches)),
         "list" => list_request(alloc, matches),
+        "run" => run_request(alloc, matches),
         _ => Ok(None),
     }
 }

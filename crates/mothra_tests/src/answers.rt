@@ -4,11 +4,13 @@ use crate::jobs::job;
 use mothra_app::{Status, Watched, serve};
 use std::process::Abort;
 use std::str::from_utf8;
+use std::sync::Wait;
 use std::test::Fail;
+use std::thread::Threads;
 
 /// The answer to words, which stand between blanks, and the bytes of a job.
 pub(crate) fn answer(
-    rt: &impl AllocGlobal,
+    rt: &(impl AllocGlobal + Threads + Wait + Sync),
     words: &str,
     job: &[u8],
 ) -> Result<(Status, Vec<u8>), Fail> {
@@ -42,7 +44,7 @@ fn status_of(want: &str) -> Status {
 
 /// Compares the answer to words and a job with the lines that are wanted.
 pub(crate) fn assert_answer(
-    rt: &(impl AllocGlobal + Abort),
+    rt: &(impl AllocGlobal + Abort + Threads + Wait + Sync),
     words: &str,
     job: &[u8],
     want: &str,
@@ -56,7 +58,7 @@ pub(crate) fn assert_answer(
 
 /// Compares the answer to words, a program and a suite. With no suite the job has no such key.
 pub(crate) fn assert_served(
-    rt: &(impl AllocGlobal + Abort),
+    rt: &(impl AllocGlobal + Abort + Threads + Wait + Sync),
     words: &str,
     program: &str,
     suite: &str,

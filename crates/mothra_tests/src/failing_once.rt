@@ -4,11 +4,13 @@ use crate::jobs::{LOWER_CASE, PRINTED};
 use crate::streams::{Faltering, Stumbling};
 use mothra_app::{AppFault, Watched, serve};
 use std::process::Abort;
+use std::sync::Wait;
+use std::thread::Threads;
 
 const PRINT: [&str; 2] = ["mothra", "print"];
 
 /// The read behind so many good ones fails.
-fn assert_no_second_read(rt: &(impl AllocGlobal + Abort), good: usize) {
+fn assert_no_second_read(rt: &(impl AllocGlobal + Abort + Threads + Wait + Sync), good: usize) {
     let mut out: Vec<u8> = Vec::new(rt.alloc());
     let mut reader = Watched::new(Stumbling {
         bytes: LOWER_CASE.as_bytes(),
@@ -31,7 +33,11 @@ fn a_read_is_not_tried_again(rt: HostRuntime) {
 }
 
 /// The write behind so many good ones fails or takes none.
-fn assert_no_second_write(rt: &(impl AllocGlobal + Abort), good: usize, fails: bool) {
+fn assert_no_second_write(
+    rt: &(impl AllocGlobal + Abort + Threads + Wait + Sync),
+    good: usize,
+    fails: bool,
+) {
     let mut taken = Vec::new(rt.alloc());
     let mut reader = Watched::new(LOWER_CASE.as_bytes());
     let mut writer = Watched::new(Faltering {

@@ -42,6 +42,11 @@ fn faults_of_suites_have_texts(rt: HostRuntime) -> Result<(), Fail> {
     )?;
     assert_text(
         &rt,
+        &JobFault::Equivalent(2),
+        "entry 2 of the declared equivalents is no name of a mutant",
+    )?;
+    assert_text(
+        &rt,
         &JobFault::TooManyTests,
         "the suite has more than 256 tests",
     )?;

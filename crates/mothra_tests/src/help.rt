@@ -4,11 +4,13 @@ use crate::words::unread;
 use mothra_app::Status;
 use std::process::Abort;
 use std::str::from_utf8;
+use std::sync::Wait;
 use std::test::Fail;
+use std::thread::Threads;
 
 /// Compares the text that is written for the words, which stand between blanks.
 fn assert_text(
-    rt: &(impl AllocGlobal + Abort),
+    rt: &(impl AllocGlobal + Abort + Threads + Wait + Sync),
     words: &str,
     status: Status,
     want: &str,
@@ -40,6 +42,7 @@ Commands:
   print  Prints the program of the job in fixed form
   exec   Prints the outcome of the program of the job on one of its tests
   list   Prints the mutants of the program of the job
+  run    Prints which mutants of the program of the job its tests kill
 
 Options:
   -h, --help  Print help
@@ -48,7 +51,8 @@ Options:
 #[test]
 fn help_names_the_options(rt: HostRuntime) -> Result<(), Fail> {
     assert_text(&rt, "mothra exec --help", Status::Help, HELP_OF_EXEC)?;
-    assert_text(&rt, "mothra list --help", Status::Help, HELP_OF_LIST)
+    assert_text(&rt, "mothra list --help", Status::Help, HELP_OF_LIST)?;
+    assert_text(&rt, "mothra run --help", Status::Help, HELP_OF_RUN)
 }
 
 const HELP_OF_EXEC: &str = "\
@@ -71,6 +75,19 @@ Options:
       --ops <ops>      The codes of the operators, joined by commas: all if not given
       --every <every>  The step from one mutant of an operator to the next, from its first [default: 1]
   -h, --help           Print help
+";
+
+const HELP_OF_RUN: &str = "\
+Prints which mutants of the program of the job its tests kill
+
+Usage: mothra run [OPTIONS]
+
+Options:
+      --ops <ops>          The codes of the operators, joined by commas: all if not given
+      --every <every>      The step from one mutant of an operator to the next, from its first [default: 1]
+      --steps <steps>      The limit on steps of a run [default: 10000]
+      --workers <workers>  The number of threads that run the mutants [default: 2]
+  -h, --help               Print help
 ";
 
 #[test]

@@ -4,6 +4,10 @@
 #[cfg(test)]
 mod answers;
 #[cfg(test)]
+mod equivalents;
+#[cfg(test)]
+mod example_reports;
+#[cfg(test)]
 mod failing_once;
 #[cfg(test)]
 mod fault_texts;
@@ -28,10 +32,14 @@ mod readers_and_writers;
 #[cfg(test)]
 mod refused_memory;
 #[cfg(test)]
+mod reports;
+#[cfg(test)]
 mod streams;
 #[cfg(test)]
 mod suites;
 #[cfg(test)]
 mod tables;
+#[cfg(test)]
+mod whole_reports;
 #[cfg(test)]
 mod words;

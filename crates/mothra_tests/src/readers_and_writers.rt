@@ -5,12 +5,14 @@ use crate::streams::{Narrow, Trickle};
 use mothra_app::{AppFault, Watched, serve};
 use std::io;
 use std::process::Abort;
+use std::sync::Wait;
 use std::test::Fail;
+use std::thread::Threads;
 
 const PRINT: [&str; 2] = ["mothra", "print"];
 
 /// A read fails behind the bytes, or none does.
-fn assert_read(rt: &(impl AllocGlobal + Abort), bytes: &[u8], fails: bool) {
+fn assert_read(rt: &(impl AllocGlobal + Abort + Threads + Wait + Sync), bytes: &[u8], fails: bool) {
     let mut out: Vec<u8> = Vec::new(rt.alloc());
     let mut reader = Watched::new(Trickle {
         bytes,
@@ -33,7 +35,11 @@ fn ends_at_a_failed_read(rt: HostRuntime) {
 }
 
 /// A write fails or takes none behind so many bytes.
-fn assert_written(rt: &(impl AllocGlobal + Abort), room: usize, fails: bool) {
+fn assert_written(
+    rt: &(impl AllocGlobal + Abort + Threads + Wait + Sync),
+    room: usize,
+    fails: bool,
+) {
     let mut taken = Vec::new(rt.alloc());
     let mut reader = Watched::new(LOWER_CASE.as_bytes());
     let mut writer = Watched::new(Narrow {

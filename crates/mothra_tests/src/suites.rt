@@ -30,7 +30,6 @@ const NO_SUITES: &str = r#"
 1 => FAULT J3 suite
 null => FAULT J3 suite
 [[1,1,1]],"suite":{} => FAULT J3 suite
-[[1,1,1]],"equivalent":[] => FAULT J3 equivalent
 "#;
 
 #[test]
@@ -89,5 +88,14 @@ fn takes_256_tests(rt: HostRuntime) -> Result<(), Fail> {
     let over = format!(in rt.alloc(); "[[1,2,3]{more},0]")?;
     let last = "mothra exec --test 256";
     assert_served(&rt, last, SUM, full.as_str(), "RETURNED 4 5 9", "256 tests")?;
-    assert_served(&rt, last, SUM, over.as_str(), "FAULT J6", "257 tests")
+    assert_served(&rt, last, SUM, over.as_str(), "FAULT J6", "257 tests")?;
+    let both = format!(in rt.alloc(); "{over},\"equivalent\":[1]")?;
+    assert_served(
+        &rt,
+        last,
+        SUM,
+        both.as_str(),
+        "FAULT J6",
+        "257 tests, 1 entry",
+    )
 }

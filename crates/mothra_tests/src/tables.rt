@@ -6,7 +6,9 @@
 use crate::answers::{assert_answer, assert_served};
 use crate::jobs::SUM;
 use std::process::Abort;
+use std::sync::Wait;
 use std::test::Fail;
+use std::thread::Threads;
 
 /// The parts before and behind a mark.
 pub(crate) fn halves<'a>(case: &'a str, mark: &str) -> Result<(&'a str, &'a str), Fail> {
@@ -25,7 +27,7 @@ fn cells(row: &str) -> Result<(&str, &str, &str), Fail> {
 
 /// Rows `JOB => ANSWER`.
 pub(crate) fn assert_jobs(
-    rt: &(impl AllocGlobal + Abort),
+    rt: &(impl AllocGlobal + Abort + Threads + Wait + Sync),
     words: &str,
     rows: &str,
 ) -> Result<(), Fail> {
@@ -38,7 +40,7 @@ pub(crate) fn assert_jobs(
 
 /// Rows `SUITE => ANSWER`: the first test of the suite, on one program.
 pub(crate) fn assert_suites(
-    rt: &(impl AllocGlobal + Abort),
+    rt: &(impl AllocGlobal + Abort + Threads + Wait + Sync),
     program: &str,
     rows: &str,
 ) -> Result<(), Fail> {
@@ -51,7 +53,7 @@ pub(crate) fn assert_suites(
 
 /// Rows `WORDS | SUITE => ANSWER`, or `WORDS => ANSWER` for a job with no suite, of one program.
 pub(crate) fn assert_calls(
-    rt: &(impl AllocGlobal + Abort),
+    rt: &(impl AllocGlobal + Abort + Threads + Wait + Sync),
     program: &str,
     rows: &str,
 ) -> Result<(), Fail> {
@@ -64,7 +66,7 @@ pub(crate) fn assert_calls(
 
 /// Rows `STATEMENT | SUITE => ANSWER`, or with no suite: the statement stands in the place of the sum.
 pub(crate) fn assert_statements(
-    rt: &(impl AllocGlobal + Abort),
+    rt: &(impl AllocGlobal + Abort + Threads + Wait + Sync),
     words: &str,
     rows: &str,
 ) -> Result<(), Fail> {
@@ -78,7 +80,7 @@ pub(crate) fn assert_statements(
 
 /// Programs and their answers, for one command and suite.
 pub(crate) fn assert_programs(
-    rt: &(impl AllocGlobal + Abort),
+    rt: &(impl AllocGlobal + Abort + Threads + Wait + Sync),
     words: &str,
     suite: &str,
     programs: &str,

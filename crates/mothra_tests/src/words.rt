@@ -3,11 +3,13 @@
 use crate::streams::Trickle;
 use mothra_app::{Status, Watched, serve};
 use std::process::Abort;
+use std::sync::Wait;
 use std::test::Fail;
+use std::thread::Threads;
 
 /// What is written for the words, for which nothing is read.
 pub(crate) fn unread(
-    rt: &(impl AllocGlobal + Abort),
+    rt: &(impl AllocGlobal + Abort + Threads + Wait + Sync),
     words: &[&str],
 ) -> Result<(Status, Vec<u8>), Fail> {
     let mut out: Vec<u8> = Vec::new(rt.alloc());
@@ -23,7 +25,11 @@ pub(crate) fn unread(
 }
 
 /// The words, which stand between blanks, have this answer, some text is written, and nothing is read.
-fn assert_unread(rt: &(impl AllocGlobal + Abort), words: &str, want: Status) -> Result<(), Fail> {
+fn assert_unread(
+    rt: &(impl AllocGlobal + Abort + Threads + Wait + Sync),
+    words: &str,
+    want: Status,
+) -> Result<(), Fail> {
     let mut list = Vec::new(rt.alloc());
     for word in words.split_whitespace() {
         list.push(word)?;
@@ -36,7 +42,7 @@ fn assert_unread(rt: &(impl AllocGlobal + Abort), words: &str, want: Status) -> 
 
 /// The same for the words of each row.
 fn assert_all_unread(
-    rt: &(impl AllocGlobal + Abort),
+    rt: &(impl AllocGlobal + Abort + Threads + Wait + Sync),
     rows: &str,
     want: Status,
 ) -> Result<(), Fail> {
@@ -55,7 +61,6 @@ fn refuses_words_that_are_no_command(rt: HostRuntime) -> Result<(), Fail> {
 const NO_COMMANDS: &str = "
 mothra
 mothra paint
-mothra run
 mothra help
 mothra print twice
 ";
@@ -85,6 +90,17 @@ mothra list --every 0
 mothra list --every 1048576
 mothra list --every -1
 mothra list --every 1 --every 1
+mothra run 1
+mothra run --test 1
+mothra run --ops
+mothra run --every 0
+mothra run --every 1048576
+mothra run --steps 0
+mothra run --steps 1000001
+mothra run --workers 0
+mothra run --workers 33
+mothra run --workers x
+mothra run --workers 1 --workers 1
 ";
 
 #[test]
@@ -122,4 +138,5 @@ mothra --help
 mothra print --help
 mothra exec --help
 mothra list --help
+mothra run --help
 ";

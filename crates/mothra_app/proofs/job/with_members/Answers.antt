@@ -4,8 +4,7 @@ use Rattle.serde_json.specs.Data.{Data}
 use Rattle.serde_json.specs.View.{view, members_view}
 use Rattle.serde_json.specs.declared.value.Value.{Value}
 use Rattle.mothra_app.specs.FirstFault.{first_or}
-use Rattle.mothra_app.specs.Job.{JobFields, JobRead, is_known, job_with, member_faults, unknown_keys}
-use Rattle.mothra_app.specs.Suite.{suite_faults}
+use Rattle.mothra_app.specs.Job.{JobFields, JobRead, is_known, job_with, list_faults, member_faults, unknown_keys}
 use Rattle.mothra_app.specs.declared.job.JobFault.{JobFault}
 use Rattle.mothra_app.specs.declared.job.JobFault.TheVariants.{Memory, Key}
 use Rattle.mothra_app.proofs.job.with_members.Goals as goal
@@ -33,11 +32,13 @@ by_keys : (rest : List JobFault) (job : JobFields) (es : Entries)
 by_keys rest job [] = refl
 by_keys rest job (e ∷ es) = first_step rest job e es (is_known (string_bytes e.0)) refl (by_keys rest job es)
 
--- what comes of a source and a suite that are there
-met : (source : Option (List ℕ)) (suite : Option (List Data)) (es : Entries) (text : List ℕ) (values : List Data) → source ≡ Some text → suite ≡ Some values
-    → first_or (member_faults source suite (unknown_keys (members_view es))) (job_with source suite)
-    ≡ told (unknown_in es) (first_or (suite_faults values) (job_with (Some text) (Some values)))
-met source suite es text values is are = rw (is, are) (by_keys (suite_faults values) (job_with (Some text) (Some values)) es)
+-- what comes of a source, a suite and entries that are there
+met : (source : Option (List ℕ)) (suite entries : Option (List Data)) (es : Entries) (text : List ℕ) (tests declared : List Data)
+    → source ≡ Some text → suite ≡ Some tests → entries ≡ Some declared
+    → first_or (member_faults source suite entries (unknown_keys (members_view es))) (job_with source suite entries)
+    ≡ told (unknown_in es) (first_or (list_faults tests declared) (job_with (Some text) (Some tests) (Some declared)))
+met source suite entries es text tests declared is are too =
+    rw (is, are, too) (by_keys (list_faults tests declared) (job_with (Some text) (Some tests) (Some declared)) es)
 
 of_key : (fault : JobFault) (key : List ℕ) (read answer : JobRead) → answer ≡ Err fault → (fault ≡ Key key) ⊎ (fault ≡ Memory) → read ≡ Err (Key key)
     → (answer ≡ read) ⊎ (answer ≡ Err Memory)
@@ -49,19 +50,23 @@ returns-in-Some-unknown_key c =
     let es = c.args.members.now.entries in
     let text = ap (option_map (λ s. s.now)) c.in-Some.is in
     let values = ap (option_map (λ values. map view values.now)) c.in-Some-suite.is in
+    let entries = ap (option_map (λ values. map view values.now)) c.in-Some-entries.is in
     let unknown : unknown_in es ≡ Some c.as_str.result.now = ap (option_map string_bytes) (sym c.in-Some-unknown_key.ensures) ∙ ap Some (sym c.as_str.ensures.value) in
     let tests = map view c.in-Some-suite.values.now in
-    let rest : JobRead = first_or (suite_faults tests) (job_with (Some c.in-Some.source.now) (Some tests)) in
+    let declared = map view c.in-Some-entries.entries.now in
+    let rest : JobRead = first_or (list_faults tests declared) (job_with (Some c.in-Some.source.now) (Some tests) (Some declared)) in
     of_key _ c.as_str.result.now _ _ refl c.key_fault-in-Some-unknown_key.ensures
-    (met _ _ es c.in-Some.source.now tests text values ∙ ap (λ o. told o rest) unknown)
+    (met _ _ _ es c.in-Some.source.now tests declared text values entries ∙ ap (λ o. told o rest) unknown)
 
 pub returns-in-None : goal.returns-in-None
 returns-in-None c =
     let es = c.args.members.now.entries in
     let text = ap (option_map (λ s. s.now)) c.in-Some.is in
     let values = ap (option_map (λ values. map view values.now)) c.in-Some-suite.is in
+    let entries = ap (option_map (λ values. map view values.now)) c.in-Some-entries.is in
     let none : unknown_in es ≡ None = ap (option_map string_bytes) (sym c.in-None.ensures) in
     let tests = map view c.in-Some-suite.values.now in
-    let rest : JobRead = first_or (suite_faults tests) (job_with (Some c.in-Some.source.now) (Some tests)) in
-    let same = met _ _ es c.in-Some.source.now tests text values ∙ ap (λ o. told o rest) none in
-    subst (λ (r : JobRead). (c.with_tests.result ≡ r) ⊎ (c.with_tests.result ≡ Err Memory)) (sym same) c.with_tests.ensures
+    let declared = map view c.in-Some-entries.entries.now in
+    let rest : JobRead = first_or (list_faults tests declared) (job_with (Some c.in-Some.source.now) (Some tests) (Some declared)) in
+    let same = met _ _ _ es c.in-Some.source.now tests declared text values entries ∙ ap (λ o. told o rest) none in
+    subst (λ (r : JobRead). (c.with_lists.result ≡ r) ⊎ (c.with_lists.result ≡ Err Memory)) (sym same) c.with_lists.ensures

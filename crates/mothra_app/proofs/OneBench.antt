@@ -1,0 +1,180 @@
+-- A plan, tests and declared entries have a bench, or one reason why there is none.
+use Rattle.std.proofs.Common.{arith, ◌≡◌, ◌≢◌, ◌∙◌, ◌+◌, ◌<◌, ◌≤◌, ℕ, true, List, [], ◌∷◌, ◌++◌, length, length-append, append_assoc, get_or, All, ap, refl, sym, subst}
+use Rattle.std.proofs.Math.Seq.{get_or-append_seam}
+use Rattle.std.proofs.lemmas.List.{get_or_append_left, length_push}
+use Rattle.std.proofs.lemmas.List.Elements.{All-nil, All-cons, All-head, All-tail}
+use Rattle.f77_tree.specs.Parsing.{LineFields}
+use Rattle.f77_run.specs.declared.argument.Arg.{Arg}
+use Rattle.f77_run.specs.declared.outcome.Outcome.{Outcome}
+use Rattle.mothra_bench.specs.Bench.{AreFine, AreOutcomes, Ends, Fits, IsEnd, IsEntryTwice, IsFirstNot, IsKnownEntry, IsNoBench, IsUnknownEntry}
+use Rattle.mothra_bench.specs.declared.fault.BenchFault.{BenchFault}
+use Rattle.mothra_bench.specs.declared.fault.BenchFault.TheVariants as bench
+use Rattle.mothra_exchange.specs.declared.ticket.Ticket.{Ticket}
+use Rattle.mothra_ops.specs.Mutants.{program_of}
+use Rattle.mothra_ops.specs.Plan.{PlanFields, asked}
+use Rattle.mothra_app.proofs.AlikePlans.{AreAlike, turned}
+use Rattle.mothra_app.proofs.FirstBreaks.{all_hold, item_holds, one_cut, one_first_not}
+
+-- Why there is no bench, without want of memory.
+pub data IsRefused (plan : PlanFields) (tests : List (List Arg)) (steps : ℕ) (declared : List Ticket) : BenchFault → Type 0 where
+  misfit : {n : ℕ} → IsFirstNot (Fits (program_of plan)) tests n → IsRefused plan tests steps declared (bench.TestShape n)
+  failing : {n : ℕ} → All (Fits (program_of plan)) tests → IsFirstNot (Ends (program_of plan) steps) tests n
+      → IsRefused plan tests steps declared (bench.OriginalFails n)
+  unknown : {n : ℕ} → All (Fits (program_of plan)) tests → All (Ends (program_of plan) steps) tests → IsUnknownEntry plan declared n
+      → IsRefused plan tests steps declared (bench.EquivalentUnknown n)
+  twice : {n : ℕ} → All (Fits (program_of plan)) tests → All (Ends (program_of plan) steps) tests → IsEntryTwice plan declared n
+      → IsRefused plan tests steps declared (bench.EquivalentTwice n)
+
+pub refused : (plan : PlanFields) (tests : List (List Arg)) (steps : ℕ) (declared : List Ticket) (fault : BenchFault) → fault ≢ bench.Memory
+    → IsNoBench plan tests steps declared fault → IsRefused plan tests steps declared fault
+refused plan tests steps declared bench.Memory other none = absurd (other refl)
+refused plan tests steps declared (bench.TestShape n) other none = IsRefused.misfit none
+refused plan tests steps declared (bench.OriginalFails n) other none = IsRefused.failing none.0 none.1
+refused plan tests steps declared (bench.EquivalentUnknown n) other none = IsRefused.unknown none.0 none.1 none.2
+refused plan tests steps declared (bench.EquivalentTwice n) other none = IsRefused.twice none.0 none.1 none.2
+refused plan tests steps declared bench.Thread other none = absurd none
+refused plan tests steps declared (bench.Double t) other none = absurd none
+refused plan tests steps declared (bench.Stranger t) other none = absurd none
+refused plan tests steps declared (bench.Missing t) other none = absurd none
+refused plan tests steps declared bench.Stalled other none = absurd none
+
+-- ---- entries
+
+fine_front : (plan : PlanFields) (xs ys : List Ticket) → AreFine plan (xs ++ ys) → AreFine plan xs
+fine_front plan xs ys fine = record {
+  known = λ k d low. subst (IsKnownEntry plan) (get_or_append_left xs ys d k low) (fine.known k d (omega (arith, low, length-append xs ys)));
+  once = λ i j d less low of same.
+      let left : get_or (xs ++ ys) i d ≡ get_or xs i d = get_or_append_left xs ys d i (omega (arith, less, low)) in
+      let right : get_or (xs ++ ys) j d ≡ get_or xs j d = get_or_append_left xs ys d j low in
+      fine.once i j d less (omega (arith, low, length-append xs ys)) (subst (λ (e : Ticket). asked plan e.op ≡ true) (sym left) of) (left ∙ same ∙ sym right);
+}
+
+unknown_fails : {plan : PlanFields} {entries : List Ticket} {n : ℕ} (is : IsUnknownEntry plan entries n) → AreFine plan (is.before ++ is.entry ∷ []) → ⊥
+unknown_fails {plan} is fine = is.unknown (item_holds (IsKnownEntry plan) is.before [] is.entry fine.known)
+
+twice_fails : {plan : PlanFields} {entries : List Ticket} {n : ℕ} (is : IsEntryTwice plan entries n) → AreFine plan (is.before ++ is.entry ∷ []) → ⊥
+twice_fails {plan} is fine =
+    let k = is.twice.0 in
+    let low : k < length is.before = is.twice.1 in
+    let whole = is.before ++ is.entry ∷ [] in
+    let left : get_or whole k is.entry ≡ is.entry = get_or_append_left is.before (is.entry ∷ []) is.entry k low ∙ is.twice.2 in
+    let right : get_or whole (length is.before) is.entry ≡ is.entry = get_or-append_seam is.before is.entry [] is.entry in
+    fine.once k (length is.before) is.entry low (omega (arith, length_push is.before is.entry))
+    (subst (λ (e : Ticket). asked plan e.op ≡ true) (sym left) is.asked) (left ∙ sym right)
+
+-- the fronts of an entry that is told are fine, and with it they no longer are
+cut_of : {plan : PlanFields} {entries : List Ticket} (before after others behind : List Ticket) (one other : Ticket) → entries ≡ before ++ one ∷ after
+    → entries ≡ others ++ other ∷ behind → AreFine plan before → (AreFine plan (before ++ one ∷ []) → ⊥) → AreFine plan others
+    → (AreFine plan (others ++ other ∷ []) → ⊥) → (length before ≡ length others) × (one ≡ other)
+cut_of {plan} before after others behind one other cut also fine fails fine_too fails_too =
+    one_cut (AreFine plan) (fine_front plan) before after others behind one other (sym cut ∙ also) fine fails fine_too fails_too
+
+one_number : (before others : List Ticket) (n m : ℕ) → length before ≡ length others → n ≡ length before + 1 → m ≡ length others + 1 → n ≡ m
+one_number before others n m same is also = is ∙ ap (λ (k : ℕ). k + 1) same ∙ sym also
+
+one_unknown : {plan : PlanFields} {entries : List Ticket} {n m : ℕ} → IsUnknownEntry plan entries n → IsUnknownEntry plan entries m → n ≡ m
+one_unknown {plan} {entries} {n} {m} one two =
+    let cut = cut_of one.before one.after two.before two.after one.entry two.entry one.cut two.cut one.fine (unknown_fails one) two.fine (unknown_fails two) in
+    one_number one.before two.before n m cut.0 one.number two.number
+
+one_twice : {plan : PlanFields} {entries : List Ticket} {n m : ℕ} → IsEntryTwice plan entries n → IsEntryTwice plan entries m → n ≡ m
+one_twice {plan} {entries} {n} {m} one two =
+    let cut = cut_of one.before one.after two.before two.after one.entry two.entry one.cut two.cut one.fine (twice_fails one) two.fine (twice_fails two) in
+    one_number one.before two.before n m cut.0 one.number two.number
+
+never_both : {plan : PlanFields} {entries : List Ticket} {n m : ℕ} {A : Type 0} → IsUnknownEntry plan entries n → IsEntryTwice plan entries m → A
+never_both {plan} one two =
+    let cut = cut_of one.before one.after two.before two.after one.entry two.entry one.cut two.cut one.fine (unknown_fails one) two.fine (twice_fails two) in
+    absurd (one.unknown (subst (IsKnownEntry plan) (sym cut.1) two.known))
+
+fine_behind : {plan : PlanFields} {entries : List Ticket} (before after : List Ticket) (one : Ticket) → entries ≡ before ++ one ∷ after → AreFine plan entries
+    → AreFine plan (before ++ one ∷ [])
+fine_behind {plan} before after one cut fine =
+    fine_front plan (before ++ one ∷ []) after (subst (AreFine plan) (cut ∙ sym (append_assoc before (one ∷ []) after)) fine)
+
+-- ---- one reason
+
+pub one_refusal : {plan : PlanFields} {tests : List (List Arg)} {steps : ℕ} {declared : List Ticket} {one other : BenchFault}
+    → IsRefused plan tests steps declared one → IsRefused plan tests steps declared other → one ≡ other
+one_refusal (IsRefused.misfit is) (IsRefused.misfit also) = ap (λ (n : ℕ). bench.TestShape n) (one_first_not _ _ _ _ is also)
+one_refusal (IsRefused.misfit is) (IsRefused.failing fit also) = absurd (all_hold _ _ _ is fit)
+one_refusal (IsRefused.misfit is) (IsRefused.unknown fit end also) = absurd (all_hold _ _ _ is fit)
+one_refusal (IsRefused.misfit is) (IsRefused.twice fit end also) = absurd (all_hold _ _ _ is fit)
+one_refusal (IsRefused.failing fit is) (IsRefused.misfit also) = absurd (all_hold _ _ _ also fit)
+one_refusal (IsRefused.failing fit is) (IsRefused.failing fits also) = ap (λ (n : ℕ). bench.OriginalFails n) (one_first_not _ _ _ _ is also)
+one_refusal (IsRefused.failing fit is) (IsRefused.unknown fits end also) = absurd (all_hold _ _ _ is end)
+one_refusal (IsRefused.failing fit is) (IsRefused.twice fits end also) = absurd (all_hold _ _ _ is end)
+one_refusal (IsRefused.unknown fit end is) (IsRefused.misfit also) = absurd (all_hold _ _ _ also fit)
+one_refusal (IsRefused.unknown fit end is) (IsRefused.failing fits also) = absurd (all_hold _ _ _ also end)
+one_refusal (IsRefused.unknown fit end is) (IsRefused.unknown fits ends also) = ap (λ (n : ℕ). bench.EquivalentUnknown n) (one_unknown is also)
+one_refusal (IsRefused.unknown fit end is) (IsRefused.twice fits ends also) = never_both is also
+one_refusal (IsRefused.twice fit end is) (IsRefused.misfit also) = absurd (all_hold _ _ _ also fit)
+one_refusal (IsRefused.twice fit end is) (IsRefused.failing fits also) = absurd (all_hold _ _ _ also end)
+one_refusal (IsRefused.twice fit end is) (IsRefused.unknown fits ends also) = never_both also is
+one_refusal (IsRefused.twice fit end is) (IsRefused.twice fits ends also) = ap (λ (n : ℕ). bench.EquivalentTwice n) (one_twice is also)
+
+-- where there is a bench, there is none
+pub never_refused : {plan : PlanFields} {tests : List (List Arg)} {steps : ℕ} {declared : List Ticket} {fault : BenchFault}
+    → IsRefused plan tests steps declared fault → All (Fits (program_of plan)) tests → All (Ends (program_of plan) steps) tests → AreFine plan declared → ⊥
+never_refused (IsRefused.misfit is) fit end fine = all_hold _ _ _ is fit
+never_refused (IsRefused.failing fits is) fit end fine = all_hold _ _ _ is end
+never_refused (IsRefused.unknown fits ends is) fit end fine = unknown_fails is (fine_behind is.before is.after is.entry is.cut fine)
+never_refused (IsRefused.twice fits ends is) fit end fine = twice_fails is (fine_behind is.before is.after is.entry is.cut fine)
+
+pub ends_all : (program : List LineFields) (steps : ℕ) (tests : List (List Arg)) (outcomes : List Outcome) → AreOutcomes program steps tests outcomes
+    → All IsEnd outcomes → All (Ends program steps) tests
+ends_all program steps [] [] are end = All-nil (Ends program steps)
+ends_all program steps [] (outcome ∷ outcomes) are end = absurd are
+ends_all program steps (test ∷ tests) [] are end = absurd are
+ends_all program steps (test ∷ tests) (outcome ∷ outcomes) are end =
+    All-cons (Ends program steps) test tests (outcome, are.0, All-head IsEnd outcome outcomes end)
+    (ends_all program steps tests outcomes are.1 (All-tail IsEnd outcome outcomes end))
+
+-- ---- the same of a plan with the same lists
+
+known_moved : (one other : PlanFields) (entry : Ticket) → AreAlike one other → IsKnownEntry one entry → IsKnownEntry other entry
+known_moved one other entry alike known =
+    λ of. let number = known (alike.same_asked entry.op ∙ of) in (number.0, subst (λ (w : ℕ). entry.number ≤ w) (alike.same_whole entry.op) number.1)
+
+pub fine_moved : (one other : PlanFields) (entries : List Ticket) → AreAlike one other → AreFine one entries → AreFine other entries
+fine_moved one other entries alike fine = record {
+  known = λ k d low. known_moved one other (get_or entries k d) alike (fine.known k d low);
+  once = λ i j d less low of. fine.once i j d less low (alike.same_asked (get_or entries i d).op ∙ of);
+}
+
+unknown_moved : (one other : PlanFields) (entries : List Ticket) (n : ℕ) → AreAlike one other → IsUnknownEntry one entries n → IsUnknownEntry other entries n
+unknown_moved one other entries n alike is = record {
+  before = is.before;
+  entry = is.entry;
+  after = is.after;
+  cut = is.cut;
+  number = is.number;
+  fine = fine_moved one other is.before alike is.fine;
+  unknown = λ known. is.unknown (known_moved other one is.entry (turned one other alike) known);
+}
+
+twice_moved : (one other : PlanFields) (entries : List Ticket) (n : ℕ) → AreAlike one other → IsEntryTwice one entries n → IsEntryTwice other entries n
+twice_moved one other entries n alike is = record {
+  before = is.before;
+  entry = is.entry;
+  after = is.after;
+  cut = is.cut;
+  number = is.number;
+  fine = fine_moved one other is.before alike is.fine;
+  asked = sym (alike.same_asked is.entry.op) ∙ is.asked;
+  known = known_moved one other is.entry alike is.known;
+  twice = is.twice;
+}
+
+pub refused_moved : {tests : List (List Arg)} {steps : ℕ} {declared : List Ticket} {fault : BenchFault} (one other : PlanFields) → AreAlike one other
+    → IsRefused one tests steps declared fault → IsRefused other tests steps declared fault
+refused_moved {tests} {steps} {declared} one other alike (IsRefused.misfit {n = n} is) =
+    IsRefused.misfit (subst (λ p. IsFirstNot (Fits p) tests n) alike.program is)
+refused_moved {tests} {steps} {declared} one other alike (IsRefused.failing {n = n} fit is) =
+    IsRefused.failing (subst (λ p. All (Fits p) tests) alike.program fit) (subst (λ p. IsFirstNot (Ends p steps) tests n) alike.program is)
+refused_moved {tests} {steps} {declared} one other alike (IsRefused.unknown {n = n} fit end is) =
+    IsRefused.unknown (subst (λ p. All (Fits p) tests) alike.program fit) (subst (λ p. All (Ends p steps) tests) alike.program end)
+    (unknown_moved one other declared n alike is)
+refused_moved {tests} {steps} {declared} one other alike (IsRefused.twice {n = n} fit end is) =
+    IsRefused.twice (subst (λ p. All (Fits p) tests) alike.program fit) (subst (λ p. All (Ends p steps) tests) alike.program end)
+    (twice_moved one other declared n alike is)

@@ -1,0 +1,14 @@
+use Rattle.std.proofs.Common.{string_bytes}
+use Rattle.mothra_app.specs.Answer.{IsReportAnswer}
+use Rattle.mothra_app.proofs.Answered.{IfOk-both}
+use Rattle.mothra_app.proofs.Outcomes.{report_refused}
+use Rattle.mothra_app.proofs.answer.report_on.Goals as goal
+
+pub returns-in-Ok : goal.returns-in-Ok
+returns-in-Ok g c = IsReportAnswer.report c.in-Ok.ensures.report
+
+pub returns-in-Err : goal.returns-in-Err
+returns-in-Err g c =
+    IfOk-both c.told.result _ _ _
+    (λ a is line. report_refused c.args.bench.now c.in-Err.fault a.status (string_bytes a.text) c.in-Err.ensures.refused is line) c.told.ensures.status
+    c.told.ensures.text

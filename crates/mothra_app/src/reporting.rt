@@ -1,0 +1,33 @@
+//! The command `run`: the bench of the program of a job, on which its report rests.
+
+ghost use Rattle.std.specs.Prelude.{◌≤◌, ◌⊎◌, Err, MatchResult, length};
+ghost use Rattle.mothra_app.specs.Fault.{MayFailRun};
+ghost use Rattle.mothra_app.specs.Reporting.{IsBenchOf, IsReported};
+
+use crate::fault::Fault;
+use crate::job::Job;
+use crate::program::legal_program_of;
+use mothra_bench::Bench;
+use mothra_codes::Op;
+use mothra_ops::Plan;
+use std::alloc::Global;
+
+/// The bench of a job for these operators, of whose lists each item is kept, or one in so many, and within so many steps.
+pub(crate) fn bench_of(
+    alloc: Global,
+    job: Job,
+    ops: &[Op],
+    every: u32,
+    steps: u32,
+) -> Result<Bench, Fault>
+    requires some { 1 ≤ every }
+    requires few { length job.suite ≤ 256 }
+    ensures { MatchResult result
+        (IsBenchOf job ops.now every steps)
+        (λ fault. IsReported job ops.now every steps (Err fault) ⊎ MayFailRun fault) }
+{
+    let checked = legal_program_of(alloc, job.source())?;
+    let plan = Plan::new(alloc, checked, ops, every)?;
+    let (suite, equivalent) = job.into_lists();
+    Ok(Bench::new(alloc, plan, suite, steps, equivalent)?)
+}

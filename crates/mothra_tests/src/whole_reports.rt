@@ -1,0 +1,346 @@
+//! Reports on a sum for all operators: with a test, with declared equivalents, and without tests.
+
+use crate::answers::assert_served;
+use crate::jobs::SUM;
+use std::test::Fail;
+
+#[test]
+fn any_number_of_workers_makes_the_same_report(rt: HostRuntime) -> Result<(), Fail> {
+    for words in SAME_REPORT.trim_matches('\n').lines() {
+        assert_served(&rt, words, SUM, "[[2,3,0]]", REPORT, words)?;
+    }
+    Ok(())
+}
+
+const SAME_REPORT: &str = "
+mothra run
+mothra run --workers 1
+mothra run --workers 2
+mothra run --workers 8
+mothra run --workers 32
+";
+
+const REPORT: &str = "\
+REPORT 2
+UNIT ADD
+TESTS 1
+STEPS 10000
+EVERY 1
+AAR 0 0 0
+ABS 9 3 0
+ACR 0 0 0
+AOR 6 6 0
+ASR 0 0 0
+CAR 0 0 0
+CNR 0 0 0
+CRP 0 0 0
+CSR 0 0 0
+DER 0 0 0
+DSA 0 0 0
+GLR 0 0 0
+LCR 0 0 0
+ROR 0 0 0
+RSR 1 1 0
+SAN 1 1 0
+SAR 0 0 0
+SCR 0 0 0
+SDL 1 1 0
+SRC 0 0 0
+SVR 6 6 0
+UOI 9 9 0
+TOTAL 33 27 0
+SCORE 81.81
+MUTANT ABS 1 1 S 0
+MUTANT ABS 2 2 K 1
+MUTANT ABS 3 3 S 0
+MUTANT ABS 4 4 S 0
+MUTANT ABS 5 5 K 1
+MUTANT ABS 6 6 S 0
+MUTANT ABS 7 7 S 0
+MUTANT ABS 8 8 K 1
+MUTANT ABS 9 9 S 0
+MUTANT AOR 1 1 K 1
+MUTANT AOR 2 2 K 1
+MUTANT AOR 3 3 K 1
+MUTANT AOR 4 4 K 1
+MUTANT AOR 5 5 K 1
+MUTANT AOR 6 6 K 1
+MUTANT RSR 1 1 K 1
+MUTANT SAN 1 1 K 1
+MUTANT SDL 1 1 K 1
+MUTANT SVR 1 1 K 1
+MUTANT SVR 2 2 K 1
+MUTANT SVR 3 3 K 1
+MUTANT SVR 4 4 K 1
+MUTANT SVR 5 5 K 1
+MUTANT SVR 6 6 K 1
+MUTANT UOI 1 1 K 1
+MUTANT UOI 2 2 K 1
+MUTANT UOI 3 3 K 1
+MUTANT UOI 4 4 K 1
+MUTANT UOI 5 5 K 1
+MUTANT UOI 6 6 K 1
+MUTANT UOI 7 7 K 1
+MUTANT UOI 8 8 K 1
+MUTANT UOI 9 9 K 1
+SURVIVOR ABS 1 1 LINE 2 K=IABS(I+J)
+SURVIVOR ABS 3 3 LINE 2 K=ZPUSH(I+J)
+SURVIVOR ABS 4 4 LINE 2 K=IABS(I)+J
+SURVIVOR ABS 6 6 LINE 2 K=ZPUSH(I)+J
+SURVIVOR ABS 7 7 LINE 2 K=I+IABS(J)
+SURVIVOR ABS 9 9 LINE 2 K=I+ZPUSH(J)
+END";
+
+#[test]
+fn declared_mutants_do_not_count(rt: HostRuntime) -> Result<(), Fail> {
+    let entries = r#"[[2,3,0]],"equivalent":["ABS 9","ABS 1","ABS 3","ABS 4","ABS 6","ABS 7"]"#;
+    assert_served(
+        &rt,
+        "mothra run",
+        SUM,
+        entries,
+        ALL_DECLARED,
+        "all declared",
+    )
+}
+
+// The score is of the mutants that are not equivalent, and no survivor is told.
+const ALL_DECLARED: &str = "\
+REPORT 2
+UNIT ADD
+TESTS 1
+STEPS 10000
+EVERY 1
+AAR 0 0 0
+ABS 9 3 6
+ACR 0 0 0
+AOR 6 6 0
+ASR 0 0 0
+CAR 0 0 0
+CNR 0 0 0
+CRP 0 0 0
+CSR 0 0 0
+DER 0 0 0
+DSA 0 0 0
+GLR 0 0 0
+LCR 0 0 0
+ROR 0 0 0
+RSR 1 1 0
+SAN 1 1 0
+SAR 0 0 0
+SCR 0 0 0
+SDL 1 1 0
+SRC 0 0 0
+SVR 6 6 0
+UOI 9 9 0
+TOTAL 33 27 6
+SCORE 100.00
+MUTANT ABS 1 1 E 0
+MUTANT ABS 2 2 K 1
+MUTANT ABS 3 3 E 0
+MUTANT ABS 4 4 E 0
+MUTANT ABS 5 5 K 1
+MUTANT ABS 6 6 E 0
+MUTANT ABS 7 7 E 0
+MUTANT ABS 8 8 K 1
+MUTANT ABS 9 9 E 0
+MUTANT AOR 1 1 K 1
+MUTANT AOR 2 2 K 1
+MUTANT AOR 3 3 K 1
+MUTANT AOR 4 4 K 1
+MUTANT AOR 5 5 K 1
+MUTANT AOR 6 6 K 1
+MUTANT RSR 1 1 K 1
+MUTANT SAN 1 1 K 1
+MUTANT SDL 1 1 K 1
+MUTANT SVR 1 1 K 1
+MUTANT SVR 2 2 K 1
+MUTANT SVR 3 3 K 1
+MUTANT SVR 4 4 K 1
+MUTANT SVR 5 5 K 1
+MUTANT SVR 6 6 K 1
+MUTANT UOI 1 1 K 1
+MUTANT UOI 2 2 K 1
+MUTANT UOI 3 3 K 1
+MUTANT UOI 4 4 K 1
+MUTANT UOI 5 5 K 1
+MUTANT UOI 6 6 K 1
+MUTANT UOI 7 7 K 1
+MUTANT UOI 8 8 K 1
+MUTANT UOI 9 9 K 1
+END";
+
+#[test]
+fn a_killed_mutant_is_wrongly_declared(rt: HostRuntime) -> Result<(), Fail> {
+    let entries =
+        r#"[[2,3,0]],"equivalent":["ABS 1","ABS 3","ABS 4","ABS 6","ABS 7","ABS 9","AOR 1"]"#;
+    let words = "mothra run --ops ABS,AOR";
+    assert_served(&rt, words, SUM, entries, WRONGLY_DECLARED, words)
+}
+
+// It counts as killed.
+const WRONGLY_DECLARED: &str = "\
+REPORT 2
+UNIT ADD
+TESTS 1
+STEPS 10000
+EVERY 1
+ABS 9 3 6
+AOR 6 6 0
+TOTAL 15 9 6
+SCORE 100.00
+MUTANT ABS 1 1 E 0
+MUTANT ABS 2 2 K 1
+MUTANT ABS 3 3 E 0
+MUTANT ABS 4 4 E 0
+MUTANT ABS 5 5 K 1
+MUTANT ABS 6 6 E 0
+MUTANT ABS 7 7 E 0
+MUTANT ABS 8 8 K 1
+MUTANT ABS 9 9 E 0
+MUTANT AOR 1 1 W 1
+MUTANT AOR 2 2 K 1
+MUTANT AOR 3 3 K 1
+MUTANT AOR 4 4 K 1
+MUTANT AOR 5 5 K 1
+MUTANT AOR 6 6 K 1
+WRONG AOR 1 1
+END";
+
+#[test]
+fn no_mutant_is_killed_without_tests(rt: HostRuntime) -> Result<(), Fail> {
+    assert_served(&rt, "mothra run", SUM, "[]", NO_TESTS, "no tests")?;
+    assert_served(&rt, "mothra run", SUM, "", NO_TESTS, "no suite")
+}
+
+const NO_TESTS: &str = "\
+REPORT 2
+UNIT ADD
+TESTS 0
+STEPS 10000
+EVERY 1
+AAR 0 0 0
+ABS 9 0 0
+ACR 0 0 0
+AOR 6 0 0
+ASR 0 0 0
+CAR 0 0 0
+CNR 0 0 0
+CRP 0 0 0
+CSR 0 0 0
+DER 0 0 0
+DSA 0 0 0
+GLR 0 0 0
+LCR 0 0 0
+ROR 0 0 0
+RSR 1 0 0
+SAN 1 0 0
+SAR 0 0 0
+SCR 0 0 0
+SDL 1 0 0
+SRC 0 0 0
+SVR 6 0 0
+UOI 9 0 0
+TOTAL 33 0 0
+SCORE 0.00
+MUTANT ABS 1 1 S -
+MUTANT ABS 2 2 S -
+MUTANT ABS 3 3 S -
+MUTANT ABS 4 4 S -
+MUTANT ABS 5 5 S -
+MUTANT ABS 6 6 S -
+MUTANT ABS 7 7 S -
+MUTANT ABS 8 8 S -
+MUTANT ABS 9 9 S -
+MUTANT AOR 1 1 S -
+MUTANT AOR 2 2 S -
+MUTANT AOR 3 3 S -
+MUTANT AOR 4 4 S -
+MUTANT AOR 5 5 S -
+MUTANT AOR 6 6 S -
+MUTANT RSR 1 1 S -
+MUTANT SAN 1 1 S -
+MUTANT SDL 1 1 S -
+MUTANT SVR 1 1 S -
+MUTANT SVR 2 2 S -
+MUTANT SVR 3 3 S -
+MUTANT SVR 4 4 S -
+MUTANT SVR 5 5 S -
+MUTANT SVR 6 6 S -
+MUTANT UOI 1 1 S -
+MUTANT UOI 2 2 S -
+MUTANT UOI 3 3 S -
+MUTANT UOI 4 4 S -
+MUTANT UOI 5 5 S -
+MUTANT UOI 6 6 S -
+MUTANT UOI 7 7 S -
+MUTANT UOI 8 8 S -
+MUTANT UOI 9 9 S -
+SURVIVOR ABS 1 1 LINE 2 K=IABS(I+J)
+SURVIVOR ABS 2 2 LINE 2 K=-IABS(I+J)
+SURVIVOR ABS 3 3 LINE 2 K=ZPUSH(I+J)
+SURVIVOR ABS 4 4 LINE 2 K=IABS(I)+J
+SURVIVOR ABS 5 5 LINE 2 K=-IABS(I)+J
+SURVIVOR ABS 6 6 LINE 2 K=ZPUSH(I)+J
+SURVIVOR ABS 7 7 LINE 2 K=I+IABS(J)
+SURVIVOR ABS 8 8 LINE 2 K=I+(-IABS(J))
+SURVIVOR ABS 9 9 LINE 2 K=I+ZPUSH(J)
+SURVIVOR AOR 1 1 LINE 2 K=I-J
+SURVIVOR AOR 2 2 LINE 2 K=I*J
+SURVIVOR AOR 3 3 LINE 2 K=I/J
+SURVIVOR AOR 4 4 LINE 2 K=I**J
+SURVIVOR AOR 5 5 LINE 2 K=I
+SURVIVOR AOR 6 6 LINE 2 K=J
+SURVIVOR RSR 1 1 LINE 2 RETURN
+SURVIVOR SAN 1 1 LINE 2 TRAP
+SURVIVOR SDL 1 1 LINE 2 CONTINUE
+SURVIVOR SVR 1 1 LINE 2 I=I+J
+SURVIVOR SVR 2 2 LINE 2 J=I+J
+SURVIVOR SVR 3 3 LINE 2 K=J+J
+SURVIVOR SVR 4 4 LINE 2 K=K+J
+SURVIVOR SVR 5 5 LINE 2 K=I+I
+SURVIVOR SVR 6 6 LINE 2 K=I+K
+SURVIVOR UOI 1 1 LINE 2 K=-(I+J)
+SURVIVOR UOI 2 2 LINE 2 K=I+J+1
+SURVIVOR UOI 3 3 LINE 2 K=I+J-1
+SURVIVOR UOI 4 4 LINE 2 K=-I+J
+SURVIVOR UOI 5 5 LINE 2 K=I+1+J
+SURVIVOR UOI 6 6 LINE 2 K=I-1+J
+SURVIVOR UOI 7 7 LINE 2 K=I+(-J)
+SURVIVOR UOI 8 8 LINE 2 K=I+(J+1)
+SURVIVOR UOI 9 9 LINE 2 K=I+(J-1)
+END";
+
+#[test]
+fn a_test_may_kill_some_mutants_alone(rt: HostRuntime) -> Result<(), Fail> {
+    let words = "mothra run --ops AOR";
+    assert_served(&rt, words, SUM, "[[2,2,0]]", TWO_SURVIVORS, words)?;
+    let entries = r#"[[2,2,0]],"equivalent":["ABS 99"]"#;
+    assert_served(
+        &rt,
+        words,
+        SUM,
+        entries,
+        TWO_SURVIVORS,
+        "an entry of another operator",
+    )
+}
+
+const TWO_SURVIVORS: &str = "\
+REPORT 2
+UNIT ADD
+TESTS 1
+STEPS 10000
+EVERY 1
+AOR 6 4 0
+TOTAL 6 4 0
+SCORE 66.66
+MUTANT AOR 1 1 K 1
+MUTANT AOR 2 2 S 0
+MUTANT AOR 3 3 K 1
+MUTANT AOR 4 4 S 0
+MUTANT AOR 5 5 K 1
+MUTANT AOR 6 6 K 1
+SURVIVOR AOR 2 2 LINE 2 K=I*J
+SURVIVOR AOR 4 4 LINE 2 K=I**J
+END";
