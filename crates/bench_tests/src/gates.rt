@@ -157,6 +157,10 @@ fn miss_the_mutant_that_a_gate_drops(rt: HostRuntime) -> Result<(), Fail> {
     let bench = sum_bench(&rt)?;
     let last = ticket("UOI 9")?;
     assert_fault(&rt, dropped(&rt, &bench, last)?, BenchFault::Missing(last));
-    assert_fault(&rt, dropped_locked(&rt, &bench, last)?, BenchFault::Missing(last));
+    assert_fault(
+        &rt,
+        dropped_locked(&rt, &bench, last)?,
+        BenchFault::Missing(last),
+    );
     Ok(())
 }

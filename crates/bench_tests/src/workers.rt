@@ -1,5 +1,7 @@
 //! The same report, by any number of workers.
 
+ghost use Rattle.std.specs.Prelude.{◌≤◌};
+
 use crate::benches::{Job, bench, report};
 use mothra_bench::{Bench, analyse};
 use std::process::Abort;
@@ -70,7 +72,13 @@ fn write_the_report_of_no_mutant(rt: HostRuntime) -> Result<(), Fail> {
 
 #[test]
 fn write_the_report_of_ten_thousand_mutants(rt: HostRuntime) -> Result<(), Fail> {
-    let statements = repeated(&rt, "SUBROUTINE MANY(I,J,K); RETURN", 310, "; K=I+J", "; END")?;
+    let statements = repeated(
+        &rt,
+        "SUBROUTINE MANY(I,J,K); RETURN",
+        310,
+        "; K=I+J",
+        "; END",
+    )?;
     let job = Job {
         statements: statements.as_str(),
         ..SUM
