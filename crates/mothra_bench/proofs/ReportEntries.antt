@@ -1,5 +1,5 @@
 -- A report's entries are the verdicts of a bench, and it has one report at most.
-use Rattle.std.proofs.Common.{◌≡◌, ◌↔◌, ◌<◌, ℕ, List, [], ◌∷◌, map, drop, get_or, length, All, Bool, true, false, true≢false, refl, sym, ap, ◌∙◌, subst, arith}
+use Rattle.std.proofs.Common.{◌≡◌, ◌↔◌, ℕ, List, [], ◌∷◌, map, drop, get_or, All, Bool, true, false, true≢false, refl, sym, ap, ◌∙◌, subst, arith}
 use Rattle.std.specs.Prelude.{IsTrue}
 use Rattle.std.proofs.lemmas.List.Elements.{All-filter, All-tail}
 use Rattle.f77_run.specs.Interpreter.{OneAnswer}

@@ -1,5 +1,5 @@
 -- The rows of the workers are gathered one worker after another.
-use Rattle.std.proofs.Common.{◌≡◌, ℕ, suc, ◌<◌, List, [], ◌∷◌, ◌++◌, length, map, All, Bool, true, false, Vec, Global, Option, None, Some, Result, Ok, Err, IfSome, IfOk, IfErr, MatchOption, MatchResult, is_some, refl, sym, ap, ◌∙◌, subst, append_assoc, arith}
+use Rattle.std.proofs.Common.{◌≡◌, suc, List, ◌∷◌, ◌++◌, All, Bool, true, Vec, Global, Option, None, Some, Result, Ok, Err, IfSome, IfOk, IfErr, MatchOption, MatchResult, sym, ap, ◌∙◌, subst, append_assoc, arith}
 use Rattle.std.specs.Prelude.{IfNone, IsOkAnd}
 use Rattle.std.proofs.lemmas.List.Elements.{All-append}
 use Rattle.mothra_exchange.specs.declared.ticket.Ticket.{Ticket}

@@ -1,5 +1,5 @@
 -- A worker's steps, one after another.
-use Rattle.std.proofs.Common.{◌≡◌, ℕ, ◌+◌, ◌-◌, ◌<◌, ◌≤◌, List, [], ◌∷◌, ◌++◌, map, All, Bool, true, false, Vec, Global, Option, None, Some, Result, Ok, Err, IfSome, IfOk, IfErr, MatchOption, cond, ◌&&◌, eqb, is_some, refl, sym, ap, ◌∙◌, subst, append_assoc, append-nil, arith, Bor}
+use Rattle.std.proofs.Common.{◌≡◌, ℕ, ◌+◌, ◌-◌, ◌≤◌, List, [], ◌∷◌, ◌++◌, Bool, true, false, Vec, Global, Option, None, Some, Result, Ok, Err, IfSome, IfOk, IfErr, MatchOption, cond, ◌&&◌, eqb, is_some, refl, sym, ap, ◌∙◌, subst, append_assoc, append-nil, arith, Bor}
 use Rattle.std.specs.Result.{result_ok}
 use Rattle.std.specs.Prelude.{IfNone, option_copied}
 use Rattle.std.proofs.lemmas.Bool.{eqb-true}
@@ -10,7 +10,6 @@ use Rattle.mothra_codes.specs.declared.op.Op.{Op}
 use Rattle.mothra_codes.specs.Op.{index}
 use Rattle.mothra_exchange.specs.Gate.{TakeKept}
 use Rattle.mothra_exchange.specs.Ticket.{one_if, ticket, times}
-use Rattle.mothra_exchange.specs.declared.answer.Take.{Take}
 use Rattle.mothra_exchange.specs.declared.answer.Take.TheVariants.{Finished, Empty, Taken}
 use Rattle.mothra_exchange.specs.declared.ticket.Ticket.{Ticket}
 use Rattle.mothra_exchange.specs.declared.view.View.{View}
@@ -18,7 +17,7 @@ use Rattle.mothra_exchange.proofs.Counting.{times-append}
 use Rattle.mothra_ops.specs.Plan.{PlanFields}
 use Rattle.mothra_bench.specs.Bench.{BenchFields}
 use Rattle.mothra_bench.specs.Gathered.{AddsRow, AreVerdicts, IsOwn, tickets_in}
-use Rattle.mothra_bench.specs.Verdict.{Has, IsNoVerdict, IsVerdict}
+use Rattle.mothra_bench.specs.Verdict.{Has, IsNoVerdict}
 use Rattle.mothra_bench.specs.Working.{Adds, AreFresh, IsNoWork, OnlyTook, TookRows, Went}
 use Rattle.mothra_bench.specs.declared.fault.BenchFault.{BenchFault}
 use Rattle.mothra_bench.specs.declared.fault.BenchFault.TheVariants as fault

@@ -1,4 +1,4 @@
-use Rattle.std.proofs.Common.{◌≡◌, ◌+◌, ◌≤◌, [], true, All}
+use Rattle.std.proofs.Common.{◌≡◌, ◌+◌, [], true, All}
 use Rattle.mothra_bench.proofs.driving.start_workers.Given as goal
 
 abbrev pub invariant-loop : goal.invariant-loop

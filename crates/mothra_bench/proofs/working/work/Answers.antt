@@ -1,4 +1,4 @@
-use Rattle.std.proofs.Common.{◌≡◌, ◌∙◌, IfSome, rules}
+use Rattle.std.proofs.Common.{◌∙◌}
 use Rattle.mothra_bench.proofs.WorkerSteps.{answers, lent_verdicts, went_on}
 use Rattle.mothra_bench.proofs.working.work.Goals as goal
 
