@@ -1,5 +1,6 @@
 -- From what was read and answered to what is served.
-use Rattle.std.proofs.Common.{arith, ◌≡◌, ◌≢◌, ◌∙◌, ℕ, ◌<◌, ◌≤◌, ◌++◌, Bool, true, false, sym, ap, refl, subst, inl, inr, List, [], Option, Some, None, Result, Ok, Err, IfOk, length, length-append, append-nil, nat_lt, string_bytes}
+use Rattle.std.proofs.Common.{arith, ◌≡◌, ◌≢◌, ◌∙◌, ℕ, ◌<◌, ◌≤◌, ◌++◌, Bool, true, false, sym, ap, refl, subst, inl, inr}
+use Rattle.std.proofs.Common.{List, [], Option, Some, None, Result, Ok, Err, IfOk, length, length-append, append-nil, nat_lt, string_bytes}
 use Rattle.std.proofs.lemmas.Bool.{ltb-true, ltb-false, lt-ltb}
 use Rattle.std.proofs.KnownBytes.{Keeps-refl}
 use Rattle.clap.specs.Words.{Text, fault_of}

@@ -1,5 +1,6 @@
 -- Which mutant a text names.
-use Rattle.std.proofs.Common.{arith, ◌≡◌, ◌≢◌, ◌∙◌, ◌<◌, ◌≤◌, ◌^◌, ◌&&◌, ap, ap₂, refl, sym, subst, ℕ, zero, suc, Bool, true, false, cond, leb-true, le-leb, lit<, nat_le, List, [], ◌∷◌, ◌++◌, codes, drop, get_or, length, take, Option, Some, None, IfSome, Result, Ok, Err, true≢false, bytes_eq, option_and_then}
+use Rattle.std.proofs.Common.{arith, ◌≡◌, ◌≢◌, ◌∙◌, ◌<◌, ◌≤◌, ◌^◌, ◌&&◌, ap, ap₂, refl, sym, subst, ℕ, zero, suc, Bool, true, false, true≢false, cond}
+use Rattle.std.proofs.Common.{leb-true, le-leb, lit<, nat_le, List, [], ◌∷◌, ◌++◌, codes, drop, get_or, length, take, Option, Some, None, IfSome, Result, Ok, Err, bytes_eq, option_and_then}
 use Rattle.std.specs.Fmt.{decimal}
 use Rattle.std.specs.Bool.{Decides}
 use Rattle.std.specs.Borrow.{Bor}

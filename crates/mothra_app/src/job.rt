@@ -7,7 +7,8 @@ ghost use Rattle.serde_json.specs.Find.{get};
 ghost use Rattle.serde_json.specs.View.{view as value_of, members_view};
 ghost use Rattle.mothra_app.specs.FirstFault.{first_or};
 ghost use Rattle.mothra_app.specs.Job as definition;
-ghost use Rattle.mothra_app.specs.Job.{values_in, job_fields, job_of, job_with, member_faults, list_faults, test_at, unknown_keys, value_faults};
+ghost use Rattle.mothra_app.specs.Job.{values_in, job_fields, job_of, job_with, member_faults};
+ghost use Rattle.mothra_app.specs.Job.{list_faults, test_at, unknown_keys, value_faults};
 ghost use Rattle.mothra_app.specs.Equivalent.{entries_of, entry_faults};
 ghost use Rattle.mothra_app.specs.declared.job.JobFault.TheVariants as fault;
 
@@ -95,8 +96,8 @@ pub enum JobFault {
     /// either that are not empty.
     #[error("number {0} of the tests is no list of values of dummy arguments")]
     Suite(u32),
-    /// J5: the entry of this number, from 1, of the mutants that are declared equivalent is no text of an operator's code,
-    /// one blank, and a number 1 to 1048575 without leading zeros.
+    /// J5: the entry of this number, from 1, of the mutants that are declared equivalent is no text of an operator's
+    /// code, one blank, and a number 1 to 1048575 without leading zeros.
     #[error("entry {0} of the declared equivalents is no name of a mutant")]
     Equivalent(usize),
     /// J6: there are more than 256 tests.
@@ -185,7 +186,8 @@ fn source_in(value: &Value) -> Option<&str>
 
 /// The values of the list at a key: none where there is no such key.
 fn values_at<'a>(value: &'a Value, key: &str) -> Option<&'a [Value]>
-    ensures { option_map (λ values. map value_of values.now) result ≡ values_in (get key.now (value_of value.entry.now)) }
+    ensures { option_map (λ values. map value_of values.now) result
+        ≡ values_in (get key.now (value_of value.entry.now)) }
 {
     match value.get(key) {
         Some(list) => Some(list.as_array()?.as_slice()),

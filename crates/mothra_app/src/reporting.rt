@@ -12,7 +12,8 @@ use mothra_codes::Op;
 use mothra_ops::Plan;
 use std::alloc::Global;
 
-/// The bench of a job for these operators, of whose lists each item is kept, or one in so many, and within so many steps.
+/// The bench of a job for these operators, of whose lists each item is kept, or one in so many, and within so many
+/// steps.
 pub(crate) fn bench_of(
     alloc: Global,
     job: Job,

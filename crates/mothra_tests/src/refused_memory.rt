@@ -1,5 +1,5 @@
-//! Each allocation can be refused: the answer is then A1 or a fault line of want of memory, for `run` also that of a thread that can not
-//! begin, and else the undisturbed one.
+//! Each allocation can be refused: the answer is then A1 or a fault line of want of memory, for `run` also that of a
+//! thread that can not begin, and else the undisturbed one.
 
 use crate::jobs::LOWER_CASE;
 use mothra_app::{AppFault, Status, Watched, serve};

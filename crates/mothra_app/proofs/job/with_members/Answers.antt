@@ -1,4 +1,5 @@
-use Rattle.std.proofs.Common.{◌≡◌, ◌⊎◌, ◌∙◌, ◌++◌, inl, inr, sym, ap, refl, subst, not, true, false, Bool, List, [], ◌∷◌, ℕ, Option, Some, None, String, Err, map, option_map, string_bytes, Global, find}
+use Rattle.std.proofs.Common.{◌≡◌, ◌⊎◌, ◌∙◌, ◌++◌, inl, inr, sym, ap, refl, subst, not, true, false, Bool}
+use Rattle.std.proofs.Common.{List, [], ◌∷◌, ℕ, Option, Some, None, String, Err, map, option_map, string_bytes, Global, find}
 use Rattle.std.specs.Map.{keys_of}
 use Rattle.serde_json.specs.Data.{Data}
 use Rattle.serde_json.specs.View.{view, members_view}
