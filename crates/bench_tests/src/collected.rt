@@ -1,23 +1,13 @@
 //! Rows collected. A row of a table is what is changed in the rows of all mutants, ` => ` and what they come to.
 
-use crate::benches::{Job, bench, rows, tally, ticket, whole_tally};
 use f77_run::Values;
 use mothra_bench::{Bench, BenchFault, Matrix, Row, collect, verdict_of};
 use mothra_exchange::Tally;
 use mothra_ops::Op;
 use std::process::Abort;
 use std::test::Fail;
-use test_checks::ADD;
+use test_benches::{rows, sum_bench, tally, ticket, whole_tally};
 use test_programs::parts;
-
-const SUM: Job<'static> = Job {
-    statements: ADD,
-    ops: "",
-    every: 1,
-    suite: "2 3 0;",
-    steps: 10_000,
-    declared: "",
-};
 
 /// `reversed`, `without the last`, or a row that is added: its ticket and its digits, `-` for none.
 const ROWS: &[&str] = &[
@@ -36,10 +26,6 @@ const ROWS: &[&str] = &[
     "without the last; ABS 1 1 => Double(Ticket { op: Abs, number: 1 })",
     "without the last; ABS 10 1 => Stranger(Ticket { op: Abs, number: 10 })",
 ];
-
-fn sum_bench(rt: &impl AllocGlobal) -> Result<Bench, Fail> {
-    Ok(bench(rt, &SUM)??)
-}
 
 /// A row written as `ABS 1 1`.
 fn row(rt: &impl AllocGlobal, text: &str) -> Result<Row, Fail> {
@@ -121,18 +107,22 @@ fn are_one_for_each_mutant(rt: HostRuntime) -> Result<(), Fail> {
     assert_collected(&rt, &bench, &whole_tally(&rt, &bench)?, ROWS)
 }
 
+/// An exchange handed out all tickets of ABS but the last, and no other.
+fn assert_short(rt: &(impl AllocGlobal + Abort), bench: &Bench) -> Result<(), Fail> {
+    let mut counts = [0u32; 22];
+    counts[Op::Abs.index()] = 8;
+    assert_collected(
+        rt,
+        bench,
+        &tally(rt, counts)?,
+        &[" => Missing(Ticket { op: Abs, number: 9 })"],
+    )
+}
+
 #[test]
 fn are_of_tickets_that_were_handed_out(rt: HostRuntime) -> Result<(), Fail> {
     let bench = sum_bench(&rt)?;
-    let mut counts = [0u32; 22];
-    counts[Op::Abs.index()] = 8;
-    let tally = tally(&rt, counts)?;
-    assert_collected(
-        &rt,
-        &bench,
-        &tally,
-        &[" => Missing(Ticket { op: Abs, number: 9 })"],
-    )
+    assert_short(&rt, &bench)
 }
 
 /// The tickets of the first entry and the last.
@@ -157,8 +147,8 @@ fn stand_in_order(rt: HostRuntime) -> Result<(), Fail> {
 
 #[test]
 fn no_verdict_is_told_of_a_stranger(rt: HostRuntime) -> Result<(), Fail> {
-    let bench = sum_bench(&rt)?;
     let stranger = ticket("ABS 10")?;
+    let bench = sum_bench(&rt)?;
     let fault = verdict_of(rt.alloc(), &bench, stranger).err();
     assert_eq!(rt; fault, Some(BenchFault::Stranger(stranger)));
     Ok(())

@@ -1,8 +1,8 @@
 //! Declared entries of operators that were not asked for.
 
-use crate::benches::{Job, lines_of, report};
 use std::process::Abort;
 use std::test::Fail;
+use test_benches::{Job, lines_of, report};
 use test_checks::ADD;
 
 #[test]

@@ -1,10 +1,10 @@
 //! Which tests kill which mutants. A row is statements, an operator, tests and the limit on steps, with ` | ` between them, ` => ` and for each
 //! mutant of the operator a digit for each test, 1 where it kills.
 
-use crate::benches::{Job, bench, rows};
 use mothra_bench::Row;
 use std::process::Abort;
 use std::test::Fail;
+use test_benches::{Job, bench, rows};
 use test_checks::{ADD, LOOP};
 use test_programs::{parts, repeated};
 
@@ -54,17 +54,22 @@ fn push_kills(text: &mut String, row: &Row) -> Result<(), Fail> {
     Ok(())
 }
 
+fn push_rows(text: &mut String, rows: &[Row]) -> Result<(), Fail> {
+    for row in rows {
+        if !text.is_empty() {
+            text.push(' ')?;
+        }
+        push_kills(text, row)?;
+    }
+    Ok(())
+}
+
 /// The kills of the mutants, with blanks between them.
 fn kills(rt: &impl AllocGlobal, job: &Job<'_>) -> Result<String, Fail> {
     let bench = bench(rt, job)??;
     let rows = rows(rt, &bench)?;
     let mut text = String::new(rt.alloc());
-    for row in &rows {
-        if !text.is_empty() {
-            text.push(' ')?;
-        }
-        push_kills(&mut text, row)?;
-    }
+    push_rows(&mut text, &rows)?;
     Ok(text)
 }
 
@@ -84,6 +89,11 @@ fn are_those_of_another_outcome(rt: HostRuntime) -> Result<(), Fail> {
     Ok(())
 }
 
+fn assert_kills(rt: &(impl AllocGlobal + Abort), job: &Job<'_>, want: &str) -> Result<(), Fail> {
+    assert_eq!(rt; kills(rt, job)?.as_str(), want);
+    Ok(())
+}
+
 #[test]
 fn has_a_digit_for_each_of_256_tests(rt: HostRuntime) -> Result<(), Fail> {
     let suite = repeated(&rt, "", 256, "2 3 0;", "")?;
@@ -96,8 +106,7 @@ fn has_a_digit_for_each_of_256_tests(rt: HostRuntime) -> Result<(), Fail> {
         declared: "",
     };
     let ones = repeated(&rt, "", 256, "1", "")?;
-    assert_eq!(rt; kills(&rt, &job)?.as_str(), ones.as_str());
-    Ok(())
+    assert_kills(&rt, &job, ones.as_str())
 }
 
 #[test]
@@ -111,10 +120,6 @@ fn are_told_within_the_limit_on_steps(rt: HostRuntime) -> Result<(), Fail> {
         steps: 11,
         declared: "",
     };
-    assert_eq!(rt; kills(&rt, &job)?.as_str(), "0 0 0 1 1 1");
-    assert_eq!(rt;
-        kills(&rt, &Job { steps: 12, ..job })?.as_str(),
-        "0 0 0 1 1 0"
-    );
-    Ok(())
+    assert_kills(&rt, &job, "0 0 0 1 1 1")?;
+    assert_kills(&rt, &Job { steps: 12, ..job }, "0 0 0 1 1 0")
 }

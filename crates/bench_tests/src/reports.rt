@@ -1,23 +1,13 @@
 //! Reports. A row is the words that lines begin with, ` => ` and these lines of the report.
 
-use crate::benches::{Job, lines_of, report};
 use std::process::Abort;
 use std::test::Fail;
-use test_checks::{ADD, LOOP};
+use test_benches::{Job, SUM, lines_of, report};
+use test_checks::LOOP;
 use test_programs::parts;
 
 const SELECTED: &str =
     "SUBROUTINE SEL(I,K); GO TO (10,20),I; K=0; RETURN; 10 K=1; RETURN; 20 K=2; END";
-
-/// All operators on the sum, with one test.
-const SUM: Job<'static> = Job {
-    statements: ADD,
-    ops: "",
-    every: 1,
-    suite: "2 3 0;",
-    steps: 10_000,
-    declared: "",
-};
 
 const HALF: Job<'static> = Job {
     ops: "ABS",
@@ -46,29 +36,37 @@ SURVIVOR ABS 5 9 LINE 2 K=I+ZPUSH(J)
 END
 ";
 
-fn assert_lines(rt: &(impl AllocGlobal + Abort), job: &Job<'_>, rows: &[&str]) -> Result<(), Fail> {
-    let report = report(rt, job)?;
+fn assert_lines_in(
+    rt: &(impl AllocGlobal + Abort),
+    report: &str,
+    rows: &[&str],
+) -> Result<(), Fail> {
     for row in rows {
         let (words, want) = parts(row)?;
-        assert_eq!(rt;
-            lines_of(rt, report.as_str(), words)?.as_str(),
-            want,
-            "{row}"
-        );
+        assert_eq!(rt; lines_of(rt, report, words)?.as_str(), want, "{row}");
     }
+    Ok(())
+}
+
+fn assert_lines(rt: &(impl AllocGlobal + Abort), job: &Job<'_>, rows: &[&str]) -> Result<(), Fail> {
+    let report = report(rt, job)?;
+    assert_lines_in(rt, report.as_str(), rows)
+}
+
+fn assert_report(rt: &(impl AllocGlobal + Abort), job: &Job<'_>, want: &str) -> Result<(), Fail> {
+    assert_eq!(rt; report(rt, job)?.as_str(), want);
     Ok(())
 }
 
 #[test]
 fn has_each_line(rt: HostRuntime) -> Result<(), Fail> {
-    assert_eq!(rt; report(&rt, &HALF)?.as_str(), HALF_REPORT);
+    assert_report(&rt, &HALF, HALF_REPORT)?;
     // An entry that is not kept is passed over.
     let passed = Job {
         declared: "ABS 2",
         ..HALF
     };
-    assert_eq!(rt; report(&rt, &passed)?.as_str(), HALF_REPORT);
-    Ok(())
+    assert_report(&rt, &passed, HALF_REPORT)
 }
 
 #[test]

@@ -1,23 +1,13 @@
 //! Mutation scores.
 
-use crate::benches::{Job, bench, rows, whole_tally};
 use f77_run::Values;
 use mothra_bench::{Bench, Row, collect};
 use mothra_exchange::Ticket;
 use mothra_ops::Op;
 use std::process::Abort;
 use std::test::Fail;
-use test_checks::ADD;
-use test_programs::repeated;
-
-const SUM: Job<'static> = Job {
-    statements: ADD,
-    ops: "",
-    every: 1,
-    suite: "2 3 0;",
-    steps: 10_000,
-    declared: "",
-};
+use test_benches::{Job, SUM, bench, rows, whole_tally};
+use test_programs::{parts, repeated};
 
 fn score_of(rt: &impl AllocGlobal, bench: &Bench, rows: Vec<Row>) -> Result<Option<u32>, Fail> {
     let tally = whole_tally(rt, bench)?;
@@ -29,44 +19,43 @@ fn score(rt: &impl AllocGlobal, job: &Job<'_>) -> Result<Option<u32>, Fail> {
     score_of(rt, &bench, rows(rt, &bench)?)
 }
 
-#[test]
-fn are_hundredths_of_a_percent_rounded_down(rt: HostRuntime) -> Result<(), Fail> {
-    assert_eq!(rt; score(&rt, &SUM)?, Some(8181));
-    assert_eq!(rt;
-        score(
-            &rt,
-            &Job {
-                ops: "AOR",
-                suite: "2 2 0;",
-                ..SUM
-            }
-        )?,
-        Some(6666)
-    );
-    assert_eq!(rt; score(&rt, &Job { suite: "", ..SUM })?, Some(0));
-    assert_eq!(rt;
-        score(
-            &rt,
-            &Job {
-                ops: "AOR UOI",
-                ..SUM
-            }
-        )?,
-        Some(10_000)
-    );
-    assert_eq!(rt; score(&rt, &Job { ops: "AAR", ..SUM })?, None);
-    Ok(())
+/// A row is codes of operators, tests, which of each list is kept, and declared mutants, with ` | ` between them, ` => ` and the score.
+const ROWS: &[&str] = &[
+    " | 2 3 0; | 1 |  => Some(8181)",
+    "AOR | 2 2 0; | 1 |  => Some(6666)",
+    " |  | 1 |  => Some(0)",
+    "AOR UOI | 2 3 0; | 1 |  => Some(10000)",
+    // No mutant; each is equivalent.
+    "AAR | 2 3 0; | 1 |  => None",
+    "ABS | 2 3 0; | 8 | ABS 1,ABS 9 => None",
+];
+
+fn job(input: &str) -> Option<Job<'_>> {
+    let (ops, rest) = input.split_once(" | ")?;
+    let (suite, rest) = rest.split_once(" | ")?;
+    let (every, declared) = rest.split_once(" | ")?;
+    Some(Job {
+        ops,
+        every: every.parse().ok()?,
+        suite,
+        declared,
+        ..SUM
+    })
+}
+
+fn told(rt: &impl AllocGlobal, input: &str) -> Result<String, Fail> {
+    match job(input) {
+        Some(job) => Ok(format!(in rt.alloc(); "{:?}", score(rt, &job)?)?),
+        None => Err(input.into()),
+    }
 }
 
 #[test]
-fn are_none_where_all_are_equivalent(rt: HostRuntime) -> Result<(), Fail> {
-    let job = Job {
-        ops: "ABS",
-        every: 8,
-        declared: "ABS 1,ABS 9",
-        ..SUM
-    };
-    assert_eq!(rt; score(&rt, &job)?, None);
+fn are_hundredths_of_a_percent_rounded_down(rt: HostRuntime) -> Result<(), Fail> {
+    for row in ROWS {
+        let (input, want) = parts(row)?;
+        assert_eq!(rt; told(&rt, input)?.as_str(), want, "{row}");
+    }
     Ok(())
 }
 
@@ -102,11 +91,18 @@ fn large_bench(rt: &impl AllocGlobal) -> Result<Bench, Fail> {
     Ok(bench(rt, &job)??)
 }
 
+/// The score where every mutant but the first is killed.
+fn score_but_one(rt: &impl AllocGlobal, bench: &Bench) -> Result<Option<u32>, Fail> {
+    let rows = all_but_one(rt, bench)?;
+    if rows.len() <= 10_000 {
+        return Err(Fail::new("there are too few mutants"));
+    }
+    score_of(rt, bench, rows)
+}
+
 #[test]
 fn are_below_one_hundred_percent_while_one_survives(rt: HostRuntime) -> Result<(), Fail> {
     let bench = large_bench(&rt)?;
-    let rows = all_but_one(&rt, &bench)?;
-    assert!(rt; rows.len() > 10_000);
-    assert_eq!(rt; score_of(&rt, &bench, rows)?, Some(9999));
+    assert_eq!(rt; score_but_one(&rt, &bench)?, Some(9999));
     Ok(())
 }

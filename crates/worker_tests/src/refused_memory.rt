@@ -1,13 +1,12 @@
 //! Each allocation can be refused: four workers then end all the same, with each row, or with want of memory or of a thread.
 
-use crate::benches::{bench, counts};
-use crate::workers::SUM;
 use mothra_bench::{Bench, BenchFault, drive};
 use mothra_exchange::TableExchange;
 use std::process::Abort;
 use std::sync::Wait;
 use std::test::Fail;
 use std::thread::Threads;
+use test_benches::{counts, sum_bench};
 
 /// Drives four workers through an exchange, whose making may be refused, too.
 fn assert_undisturbed<R: Abort + AllocGlobal + Threads + Wait + Sync>(
@@ -26,7 +25,7 @@ fn assert_undisturbed<R: Abort + AllocGlobal + Threads + Wait + Sync>(
 
 #[test]
 fn refused_memory_ends_the_workers(rt: HostRuntime) -> Result<(), Fail> {
-    let bench = bench(&rt, &SUM)??;
+    let bench = sum_bench(&rt)?;
     assert_undisturbed(&rt, &bench, 33);
     Ok(())
 }

@@ -2,10 +2,8 @@
 
 ghost use Rattle.std.specs.Prelude.{◌≡◌, ◌+◌, ◌≤◌, true};
 
-use crate::benches::{bench, counts, report, ticket};
 use crate::cheating::{Dropping, Ending};
 use crate::holding::Holding;
-use crate::workers::SUM;
 use mothra_bench::{Bench, BenchFault, collect, drive, render};
 use mothra_exchange::{Gate, LockedExchange, TableExchange, Ticket};
 use std::process::Abort;
@@ -13,6 +11,7 @@ use std::sync::Wait;
 use std::sync::atomic::AtomicU64;
 use std::test::Fail;
 use std::thread::Threads;
+use test_benches::{SUM, counts, report, sum_bench, ticket};
 
 /// The report that so many workers come to through a gate.
 fn driven<G: Gate + Sync, R: AllocGlobal + Threads + Wait + Sync>(
@@ -118,25 +117,38 @@ fn assert_fault(rt: &impl Abort, report: Result<String, BenchFault>, want: Bench
     assert_eq!(rt; report.err(), Some(want));
 }
 
-fn sum_bench(rt: &impl AllocGlobal) -> Result<Bench, Fail> {
-    Ok(bench(rt, &SUM)??)
+/// Two workers come to the report though the gate holds the first.
+fn assert_held<R: Abort + AllocGlobal + Threads + Wait + Sync>(
+    rt: &R,
+    bench: &Bench,
+    want: &str,
+) -> Result<(), Fail> {
+    assert_report(rt, held(rt, bench, 2)?, want);
+    assert_report(rt, held_locked(rt, bench, 2)?, want);
+    Ok(())
 }
 
 #[test]
 fn run_two_workers_at_once(rt: HostRuntime) -> Result<(), Fail> {
     let want = report(&rt, &SUM)?;
     let bench = sum_bench(&rt)?;
-    assert_report(&rt, held(&rt, &bench, 2)?, want.as_str());
-    assert_report(&rt, held_locked(&rt, &bench, 2)?, want.as_str());
+    assert_held(&rt, &bench, want.as_str())
+}
+
+/// One worker waits for a second, which there is not.
+fn assert_stalled<R: Abort + AllocGlobal + Threads + Wait + Sync>(
+    rt: &R,
+    bench: &Bench,
+) -> Result<(), Fail> {
+    assert_fault(rt, held(rt, bench, 1)?, BenchFault::Stalled);
+    assert_fault(rt, held_locked(rt, bench, 1)?, BenchFault::Stalled);
     Ok(())
 }
 
 #[test]
 fn give_up_where_one_worker_waits_for_another(rt: HostRuntime) -> Result<(), Fail> {
     let bench = sum_bench(&rt)?;
-    assert_fault(&rt, held(&rt, &bench, 1)?, BenchFault::Stalled);
-    assert_fault(&rt, held_locked(&rt, &bench, 1)?, BenchFault::Stalled);
-    Ok(())
+    assert_stalled(&rt, &bench)
 }
 
 /// Whether some ticket is told to be missing.
@@ -144,23 +156,38 @@ fn is_short(report: Result<String, BenchFault>) -> bool {
     matches!(report.err(), Some(BenchFault::Missing(_)))
 }
 
+fn assert_short<R: Abort + AllocGlobal + Threads + Wait + Sync>(
+    rt: &R,
+    bench: &Bench,
+) -> Result<(), Fail> {
+    assert!(rt; is_short(ended(rt, bench)?));
+    assert!(rt; is_short(ended_locked(rt, bench)?));
+    Ok(())
+}
+
 #[test]
 fn miss_mutants_where_a_gate_ends_early(rt: HostRuntime) -> Result<(), Fail> {
     let bench = sum_bench(&rt)?;
-    assert!(&rt; is_short(ended(&rt, &bench)?));
-    assert!(&rt; is_short(ended_locked(&rt, &bench)?));
+    assert_short(&rt, &bench)
+}
+
+fn assert_missing<R: Abort + AllocGlobal + Threads + Wait + Sync>(
+    rt: &R,
+    bench: &Bench,
+    ticket: Ticket,
+) -> Result<(), Fail> {
+    assert_fault(rt, dropped(rt, bench, ticket)?, BenchFault::Missing(ticket));
+    assert_fault(
+        rt,
+        dropped_locked(rt, bench, ticket)?,
+        BenchFault::Missing(ticket),
+    );
     Ok(())
 }
 
 #[test]
 fn miss_the_mutant_that_a_gate_drops(rt: HostRuntime) -> Result<(), Fail> {
-    let bench = sum_bench(&rt)?;
     let last = ticket("UOI 9")?;
-    assert_fault(&rt, dropped(&rt, &bench, last)?, BenchFault::Missing(last));
-    assert_fault(
-        &rt,
-        dropped_locked(&rt, &bench, last)?,
-        BenchFault::Missing(last),
-    );
-    Ok(())
+    let bench = sum_bench(&rt)?;
+    assert_missing(&rt, &bench, last)
 }

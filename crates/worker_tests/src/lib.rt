@@ -1,0 +1,13 @@
+//! Tests of workers and feeders, and of the report that they come to, as their callers see them.
+#![tactic(auto)]
+
+#[cfg(test)]
+mod cheating;
+#[cfg(test)]
+mod gates;
+#[cfg(test)]
+mod holding;
+#[cfg(test)]
+mod refused_memory;
+#[cfg(test)]
+mod workers;
