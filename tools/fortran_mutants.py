@@ -8,7 +8,8 @@ import subprocess
 from collections import Counter, namedtuple
 from concurrent.futures import ThreadPoolExecutor
 
-from fortran_unit import cards_of, compile_in, driver_of, lines_of, read_unit, run
+from fortran_cards import action_at, cards_of
+from fortran_unit import compile_in, driver_of, lines_of, read_unit, run
 
 # So many mutants stand in one file. Each run takes at most so many microseconds of a processor.
 TOGETHER = 200
@@ -102,18 +103,6 @@ def mutants_of(mothra, job):
     if bits:
         raise ValueError(f"mothra list has no {min(bits)}")
     return mutants, steps
-
-
-def action_at(text):
-    """Where the statement in a logical IF begins, and 0 of another statement."""
-    if not text.startswith("IF("):
-        return 0
-    depth = 0
-    for at, character in enumerate(text):
-        depth += {"(": 1, ")": -1}.get(character, 0)
-        if depth == 0 and character == ")":
-            return 0 if text[at + 1 : at + 2] in ("", "=") else at + 1
-    return 0
 
 
 def with_calls(text):

@@ -6,28 +6,11 @@ Names that are written here have an underscore, which those of a unit can not ha
 import math
 import re
 import subprocess
-from collections import namedtuple
+
+from fortran_cards import cards_of
 
 SECONDS = 30
 FORMS = {"integer": "i0", "logical": "l1"}
-
-# A statement: the number of its initial line, its label ("" where it has none), and its text, upper case, no blanks.
-Card = namedtuple("Card", "line label text")
-
-
-def cards_of(source):
-    """The statements of a source in fixed form."""
-    cards = []
-    for number, line in enumerate(source.upper().split("\n"), 1):
-        line = line.removesuffix("\r")[:72]
-        if line[:1] in ("C", "*") or not line.strip(" "):
-            continue
-        text = line[6:].replace(" ", "")
-        if line[5:6] in ("", " ", "0"):
-            cards.append(Card(number, line[:5].replace(" ", ""), text))
-        elif cards:
-            cards[-1] = cards[-1]._replace(text=cards[-1].text + text)
-    return cards
 
 
 def lines_of(label, text):

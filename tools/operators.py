@@ -1,0 +1,26 @@
+"""The operators of Mothra, in their order: their codes and their full names (King and Offutt 1991)."""
+
+NAMES = {
+    "AAR": "array reference for array reference",
+    "ABS": "absolute value insertion",
+    "ACR": "array reference for constant",
+    "AOR": "arithmetic operator replacement",
+    "ASR": "array reference for scalar variable",
+    "CAR": "constant for array reference",
+    "CNR": "comparable array name replacement",
+    "CRP": "constant replacement",
+    "CSR": "constant for scalar variable",
+    "DER": "DO statement end replacement",
+    "DSA": "DATA statement alterations",
+    "GLR": "GO TO label replacement",
+    "LCR": "logical connector replacement",
+    "ROR": "relational operator replacement",
+    "RSR": "RETURN statement replacement",
+    "SAN": "statement analysis",
+    "SAR": "scalar variable for array reference",
+    "SCR": "scalar for constant",
+    "SDL": "statement deletion",
+    "SRC": "source constant replacement",
+    "SVR": "scalar variable replacement",
+    "UOI": "unary operator insertion",
+}
