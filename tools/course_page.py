@@ -1,0 +1,162 @@
+"""The page of a class: for each program the scores, the survivors in common, and the tests that matter most."""
+
+from urllib.parse import quote
+
+from course_class import class_count, class_of, only_here, survivors_in_common
+from page_frame import bar, joined_words, page, plural, table, text
+from page_program import program_part
+from page_report import by_line, counts_by_line, score_part
+from page_tests import least_set_text, values_of
+from reading import Count, score_of, summed, with_status
+
+# So many tests that kill most are shown, and so many names of those who have a test.
+MOST, NAMED = 12, 3
+
+NUMBERS = ["Tests", "Killed", "Equi&shy;valent", "Sur&shy;vive", "Only here", "Score"]
+HEAD = [("", "Name"), *[("n", word) for word in NUMBERS], ("bar", "")]
+
+
+def names_text(names):
+    rest = [f"{len(names) - NAMED} more"] if len(names) > NAMED else []
+    return text(joined_words(names[:NAMED] + rest))
+
+
+def linked(name):
+    return f'<a href="jobs/{quote(name)}.html">{text(name)}</a>'
+
+
+def score_row(result, only):
+    count = summed(result.report.counts.values())
+    said = f"{count.killed} of {count.total}"
+    return [
+        ("", linked(result.name)),
+        ("n", result.report.tests),
+        ("n", count.killed),
+        ("n", count.equivalent),
+        ("n", count.total - count.killed - count.equivalent),
+        ("n", only[result.name]),
+        ("n", f"<b>{score_of(count)}</b>"),
+        ("bar", bar(count.killed, count.total - count.equivalent, said)),
+    ]
+
+
+def by_score(results):
+    """The results with the highest score first."""
+
+    def order(result):
+        count = summed(result.report.counts.values())
+        wanted = count.total - count.equivalent
+        return -count.killed / wanted if wanted else 0, result.name
+
+    return sorted(results, key=order)
+
+
+def scores_part(results):
+    only = only_here(results)
+    told = "<p><b>Only here</b>: how many mutants this suite kills that no other suite of the class kills.</p>\n"
+    return table(HEAD, [score_row(result, only) for result in by_score(results)]) + told
+
+
+def refused_part(results):
+    if not results:
+        return ""
+    rows = [[("", text(result.name)), ("", f"<code>{text(result.refusal)}</code>")] for result in results]
+    told = "<p><code>tools/explain</code> with the job in <code>out/jobs</code> says what a fault means.</p>\n"
+    return f"<h3>Without a report</h3>\n{table([('', 'Name'), ('', 'Why')], rows)}{told}"
+
+
+def test_row(test):
+    return [
+        ("", f"<code>{text(values_of(test.values))}</code>"),
+        ("", names_text(test.names)),
+        ("n", test.kills),
+        ("n", test.alone or "none"),
+    ]
+
+
+TESTS_HEAD = [("", "Values"), ("", "Of"), ("n", "Kills"), ("n", "It alone")]
+
+
+def best_tests_part(whole):
+    order = sorted(range(len(whole.tests)), key=lambda place: (-whole.tests[place].kills, place))
+    rows = [
+        [*test_row(whole.tests[place]), ("", "yes" if place in whole.least else "")] for place in order[:MOST]
+    ]
+    told = f"<p>Of {plural(len(whole.tests), 'different test')} of the class, those that kill the most.</p>\n"
+    return told + table([*TESTS_HEAD, ("", "In the smallest set")], rows)
+
+
+def least_part(whole):
+    killed = sum(mask != 0 for mask in whole.killers)
+    told = f"<p>{text(least_set_text(whole.least, whole.is_least, killed, 'class'))}.</p>\n"
+    return told + (table(TESTS_HEAD, [test_row(whole.tests[place]) for place in whole.least]) if whole.least else "")
+
+
+def listing_part(whole, results, known):
+    """The program with the survivors that all suites have in common."""
+    common = survivors_in_common(whole, results)
+    if known is None:
+        return f"<p>{plural(len(common), 'mutant')} survive in all suites.</p>\n"
+    rows = [
+        row._replace(status="K" if mask else "E" if row.status in "EW" else "S")
+        for row, mask in zip(whole.rows, whole.killers)
+    ]
+    told = f"<p>{plural(len(common), 'mutant')} that no suite of the class kills. The counts are of all suites.</p>\n"
+    source, statements, listed = known
+    counts = counts_by_line(listed, rows)
+    declared = by_line(with_status(listed, rows, "E"))
+    return told + program_part(source, statements, counts, by_line(common), declared)
+
+
+def overview(programs, classes):
+    """A row for each program, with a link to what is said of it below; nothing where there is one."""
+    if len(programs) < 2:
+        return ""
+    rows = []
+    for place, (name, results) in enumerate(programs.items(), 1):
+        count = class_count(classes[name]) if classes[name] else Count(0, 0, 0)
+        rows.append([
+            ("", f'<a href="#program-{place}">{text(name or "-")}</a>'),
+            ("n", len(results)),
+            ("n", count.killed),
+            ("n", count.total - count.equivalent),
+            ("n", f"<b>{score_of(count)}</b>"),
+            ("bar", bar(count.killed, count.total - count.equivalent, f"{count.killed} of {count.total}")),
+        ])
+    head = [("", "Program"), *[("n", word) for word in ("Jobs", "Killed", "Of", "Score")], ("bar", "")]
+    return table(head, rows)
+
+
+def reported_of(results):
+    return [result for result in results if result.report is not None]
+
+
+def program_section(place, name, results, whole, known):
+    """What is said of one program: its heading, and the parts."""
+    reported = reported_of(results)
+    refused = refused_part([result for result in results if result.report is None])
+    head = f'<h2 id="program-{place}">{text(name or "Without a program")}</h2>\n'
+    if not reported:
+        return head + refused
+    parts = [
+        (f"Together: {plural(len(reported), 'suite')}", score_part(class_count(whole))),
+        ("Scores", scores_part(reported) + refused),
+        ("Survivors in common", listing_part(whole, reported, known)),
+        ("Tests that kill most", best_tests_part(whole)),
+        ("The smallest set of tests", least_part(whole)),
+    ]
+    return head + "".join(f"<h3>{title}</h3>\n{inner}" for title, inner in parts)
+
+
+def course_page(title, results, known):
+    """The page of a class: results in order, and of each program that is known its source, statements and mutants."""
+    names = dict.fromkeys(result.program for result in results)
+    programs = {name: [result for result in results if result.program == name] for name in names}
+    classes = {name: class_of(reported_of(ours)) if reported_of(ours) else None for name, ours in programs.items()}
+    done = len(reported_of(results))
+    head = f"<h1>{text(title)}: what the suites kill</h1>\n<p>{plural(len(results), 'job')}, {done} with a report.</p>\n"
+    sections = [
+        program_section(place, name, ours, classes[name], known.get(name))
+        for place, (name, ours) in enumerate(programs.items(), 1)
+    ]
+    return page(title, head + overview(programs, classes) + "".join(sections))
