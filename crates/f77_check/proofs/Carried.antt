@@ -137,12 +137,15 @@ module _ (p q : List LineFields) (same : HaveOneFrame p q) where
       cells_same : (names : List Symbol) → cells p names ≡ cells q names
       cells_same names = λ k. flat_map (λ name. map (λ n. (name, n)) (first_numbers (elements_same p q same name k))) names
 
-  preset_at_same : (name : Symbol) (n : ℕ) → preset_at p name n ≡ preset_at q name n
+  pub preset_at_same : (name : Symbol) (n : ℕ) → preset_at p name n ≡ preset_at q name n
   preset_at_same name n = ap (λ all. option_and_then (λ given. Some given.1) (find (λ given. is_cell (name, n) given.0) all)) presets_same
+
+  pub entry_same : position (λ line. is_executable line.stmt) p ≡ position (λ line. is_executable line.stmt) q
+  entry_same = by_frame (position (λ line. is_executable line.stmt)) entry-frame p q same
 
   pub start_same : (names : List Symbol) (start : Start) → IsStartOf p names start → IsStartOf q names start
   start_same names start is = record {
-    entry = sym (by_frame (position (λ line. is_executable line.stmt)) entry-frame p q same) ∙ is.entry;
+    entry = sym entry_same ∙ is.entry;
     dummies = (λ k. map (first_slot (sym bounds_same k) names) (sym (dummies_same p q same) k)) ∙ is.dummies;
     initial = is.initial ∙ (λ k. flat_map (λ name. map (λ n. preset_at_same name n k) (first_numbers (elements_same p q same name k))) names);
   }

@@ -18,5 +18,5 @@ mod Deepest
 mod Chosen
 mod Resolving
 pub mod Unpreset
-mod Carried
-mod Changes
+pub mod Carried
+pub mod Changes

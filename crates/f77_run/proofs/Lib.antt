@@ -2,6 +2,7 @@ mod OneWay
 mod Stepping
 mod Rows
 mod Numbered
+mod Ranges
 mod Control
 mod Soundness
 mod NeverLost
@@ -19,7 +20,13 @@ mod Turning
 mod Looping
 mod Simulation
 mod Reaching
+mod Endless
+mod KeptLists
+mod SameStates
 mod Runs
+mod Following
+mod Followed
+pub mod Unreached
 mod Pairs
 mod Misfits
 mod Filled

@@ -1,6 +1,6 @@
 -- The steps of a machine are the steps of a run.
-use Rattle.std.proofs.Common.{arith, ◌≡◌, ℕ, suc, ◌+◌, ◌-◌, ◌<◌, ◌≤◌, Bool, true, false, inl, inr, List, [], length, Some, refl, sym, ap, subst, ◌∙◌}
-use Rattle.std.specs.Prelude.{IsSome, nat_lt, Result, Ok}
+use Rattle.std.proofs.Common.{arith, ◌≡◌, ◌⊎◌, ℕ, suc, ◌+◌, ◌-◌, ◌<◌, ◌≤◌, Bool, true, false, inl, inr, List, [], length, Option, Some, None, refl, sym, ap, subst, ◌∙◌}
+use Rattle.std.specs.Prelude.{⊤, IsSome, nat_lt, Result, Ok}
 use Rattle.std.proofs.lemmas.Bool.{or_parts}
 use Rattle.std.proofs.lemmas.Bool.Decides.{nat_tests}
 use Rattle.f77_tree.specs.Parsing.{LineFields}
@@ -9,26 +9,38 @@ use Rattle.f77_legal.specs.Legal.{IsLegal, is_too_large, size_faults}
 use Rattle.f77_legal.specs.Names.{bounds_of}
 use Rattle.f77_legal.proofs.LegalGives.{kept_by}
 use Rattle.f77_run.specs.declared.finish.Finish.{Finish}
+use Rattle.f77_run.specs.declared.finish.Finish.TheVariants.{StepLimit}
 use Rattle.f77_run.specs.declared.finish.Fault.{Fault}
 use Rattle.f77_run.specs.declared.machine.Control.{Control}
 use Rattle.f77_run.specs.declared.machine.Machine.{Machine}
 use Rattle.f77_run.specs.Control.{Comes}
-use Rattle.f77_run.specs.Machine.{KeepsLengths, next_of}
-use Rattle.f77_run.specs.Moves.{Cells, Move, state_of, move_of, moved}
+use Rattle.f77_run.specs.Endless.{Reaches}
+use Rattle.f77_run.specs.Machine.{KeepsLengths, config_of, next_of}
+use Rattle.f77_run.specs.Moves.{Cells, State, Move, state_of, move_of, moved}
 use Rattle.f77_run.specs.Moves as moves
 use Rattle.f77_run.specs.Outcome.{IsOutcome}
-use Rattle.f77_run.specs.Running.{Site, IsRunning, values_at, config_at}
-use Rattle.f77_run.specs.Step.{Step}
-use Rattle.f77_run.specs.Value.{Store}
+use Rattle.f77_run.specs.Running.{Site, IsRunning, ComesToEnd, values_at, config_at}
+use Rattle.f77_run.specs.Step.{Config, Step}
+use Rattle.f77_run.proofs.Endless.{joined, one_step, one_more as further, whole, limit_met, endless_before, comes_back, meets_limits}
 use Rattle.f77_run.proofs.NeverLost.{leads_on}
 use Rattle.f77_run.specs.Reach.{all_within}
 use Rattle.f77_run.proofs.Reaching.{reach}
 use Rattle.f77_run.proofs.Simulation.{simulates, moves_on}
 
--- After so many steps: the machine runs, and whatever end the rest of the run has, it is the end of the whole.
-pub record IsLeft (at : Site) (statements : List Resolved) (start now : Machine) (limit done : ℕ) : Type 0 where
+-- After so many steps: the machine runs, and they lead to where it stands.
+pub record IsLeft (at : Site) (statements : List Resolved) (start now : Machine) (done : ℕ) : Type 0 where
   pub running : IsRunning at statements now
-  pub rest : (o : Finish) (s : Store) → IsOutcome at.program (limit - done) (config_at at now) o s → IsOutcome at.program limit (config_at at start) o s
+  pub reached : Reaches at.program done (config_at at start) (config_at at now)
+
+-- what a state stands for
+abbrev pub stands_for : Site → State → Config
+stands_for at s = config_of (bounds_of at.program) at.names s
+
+-- the state that is kept is one on the way, some steps back
+abbrev pub IsKept : Site → Config → Config → Option State → Type 0
+IsKept at start now None = ⊤
+IsKept at start now (Some s) =
+    (m : ℕ) × (n : ℕ) × Reaches at.program m start (stands_for at s) × Reaches at.program (suc n) (stands_for at s) now
 
 module _ (at : Site) (statements : List Resolved) where
   -- a machine that runs can make a step
@@ -41,36 +53,81 @@ module _ (at : Site) (statements : List Resolved) where
   pub is_step : (m : Machine) (x : Move) → IsRunning at statements m → moved statements (state_of m) ≡ Some x → Step at.program (config_at at m) (next_of (bounds_of at.program) at.names x)
   is_step m x is e = simulates at.program at.names statements (state_of m) x is.legal is.resolved is.cells is.turns e
 
-  -- the limit in another form
-  less : (limit done : ℕ) → done < limit → limit - done ≡ suc (limit - (done + 1))
-  less limit done h = omega (arith, h)
+  pub begun : (m : Machine) → IsRunning at statements m → IsLeft at statements m m 0
+  begun m is = record { running = is; reached = refl }
 
-  pub begun : (m : Machine) (limit : ℕ) → IsRunning at statements m → IsLeft at statements m m limit 0
-  begun m limit is = record {
-    running = is;
-    rest = λ o s end. let e : limit - 0 ≡ limit = omega arith in subst (λ n. IsOutcome at.program n (config_at at m) o s) e end;
+  pub runs_on : (m n : Machine) → IsRunning at statements m → moved statements (state_of m) ≡ Some (moves.Goes (state_of n)) → KeepsLengths m n → IsRunning at statements n
+  runs_on m n is e kept = record {
+    formed = is.formed;
+    legal = is.legal;
+    resolved = is.resolved;
+    cells = kept.cells ∙ is.cells;
+    turns = kept.turns ∙ is.turns;
+    comes = Comes.by_step is.comes (is_step m (moves.Goes (state_of n)) is e);
   }
 
-  pub one_more : (start m n : Machine) (limit done : ℕ) → done < limit → IsLeft at statements start m limit done → moved statements (state_of m) ≡ Some (moves.Goes (state_of n))
-      → KeepsLengths m n → IsLeft at statements start n limit (done + 1)
-  one_more start m n limit done h left e kept =
-      let step = is_step m (moves.Goes (state_of n)) left.running e in
+  pub one_more : (start m n : Machine) (done : ℕ) → IsLeft at statements start m done → moved statements (state_of m) ≡ Some (moves.Goes (state_of n))
+      → KeepsLengths m n → IsLeft at statements start n (done + 1)
+  one_more start m n done left e kept = record {
+    running = runs_on m n left.running e kept;
+    reached = further at.program done (config_at at start) (config_at at m) (config_at at n) left.reached (is_step m (moves.Goes (state_of n)) left.running e);
+  }
+
+  -- an end within the limit
+  pub ends : (start m : Machine) (limit done : ℕ) (o : Finish) (cells : Cells) → done < limit → IsLeft at statements start m done → moved statements (state_of m) ≡ Some (moves.Ends o cells)
+      → ComesToEnd at.program limit (config_at at start) (done + 1) o (values_at at cells)
+  ends start m limit done o cells h left e = record {
+    within = omega (arith, h);
+    ends = outcome 0 (done + 1) (omega arith);
+    held = values_at at cells;
+    outcome = outcome (limit - (done + 1)) limit (omega (arith, h));
+    told = λ other. refl;
+  }
+    where
+      outcome : (more steps : ℕ) → steps ≡ done + suc more → IsOutcome at.program steps (config_at at start) o (values_at at cells)
+      outcome more steps sum =
+          whole at.program done (suc more) steps (config_at at start) (config_at at m) o (values_at at cells) sum left.reached
+          (inl (is_step m (moves.Ends o cells) left.running e))
+
+  -- the limit is met
+  pub meets : (start m : Machine) (limit done : ℕ) → done ≤ limit → limit ≤ done → IsLeft at statements start m done
+      → ComesToEnd at.program limit (config_at at start) limit StepLimit (values_at at m.cells.items)
+  meets start m limit done within h left =
+      let same : done ≡ limit = omega (arith, within, h) in
+      let met : IsOutcome at.program limit (config_at at start) StepLimit (values_at at m.cells.items)
+      = limit_met at.program limit (config_at at start) (config_at at m) (subst (λ n. Reaches at.program n (config_at at start) (config_at at m)) same left.reached) in
+      record { within = omega arith; ends = met; held = values_at at m.cells.items; outcome = met; told = λ other. refl }
+
+  -- the machine comes back to the state that is kept, and so the limit will be met
+  pub turns_back : (start m : Machine) (limit done : ℕ) (s : Option State) → done < limit → IsKept at (config_at at start) (config_at at m) s → s ≡ Some (state_of m)
+      → IsLeft at statements start m done → ComesToEnd at.program limit (config_at at start) done StepLimit (values_at at m.cells.items)
+  turns_back start m limit done s h kept same left =
+      let back = subst (IsKept at (config_at at start) (config_at at m)) same kept in
+      let endless = endless_before at.program back.0 (config_at at start) (config_at at m) back.2 (comes_back at.program back.1 (config_at at m) back.3) in
+      let met = meets_limits at.program limit (config_at at start) endless in
       record {
-        running = record {
-          formed = left.running.formed;
-          legal = left.running.legal;
-          resolved = left.running.resolved;
-          cells = kept.cells ∙ left.running.cells;
-          turns = kept.turns ∙ left.running.turns;
-          comes = Comes.by_step left.running.comes step;
-        };
-        rest = λ o s end. left.rest o s (subst (λ k. IsOutcome at.program k (config_at at m) o s) (sym (less limit done h)) (inr (config_at at n, step, end)));
+        within = omega (arith, h);
+        ends = limit_met at.program done (config_at at start) (config_at at m) left.reached;
+        held = met.0;
+        outcome = met.1;
+        told = λ other. absurd (other refl);
       }
 
-  pub ends : (start m : Machine) (limit done : ℕ) (o : Finish) (cells : Cells) → done < limit → IsLeft at statements start m limit done → moved statements (state_of m) ≡ Some (moves.Ends o cells)
-      → IsOutcome at.program limit (config_at at start) o (values_at at cells)
-  ends start m limit done o cells h left e =
-      left.rest o (values_at at cells) (subst (λ k. IsOutcome at.program k (config_at at m) o (values_at at cells)) (sym (less limit done h)) (inl (is_step m (moves.Ends o cells) left.running e)))
+  -- a step further, what is kept is on the way, whether it was kept before or is now
+  pub kept_on : (start m n : Machine) (done : ℕ) (s t : Option State) → IsLeft at statements start m done → moved statements (state_of m) ≡ Some (moves.Goes (state_of n))
+      → IsKept at (config_at at start) (config_at at m) s → (t ≡ s) ⊎ (t ≡ Some (state_of m)) → IsKept at (config_at at start) (config_at at n) t
+  kept_on start m n done None t left e kept (inl same) = subst (IsKept at (config_at at start) (config_at at n)) (sym same) tt
+  kept_on start m n done (Some s) t left e kept (inl same) =
+      subst (IsKept at (config_at at start) (config_at at n)) (sym same) (
+        kept.0,
+        suc kept.1,
+        kept.2,
+        joined at.program (suc kept.1) 1 (suc (suc kept.1)) (stands_for at s) (config_at at m) (config_at at n) (omega arith) kept.3
+            (one_step at.program (config_at at m) (config_at at n) (is_step m (moves.Goes (state_of n)) left.running e)),
+      )
+  kept_on start m n done s t left e kept (inr same) =
+      subst (IsKept at (config_at at start) (config_at at n)) (sym same)
+      (done, 0, left.reached, one_step at.program (config_at at m) (config_at at n) (is_step m (moves.Goes (state_of n)) left.running e))
 
 -- a legal program is short
 few_lines : (p : List LineFields) → IsLegal p → length p ≤ 500

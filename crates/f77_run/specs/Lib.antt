@@ -14,3 +14,6 @@ pub mod Typed
 pub mod Spans
 pub mod Running
 pub mod Site
+pub mod Endless
+pub mod Reached
+pub mod Snapshot

@@ -1,6 +1,6 @@
 //! The values of expressions over slots (ANSI X3.9-1978, section 6).
 
-ghost use Rattle.std.specs.Prelude.{◌≡◌, ◌<◌, ◌*◌, [], ◌∷◌, true, length, IfOk};
+ghost use Rattle.std.specs.Prelude.{◌≡◌, ◌<◌, ◌*◌, [], ◌∷◌, true, length, IfOk, IfSome};
 ghost use Rattle.f77_run.specs.Evaluation as resolved;
 ghost use Rattle.f77_run.specs.Evaluation.{slot_in, number_in, truth_in, held_in, element_within, number_within, condition_within};
 ghost use Rattle.f77_run.specs.Value as meaning;
@@ -40,6 +40,7 @@ fn matrix_offset(rows: u32, columns: u32, row: i32, column: i32) -> Result<usize
     Ok(row + rows as usize * column)
 }
 
+#[inline(always)]
 fn calculated(operation: Arithmetic, a: i32, b: i32) -> Result<i32, Fault>
     ensures { result ≡ resolved.calculated operation a b }
 {
@@ -79,9 +80,25 @@ fn joined(connective: Connective, a: bool, b: bool) -> bool
     }
 }
 
+/// The value of a constant or a variable, which takes no call; None of every other expression.
+#[inline(always)]
+fn at_hand(term: &Number, cells: &[Option<Value>]) -> Option<Result<i32, Fault>>
+    requires { number_within (length cells.now) term.now ≡ true }
+    ensures { IfSome result (λ value. value ≡ number_in cells.now term.now) }
+{
+    if let Number::Element(Element::Variable(slot)) = term {
+        return Some(held_number(cells, *slot));
+    }
+    if let Number::Constant(number) = term {
+        return Some(Ok(*number));
+    }
+    None
+}
+
 /// The slot of a variable or an array element.
 #[cycle(numbers)]
-pub(crate) fn slot(element: &Element, cells: &[Option<Value>]) -> Result<usize, Fault>
+#[inline(never)]
+fn slot(element: &Element, cells: &[Option<Value>]) -> Result<usize, Fault>
     requires { element_within (length cells.now) element.now ≡ true }
     ensures slot { result ≡ slot_in cells.now element.now }
     ensures within { IfOk result (λ k. k < length cells.now) }
@@ -92,7 +109,13 @@ pub(crate) fn slot(element: &Element, cells: &[Option<Value>]) -> Result<usize, 
             first,
             bound,
             subscript,
-        } => Ok(*first + offset(*bound, number(subscript, cells)?)?),
+        } => {
+            let subscript = match at_hand(subscript, cells) {
+                Some(value) => value?,
+                None => number(subscript, cells)?,
+            };
+            Ok(*first + offset(*bound, subscript)?)
+        }
         Element::Matrix {
             first,
             rows,
@@ -100,8 +123,14 @@ pub(crate) fn slot(element: &Element, cells: &[Option<Value>]) -> Result<usize, 
             row,
             column,
         } => {
-            let row = number(row, cells)?;
-            let column = number(column, cells)?;
+            let row = match at_hand(row, cells) {
+                Some(value) => value?,
+                None => number(row, cells)?,
+            };
+            let column = match at_hand(column, cells) {
+                Some(value) => value?,
+                None => number(column, cells)?,
+            };
             Ok(*first + matrix_offset(*rows, *columns, row, column)?)
         }
     }
@@ -109,7 +138,8 @@ pub(crate) fn slot(element: &Element, cells: &[Option<Value>]) -> Result<usize, 
 
 /// The value of an INTEGER expression.
 #[cycle(numbers)]
-pub(crate) fn number(term: &Number, cells: &[Option<Value>]) -> Result<i32, Fault>
+#[inline(never)]
+fn number(term: &Number, cells: &[Option<Value>]) -> Result<i32, Fault>
     requires { number_within (length cells.now) term.now ≡ true }
     ensures { result ≡ number_in cells.now term.now }
 {
@@ -121,31 +151,109 @@ pub(crate) fn number(term: &Number, cells: &[Option<Value>]) -> Result<i32, Faul
         Number::Absolute(operand) => absolute(number(operand, cells)?),
         Number::ZeroPush(operand) => pushed(number(operand, cells)?),
         Number::Binary(operation, left, right) => {
-            let left = number(left, cells)?;
-            let right = number(right, cells)?;
+            let left = match at_hand(left, cells) {
+                Some(value) => value?,
+                None => number(left, cells)?,
+            };
+            let right = match at_hand(right, cells) {
+                Some(value) => value?,
+                None => number(right, cells)?,
+            };
             calculated(*operation, left, right)
         }
     }
 }
 
+/// The value of an INTEGER expression, without a call where it is a constant or a variable.
+#[inline(always)]
+fn shallow(term: &Number, cells: &[Option<Value>]) -> Result<i32, Fault>
+    requires { number_within (length cells.now) term.now ≡ true }
+    ensures { result ≡ number_in cells.now term.now }
+{
+    match at_hand(term, cells) {
+        Some(value) => value,
+        None => number(term, cells),
+    }
+}
+
+/// The value of a whole INTEGER expression, without a call where it is an operation on constants and variables.
+#[inline(always)]
+pub(crate) fn operand(term: &Number, cells: &[Option<Value>]) -> Result<i32, Fault>
+    requires { number_within (length cells.now) term.now ≡ true }
+    ensures { result ≡ number_in cells.now term.now }
+{
+    match term {
+        Number::Binary(operation, left, right) => {
+            let left = shallow(left, cells)?;
+            let right = shallow(right, cells)?;
+            calculated(*operation, left, right)
+        }
+        _ => shallow(term, cells),
+    }
+}
+
+/// The slot that is assigned to, without a call where it is a variable's, or that of an element with such a subscript.
+#[inline(always)]
+pub(crate) fn target(element: &Element, cells: &[Option<Value>]) -> Result<usize, Fault>
+    requires { element_within (length cells.now) element.now ≡ true }
+    ensures slot { result ≡ slot_in cells.now element.now }
+    ensures within { IfOk result (λ k. k < length cells.now) }
+{
+    match element {
+        Element::Variable(slot) => Ok(*slot),
+        Element::Vector {
+            first,
+            bound,
+            subscript,
+        } => Ok(*first + offset(*bound, shallow(subscript, cells)?)?),
+        Element::Matrix { .. } => slot(element, cells),
+    }
+}
+
+/// Whether a relation holds, the left number evaluated first.
+#[inline(always)]
+fn related(
+    relation: Relation,
+    left: &Number,
+    right: &Number,
+    cells: &[Option<Value>],
+) -> Result<bool, Fault>
+    requires left { number_within (length cells.now) left.now ≡ true }
+    requires right { number_within (length cells.now) right.now ≡ true }
+    ensures { result ≡ meaning.both (λ a b. Ok (resolved.compared relation a b)) (number_in cells.now left.now) (number_in cells.now right.now) }
+{
+    let left = operand(left, cells)?;
+    let right = operand(right, cells)?;
+    Ok(compared(relation, left, right))
+}
+
 /// The value of a LOGICAL expression.
+#[inline(never)]
 pub(crate) fn truth(condition: &Condition, cells: &[Option<Value>]) -> Result<bool, Fault>
     requires { condition_within (length cells.now) condition.now ≡ true }
     ensures { result ≡ truth_in cells.now condition.now }
 {
     match condition {
         Condition::Constant(truth) => Ok(*truth),
-        Condition::Element(element) => held_truth(cells, slot(element, cells)?),
+        Condition::Element(element) => held_truth(cells, target(element, cells)?),
         Condition::Not(operand) => Ok(!truth(operand, cells)?),
-        Condition::Related(relation, left, right) => {
-            let left = number(left, cells)?;
-            let right = number(right, cells)?;
-            Ok(compared(*relation, left, right))
-        }
+        Condition::Related(relation, left, right) => related(*relation, left, right, cells),
         Condition::Connected(connective, left, right) => {
             let left = truth(left, cells)?;
             let right = truth(right, cells)?;
             Ok(joined(*connective, left, right))
         }
+    }
+}
+
+/// The value of a LOGICAL expression that is no part of another one.
+#[inline(always)]
+pub(crate) fn holds(condition: &Condition, cells: &[Option<Value>]) -> Result<bool, Fault>
+    requires { condition_within (length cells.now) condition.now ≡ true }
+    ensures { result ≡ truth_in cells.now condition.now }
+{
+    match condition {
+        Condition::Related(relation, left, right) => related(*relation, left, right, cells),
+        _ => truth(condition, cells),
     }
 }

@@ -14,7 +14,7 @@ ghost use Rattle.f77_run.specs.Moves.{passing, passing_at, begun, acted, increme
 ghost use Rattle.f77_run.specs.Reach.{are_below, jump_within, action_within, all_within};
 ghost use Rattle.f77_run.specs.Value.{given};
 
-use crate::evaluate::{number, slot, truth};
+use crate::evaluate::{holds, operand, target, truth};
 use crate::finish::Fault;
 use crate::machine::{
     Control, Machine, Place, Turn, held_number, innermost, leave, set_turn, store,
@@ -69,8 +69,8 @@ fn assign_number(
         (λ z. moves.go_on resolved.now (slice_set cells k (Some (Value.Number z))) machine.old.turns.items)) }
     ensures lengths { KeepsLengths machine.old machine.new }
 {
-    let slot = slot(element, &machine.cells)?;
-    let value = number(term, &machine.cells)?;
+    let slot = target(element, &machine.cells)?;
+    let value = operand(term, &machine.cells)?;
     store(&mut machine.cells, slot, Value::Number(value));
     Ok(go_on(resolved, machine))
 }
@@ -89,7 +89,7 @@ fn assign_truth(
         (λ b. moves.go_on resolved.now (slice_set cells k (Some (Value.Truth b))) machine.old.turns.items)) }
     ensures lengths { KeepsLengths machine.old machine.new }
 {
-    let slot = slot(element, &machine.cells)?;
+    let slot = target(element, &machine.cells)?;
     let value = truth(condition, &machine.cells)?;
     store(&mut machine.cells, slot, Value::Truth(value));
     Ok(go_on(resolved, machine))
@@ -111,7 +111,7 @@ fn jump_by_sign(
         (λ z. jump_to (choice.by_sign z negative.now zero.now positive.now) cells machine.old.turns.items) }
     ensures lengths { KeepsLengths machine.old machine.new }
 {
-    let value = number(value, &machine.cells)?;
+    let value = operand(value, &machine.cells)?;
     if value < 0 {
         return Ok(jump(negative, machine));
     }
@@ -145,7 +145,7 @@ fn jump_by_number(
         (λ z. option_map_or (λ jump. jump_to jump cells turns) (choice.numbered jumps.now z) (moves.go_on resolved.now cells turns)) }
     ensures lengths { KeepsLengths machine.old machine.new }
 {
-    let value = number(value, &machine.cells)?;
+    let value = operand(value, &machine.cells)?;
     match numbered(jumps, value) {
         Some(target) => Ok(jump(target, machine)),
         None => Ok(go_on(resolved, machine)),
@@ -166,7 +166,7 @@ fn branch(
         (λ b. chosen b (moves.go_on resolved.now cells turns) (Goes (state (Place.Execute otherwise) cells turns))) }
     ensures lengths { KeepsLengths machine.old machine.new }
 {
-    if truth(condition, &machine.cells)? {
+    if holds(condition, &machine.cells)? {
         return Ok(go_on(resolved, machine));
     }
     machine.place = Place::Execute(otherwise);
@@ -232,9 +232,9 @@ impl Parameters {
             (λ b. given (number_in cells.now step.now)
             (λ c. Ok (record { first = a; last = b; step = c })))) }
     {
-        let first = number(first, cells)?;
-        let last = number(last, cells)?;
-        let step = number(step, cells)?;
+        let first = operand(first, cells)?;
+        let last = operand(last, cells)?;
+        let step = operand(step, cells)?;
         Ok(Parameters { first, last, step })
     }
 }
@@ -325,7 +325,7 @@ pub(crate) fn execute(
             positive,
         } => jump_by_sign(value, negative, zero, positive, machine),
         Action::LogicalIf { condition, action } => {
-            if truth(condition, &machine.cells)? {
+            if holds(condition, &machine.cells)? {
                 return execute(statements, i, resolved, action, machine);
             }
             Ok(go_on(resolved, machine))

@@ -1,6 +1,6 @@
 //! Runs of checked programs.
 
-ghost use Rattle.std.specs.Prelude.{◌≡◌, ◌⊎◌, map, option_map, replicate, Some, None, Err, IfOk, IfErr, IfSome};
+ghost use Rattle.std.specs.Prelude.{◌≡◌, ◌⊎◌, ◌≤◌, map, option_map, replicate, Some, None, Err, IfOk, IfErr, IfSome};
 ghost use Rattle.f77_tree.specs.Parsing.{line_of};
 ghost use Rattle.f77_run.specs.Interpreter as meaning;
 ghost use Rattle.f77_run.specs.Interpreter.{AreFitting, AreArguments, IsOutcomeOf, Tells, refusal, values_in};
@@ -17,6 +17,7 @@ use crate::machine::{Machine, Place, Turn};
 use crate::outcome::{Outcome, RunFault};
 use crate::passing::{arguments as held_arguments, fill_all};
 use crate::running::go;
+use crate::snapshot::Snapshot;
 use crate::value::Value;
 use crate::values::Values;
 use f77_check::Checked;
@@ -69,7 +70,11 @@ fn no_turns(alloc: Global, count: usize) -> Result<Vec<Option<Turn>>, RunFault>
 }
 
 /// A machine at the start of a run.
-fn begin(alloc: Global, checked: &Checked, arguments: &[Arg]) -> Result<Machine, RunFault>
+pub(crate) fn begin(
+    alloc: Global,
+    checked: &Checked,
+    arguments: &[Arg],
+) -> Result<Machine, RunFault>
     requires { AreFitting checked.now.arguments arguments.now }
     ensures running { IfOk result (λ machine. IsRunning (site_of checked.now arguments.now) checked.now.statements machine) }
     ensures starts { IfOk result
@@ -122,22 +127,45 @@ fn answer(
     }
 }
 
-/// The outcome of a run with arguments that fit.
+/// The outcome of a run with arguments that fit, and how many steps were made to know it.
 fn outcome(
     alloc: Global,
     checked: &Checked,
     arguments: &[Arg],
     steps: u32,
-) -> Result<Outcome, RunFault>
+) -> Result<(Outcome, u32), RunFault>
     ghost at: { Site }
     requires site { at ≡ site_of checked.now arguments.now }
     requires fitting { AreFitting checked.now.arguments arguments.now }
-    ensures outcome { IfOk result (λ outcome. IsOutcomeOf (map line_of checked.now.program) arguments.now steps outcome) }
+    ensures outcome { IfOk result (λ told. IsOutcomeOf (map line_of checked.now.program) arguments.now steps told.0) }
+    ensures made { IfOk result (λ told. (told.1 ≤ steps) × IsOutcomeOf (map line_of checked.now.program) arguments.now told.1 told.0) }
     ensures memory { IfErr result (λ e. e ≡ fault.Memory) }
 {
     let mut machine = begin(alloc, checked, arguments)?;
-    let finish = go(checked.statements(), &mut machine, steps);
-    answer(alloc, checked, finish, &machine)
+    let mut earlier = Snapshot::new(alloc);
+    let end = go(checked.statements(), &mut machine, &mut earlier, steps)?;
+    Ok((answer(alloc, checked, end.finish, &machine)?, end.made))
+}
+
+/// Runs a program with these values of its dummy arguments, in order, for so many steps at most: its outcome, and how many steps were made to
+/// know it. A run that comes back to where it was never ends, and is left there.
+///
+/// N2 and N3 are told before any step, and want of memory, N1, in place of any outcome.
+pub fn counted_run(
+    alloc: Global,
+    checked: &Checked,
+    arguments: &[Arg],
+    steps: u32,
+) -> Result<(Outcome, u32), RunFault>
+    ensures outcome { IfOk result (λ told. IsOutcomeOf (map line_of checked.now.program) arguments.now steps told.0) }
+    ensures made { IfOk result (λ told. (told.1 ≤ steps) × IsOutcomeOf (map line_of checked.now.program) arguments.now told.1 told.0) }
+    ensures refused { IfSome (refusal checked.now.arguments arguments.now) (λ e. result ≡ Err e) }
+    ensures fault { IfErr result (λ e. (e ≡ fault.Memory) ⊎ (refusal checked.now.arguments arguments.now ≡ Some e)) }
+{
+    match fit(checked.arguments(), arguments) {
+        Ok(()) => outcome(alloc, checked, arguments, steps),
+        Err(fault) => Err(fault),
+    }
 }
 
 /// Runs a program with these values of its dummy arguments, in order, for so many steps at most: its outcome.
@@ -155,8 +183,8 @@ pub fn run(
     ensures refused { IfSome (refusal checked.now.arguments arguments.now) (λ e. result ≡ Err e) }
     ensures fault { IfErr result (λ e. (e ≡ fault.Memory) ⊎ (refusal checked.now.arguments arguments.now ≡ Some e)) }
 {
-    match fit(checked.arguments(), arguments) {
-        Ok(()) => outcome(alloc, checked, arguments, steps),
+    match counted_run(alloc, checked, arguments, steps) {
+        Ok((outcome, _made)) => Ok(outcome),
         Err(fault) => Err(fault),
     }
 }

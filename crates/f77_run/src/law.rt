@@ -1,8 +1,10 @@
 //! What holds of steps and runs of every program.
 
 ghost use Rattle.f77_run.specs.Control.{Starts, LeadsOn};
+ghost use Rattle.f77_run.specs.Endless.{ComesBack, MeetsLimits};
 ghost use Rattle.f77_run.specs.Interpreter.{OneAnswer};
 ghost use Rattle.f77_run.specs.Outcome.{OneSuccessor, OneOutcome};
+ghost use Rattle.f77_run.specs.Reached.{MayBeAnother};
 
 /// A configuration leads to one configuration or end at most, a run ends in one way at most within each limit on steps, and a run with
 /// given arguments has one outcome at most.
@@ -18,4 +20,15 @@ pub fn one_outcome()
 pub fn control_is_never_lost()
     ensures starts { Starts }
     ensures leads_on { LeadsOn }
+{}
+
+/// A run that comes back to a configuration never ends, and a run that never ends meets every limit on steps.
+pub fn endless_runs()
+    ensures comes_back { ComesBack }
+    ensures limits { MeetsLimits }
+{}
+
+/// Programs of one frame that differ in one statement have one outcome where control does not come to that statement.
+pub fn unreached_statement()
+    ensures { MayBeAnother }
 {}

@@ -31,23 +31,27 @@ pub(crate) fn product(a: i32, b: i32) -> Result<i32, Fault>
 }
 
 /// The quotient, truncated toward zero.
+#[tactic(auto, using(crate::proofs::Ranges::quotient_told))]
 pub(crate) fn quotient(a: i32, b: i32) -> Result<i32, Fault>
     ensures { result ≡ exact.quotient a b }
 {
     if b == 0 {
         return Err(Fault::DivideByZero);
     }
-    narrow(i64::from(a) / i64::from(b))
+    a.checked_div(b).ok_or(Fault::Overflow)
 }
 
-/// MOD: `a` minus `b` times the truncated quotient.
+/// MOD: `a` minus `b` times the truncated quotient, which is in the range even where the quotient is not.
 pub(crate) fn modulus(a: i32, b: i32) -> Result<i32, Fault>
     ensures { result ≡ exact.modulus a b }
 {
     if b == 0 {
         return Err(Fault::DivideByZero);
     }
-    narrow(i64::from(a) % i64::from(b))
+    if b == -1 {
+        return Ok(0);
+    }
+    Ok(a % b)
 }
 
 pub(crate) fn negated(a: i32) -> Result<i32, Fault>
@@ -94,6 +98,7 @@ pub(crate) fn greater(a: i32, b: i32) -> i32
     a.max(b)
 }
 
+#[inline(never)]
 #[tactic(auto, using(crate::proofs::Powers::power_of_one, crate::proofs::Powers::inverse_power))]
 pub(crate) fn power(base: i32, exponent: i32) -> Result<i32, Fault>
     ensures { result ≡ exact.power base exponent }

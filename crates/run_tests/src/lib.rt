@@ -14,6 +14,10 @@ mod run_changed;
 #[cfg(test)]
 mod run_data;
 #[cfg(test)]
+mod run_endless;
+#[cfg(test)]
 mod run_faults;
 #[cfg(test)]
 mod run_loops;
+#[cfg(test)]
+mod run_reached;

@@ -1,0 +1,60 @@
+use Rattle.std.proofs.Common.{arith, ap, sym, ◌∙◌, length}
+use Rattle.std.specs.Prelude.{Some, Ok}
+use Rattle.std.proofs.Math.ListN.{length-set}
+use Rattle.f77_run.specs.Machine.{placed}
+use Rattle.f77_run.specs.Moves.{move_of, state_of}
+use Rattle.f77_run.specs.Reached.{number_of}
+use Rattle.f77_run.specs.Running.{config_at}
+use Rattle.f77_run.proofs.Following.{none_reached, one_noted, place_within}
+use Rattle.f77_run.proofs.Followed.{noted_end, noted_length, noted_more}
+use Rattle.f77_run.proofs.Runs.{can_move, one_more, are_short, are_within}
+use Rattle.f77_run.proofs.reached.follow.Goals as goal
+
+pub step-requires-clause-statements : goal.step-requires-clause-statements
+step-requires-clause-statements g c = are_within g.at c.args.statements.now c.loop-made.machine c.loop-made.invariant.0.running
+
+pub step-requires-clause-short : goal.step-requires-clause-short
+step-requires-clause-short g c = are_short g.at c.args.statements.now c.loop-made.machine c.loop-made.invariant.0.running
+
+pub step-requires-clause-moves : goal.step-requires-clause-moves
+step-requires-clause-moves g c = can_move g.at c.args.statements.now c.loop-made.machine c.loop-made.invariant.0.running
+
+pub note-requires : goal.note-requires
+note-requires g c =
+    let running = c.loop-made.invariant.0.running in
+    let within = place_within c.args.statements.now (state_of c.loop-made.machine) (can_move g.at c.args.statements.now c.loop-made.machine running) in
+    let count = running.resolved.count in
+    let long = c.loop-made.invariant.2 in
+    omega (arith, within, count, long)
+
+pub returns-in-Ok-Returns-clause-reached : goal.returns-in-Ok-Returns-clause-reached
+returns-in-Ok-Returns-clause-reached g c =
+    rw c.note.ensures
+    (noted_end g.at c.args.statements.now c.args.machine.now c.loop-made.machine c.loop-made.made c.loop-made.invariant.0 c.loop-made.reached c.loop-made.invariant.1
+    c.args.steps _ _ c.loop-made-test.true
+    (c.step.ensures.moved ∙ ap (λ r. Some (move_of r c.step.new.machine)) (c.in-Ok-Returns.is ∙ ap Ok c.in-Ok-Returns.field-0-is)))
+
+pub returns-in-Ok-Stops-clause-reached : goal.returns-in-Ok-Stops-clause-reached
+returns-in-Ok-Stops-clause-reached g c =
+    rw c.note.ensures
+    (noted_end g.at c.args.statements.now c.args.machine.now c.loop-made.machine c.loop-made.made c.loop-made.invariant.0 c.loop-made.reached c.loop-made.invariant.1
+    c.args.steps _ _ c.loop-made-test.true
+    (c.step.ensures.moved ∙ ap (λ r. Some (move_of r c.step.new.machine)) (c.in-Ok-Stops.is ∙ ap Ok c.in-Ok-Stops.field-0-is)))
+
+pub returns-in-Err-clause-reached : goal.returns-in-Err-clause-reached
+returns-in-Err-clause-reached g c =
+    rw c.note.ensures
+    (noted_end g.at c.args.statements.now c.args.machine.now c.loop-made.machine c.loop-made.made c.loop-made.invariant.0 c.loop-made.reached c.loop-made.invariant.1
+    c.args.steps _ _ c.loop-made-test.true
+    (c.step.ensures.moved ∙ ap (λ r. Some (move_of r c.step.new.machine)) c.in-Err.is))
+
+pub loop-made-preserved : goal.loop-made-preserved
+loop-made-preserved g c =
+    let moved = c.step.ensures.moved ∙ ap (λ r. Some (move_of r c.step.new.machine)) (c.in-Ok-Goes.is ∙ ap Ok c.in-Ok-Goes.field-0-is) in
+    let below = c.loop-made-test.true in (
+      one_more g.at c.args.statements.now c.args.machine.now c.loop-made.machine c.step.new.machine c.loop-made.made c.loop-made.invariant.0 moved c.step.ensures.lengths,
+      rw c.note.ensures
+          (noted_more g.at c.args.statements.now c.args.machine.now c.loop-made.machine c.loop-made.made c.loop-made.invariant.0 c.loop-made.reached c.loop-made.invariant.1),
+      noted_length c.loop-made.reached c.note.new.reached _ _ c.note.ensures c.loop-made.invariant.2,
+      omega (arith, below),
+    )

@@ -1,0 +1,94 @@
+//! A state that a run was in, by which it is known when the run comes back to it.
+
+ghost use Rattle.std.specs.Prelude.{◌≡◌, ◌⊎◌, Some, None, IfOk, IfErr};
+ghost use Rattle.std.specs.Bool.{Decides};
+ghost use Rattle.f77_run.specs.Moves.{state_of};
+ghost use Rattle.f77_run.specs.Snapshot.{kept};
+ghost use Rattle.f77_run.specs.declared.outcome.RunFault.TheVariants as fault;
+
+use crate::kept::Kept;
+use crate::machine::{Machine, Place, Turn};
+use crate::outcome::RunFault;
+use crate::value::Value;
+use std::alloc::Global;
+
+/// How many steps are made before a state is kept: a run that ends before them pays nothing.
+const FIRST: u32 = 64;
+
+/// A state that a run was in, if any is kept. Each is kept twice as many steps behind the start as the one before, so that a run that comes
+/// back is known after three times as many steps at most as it takes to come back for the first time.
+#[derive(Drop)]
+pub(crate) struct Snapshot {
+    pub(crate) place: Option<Place>,
+    pub(crate) cells: Kept<Option<Value>>,
+    pub(crate) turns: Kept<Option<Turn>>,
+    /// The number of steps behind which the next one is kept.
+    due: u32,
+}
+
+fn same_place(one: Option<Place>, other: Place) -> bool
+    ensures { Decides result (one ≡ Some other) }
+{
+    match (one, other) {
+        (Some(Place::Execute(i)), Place::Execute(j)) => i == j,
+        (Some(Place::Increment(d)), Place::Increment(e)) => d == e,
+        (Some(Place::Execute(_)), Place::Increment(_))
+        | (Some(Place::Increment(_)), Place::Execute(_))
+        | (None, _) => false,
+    }
+}
+
+impl Snapshot {
+    /// No state is kept. It takes no memory.
+    pub(crate) fn new(alloc: Global) -> Snapshot
+        ensures { kept result ≡ None }
+    {
+        Snapshot {
+            place: None,
+            cells: Kept::new(alloc),
+            turns: Kept::new(alloc),
+            due: FIRST,
+        }
+    }
+
+    /// Whether the machine is in the state that is kept.
+    fn is_met(&mut self, machine: &Machine) -> bool
+        ensures met { Decides result (kept self.old ≡ Some (state_of machine.now)) }
+        ensures kept { kept self.new ≡ kept self.old }
+    {
+        if !same_place(self.place, machine.place) {
+            return false;
+        }
+        if !self.turns.are(&machine.turns) {
+            return false;
+        }
+        self.cells.are(&machine.cells)
+    }
+
+    /// The state of the machine is kept, in place of the one before.
+    fn keep(&mut self, machine: &Machine) -> Result<(), RunFault>
+        ensures kept { IfOk result (λ _. kept self.new ≡ Some (state_of machine.now)) }
+        ensures memory { IfErr result (λ e. e ≡ fault.Memory) }
+    {
+        self.cells.keep(&machine.cells)?;
+        self.turns.keep(&machine.turns)?;
+        self.place = Some(machine.place);
+        self.due = self.due.saturating_mul(2);
+        Ok(())
+    }
+
+    /// Whether the machine came back to the state that is kept. If not, its own is kept where that is due behind so many steps.
+    pub(crate) fn came_back(&mut self, machine: &Machine, steps: u32) -> Result<bool, RunFault>
+        ensures back { IfOk result (λ back. Decides back (kept self.old ≡ Some (state_of machine.now))) }
+        ensures kept { IfOk result (λ _. (kept self.new ≡ kept self.old) ⊎ (kept self.new ≡ Some (state_of machine.now))) }
+        ensures memory { IfErr result (λ e. e ≡ fault.Memory) }
+    {
+        if self.is_met(machine) {
+            return Ok(true);
+        }
+        if steps == self.due {
+            self.keep(machine)?;
+        }
+        Ok(false)
+    }
+}
