@@ -18,6 +18,13 @@ const ROWS: &[&str] = &[
     "SUBROUTINE T(K); IF (K.GT.5) STOP; END | SAN | 1;6; | 9 => 11 01",
     // Runs without an end.
     "SUBROUTINE C(K); 10 K=K-1; IF (K.GT.0) GO TO 10; END | ROR | 1; | 99 => 0 1 1 0 1 1 0",
+    // Statements that control does not come to, of each form; a label, and a DO that ends elsewhere, which may be known elsewhere.
+    "SUBROUTINE N(K); IF (K.EQ.0) GO TO 10; K=7; 10 K=K+1; END | SDL | 0;1; | 9 => 10 10 01 11",
+    "SUBROUTINE N(K); IF (K.EQ.0) RETURN; IF (K.EQ.1) STOP; K=MOD(K,3); END | SAN | 0;1;5; | 9 => 111 100 011 010 001",
+    "SUBROUTINE N(K); GO TO 20; 10 K=1; 20 CONTINUE; 30 K=K; END | GLR | 0; | 9 => 1 0",
+    "SUBROUTINE N(K); DO 20 I=1,K; 10 K=K; 20 CONTINUE; END | DER | 0;3; | 99 => 00",
+    // The statement is the one of the last step.
+    "SUBROUTINE R(K); K=1; RETURN; END | SAN | 0; | 2 => 1 1",
     // STOP and RETURN with the same values.
     "SUBROUTINE E(K); K=1; STOP; END | RSR | 1; | 9 => 1 1",
     // One element of an array.

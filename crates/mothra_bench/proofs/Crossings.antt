@@ -1,10 +1,11 @@
 -- A plan and a bench may be lent to many threads, since each of their parts may.
 use mathlib.Core.List.{[], ◌∷◌}
 use mir.Syntax.{Sym}
+use denote.Builtin.{bool}
 use denote.RattleType.{RattleType}
 use denote.Struct.Declared.{shape}
 use denote.Struct.Tuple.{TupleAt, type_at}
-use denote.Param.Send.{IsSend, IsSync, recorded_send, sendable, struct_send}
+use denote.Param.Send.{IsSend, IsSync, recorded_send, recorded_sync, sendable, struct_send, struct_sync}
 use Rattle.std.proofs.Crossing.{crosses}
 use Rattle.f77_tree.proofs.shared.Shared.TheSendSync as shared
 use Rattle.f77_tree.proofs.tree.Expr.TheLaws.TheKnot as expr_knot
@@ -25,6 +26,7 @@ use Rattle.f77_check.specs.contracts.checked.Checked as checked
 use Rattle.mothra_ops.proofs.listing.Listing.TheSendSync as listing
 use Rattle.mothra_ops.specs.contracts.plan.Plan as plan
 use Rattle.mothra_bench.specs.contracts.bench.Bench as bench
+use Rattle.mothra_bench.specs.contracts.bench.Bench.TheInside as inside
 use Rattle.mothra_codes.specs.contracts.op.Op as op
 use Rattle.f77_run.specs.contracts.argument.Arg as arg
 use Rattle.f77_run.specs.contracts.outcome.Outcome as outcome
@@ -103,8 +105,15 @@ tests_sync = search (crosses, sendable) depth 60 fits 20000
 outcomes_sync : IsSync (values.the_row outcome.the_row)
 outcomes_sync = search (crosses, sendable) depth 60 fits 20000
 
+reached_sync : IsSync (values.the_row (values.the_row bool))
+reached_sync = search (crosses, sendable) depth 60 fits 20000
+
 declared_sync : IsSync (values.the_row ticket.the_row)
 declared_sync = search (crosses, sendable) depth 60 fits 20000
 
+inside_sync : IsSync inside.the_row
+inside_sync =
+    recorded_sync _ _ _ inside.the_type.to_one (struct_sync (shape inside.the_type) (plan_sync, (tests_sync, ((search sendable), (outcomes_sync, (reached_sync, (declared_sync, ((search (crosses, sendable) depth 60 fits 20000), tt))))))))
+
 pub bench_sync : IsSync bench.the_row
-bench_sync = search (plan_sync, tests_sync, outcomes_sync, declared_sync, crosses, sendable) depth 60 fits 20000
+bench_sync = search (inside_sync, sendable) depth 60 fits 20000

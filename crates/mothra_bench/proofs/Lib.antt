@@ -12,6 +12,7 @@ mod ReportRows
 mod ReportTexts
 mod Outcomes
 mod Kills
+mod KillsUnreached
 mod PassSteps
 mod WorkerSteps
 mod WorkerRows

@@ -1,5 +1,6 @@
 pub mod Bench
 pub mod Running
+pub mod Killing
 pub mod Equivalents
 pub mod Verdict
 pub mod Matrix

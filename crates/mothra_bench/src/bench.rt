@@ -11,11 +11,13 @@ ghost use Rattle.f77_check.specs.contracts.expression.Number as number;
 ghost use Rattle.mothra_bench.specs.Bench.{BenchFields, IsBench, IsNoBench, most_tests};
 ghost use Rattle.mothra_bench.specs.Collecting.{IsDeclared};
 ghost use Rattle.mothra_bench.specs.Equivalents.{AreNamed};
+ghost use Rattle.mothra_bench.specs.Killing.{AreReachedOn};
 ghost use Rattle.mothra_ops.specs.Mutants as numbers;
+ghost use Rattle.mothra_ops.specs.Mutants.{program_of};
 
 use crate::equivalents::named_by;
 use crate::fault::BenchFault;
-use crate::running::{first_misfit, outcomes_of};
+use crate::running::{first_misfit, outcomes_of, reached_on};
 use f77_run::{Arg, Outcome, Values};
 use indexmap::IndexSet;
 use mothra_exchange::Ticket;
@@ -25,13 +27,16 @@ use std::marker::Model;
 
 /// A plan, the tests that its mutants are run on, the limit on steps of each run, and the mutants that are declared equivalent.
 ///
-/// It holds what the program itself comes to on each test, so that a mutant costs its own runs alone.
+/// It holds what the program itself comes to on each test, so that a mutant costs its own runs alone, and where control was on the way, so
+/// that it costs none where it is not reached.
 #[derive(Drop)]
 pub struct Bench {
     plan: Plan,
     tests: Values<Values<Arg>>,
     steps: u32,
     outcomes: Values<Outcome>,
+    /// For each test, which statements of the program control comes to.
+    reached: Values<Values<bool>>,
     declared: Values<Ticket>,
     /// The set of the declared ones.
     named: IndexSet<Ticket>,
@@ -64,7 +69,9 @@ impl Model for Bench {
       steps = bench.steps;
       outcomes = bench.outcomes;
       declared = bench.declared;
-    }) × AreNamed bench.declared bench.named.keys };
+    })
+        × AreNamed bench.declared bench.named.keys
+        × AreReachedOn (program_of bench.plan) bench.steps bench.tests bench.reached };
 }
 
 impl Bench {
@@ -92,12 +99,14 @@ impl Bench {
             return Err(BenchFault::TestShape(test));
         }
         let outcomes = outcomes_of(alloc, &plan, tests.as_slice(), steps)?;
+        let reached = reached_on(alloc, &plan, tests.as_slice(), steps)?;
         let named = named_by(alloc, &plan, declared.as_slice())?;
         Ok(Bench {
             plan,
             tests,
             steps,
             outcomes: Values::new(outcomes),
+            reached: Values::new(reached),
             declared,
             named,
         })
@@ -132,6 +141,14 @@ impl Bench {
         ensures bench { IsBench self.now }
     {
         self.outcomes.as_slice()
+    }
+
+    /// For each test, which statements of the program control comes to, in order. It takes no memory.
+    pub(crate) fn reached(&self) -> &[Values<bool>]
+        ensures reached { AreReachedOn (program_of self.now.plan) self.now.steps self.now.tests result.now }
+        ensures bench { IsBench self.now }
+    {
+        self.reached.as_slice()
     }
 
     /// Whether the mutant is declared equivalent, by its number in the whole list. It takes no memory.

@@ -3,14 +3,16 @@
 ghost use Rattle.std.specs.Prelude.{◌≡◌, ◌↔◌, All, IsTrue, IfOk, IfErr, IfSome, IfNone};
 ghost use Rattle.f77_check.specs.Checked.{shapes};
 ghost use Rattle.f77_run.specs.Interpreter.{IsOutcomeOf};
+ghost use Rattle.f77_run.specs.Reached.{AreReached};
 ghost use Rattle.mothra_bench.specs.Bench.{Fits, IsEnd, AreOutcomes, Ends, IsFirstNot};
+ghost use Rattle.mothra_bench.specs.Killing.{AreReachedOn};
 ghost use Rattle.mothra_bench.specs.Running.{IsNoRun};
 ghost use Rattle.mothra_bench.specs.declared.fault.BenchFault.TheVariants.{Memory};
 ghost use Rattle.mothra_ops.specs.Mutants.{program_of};
 
 use crate::fault::BenchFault;
 use f77_check::Shape;
-use f77_run::{Arg, Outcome, Values, fit, run};
+use f77_run::{Arg, Outcome, Values, fit, reached_statements, run};
 use mothra_ops::Plan;
 use std::alloc::Global;
 
@@ -107,4 +109,39 @@ pub(crate) fn outcomes_of(
         outcomes.push(outcome)?;
     }
     Ok(outcomes)
+}
+
+/// Which statements of the program control comes to on a test.
+fn reached_by(
+    alloc: Global,
+    plan: &Plan,
+    test: &Values<Arg>,
+    steps: u32,
+) -> Result<Values<bool>, BenchFault>
+    requires { Fits (program_of plan.now) test.now }
+    ensures reached { IfOk result (λ reached. AreReached (program_of plan.now) test.now steps reached) }
+    ensures memory { IfErr result (λ fault. fault ≡ Memory) }
+{
+    match reached_statements(alloc, plan.program(), test.as_slice(), steps) {
+        Ok(reached) => Ok(reached),
+        Err(_) => Err(BenchFault::Memory),
+    }
+}
+
+/// Which statements of the program control comes to on each test.
+pub(crate) fn reached_on(
+    alloc: Global,
+    plan: &Plan,
+    tests: &[Values<Arg>],
+    steps: u32,
+) -> Result<Vec<Values<bool>>, BenchFault>
+    requires { All (Fits (program_of plan.now)) tests.now }
+    ensures reached { IfOk result (λ reached. AreReachedOn (program_of plan.now) steps tests.now reached.items) }
+    ensures memory { IfErr result (λ fault. fault ≡ Memory) }
+{
+    let mut reached = Vec::with_capacity(alloc, tests.len())?;
+    for test in tests {
+        reached.push(reached_by(alloc, plan, test, steps)?)?;
+    }
+    Ok(reached)
 }

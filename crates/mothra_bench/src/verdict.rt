@@ -1,12 +1,13 @@
 //! The verdict of running a mutant alone.
 
-ghost use Rattle.std.specs.Prelude.{◌≡◌, map, IfOk, IfErr};
+ghost use Rattle.std.specs.Prelude.{◌≡◌, map, IfOk, IfErr, IfSome};
 ghost use Rattle.f77_check.specs.Checked.{shapes};
 ghost use Rattle.f77_tree.specs.Parsing.{line_of};
 ghost use Rattle.f77_tree.specs.StatementView.{statement_of};
 ghost use Rattle.mothra_ops.specs.Edits.{IsMutant};
 ghost use Rattle.mothra_ops.specs.Mutants.{mutant_fields, program_of};
 ghost use Rattle.mothra_bench.specs.Bench.{BenchFields, IsBench};
+ghost use Rattle.mothra_bench.specs.Killing.{IsChangedAt};
 ghost use Rattle.mothra_bench.specs.Verdict.{IsAlone, IsVerdict, IsNoVerdict, mutated};
 ghost use Rattle.mothra_bench.specs.declared.fault.BenchFault.TheVariants.{Memory};
 
@@ -14,6 +15,7 @@ use crate::bench::Bench;
 use crate::fault::BenchFault;
 use crate::killing::kills_of;
 use f77_check::Checked;
+use f77_legal::keeps_frame;
 use f77_run::Values;
 use mothra_exchange::Ticket;
 use mothra_ops::{Mutant, Mutants};
@@ -94,6 +96,16 @@ impl<'a> Verdicts<'a> {
         }
     }
 
+    /// The number from 0 of the statement that is changed, where the frame of the program stays.
+    fn changed_statement(&self, mutant: &Mutant) -> Option<usize>
+        requires { IsMutant (program_of self.now.plan) mutant.now.number (statement_of mutant.now.stmt) }
+        ensures { IfSome result (IsChangedAt (program_of self.now.plan) (mutated (program_of self.now.plan) (mutant_fields mutant.now))) }
+    {
+        let i = mutant.number - 1;
+        let lines = self.bench.plan().program().program().lines();
+        keeps_frame(&lines[i].stmt, &mutant.stmt).then_some(i)
+    }
+
     /// Which tests kill the mutant.
     fn kills(&self, alloc: Global, mutant: &Mutant) -> Result<Values<bool>, BenchFault>
         requires mutant { IsMutant (program_of self.now.plan) mutant.now.number (statement_of mutant.now.stmt) }
@@ -102,15 +114,8 @@ impl<'a> Verdicts<'a> {
             self.now.steps self.now.tests kills) }
         ensures memory { IfErr result (λ fault. fault ≡ Memory) }
     {
-        let bench = self.bench;
         match self.changed(mutant) {
-            Ok(changed) => kills_of(
-                alloc,
-                &changed,
-                bench.tests(),
-                bench.steps(),
-                bench.outcomes(),
-            ),
+            Ok(changed) => kills_of(alloc, self.bench, &changed, self.changed_statement(mutant)),
             Err(fault) => Err(fault),
         }
     }

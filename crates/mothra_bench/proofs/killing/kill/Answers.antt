@@ -1,9 +1,71 @@
-use Rattle.std.proofs.Common.{map}
+use Rattle.std.proofs.Common.{◌≡◌, ◌<◌, ◌*◌, ◌∙◌, List, Some, None, length, map, refl, sym, ap, subst, arith, rules, Fits, w64}
+use Rattle.std.specs.Prelude.{IfSome, slice_get}
+use Rattle.std.proofs.lemmas.Option.{same_Some, slice_get_read}
+use Rattle.std.proofs.lemmas.Slice.Zip.{AllZip-long}
 use Rattle.f77_tree.specs.Parsing.{line_of}
+use Rattle.f77_run.specs.Interpreter.{IsOutcomeOf}
+use Rattle.f77_run.specs.Reached.{AreReached}
+use Rattle.mothra_ops.specs.Mutants.{program_of}
+use Rattle.mothra_bench.specs.Killing.{IsChangedAt}
 use Rattle.mothra_bench.proofs.Kills.{is_kill}
+use Rattle.mothra_bench.proofs.KillsUnreached.{paired, survives}
 use Rattle.mothra_bench.proofs.killing.kill.Goals as goal
 
+pub offset_bounds-reached-test : goal.offset_bounds-reached-test
+offset_bounds-reached-test c =
+    let bench = c.args.bench.now in
+    let long = AllZip-long (λ arguments reached. AreReached (program_of bench.plan) arguments bench.steps reached) bench.tests c.reached.result.now c.reached.ensures.reached in
+    let size : c.args.test * 24 < 9223372036854775808 = omega (arith, c.requires.within, long, c.reached.type_inv.1) in
+    search (rules, size)
+
+pub bounds-reached-test : goal.bounds-reached-test
+bounds-reached-test c =
+    let bench = c.args.bench.now in
+    let long = AllZip-long (λ arguments reached. AreReached (program_of bench.plan) arguments bench.steps reached) bench.tests c.reached.result.now c.reached.ensures.reached in
+    omega (arith, c.requires.within, long)
+
+pub returns-then-is_passed_by-clause-kill : goal.returns-then-is_passed_by-clause-kill
+returns-then-is_passed_by-clause-kill c = λ arguments at.
+    let bench = c.args.bench.now in
+    let program = program_of bench.plan in
+    let mutant = map line_of c.args.mutant.now.program in
+    let long = AllZip-long (λ arguments reached. AreReached program arguments bench.steps reached) bench.tests c.reached.result.now c.reached.ensures.reached in
+    let own = paired (λ arguments outcome. IsOutcomeOf program arguments bench.steps outcome) bench.tests bench.outcomes c.args.test arguments c.reached.ensures.bench.outcomes at in
+    let there = paired (λ arguments reached. AreReached program arguments bench.steps reached) bench.tests c.reached.result.now c.args.test arguments c.reached.ensures.reached at in
+    let read : slice_get c.reached.result.now c.args.test ≡ Some c.index-reached-test.result
+    = slice_get_read c.reached.result.now (length c.reached.result.now) c.args.test c.index-reached-test.result refl (omega (arith, c.requires.within, long)) c.index-reached-test.is in
+    let same : there.0 ≡ c.index-reached-test.result = same_Some _ _ (sym there.1 ∙ read) in
+    let passed = c.is_passed_by.ensures c.if-is_passed_by.true in
+    survives program mutant passed.0 arguments bench.steps own.0 c.index-reached-test.result
+    (subst (λ o. IfSome o (IsChangedAt program mutant)) passed.1 c.requires.changed)
+    (subst (λ reached. AreReached program arguments bench.steps reached) same there.2)
+    passed.2 own.2
+
+pub bounds-outcomes-test : goal.bounds-outcomes-test
+bounds-outcomes-test c =
+    let bench = c.args.bench.now in
+    let long = AllZip-long (λ arguments outcome. IsOutcomeOf (program_of bench.plan) arguments bench.steps outcome) bench.tests bench.outcomes c.outcomes.ensures.bench.outcomes in
+    let same = ap length c.outcomes.ensures.outcomes in
+    omega (arith, c.requires.within, long, same)
+
 pub returns-in-Ok-clause-kill : goal.returns-in-Ok-clause-kill
-returns-in-Ok-clause-kill c program own =
-    is_kill program (map line_of c.args.mutant.now.program) c.args.arguments.now c.args.steps c.args.outcome.now c.in-Ok.other c.differ.result
-    c.differ.ensures.yes c.differ.ensures.no own c.in-Ok.ensures.outcome
+returns-in-Ok-clause-kill c = λ arguments at.
+    let bench = c.args.bench.now in
+    let program = program_of bench.plan in
+    let mutant = map line_of c.args.mutant.now.program in
+    let tests = ap length c.tests.ensures.tests in
+    let long = AllZip-long (λ arguments outcome. IsOutcomeOf program arguments bench.steps outcome) bench.tests bench.outcomes c.outcomes.ensures.bench.outcomes in
+    let outcomes = ap length c.outcomes.ensures.outcomes in
+    let read : slice_get c.tests.result.now c.args.test ≡ Some c.index-tests-test.result
+    = slice_get_read c.tests.result.now (length c.tests.result.now) c.args.test c.index-tests-test.result refl (omega (arith, c.requires.within, tests)) c.index-tests-test.is in
+    let told : slice_get c.outcomes.result.now c.args.test ≡ Some c.index-outcomes-test.result
+    = slice_get_read c.outcomes.result.now (length c.outcomes.result.now) c.args.test c.index-outcomes-test.result refl (omega (arith, c.requires.within, long, outcomes)) c.index-outcomes-test.is in
+    let own = paired (λ arguments outcome. IsOutcomeOf program arguments bench.steps outcome) bench.tests bench.outcomes c.args.test arguments c.outcomes.ensures.bench.outcomes at in
+    let given : c.as_slice.result.now ≡ arguments
+    = c.as_slice.ensures ∙ same_Some _ _ (sym read ∙ ap (λ tests. slice_get tests c.args.test) c.tests.ensures.tests ∙ at) in
+    let here : own.0 ≡ c.index-outcomes-test.result
+    = same_Some _ _ (sym own.1 ∙ ap (λ outcomes. slice_get outcomes c.args.test) (sym c.outcomes.ensures.outcomes) ∙ told) in
+    is_kill program mutant arguments bench.steps c.index-outcomes-test.result c.in-Ok.other c.differ.result c.differ.ensures.yes c.differ.ensures.no
+    (subst (IsOutcomeOf program arguments bench.steps) here own.2)
+    (subst (λ arguments. IsOutcomeOf mutant arguments bench.steps c.in-Ok.other) given
+    (subst (λ steps. IsOutcomeOf mutant c.as_slice.result.now steps c.in-Ok.other) c.steps.ensures c.in-Ok.ensures.outcome))

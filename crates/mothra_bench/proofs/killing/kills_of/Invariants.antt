@@ -1,10 +1,8 @@
-use Rattle.std.proofs.Common.{List, length, map, take}
-use Rattle.f77_tree.specs.Parsing.{LineFields, line_of}
-use Rattle.mothra_bench.specs.Bench.{AreOutcomes}
+use Rattle.std.proofs.Common.{map, take}
+use Rattle.f77_tree.specs.Parsing.{line_of}
+use Rattle.mothra_ops.specs.Mutants.{program_of}
 use Rattle.mothra_bench.specs.Verdict.{IsAlone}
 use Rattle.mothra_bench.proofs.killing.kills_of.Given as goal
 
-abbrev pub invariant-loop-arguments : goal.invariant-loop-arguments
-invariant-loop-arguments l =
-    (program : List LineFields) → AreOutcomes program l.fn.steps l.fn.tests l.fn.outcomes
-    → IsAlone program (map line_of l.fn.mutant.program) l.fn.steps (take (length l.yielded) l.fn.tests) l.kills.items
+abbrev pub invariant-loop-test : goal.invariant-loop-test
+invariant-loop-test l = IsAlone (program_of l.bench.plan) (map line_of l.mutant.program) l.bench.steps (take l.test l.bench.tests) l.kills.items
