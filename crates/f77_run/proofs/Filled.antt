@@ -28,7 +28,7 @@ take_none : {X : Type 0} (xs : List X) → take 0 xs ≡ []
 take_none [] = refl
 take_none (x ∷ xs) = refl
 
-span_slice : (cells : Cells) (first n : ℕ) → first + n ≤ length cells → take n (drop first cells) ≡ span first n cells
+pub span_slice : (cells : Cells) (first n : ℕ) → first + n ≤ length cells → take n (drop first cells) ≡ span first n cells
 span_slice cells first zero within = take_none (drop first cells)
 span_slice cells first (suc n) within =
     let own : first + n < length cells = omega (arith, within) in

@@ -30,6 +30,7 @@ pub mod Unreached
 mod Pairs
 mod Misfits
 mod Filled
+mod Held
 mod Places
 mod Dummies
 mod Filling
@@ -37,3 +38,4 @@ mod Laying
 mod Reading
 mod Beginning
 mod OneAnswer
+mod Telling

@@ -78,7 +78,7 @@ one_end : (p : List LineFields) (s : Store) (xs ys : List Arg) → AreArguments 
 one_end p s xs ys f g =
     one_list (shapes p) xs ys f.fitting g.fitting (sym f.values ∙ g.values)
 
-told_once : (p : List LineFields) (end : Finish) (s : Store) (answer other : Outcome) → Tells p end s answer → Tells p end s other → answer ≡ other
+pub told_once : (p : List LineFields) (end : Finish) (s : Store) (answer other : Outcome) → Tells p end s answer → Tells p end s other → answer ≡ other
 told_once p finish.Returned s (outcome.Returned xs) (outcome.Returned ys) f g = ap outcome.Returned (one_end p s xs ys f g)
 told_once p finish.Returned s (outcome.Returned xs) _ f g = absurd g
 told_once p finish.Returned s _ _ f g = absurd f

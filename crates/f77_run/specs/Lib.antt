@@ -12,6 +12,7 @@ pub mod Reach
 pub mod Interpreter
 pub mod Typed
 pub mod Spans
+pub mod Holding
 pub mod Running
 pub mod Site
 pub mod Endless

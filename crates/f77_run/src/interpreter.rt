@@ -1,6 +1,6 @@
 //! Runs of checked programs.
 
-ghost use Rattle.std.specs.Prelude.{◌≡◌, ◌⊎◌, ◌≤◌, map, option_map, replicate, Some, None, Err, IfOk, IfErr, IfSome};
+ghost use Rattle.std.specs.Prelude.{◌≡◌, ◌⊎◌, ◌≤◌, length, map, option_map, replicate, Some, None, Err, IfOk, IfErr, IfSome};
 ghost use Rattle.f77_tree.specs.Parsing.{line_of};
 ghost use Rattle.f77_run.specs.Interpreter as meaning;
 ghost use Rattle.f77_run.specs.Interpreter.{AreFitting, AreArguments, IsOutcomeOf, Tells, refusal, values_in};
@@ -35,7 +35,10 @@ fn value(constant: Option<Constant>) -> Option<Value>
 }
 
 /// What DATA gives each slot.
-fn initial(alloc: Global, constants: &[Option<Constant>]) -> Result<Vec<Option<Value>>, RunFault>
+pub(crate) fn initial(
+    alloc: Global,
+    constants: &[Option<Constant>],
+) -> Result<Vec<Option<Value>>, RunFault>
     ensures cells { IfOk result (λ cells. cells.items ≡ map (option_map constant_value) constants.now) }
     ensures memory { IfErr result (λ e. e ≡ fault.Memory) }
 {
@@ -69,6 +72,19 @@ fn no_turns(alloc: Global, count: usize) -> Result<Vec<Option<Turn>>, RunFault>
     Ok(vec![in alloc; None; count]?)
 }
 
+/// A machine whose slots hold what DATA gives them, and no DO of which is active, is put at the start of a run.
+pub(crate) fn enter(checked: &Checked, machine: &mut Machine, arguments: &[Arg])
+    requires cells { machine.old.cells.items ≡ map (option_map constant_value) checked.now.start.initial.items }
+    requires turns { machine.old.turns.items ≡ replicate (length checked.now.program) None }
+    requires fitting { AreFitting checked.now.arguments arguments.now }
+    ensures running { IsRunning (site_of checked.now arguments.now) checked.now.statements machine.new }
+    ensures starts { IsStart (map line_of checked.now.program) (map values_in arguments.now) (config_at (site_of checked.now arguments.now) machine.new) }
+{
+    let start = checked.start();
+    fill_all(&mut machine.cells, &start.dummies, arguments);
+    machine.place = Place::Execute(start.entry);
+}
+
 /// A machine at the start of a run.
 pub(crate) fn begin(
     alloc: Global,
@@ -81,15 +97,15 @@ pub(crate) fn begin(
         (λ machine. IsStart (map line_of checked.now.program) (map values_in arguments.now) (config_at (site_of checked.now arguments.now) machine)) }
     ensures memory { IfErr result (λ e. e ≡ fault.Memory) }
 {
-    let start = checked.start();
-    let mut cells = initial(alloc, &start.initial)?;
-    fill_all(&mut cells, &start.dummies, arguments);
+    let cells = initial(alloc, &checked.start().initial)?;
     let turns = no_turns(alloc, checked.count())?;
-    Ok(Machine {
-        place: Place::Execute(start.entry),
+    let mut machine = Machine {
+        place: Place::Execute(0),
         cells,
         turns,
-    })
+    };
+    enter(checked, &mut machine, arguments);
+    Ok(machine)
 }
 
 /// What the dummy arguments hold.

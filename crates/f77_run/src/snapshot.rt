@@ -51,6 +51,14 @@ impl Snapshot {
         }
     }
 
+    /// No state is kept any more. The memory stays.
+    pub(crate) fn forget(&mut self)
+        ensures { kept self.new ≡ None }
+    {
+        self.place = None;
+        self.due = FIRST;
+    }
+
     /// Whether the machine is in the state that is kept.
     fn is_met(&mut self, machine: &Machine) -> bool
         ensures met { Decides result (kept self.old ≡ Some (state_of machine.now)) }

@@ -1,6 +1,7 @@
 -- Which tests kill a mutant, and that it is told in one way.
-use Rattle.std.proofs.Common.{inl, inr, None, ◌≡◌, ◌≢◌, arith, ◌∙◌, ◌+◌, ℕ, zero, suc, List, [], ◌∷◌, ◌++◌, Bool, true, false, take, length, get_or, refl, sym, ap, subst}
+use Rattle.std.proofs.Common.{inl, inr, None, ◌≡◌, ◌≢◌, arith, ◌∙◌, ◌+◌, ℕ, zero, suc, List, [], ◌∷◌, ◌++◌, Bool, true, false, true≢false, not, length, refl, sym, ap, subst}
 use Rattle.std.specs.Prelude.{◌<◌, ◌≤◌}
+use Rattle.std.specs.Bool.{Decides}
 use Rattle.std.specs.List.{AllZip}
 use Rattle.std.proofs.lemmas.List.{take_more}
 use Rattle.std.proofs.lemmas.Option.{none-some, same_Some, slice_get_cases}
@@ -16,30 +17,12 @@ use Rattle.mothra_exchange.specs.declared.ticket.Ticket.{Ticket}
 use Rattle.mothra_bench.specs.Bench.{BenchFields}
 use Rattle.mothra_bench.specs.Verdict.{Has, IsAlone, IsKill, IsVerdict, killed, mutated, survived}
 
--- the outcomes differ, or they do not
-pub is_kill : (program mutant : List LineFields) (arguments : List Arg) (steps : ℕ) (outcome other : Outcome) (kill : Bool)
-    → (kill ≡ true → outcome ≢ other) → (kill ≡ false → outcome ≡ other)
-    → IsOutcomeOf program arguments steps outcome → IsOutcomeOf mutant arguments steps other → IsKill program mutant arguments steps kill
-is_kill program mutant arguments steps outcome other true apart same own changed = killed own changed (apart refl)
-is_kill program mutant arguments steps outcome other false apart same own changed =
-    survived own (subst (IsOutcomeOf mutant arguments steps) (sym (same refl)) changed)
-
--- the items of one place
-pub zipped_at : {A B : Type 0} (R : A → B → Type 0) (xs : List A) (ys : List B) (i : ℕ) (x : A) (y : B) → AllZip R xs ys → i < length xs
-    → ((d : A) → x ≡ get_or xs i d) → ((d : B) → y ≡ get_or ys i d) → R x y
-zipped_at R [] ys i x y all within is are = absurd (omega (arith, within))
-zipped_at R (x' ∷ xs) [] i x y all within is are = absurd all
-zipped_at R (x' ∷ xs) (y' ∷ ys) zero x y all within is are = subst (λ a. R a y) (sym (is x')) (subst (R x') (sym (are y')) all.0)
-zipped_at R (x' ∷ xs) (y' ∷ ys) (suc i) x y all within is are = zipped_at R xs ys i x y all.1 (omega (arith, within)) is are
-
--- one test more
-pub alone_more : (program mutant : List LineFields) (steps : ℕ) (tests : List (List Arg)) (kills : List Bool) (i : ℕ) (arguments : List Arg) (kill : Bool)
-    → i < length tests → ((d : List Arg) → arguments ≡ get_or tests i d) → IsAlone program mutant steps (take i tests) kills
-    → IsKill program mutant arguments steps kill → IsAlone program mutant steps (take (i + 1) tests) (kills ++ kill ∷ [])
-alone_more program mutant steps tests kills i arguments kill within is before one =
-    subst (λ taken. IsAlone program mutant steps taken (kills ++ kill ∷ []))
-    (sym (take_more tests i arguments within ∙ ap (λ d. take i tests ++ d ∷ []) (sym (is arguments))))
-    (all_zipped_more (λ arguments kill. IsKill program mutant arguments steps kill) (take i tests) kills arguments kill before one)
+-- the outcome is another one, or it is the same
+pub is_kill : (program mutant : List LineFields) (arguments : List Arg) (steps : ℕ) (outcome other : Outcome) (same : Bool) → Decides same (outcome ≡ other)
+    → IsOutcomeOf program arguments steps outcome → IsOutcomeOf mutant arguments steps other → IsKill program mutant arguments steps (not same)
+is_kill program mutant arguments steps outcome other true decides own changed =
+    survived own (subst (IsOutcomeOf mutant arguments steps) (sym (decides.0 refl)) changed)
+is_kill program mutant arguments steps outcome other false decides own changed = killed own changed (λ same. true≢false (sym (decides.1 same)))
 
 -- a test kills a mutant or does not
 one_kill : OneAnswer → (program mutant : List LineFields) (arguments : List Arg) (steps : ℕ) (one other : Bool) → IsKill program mutant arguments steps one

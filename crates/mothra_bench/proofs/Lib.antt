@@ -10,7 +10,6 @@ mod CollectMatrix
 mod ReportOperators
 mod ReportRows
 mod ReportTexts
-mod Outcomes
 mod Kills
 mod KillsUnreached
 mod PassSteps

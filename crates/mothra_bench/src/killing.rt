@@ -1,6 +1,6 @@
 //! Which tests kill a mutant.
 
-ghost use Rattle.std.specs.Prelude.{◌≡◌, ◌≢◌, ◌<◌, ℕ, List, length, map, slice_get, true, false, Some, None, All, IfOk, IfErr, IfSome};
+ghost use Rattle.std.specs.Prelude.{◌≡◌, ◌<◌, ℕ, List, length, map, slice_get, true, false, Some, None, All, IfOk, IfErr, IfSome};
 ghost use Rattle.f77_tree.specs.Parsing.{line_of};
 ghost use Rattle.f77_run.specs.Interpreter.{refusal};
 ghost use Rattle.f77_run.specs.declared.argument.Arg.{Arg};
@@ -12,15 +12,8 @@ ghost use Rattle.mothra_bench.specs.declared.fault.BenchFault.TheVariants.{Memor
 use crate::bench::Bench;
 use crate::fault::BenchFault;
 use f77_check::Checked;
-use f77_run::{Outcome, Values, run};
+use f77_run::{Runner, Values};
 use std::alloc::Global;
-
-fn differ(one: &Outcome, other: &Outcome) -> bool
-    ensures yes { result ≡ true → one.now ≢ other.now }
-    ensures no { result ≡ false → one.now ≡ other.now }
-{
-    one != other
-}
 
 /// Whether control does not come to the changed statement, where that is known.
 fn is_passed_by(reached: &Values<bool>, changed: Option<usize>) -> bool
@@ -38,26 +31,46 @@ fn is_passed_by(reached: &Values<bool>, changed: Option<usize>) -> bool
 /// Whether the test of this number, from 0, kills the mutant: it does not, without a run, where control does not come to the statement that is
 /// changed.
 fn kill(
-    alloc: Global,
     bench: &Bench,
-    mutant: &Checked,
+    mutant: &mut Runner<'_>,
     changed: Option<usize>,
     test: usize,
 ) -> Result<bool, BenchFault>
     requires within { test < length bench.now.tests }
-    requires fit { All (λ arguments. refusal mutant.now.arguments arguments ≡ None) bench.now.tests }
-    requires changed { IfSome changed (IsChangedAt (program_of bench.now.plan) (map line_of mutant.now.program)) }
+    requires fit { All (λ arguments. refusal mutant.old.arguments arguments ≡ None) bench.now.tests }
+    requires changed { IfSome changed (IsChangedAt (program_of bench.now.plan) (map line_of mutant.old.program)) }
     ensures kill { IfOk result (λ kill. (arguments : List Arg) → slice_get bench.now.tests test ≡ Some arguments
-        → IsKill (program_of bench.now.plan) (map line_of mutant.now.program) arguments bench.now.steps kill) }
+        → IsKill (program_of bench.now.plan) (map line_of mutant.old.program) arguments bench.now.steps kill) }
+    ensures mutant { mutant.new ≡ mutant.old }
     ensures memory { IfErr result (λ fault. fault ≡ Memory) }
 {
     if is_passed_by(&bench.reached()[test], changed) {
         return Ok(false);
     }
-    match run(alloc, mutant, bench.tests()[test].as_slice(), bench.steps()) {
-        Ok(other) => Ok(differ(&bench.outcomes()[test], &other)),
+    let arguments = bench.tests()[test].as_slice();
+    match mutant.comes_to(arguments, bench.steps(), &bench.outcomes()[test]) {
+        Ok(same) => Ok(!same),
         Err(_) => Err(BenchFault::Memory),
     }
+}
+
+/// Which tests of the bench kill the mutant, test by test.
+fn kills_in_turn(
+    alloc: Global,
+    bench: &Bench,
+    mutant: &mut Runner<'_>,
+    changed: Option<usize>,
+) -> Result<Values<bool>, BenchFault>
+    requires fit { All (λ arguments. refusal mutant.old.arguments arguments ≡ None) bench.now.tests }
+    requires changed { IfSome changed (IsChangedAt (program_of bench.now.plan) (map line_of mutant.old.program)) }
+    ensures kills { IfOk result (λ kills. IsAlone (program_of bench.now.plan) (map line_of mutant.old.program) bench.now.steps bench.now.tests kills) }
+    ensures memory { IfErr result (λ fault. fault ≡ Memory) }
+{
+    let mut kills = Vec::with_capacity(alloc, bench.tests().len())?;
+    for test in 0..bench.tests().len() {
+        kills.push(kill(bench, mutant, changed, test)?)?;
+    }
+    Ok(Values::new(kills))
 }
 
 /// Which tests of the bench kill the mutant, which is changed in the statement of this number, from 0, alone, where that is told.
@@ -72,9 +85,8 @@ pub(crate) fn kills_of(
     ensures kills { IfOk result (λ kills. IsAlone (program_of bench.now.plan) (map line_of mutant.now.program) bench.now.steps bench.now.tests kills) }
     ensures memory { IfErr result (λ fault. fault ≡ Memory) }
 {
-    let mut kills = Vec::with_capacity(alloc, bench.tests().len())?;
-    for test in 0..bench.tests().len() {
-        kills.push(kill(alloc, bench, mutant, changed, test)?)?;
+    match Runner::of(alloc, mutant) {
+        Ok(mut runner) => kills_in_turn(alloc, bench, &mut runner, changed),
+        Err(_) => Err(BenchFault::Memory),
     }
-    Ok(Values::new(kills))
 }

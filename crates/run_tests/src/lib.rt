@@ -4,6 +4,8 @@
 #[cfg(test)]
 mod outcomes;
 #[cfg(test)]
+mod run_again;
+#[cfg(test)]
 mod run_arguments;
 #[cfg(test)]
 mod run_arithmetic;

@@ -16,10 +16,7 @@ fn digits(rt: &impl AllocGlobal, reached: &Values<bool>) -> Result<String, Fail>
     Ok(text)
 }
 
-fn shown(
-    rt: &impl AllocGlobal,
-    answer: &Result<Values<bool>, RunFault>,
-) -> Result<String, Fail> {
+fn shown(rt: &impl AllocGlobal, answer: &Result<Values<bool>, RunFault>) -> Result<String, Fail> {
     match answer {
         Ok(reached) => digits(rt, reached),
         Err(fault) => Ok(format!(in rt.alloc(); "{fault:?}")?),
@@ -32,7 +29,10 @@ fn reached(rt: &impl AllocGlobal, checked: &Checked, input: &str) -> Result<Stri
         return Err(Fail::new("no steps"));
     };
     let values = arguments(rt, words)?;
-    shown(rt, &reached_statements(rt.alloc(), checked, &values, steps.parse()?))
+    shown(
+        rt,
+        &reached_statements(rt.alloc(), checked, &values, steps.parse()?),
+    )
 }
 
 fn assert_reached(

@@ -58,14 +58,15 @@ returns-in-Ok-clause-kill c = λ arguments at.
     let outcomes = ap length c.outcomes.ensures.outcomes in
     let read : slice_get c.tests.result.now c.args.test ≡ Some c.index-tests-test.result
     = slice_get_read c.tests.result.now (length c.tests.result.now) c.args.test c.index-tests-test.result refl (omega (arith, c.requires.within, tests)) c.index-tests-test.is in
-    let told : slice_get c.outcomes.result.now c.args.test ≡ Some c.index-outcomes-test.result
+    let found : slice_get c.outcomes.result.now c.args.test ≡ Some c.index-outcomes-test.result
     = slice_get_read c.outcomes.result.now (length c.outcomes.result.now) c.args.test c.index-outcomes-test.result refl (omega (arith, c.requires.within, long, outcomes)) c.index-outcomes-test.is in
     let own = paired (λ arguments outcome. IsOutcomeOf program arguments bench.steps outcome) bench.tests bench.outcomes c.args.test arguments c.outcomes.ensures.bench.outcomes at in
-    let given : c.as_slice.result.now ≡ arguments
-    = c.as_slice.ensures ∙ same_Some _ _ (sym read ∙ ap (λ tests. slice_get tests c.args.test) c.tests.ensures.tests ∙ at) in
+    let given : c.as_slice-arguments.result.now ≡ arguments
+    = c.as_slice-arguments.ensures ∙ same_Some _ _ (sym read ∙ ap (λ tests. slice_get tests c.args.test) c.tests.ensures.tests ∙ at) in
     let here : own.0 ≡ c.index-outcomes-test.result
-    = same_Some _ _ (sym own.1 ∙ ap (λ outcomes. slice_get outcomes c.args.test) (sym c.outcomes.ensures.outcomes) ∙ told) in
-    is_kill program mutant arguments bench.steps c.index-outcomes-test.result c.in-Ok.other c.differ.result c.differ.ensures.yes c.differ.ensures.no
+    = same_Some _ _ (sym own.1 ∙ ap (λ outcomes. slice_get outcomes c.args.test) (sym c.outcomes.ensures.outcomes) ∙ found) in
+    let told = c.in-Ok.ensures.outcome in
+    is_kill program mutant arguments bench.steps c.index-outcomes-test.result told.0 c.in-Ok.same told.2
     (subst (IsOutcomeOf program arguments bench.steps) here own.2)
-    (subst (λ arguments. IsOutcomeOf mutant arguments bench.steps c.in-Ok.other) given
-    (subst (λ steps. IsOutcomeOf mutant c.as_slice.result.now steps c.in-Ok.other) c.steps.ensures c.in-Ok.ensures.outcome))
+    (subst (λ arguments. IsOutcomeOf mutant arguments bench.steps told.0) given
+    (subst (λ steps. IsOutcomeOf mutant c.as_slice-arguments.result.now steps told.0) c.steps.ensures told.1))

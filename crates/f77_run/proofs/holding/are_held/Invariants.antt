@@ -1,0 +1,13 @@
+use Rattle.std.proofs.Common.{length, drop}
+use Rattle.std.specs.List.{zip}
+use Rattle.f77_run.specs.Holding.{AreHeld}
+use Rattle.f77_run.specs.Spans.{HaveRoom}
+use Rattle.f77_run.proofs.holding.are_held.Given as goal
+
+-- all are held where the other ones are, and these are where all are
+abbrev pub invariant-loop-first : goal.invariant-loop-first
+invariant-loop-first l = record {
+  room : HaveRoom (length l.cells) (zip (drop (length l.yielded) l.dummies) (drop (length l.yielded) l.arguments));
+  whole : AreHeld l.cells (zip (drop (length l.yielded) l.dummies) (drop (length l.yielded) l.arguments)) → AreHeld l.cells (zip l.dummies l.arguments);
+  rest : AreHeld l.cells (zip l.dummies l.arguments) → AreHeld l.cells (zip (drop (length l.yielded) l.dummies) (drop (length l.yielded) l.arguments));
+}

@@ -1,0 +1,33 @@
+use Rattle.std.proofs.Common.{◌≡◌, length, ap, sym, ◌∙◌}
+use Rattle.std.specs.List.{zip}
+use Rattle.std.proofs.lemmas.List.{length-map}
+use Rattle.f77_tree.specs.Parsing.{line_of}
+use Rattle.f77_run.specs.Spans.{all_filled}
+use Rattle.f77_run.specs.declared.machine.Place.TheVariants as places
+use Rattle.f77_run.proofs.Beginning.{filled_cells, room, machine_starts, machine_runs}
+use Rattle.f77_run.proofs.interpreter.enter.Goals as goal
+
+pub fill_all-requires : goal.fill_all-requires
+fill_all-requires c =
+    let slots = c.deref.ensures.value ∙ ap (λ s. s.dummies.items) c.start-start.ensures.start in
+    rw (c.requires.cells, slots) (room c.args.checked.now c.start-start.ensures.checked c.args.arguments.now c.requires.fitting)
+
+pub returns-clause-running : goal.returns-clause-running
+returns-clause-running c =
+    let checked = c.args.checked.now in
+    let slots = c.deref.ensures.value ∙ ap (λ s. s.dummies.items) c.start-start.ensures.start in
+    let filled : c.fill_all.new.cells.items ≡ filled_cells checked c.start-start.ensures.checked c.args.arguments.now c.requires.fitting
+    = c.fill_all.ensures ∙ (λ i. all_filled (c.requires.cells i) (zip (slots i) c.args.arguments.now)) in
+    machine_runs checked c.start-start.ensures.checked c.args.arguments.now c.requires.fitting
+    (record { place = places.Execute c.start-start.result.now.entry; cells = c.fill_all.new.cells; turns = c.args.machine.now.turns })
+    (length checked.program) (ap (λ s. places.Execute s.entry) c.start-start.ensures.start) filled c.requires.turns (sym (length-map checked.program line_of))
+
+pub returns-clause-starts : goal.returns-clause-starts
+returns-clause-starts c =
+    let checked = c.args.checked.now in
+    let slots = c.deref.ensures.value ∙ ap (λ s. s.dummies.items) c.start-start.ensures.start in
+    let filled : c.fill_all.new.cells.items ≡ filled_cells checked c.start-start.ensures.checked c.args.arguments.now c.requires.fitting
+    = c.fill_all.ensures ∙ (λ i. all_filled (c.requires.cells i) (zip (slots i) c.args.arguments.now)) in
+    machine_starts checked c.start-start.ensures.checked c.args.arguments.now c.requires.fitting
+    (record { place = places.Execute c.start-start.result.now.entry; cells = c.fill_all.new.cells; turns = c.args.machine.now.turns })
+    (length checked.program) (ap (λ s. places.Execute s.entry) c.start-start.ensures.start) filled c.requires.turns

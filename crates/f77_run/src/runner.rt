@@ -1,0 +1,215 @@
+//! Runs of one program, one after another.
+
+ghost use Rattle.std.specs.Prelude.{◌≡◌, ◌⊎◌, map, option_map, Some, Err, IfOk, IfErr, IfSome};
+ghost use Rattle.std.specs.Bool.{Decides};
+ghost use Rattle.f77_tree.specs.Parsing.{line_of};
+ghost use Rattle.f77_run.specs.Interpreter as meaning;
+ghost use Rattle.f77_run.specs.Interpreter.{AreArguments, AreFitting, IsOutcomeOf, Tells, refusal, values_in};
+ghost use Rattle.f77_run.specs.Running.{Site, IsRunning, config_at};
+ghost use Rattle.f77_run.specs.Site.{site_of, held, HoldsDummies};
+ghost use Rattle.f77_run.specs.Start.{IsStart, constant_value};
+ghost use Rattle.f77_run.specs.declared.outcome.Outcome.{Outcome};
+ghost use Rattle.f77_run.specs.declared.outcome.RunFault.TheVariants as fault;
+
+use crate::argument::Arg;
+use crate::finish::{Fault, Finish};
+use crate::fitting::fit;
+use crate::holding::are_held;
+use crate::interpreter::{enter, initial};
+use crate::machine::{Machine, Place};
+use crate::outcome::{Outcome, RunFault};
+use crate::running::go;
+use crate::snapshot::Snapshot;
+use crate::value::Value;
+use f77_check::Checked;
+use std::alloc::Global;
+use std::marker::Model;
+
+/// The runs of one program, one after another, in memory that is taken once.
+#[derive(Drop)]
+pub struct Runner<'a> {
+    checked: &'a Checked,
+    /// What DATA gives each slot.
+    initial: Vec<Option<Value>>,
+    machine: Machine,
+    earlier: Snapshot,
+}
+
+impl<'a> Model for Runner<'a> {
+    ghost use Rattle.std.specs.Prelude.{◌≡◌, map, option_map};
+    ghost use Rattle.std.specs.Coded.{codes};
+    ghost use Rattle.f77_tree.specs.contracts.tree.Expr as expr;
+    ghost use Rattle.f77_tree.specs.contracts.tree.Stmt as stmt;
+    ghost use Rattle.f77_check.specs.Checked.{CheckedFields};
+    ghost use Rattle.f77_check.specs.contracts.action.Action as action;
+    ghost use Rattle.f77_check.specs.contracts.expression.Condition as condition;
+    ghost use Rattle.f77_check.specs.contracts.expression.Element as element;
+    ghost use Rattle.f77_check.specs.contracts.expression.Number as number;
+    ghost use Rattle.f77_run.specs.Start.{constant_value};
+
+    ghost Value = { CheckedFields };
+
+    ghost coded = { Prim.hlevel (
+      codes,
+      expr.the_row.coded,
+      stmt.the_row.coded,
+      element.the_row.coded,
+      number.the_row.coded,
+      condition.the_row.coded,
+      action.the_row.coded,
+    ) };
+
+    ghost view = { λ runner. runner.checked.now };
+
+    ghost invariant = { λ runner. runner.initial.items ≡ map (option_map constant_value) runner.checked.now.start.initial.items };
+}
+
+/// A machine with room for so many slots and DOs.
+fn room(alloc: Global, slots: usize, turns: usize) -> Result<Machine, RunFault>
+    ensures memory { IfErr result (λ e. e ≡ fault.Memory) }
+{
+    let cells = Vec::with_capacity(alloc, slots)?;
+    let turns = Vec::with_capacity(alloc, turns)?;
+    Ok(Machine {
+        place: Place::Execute(0),
+        cells,
+        turns,
+    })
+}
+
+/// The machine is at the start of a run, whatever it did before.
+fn restart(
+    checked: &Checked,
+    initial: &[Option<Value>],
+    machine: &mut Machine,
+    arguments: &[Arg],
+) -> Result<(), RunFault>
+    requires initial { initial.now ≡ map (option_map constant_value) checked.now.start.initial.items }
+    requires fitting { AreFitting checked.now.arguments arguments.now }
+    ensures running { IfOk result (λ _. IsRunning (site_of checked.now arguments.now) checked.now.statements machine.new) }
+    ensures starts { IfOk result
+        (λ _. IsStart (map line_of checked.now.program) (map values_in arguments.now) (config_at (site_of checked.now arguments.now) machine.new)) }
+    ensures memory { IfErr result (λ e. e ≡ fault.Memory) }
+{
+    machine.cells.clear();
+    machine.cells.extend_from_slice(initial)?;
+    machine.turns.clear();
+    machine.turns.resize(checked.count(), None)?;
+    enter(checked, machine, arguments);
+    Ok(())
+}
+
+/// Whether the dummy arguments hold these values.
+fn are_dummies(checked: &Checked, machine: &Machine, arguments: &[Arg]) -> bool
+    requires { HoldsDummies checked.now machine.now }
+    ensures { Decides result (AreArguments (map line_of checked.now.program) (held checked.now machine.now.cells.items) arguments.now) }
+{
+    let start = checked.start();
+    match fit(checked.arguments(), arguments) {
+        Ok(()) => are_held(&machine.cells, &start.dummies, arguments),
+        Err(_) => false,
+    }
+}
+
+/// Whether this is the outcome of a run that failed.
+fn is_fault(fault: Fault, outcome: &Outcome) -> bool
+    ensures { Decides result (outcome.now ≡ meaning.told fault) }
+{
+    match outcome {
+        Outcome::Overflow => matches!(fault, Fault::Overflow),
+        Outcome::DivideByZero => matches!(fault, Fault::DivideByZero),
+        Outcome::ZeroPower => matches!(fault, Fault::ZeroPower),
+        Outcome::BadSubscript => matches!(fault, Fault::BadSubscript),
+        Outcome::ZeroStep => matches!(fault, Fault::ZeroStep),
+        Outcome::Undefined => matches!(fault, Fault::Undefined),
+        Outcome::Trapped => matches!(fault, Fault::Trapped),
+        Outcome::Returned(_) | Outcome::Stopped(_) | Outcome::StepLimit => false,
+    }
+}
+
+/// Whether this is told of an end.
+fn is_told(checked: &Checked, finish: Finish, machine: &Machine, outcome: &Outcome) -> bool
+    requires { HoldsDummies checked.now machine.now }
+    ensures { Decides result (Tells (map line_of checked.now.program) finish (held checked.now machine.now.cells.items) outcome.now) }
+{
+    match (finish, outcome) {
+        (Finish::Returned, Outcome::Returned(arguments))
+        | (Finish::Stopped, Outcome::Stopped(arguments)) => {
+            are_dummies(checked, machine, arguments.as_slice())
+        }
+        (Finish::Failed(fault), outcome) => is_fault(fault, outcome),
+        (Finish::StepLimit, Outcome::StepLimit) => true,
+        (Finish::Returned | Finish::Stopped | Finish::StepLimit, _) => false,
+    }
+}
+
+/// Whether the run with arguments that fit has this outcome.
+fn same_outcome(
+    checked: &Checked,
+    initial: &[Option<Value>],
+    machine: &mut Machine,
+    earlier: &mut Snapshot,
+    arguments: &[Arg],
+    steps: u32,
+    outcome: &Outcome,
+) -> Result<bool, RunFault>
+    ghost at: { Site }
+    requires site { at ≡ site_of checked.now arguments.now }
+    requires initial { initial.now ≡ map (option_map constant_value) checked.now.start.initial.items }
+    requires fitting { AreFitting checked.now.arguments arguments.now }
+    ensures outcome { IfOk result (λ same. (other : Outcome)
+        × IsOutcomeOf (map line_of checked.now.program) arguments.now steps other × Decides same (outcome.now ≡ other)) }
+    ensures memory { IfErr result (λ e. e ≡ fault.Memory) }
+{
+    restart(checked, initial, machine, arguments)?;
+    earlier.forget();
+    let end = go(checked.statements(), machine, earlier, steps)?;
+    Ok(is_told(checked, end.finish, machine, outcome))
+}
+
+impl<'a> Runner<'a> {
+    /// The runs of this program. All the memory that they need is taken here, but that in which a state of a long run is kept.
+    pub fn of(alloc: Global, checked: &'a Checked) -> Result<Runner<'a>, RunFault>
+        ensures program { IfOk result (λ runner. runner ≡ checked.now) }
+        ensures memory { IfErr result (λ e. e ≡ fault.Memory) }
+    {
+        let initial = initial(alloc, &checked.start().initial)?;
+        let machine = room(alloc, initial.len(), checked.count())?;
+        Ok(Runner {
+            checked,
+            initial,
+            machine,
+            earlier: Snapshot::new(alloc),
+        })
+    }
+
+    /// Whether the run with these values of the dummy arguments, in order, for so many steps at most, has this outcome.
+    ///
+    /// N2 and N3 are told before any step, and want of memory, N1, in place of any answer.
+    pub fn comes_to(
+        &mut self,
+        arguments: &[Arg],
+        steps: u32,
+        outcome: &Outcome,
+    ) -> Result<bool, RunFault>
+        ensures program { self.new ≡ self.old }
+        ensures outcome { IfOk result (λ same. (other : Outcome)
+            × IsOutcomeOf (map line_of self.old.program) arguments.now steps other × Decides same (outcome.now ≡ other)) }
+        ensures refused { IfSome (refusal self.old.arguments arguments.now) (λ e. result ≡ Err e) }
+        ensures fault { IfErr result (λ e. (e ≡ fault.Memory) ⊎ (refusal self.old.arguments arguments.now ≡ Some e)) }
+    {
+        let checked = self.checked;
+        match fit(checked.arguments(), arguments) {
+            Ok(()) => same_outcome(
+                checked,
+                &self.initial,
+                &mut self.machine,
+                &mut self.earlier,
+                arguments,
+                steps,
+                outcome,
+            ),
+            Err(fault) => Err(fault),
+        }
+    }
+}
