@@ -67,10 +67,11 @@ impl Snapshot {
         if !same_place(self.place, machine.place) {
             return false;
         }
-        if !self.turns.are(&machine.turns) {
+        // The slots first: in a loop that counts, one of them tells.
+        if !self.cells.are(&machine.cells) {
             return false;
         }
-        self.cells.are(&machine.cells)
+        self.turns.are(&machine.turns)
     }
 
     /// The state of the machine is kept, in place of the one before.
