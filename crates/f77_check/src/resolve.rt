@@ -238,7 +238,7 @@ impl Resolver {
         })
     }
 
-    /// What the statement `i` does (section 10, 11.1 to 11.13).
+    /// What the statement `i` does (section 10, 11.1 to 11.14).
     fn action(&self, alloc: Global, i: usize, stmt: &Stmt) -> Result<Action, CheckFault>
         ghost program: { List LineFields }
         requires tables { Serve self.now.tables program }

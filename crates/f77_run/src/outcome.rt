@@ -11,7 +11,7 @@ use thiserror::Error;
 /// What comes of a run within its limit on steps. The values are those of all dummy arguments, in order.
 #[derive(Debug, PartialEq, Eq, Drop)]
 pub enum Outcome {
-    /// RETURN or END was executed (15.8, 11.13).
+    /// RETURN or END was executed (15.8, 11.14).
     Returned(Values<Arg>),
     /// STOP was executed (11.12).
     Stopped(Values<Arg>),

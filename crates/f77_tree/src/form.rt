@@ -45,7 +45,7 @@ pub enum Form {
     Stop,
     /// What a mutant has in place of a statement.
     Trap,
-    /// END (11.13).
+    /// END (11.14).
     End,
 }
 

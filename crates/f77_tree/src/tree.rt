@@ -136,6 +136,6 @@ pub enum Stmt {
     Stop,
     /// What a mutant has in place of a statement, to be told when it is executed.
     Trap,
-    /// END (11.13).
+    /// END (11.14).
     End,
 }
