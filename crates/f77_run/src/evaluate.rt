@@ -1,12 +1,12 @@
 //! The values of expressions over slots (ANSI X3.9-1978, section 6).
 
-ghost use Rattle.std.specs.Prelude.{◌≡◌, ◌<◌, ◌*◌, [], ◌∷◌, true, length, IfOk, IfSome};
+ghost use Rattle.std.specs.Prelude.{◌≡◌, ◌<◌, ◌*◌, [], ◌∷◌, true, length, Ok, IfOk, IfSome};
 ghost use Rattle.f77_run.specs.Evaluation as resolved;
 ghost use Rattle.f77_run.specs.Evaluation.{slot_in, number_in, truth_in, held_in, element_within, number_within, condition_within};
 ghost use Rattle.f77_run.specs.Value as meaning;
 
 use crate::finish::Fault;
-use crate::machine::{held_number, held_truth};
+use crate::machine::{held_number, held_truth, number_at};
 use crate::number::{
     absolute, difference, greater, is_below, is_same, lesser, modulus, negated, power, product,
     pushed, quotient, sum,
@@ -80,17 +80,17 @@ fn joined(connective: Connective, a: bool, b: bool) -> bool
     }
 }
 
-/// The value of a constant or a variable, which takes no call; None of every other expression.
+/// The value of a constant, or of a variable that has one, which takes no call; None of every other expression.
 #[inline(always)]
-fn at_hand(term: &Number, cells: &[Option<Value>]) -> Option<Result<i32, Fault>>
+fn at_hand(term: &Number, cells: &[Option<Value>]) -> Option<i32>
     requires { number_within (length cells.now) term.now ≡ true }
-    ensures { IfSome result (λ value. value ≡ number_in cells.now term.now) }
+    ensures { IfSome result (λ value. number_in cells.now term.now ≡ Ok value) }
 {
     if let Number::Element(Element::Variable(slot)) = term {
-        return Some(held_number(cells, *slot));
+        return number_at(cells, *slot);
     }
     if let Number::Constant(number) = term {
-        return Some(Ok(*number));
+        return Some(*number);
     }
     None
 }
@@ -111,7 +111,7 @@ fn slot(element: &Element, cells: &[Option<Value>]) -> Result<usize, Fault>
             subscript,
         } => {
             let subscript = match at_hand(subscript, cells) {
-                Some(value) => value?,
+                Some(value) => value,
                 None => number(subscript, cells)?,
             };
             Ok(*first + offset(*bound, subscript)?)
@@ -124,11 +124,11 @@ fn slot(element: &Element, cells: &[Option<Value>]) -> Result<usize, Fault>
             column,
         } => {
             let row = match at_hand(row, cells) {
-                Some(value) => value?,
+                Some(value) => value,
                 None => number(row, cells)?,
             };
             let column = match at_hand(column, cells) {
-                Some(value) => value?,
+                Some(value) => value,
                 None => number(column, cells)?,
             };
             Ok(*first + matrix_offset(*rows, *columns, row, column)?)
@@ -152,11 +152,11 @@ fn number(term: &Number, cells: &[Option<Value>]) -> Result<i32, Fault>
         Number::ZeroPush(operand) => pushed(number(operand, cells)?),
         Number::Binary(operation, left, right) => {
             let left = match at_hand(left, cells) {
-                Some(value) => value?,
+                Some(value) => value,
                 None => number(left, cells)?,
             };
             let right = match at_hand(right, cells) {
-                Some(value) => value?,
+                Some(value) => value,
                 None => number(right, cells)?,
             };
             calculated(*operation, left, right)
@@ -171,7 +171,7 @@ fn shallow(term: &Number, cells: &[Option<Value>]) -> Result<i32, Fault>
     ensures { result ≡ number_in cells.now term.now }
 {
     match at_hand(term, cells) {
-        Some(value) => value,
+        Some(value) => Ok(value),
         None => number(term, cells),
     }
 }
@@ -184,8 +184,14 @@ pub(crate) fn operand(term: &Number, cells: &[Option<Value>]) -> Result<i32, Fau
 {
     match term {
         Number::Binary(operation, left, right) => {
-            let left = shallow(left, cells)?;
-            let right = shallow(right, cells)?;
+            let left = match at_hand(left, cells) {
+                Some(value) => value,
+                None => number(left, cells)?,
+            };
+            let right = match at_hand(right, cells) {
+                Some(value) => value,
+                None => number(right, cells)?,
+            };
             calculated(*operation, left, right)
         }
         _ => shallow(term, cells),
@@ -205,7 +211,13 @@ pub(crate) fn target(element: &Element, cells: &[Option<Value>]) -> Result<usize
             first,
             bound,
             subscript,
-        } => Ok(*first + offset(*bound, shallow(subscript, cells)?)?),
+        } => {
+            let subscript = match at_hand(subscript, cells) {
+                Some(value) => value,
+                None => number(subscript, cells)?,
+            };
+            Ok(*first + offset(*bound, subscript)?)
+        }
         Element::Matrix { .. } => slot(element, cells),
     }
 }
@@ -222,8 +234,14 @@ fn related(
     requires right { number_within (length cells.now) right.now ≡ true }
     ensures { result ≡ meaning.both (λ a b. Ok (resolved.compared relation a b)) (number_in cells.now left.now) (number_in cells.now right.now) }
 {
-    let left = operand(left, cells)?;
-    let right = operand(right, cells)?;
+    let left = match at_hand(left, cells) {
+        Some(value) => value,
+        None => operand(left, cells)?,
+    };
+    let right = match at_hand(right, cells) {
+        Some(value) => value,
+        None => operand(right, cells)?,
+    };
     Ok(compared(relation, left, right))
 }
 

@@ -1,6 +1,6 @@
 //! A machine over slots.
 
-ghost use Rattle.std.specs.Prelude.{◌≡◌, ◌<◌, Some, true, length, slice_set, is_some};
+ghost use Rattle.std.specs.Prelude.{◌≡◌, ◌<◌, Some, Ok, true, length, slice_set, is_some, IfSome};
 ghost use Rattle.f77_run.specs.Evaluation.{held_in};
 ghost use Rattle.f77_run.specs.Moves as moves;
 ghost use Rattle.f77_run.specs.Reach.{are_below};
@@ -49,6 +49,17 @@ pub(crate) fn held_number(cells: &[Option<Value>], slot: usize) -> Result<i32, F
     match cells[slot] {
         Some(Value::Number(number)) => Ok(number),
         Some(Value::Truth(_)) | None => Err(Fault::Undefined),
+    }
+}
+
+/// The number in a slot, where it has one.
+pub(crate) fn number_at(cells: &[Option<Value>], slot: usize) -> Option<i32>
+    requires { slot < length cells.now }
+    ensures { IfSome result (λ number. whole (held_in cells.now slot) ≡ Ok number) }
+{
+    match cells[slot] {
+        Some(Value::Number(number)) => Some(number),
+        Some(Value::Truth(_)) | None => None,
     }
 }
 

@@ -32,6 +32,7 @@ impl End {
 }
 
 /// At most so many steps: how they end. A run that comes back to a state never ends, and meets its limit.
+#[inline(never)]
 pub(crate) fn go(
     statements: &[Shared<Resolved>],
     machine: &mut Machine,
@@ -47,7 +48,7 @@ pub(crate) fn go(
     ensures memory { IfErr result (λ e. e ≡ fault.Memory) }
 {
     for made in 0..steps {
-        if earlier.came_back(machine, made)? {
+        if earlier.is_seen_back(machine, made)? {
             return Ok(End::new(Finish::StepLimit, made));
         }
         match step(statements, machine) {

@@ -1,6 +1,6 @@
 //! A state that a run was in, by which it is known when the run comes back to it.
 
-ghost use Rattle.std.specs.Prelude.{◌≡◌, ◌⊎◌, Some, None, IfOk, IfErr};
+ghost use Rattle.std.specs.Prelude.{◌≡◌, ◌⊎◌, true, Some, None, IfOk, IfErr};
 ghost use Rattle.std.specs.Bool.{Decides};
 ghost use Rattle.f77_run.specs.Moves.{state_of};
 ghost use Rattle.f77_run.specs.Snapshot.{kept};
@@ -15,8 +15,14 @@ use std::alloc::Global;
 /// How many steps are made before a state is kept: a run that ends before them pays nothing.
 const FIRST: u32 = 64;
 
+/// For how many steps at least each state is looked for: a run that comes back within them is known as soon as by a look at each step.
+const LEAST: u32 = 512;
+
+/// In a long run a state is looked for in one of so many steps, since a look takes half as long as a step.
+const PART: u32 = 32;
+
 /// A state that a run was in, if any is kept. Each is kept twice as many steps behind the start as the one before, so that a run that comes
-/// back is known after three times as many steps at most as it takes to come back for the first time.
+/// back within 512 steps is known after three times as many steps at most as it takes to come back for the first time.
 #[derive(Drop)]
 pub(crate) struct Snapshot {
     pub(crate) place: Option<Place>,
@@ -24,6 +30,10 @@ pub(crate) struct Snapshot {
     pub(crate) turns: Kept<Option<Turn>>,
     /// The number of steps behind which the next one is kept.
     due: u32,
+    /// The number of steps up to which this one is looked for.
+    last: u32,
+    /// The number of steps behind which the next look is due.
+    next: u32,
 }
 
 fn same_place(one: Option<Place>, other: Place) -> bool
@@ -48,6 +58,8 @@ impl Snapshot {
             cells: Kept::new(alloc),
             turns: Kept::new(alloc),
             due: FIRST,
+            last: FIRST,
+            next: FIRST,
         }
     }
 
@@ -57,6 +69,8 @@ impl Snapshot {
     {
         self.place = None;
         self.due = FIRST;
+        self.last = FIRST;
+        self.next = FIRST;
     }
 
     /// Whether the machine is in the state that is kept.
@@ -74,8 +88,8 @@ impl Snapshot {
         self.turns.are(&machine.turns)
     }
 
-    /// The state of the machine is kept, in place of the one before.
-    fn keep(&mut self, machine: &Machine) -> Result<(), RunFault>
+    /// The state of the machine, which is in it behind so many steps, is kept in place of the one before.
+    fn keep(&mut self, machine: &Machine, steps: u32) -> Result<(), RunFault>
         ensures kept { IfOk result (λ _. kept self.new ≡ Some (state_of machine.now)) }
         ensures memory { IfErr result (λ e. e ≡ fault.Memory) }
     {
@@ -83,11 +97,13 @@ impl Snapshot {
         self.turns.keep(&machine.turns)?;
         self.place = Some(machine.place);
         self.due = self.due.saturating_mul(2);
+        self.last = steps.saturating_add((steps / PART).max(LEAST));
         Ok(())
     }
 
     /// Whether the machine came back to the state that is kept. If not, its own is kept where that is due behind so many steps.
-    pub(crate) fn came_back(&mut self, machine: &Machine, steps: u32) -> Result<bool, RunFault>
+    #[inline(never)]
+    fn came_back(&mut self, machine: &Machine, steps: u32) -> Result<bool, RunFault>
         ensures back { IfOk result (λ back. Decides back (kept self.old ≡ Some (state_of machine.now))) }
         ensures kept { IfOk result (λ _. (kept self.new ≡ kept self.old) ⊎ (kept self.new ≡ Some (state_of machine.now))) }
         ensures memory { IfErr result (λ e. e ≡ fault.Memory) }
@@ -96,8 +112,26 @@ impl Snapshot {
             return Ok(true);
         }
         if steps == self.due {
-            self.keep(machine)?;
+            self.keep(machine, steps)?;
         }
+        self.next = if steps < self.last && steps < self.due {
+            steps + 1
+        } else {
+            self.due
+        };
         Ok(false)
+    }
+
+    /// Whether the machine is seen to have come back. A look is due behind few of the steps of a long run: the others pay a comparison.
+    #[inline(always)]
+    pub(crate) fn is_seen_back(&mut self, machine: &Machine, steps: u32) -> Result<bool, RunFault>
+        ensures back { IfOk result (λ back. back ≡ true → kept self.old ≡ Some (state_of machine.now)) }
+        ensures kept { IfOk result (λ _. (kept self.new ≡ kept self.old) ⊎ (kept self.new ≡ Some (state_of machine.now))) }
+        ensures memory { IfErr result (λ e. e ≡ fault.Memory) }
+    {
+        if steps != self.next {
+            return Ok(false);
+        }
+        self.came_back(machine, steps)
     }
 }

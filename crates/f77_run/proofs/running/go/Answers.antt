@@ -18,7 +18,7 @@ pub returns-then-branch-clause-ends : goal.returns-then-branch-clause-ends
 returns-then-branch-clause-ends g c =
     rw (c.new.ensures.made, c.new.ensures.finish)
     (turns_back g.at c.args.statements.now c.args.machine.now c.loop-made.machine c.args.steps c.loop-made.made (kept c.loop-made.earlier) c.loop-made-test.true
-    c.loop-made.invariant.1 (c.in_ok-came_back.ensures.back.0 c.if-branch.true) c.loop-made.invariant.0)
+    c.loop-made.invariant.1 (c.in_ok-is_seen_back.ensures.back c.if-branch.true) c.loop-made.invariant.0)
 
 pub returns-in-Ok-Returns-clause-ends : goal.returns-in-Ok-Returns-clause-ends
 returns-in-Ok-Returns-clause-ends g c =
@@ -43,8 +43,8 @@ loop-made-preserved g c =
     let moved = c.step.ensures.moved ∙ ap (λ r. Some (move_of r c.step.new.machine)) (c.in-Ok-Goes.is ∙ ap Ok c.in-Ok-Goes.field-0-is) in
     let below = c.loop-made-test.true in (
       one_more g.at c.args.statements.now c.args.machine.now c.loop-made.machine c.step.new.machine c.loop-made.made c.loop-made.invariant.0 moved c.step.ensures.lengths,
-      kept_on g.at c.args.statements.now c.args.machine.now c.loop-made.machine c.step.new.machine c.loop-made.made (kept c.loop-made.earlier) (kept c.came_back.new.self)
-          c.loop-made.invariant.0 moved c.loop-made.invariant.1 c.in_ok-came_back.ensures.kept,
+      kept_on g.at c.args.statements.now c.args.machine.now c.loop-made.machine c.step.new.machine c.loop-made.made (kept c.loop-made.earlier) (kept c.is_seen_back.new.self)
+          c.loop-made.invariant.0 moved c.loop-made.invariant.1 c.in_ok-is_seen_back.ensures.kept,
       omega (arith, below),
     )
 
