@@ -10,7 +10,7 @@ use Rattle.mothra_exchange.specs.declared.answer.Take.{Take}
 use Rattle.mothra_exchange.specs.declared.answer.Take.TheVariants.{Finished, Empty, Busy, Taken, GaveUp}
 use Rattle.mothra_codes.specs.Op.{index}
 use Rattle.mothra_exchange.specs.Ticket.{ticket}
-use Rattle.mothra_exchange.specs.Word.{word_after_take}
+use Rattle.mothra_exchange.specs.Word.{AtMost, greater_word, word_after_take}
 use Rattle.mothra_exchange.specs.View.{look_at, joined_look, united_view, merging_view, view_after_load, view_after_split, split_off_view}
 use Rattle.mothra_exchange.specs.Rule.{Loads, Agrees}
 use Rattle.mothra_exchange.specs.Sharing.{IsOver, MergesWell}
@@ -29,6 +29,23 @@ or_right : (a b : Bool) → b ≡ true → (a || b) ≡ true
 or_right true b e = refl
 or_right false b e = e
 
+-- of two words that are at most a third, the greater one is no less than either
+left_below : (a b x : Word) → AtMost a x → AtMost b x → AtMost a (greater_word a b)
+left_below a b x p q = record {
+  count = omega arith;
+  offered = omega arith;
+  handed = omega arith;
+  close = λ c. let e = (p.close c).1 in let f = q.offered in (or_left a.closed b.closed c, omega arith);
+}
+
+right_below : (a b x : Word) → AtMost a x → AtMost b x → AtMost b (greater_word a b)
+right_below a b x p q = record {
+  count = omega arith;
+  offered = omega arith;
+  handed = omega arith;
+  close = λ c. let e = (q.close c).1 in let f = p.offered in (or_right a.closed b.closed c, omega arith);
+}
+
 pub merges_well : (C : ℕ) (v w : View) → length v.looks ≡ 22 → length w.looks ≡ 22 → Agrees C (merging_view v w) → MergesWell v w
 merges_well C v w lv lw agree op =
     let i = index op in
@@ -40,6 +57,10 @@ merges_well C v w lv lw agree op =
     let theirs = a.knows.2 in
     let look : look_at (united_view v w) i ≡ joined_look (look_at v i) (look_at w i) = joined_at v.looks w.looks i (subst (λ (n : ℕ). i < n) (sym lv) small)
     (subst (λ (n : ℕ). i < n) (sym lw) small) in record {
+      left_seen = subst (λ (l : Look). AtMost (look_at v i).seen l.seen) (sym look)
+          (left_below (look_at v i).seen (look_at w i).seen x mine theirs);
+      right_seen = subst (λ (l : Look). AtMost (look_at w i).seen l.seen) (sym look)
+          (right_below (look_at v i).seen (look_at w i).seen x mine theirs);
       left_over = λ o. let c = mine.close o.0 in let e = c.1 in let f = o.1 in
           subst (λ (l : Look). (l.seen.closed ≡ true) × (l.seen.handed ≡ l.seen.offered)) (sym look) (or_left _ _ o.0, omega arith);
       right_over = λ o. let c = theirs.close o.0 in let e = c.1 in let f = o.1 in

@@ -11,8 +11,9 @@ use Rattle.mothra_exchange.specs.declared.answer.Close.{Close}
 use Rattle.mothra_exchange.specs.declared.answer.Close.TheVariants.{GaveUp as CloseGaveUp}
 use Rattle.mothra_exchange.specs.Calls.{OfferDid, TakeDid, CloseDid}
 
--- the part, the tickets and the closings stay
+-- the counts, the part, the tickets and the closings stay
 pub record AddsNone (v w : View) : Type 0 where
+  pub counts : w.counts ≡ v.counts
   pub part : w.part ≡ v.part
   pub taken : w.taken ≡ v.taken
   pub offered : w.offered ≡ v.offered

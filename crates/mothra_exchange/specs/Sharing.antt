@@ -4,14 +4,17 @@ use Rattle.mothra_codes.specs.declared.op.Op.{Op}
 use Rattle.mothra_codes.specs.Op.{index}
 use Rattle.mothra_exchange.specs.declared.view.View.{View}
 use Rattle.mothra_exchange.specs.Ticket.{times}
+use Rattle.mothra_exchange.specs.Word.{AtMost}
 use Rattle.mothra_exchange.specs.View.{times_closed, look_at, united_view}
 
 -- the view shows that the operator is closed and all that was offered is handed out
 abbrev pub IsOver : View → Op → Type 0
 IsOver v op = ((look_at v (index op)).seen.closed ≡ true) × ((look_at v (index op)).seen.handed ≡ (look_at v (index op)).seen.offered)
 
--- of one operator: what either side saw to be over stays over, both saw one close, and the two are disjoint
+-- of one operator: what either side saw is seen, what either side saw to be over stays over, both saw one close, and the two are disjoint
 pub record MergesAt (v w : View) (op : Op) : Type 0 where
+  pub left_seen : AtMost (look_at v (index op)).seen (look_at (united_view v w) (index op)).seen
+  pub right_seen : AtMost (look_at w (index op)).seen (look_at (united_view v w) (index op)).seen
   pub left_over : IsOver v op → IsOver (united_view v w) op
   pub right_over : IsOver w op → IsOver (united_view v w) op
   pub same_close : (look_at v (index op)).seen.closed ≡ true → (look_at w (index op)).seen.closed ≡ true
