@@ -1,11 +1,8 @@
 -- Which tests kill a mutant, and that it is told in one way.
-use Rattle.std.proofs.Common.{inl, inr, None, ◌≡◌, ◌≢◌, arith, ◌∙◌, ◌+◌, ℕ, zero, suc, List, [], ◌∷◌, ◌++◌, Bool, true, false, true≢false, not, length, refl, sym, ap, subst}
-use Rattle.std.specs.Prelude.{◌<◌, ◌≤◌}
+use Rattle.std.proofs.Common.{inl, inr, None, ◌≡◌, arith, ◌∙◌, ℕ, zero, suc, List, [], ◌∷◌, Bool, true, false, true≢false, not, length, refl, sym, subst}
+use Rattle.std.specs.Prelude.{◌≤◌}
 use Rattle.std.specs.Bool.{Decides}
-use Rattle.std.specs.List.{AllZip}
-use Rattle.std.proofs.lemmas.List.{take_more}
 use Rattle.std.proofs.lemmas.Option.{none-some, same_Some, slice_get_cases}
-use Rattle.std.proofs.lemmas.Slice.Zip.{all_zipped_more}
 use Rattle.f77_tree.specs.Parsing.{LineFields}
 use Rattle.f77_run.specs.Interpreter.{IsOutcomeOf, OneAnswer}
 use Rattle.f77_run.specs.declared.argument.Arg.{Arg}

@@ -13,8 +13,12 @@ mod ReportTexts
 mod Kills
 mod KillsUnreached
 mod PassSteps
+mod Looking
+mod FeederSteps
+mod JoinedPasses
 mod WorkerSteps
 mod WorkerRows
 mod ReportEntries
+mod CompleteRows
 mod Crossings
 mod CountSteps

@@ -11,14 +11,14 @@ use Rattle.mothra_bench.specs.Working.{OnlyTook}
 -- it offers and closes nothing
 pub take_only : (C : ℕ) (old : View) (op : Op) (answer : Take) (new : View) → TakeKept C old op answer new → OnlyTook old new
 take_only C old op take.Finished new h =
-    let e = h.2.1 in record { part = ap (λ (v : View). v.part) e; offered = ap (λ (v : View). v.offered) e; closings = ap (λ (v : View). v.closings) e }
+    let e = h.2.1 in record { counts = ap (λ (v : View). v.counts) e; part = ap (λ (v : View). v.part) e; offered = ap (λ (v : View). v.offered) e; closings = ap (λ (v : View). v.closings) e }
 take_only C old op take.Empty new h =
-    let e = h.2.1 in record { part = ap (λ (v : View). v.part) e; offered = ap (λ (v : View). v.offered) e; closings = ap (λ (v : View). v.closings) e }
+    let e = h.2.1 in record { counts = ap (λ (v : View). v.counts) e; part = ap (λ (v : View). v.part) e; offered = ap (λ (v : View). v.offered) e; closings = ap (λ (v : View). v.closings) e }
 take_only C old op take.Busy new h =
-    let e = h.2.1.3 in record { part = ap (λ (v : View). v.part) e; offered = ap (λ (v : View). v.offered) e; closings = ap (λ (v : View). v.closings) e }
+    let e = h.2.1.3 in record { counts = ap (λ (v : View). v.counts) e; part = ap (λ (v : View). v.part) e; offered = ap (λ (v : View). v.offered) e; closings = ap (λ (v : View). v.closings) e }
 take_only C old op (take.Taken ticket) new h =
-    let e = h.2.2 in record { part = ap (λ (v : View). v.part) e; offered = ap (λ (v : View). v.offered) e; closings = ap (λ (v : View). v.closings) e }
-take_only C old op take.GaveUp new h = record { part = h.part; offered = h.offered; closings = h.closings }
+    let e = h.2.2 in record { counts = ap (λ (v : View). v.counts) e; part = ap (λ (v : View). v.part) e; offered = ap (λ (v : View). v.offered) e; closings = ap (λ (v : View). v.closings) e }
+take_only C old op take.GaveUp new h = record { counts = h.counts; part = h.part; offered = h.offered; closings = h.closings }
 
 -- with no ticket it takes nothing
 pub take_none : (C : ℕ) (old : View) (op : Op) (answer : Take) (new : View) → ((ticket : Ticket) → answer ≢ take.Taken ticket) → TakeKept C old op answer new

@@ -1,21 +1,17 @@
 -- A report's entries are the verdicts of a bench, and it has one report at most.
-use Rattle.std.proofs.Common.{◌≡◌, ◌↔◌, ℕ, List, [], ◌∷◌, map, drop, get_or, All, Bool, true, false, true≢false, refl, sym, ap, ◌∙◌, subst, arith}
+use Rattle.std.proofs.Common.{◌≡◌, ◌↔◌, ℕ, List, [], ◌∷◌, map, drop, get_or, All, Bool, true, false, refl, sym, ap, ◌∙◌, subst, arith}
 use Rattle.std.specs.Prelude.{IsTrue}
 use Rattle.std.proofs.lemmas.List.Elements.{All-filter, All-tail}
 use Rattle.f77_run.specs.Interpreter.{OneAnswer}
 use Rattle.mothra_exchange.specs.Ticket.{ticket}
 use Rattle.mothra_exchange.specs.declared.ticket.Ticket.{Ticket}
 use Rattle.mothra_exchange.specs.declared.word.Word.{Word}
-use Rattle.mothra_ops.specs.Plan.{PlanFields}
-use Rattle.mothra_bench.specs.Analysis.{AreEntries, IsNoReport, IsReport}
+use Rattle.mothra_bench.specs.Analysis.{AreEntries, IsReport}
 use Rattle.mothra_bench.specs.Bench.{BenchFields}
-use Rattle.mothra_bench.specs.Collecting.{AreCollected, IsDeclared, IsNoMatrix, is_row_of, row_of, rows_of}
-use Rattle.mothra_bench.specs.Driving.{IsNoDrive}
+use Rattle.mothra_bench.specs.Collecting.{AreCollected, IsDeclared, is_row_of, row_of, rows_of}
 use Rattle.mothra_bench.specs.Gathered.{AreVerdicts, IsOwn}
 use Rattle.mothra_bench.specs.Report.{report_text}
 use Rattle.mothra_bench.specs.Verdict.{IsVerdict}
-use Rattle.mothra_bench.specs.declared.fault.BenchFault.{BenchFault}
-use Rattle.mothra_bench.specs.declared.fault.BenchFault.TheVariants as fault
 use Rattle.mothra_bench.specs.declared.matrix.Entry.{Entry}
 use Rattle.mothra_bench.specs.declared.verdict.Row.{Row}
 use Rattle.mothra_bench.proofs.Kills.{one_verdict}
@@ -34,32 +30,6 @@ are_entries bench words rows entries collected all = record {
   verdicts = λ k d lt. entry_verdict bench rows (get_or entries k d) all (collected.own k d lt);
   declared = collected.declared;
 }
-
--- what keeps rows from coming, over a gate that never gives up
-pub drive_report : (may : Bool) (plan : PlanFields) (e : BenchFault) → may ≡ false → IsNoDrive may plan e → IsNoReport e
-drive_report may plan fault.Memory never h = tt
-drive_report may plan fault.Thread never h = tt
-drive_report may plan (fault.Stranger t) never h = tt
-drive_report may plan fault.Stalled never h = true≢false (sym h ∙ never)
-drive_report may plan (fault.TestShape n) never h = absurd h
-drive_report may plan (fault.OriginalFails n) never h = absurd h
-drive_report may plan (fault.EquivalentUnknown n) never h = absurd h
-drive_report may plan (fault.EquivalentTwice n) never h = absurd h
-drive_report may plan (fault.Double t) never h = absurd h
-drive_report may plan (fault.Missing t) never h = absurd h
-
--- what keeps a matrix from being made
-pub matrix_report : (bench : BenchFields) (words : List Word) (rows : List Row) (e : BenchFault) → IsNoMatrix bench words rows e → IsNoReport e
-matrix_report bench words rows fault.Memory h = tt
-matrix_report bench words rows (fault.Stranger t) h = tt
-matrix_report bench words rows (fault.Double t) h = tt
-matrix_report bench words rows (fault.Missing t) h = tt
-matrix_report bench words rows fault.Thread h = absurd h
-matrix_report bench words rows fault.Stalled h = absurd h
-matrix_report bench words rows (fault.TestShape n) h = absurd h
-matrix_report bench words rows (fault.OriginalFails n) h = absurd h
-matrix_report bench words rows (fault.EquivalentUnknown n) h = absurd h
-matrix_report bench words rows (fault.EquivalentTwice n) h = absurd h
 
 -- two tests of one statement
 same_flag : (S : Type 0) (one other : Bool) → IsTrue one ↔ S → IsTrue other ↔ S → one ≡ other

@@ -1,21 +1,29 @@
 -- A worker's steps, one after another.
-use Rattle.std.proofs.Common.{◌≡◌, ℕ, ◌+◌, ◌-◌, ◌≤◌, List, [], ◌∷◌, ◌++◌, Bool, true, false, Vec, Global, Option, None, Some, Result, Ok, Err, IfSome, IfOk, IfErr, MatchOption, cond, ◌&&◌, eqb, is_some, refl, sym, ap, ◌∙◌, subst, append_assoc, append-nil, arith, Bor}
+use Rattle.std.proofs.Common.{◌≡◌, ℕ, ◌+◌, ◌-◌, ◌<◌, ◌≤◌, List, [], ◌∷◌, ◌++◌, Bool, true, false, Vec, Global, Option, None, Some, Result, Ok, Err, IfSome, IfOk, IfErr, MatchOption, cond, ◌&&◌, eqb, is_some, IsSome, true≢false, eq-eqb, ◌≢◌, refl, sym, ap, ◌∙◌, subst, append_assoc, append-nil, arith, Bor}
 use Rattle.std.specs.Result.{result_ok}
 use Rattle.std.specs.Prelude.{IfNone, option_copied}
 use Rattle.std.proofs.lemmas.Bool.{eqb-true}
+use Rattle.std.proofs.lemmas.Bool.Decides.{nat_tests}
 use Rattle.std.proofs.lemmas.List.{map-append}
 use Rattle.std.proofs.lemmas.Option.{none-some, same_Some}
 use Rattle.std.proofs.lemmas.List.Elements.{All-append, All-nil, All-cons}
 use Rattle.mothra_codes.specs.declared.op.Op.{Op}
-use Rattle.mothra_codes.specs.Op.{index}
+use Rattle.mothra_codes.specs.Op.{index, op_at}
 use Rattle.mothra_exchange.specs.Gate.{TakeKept}
+use Rattle.mothra_exchange.specs.Sharing.{IsOver}
+use Rattle.mothra_exchange.specs.View.{look_at}
+use Rattle.mothra_exchange.specs.declared.view.Look.{Look}
 use Rattle.mothra_exchange.specs.Ticket.{one_if, ticket, times}
 use Rattle.mothra_exchange.specs.declared.answer.Take.TheVariants.{Finished, Empty, Taken}
 use Rattle.mothra_exchange.specs.declared.ticket.Ticket.{Ticket}
 use Rattle.mothra_exchange.specs.declared.view.View.{View}
+use Rattle.mothra_codes.proofs.Operators.{op_at-index, same_op}
 use Rattle.mothra_exchange.proofs.Counting.{times-append}
+use Rattle.mothra_exchange.proofs.Others.{take_only as take_changes}
+use Rattle.mothra_exchange.proofs.Overs.{finished_over}
 use Rattle.mothra_ops.specs.Plan.{PlanFields}
 use Rattle.mothra_bench.specs.Bench.{BenchFields}
+use Rattle.mothra_bench.specs.Feeding.{AreCounts}
 use Rattle.mothra_bench.specs.Gathered.{AddsRow, AreVerdicts, IsOwn, tickets_in}
 use Rattle.mothra_bench.specs.Verdict.{Has, IsNoVerdict}
 use Rattle.mothra_bench.specs.Working.{Adds, AreFresh, IsNoWork, OnlyTook, TookRows, Went}
@@ -44,7 +52,7 @@ took_more old between new xs ys p q = record {
 }
 
 only_more : (old between new : View) → OnlyTook old between → OnlyTook between new → OnlyTook old new
-only_more old between new p q = record { part = q.part ∙ p.part; offered = q.offered ∙ p.offered; closings = q.closings ∙ p.closings }
+only_more old between new p q = record { counts = q.counts ∙ p.counts; part = q.part ∙ p.part; offered = q.offered ∙ p.offered; closings = q.closings ∙ p.closings }
 
 adds_more : (bench : BenchFields) (keeps : Bool) (old between new : View) (rows more most : List Row) → Adds bench keeps old between rows more
     → Adds bench keeps between new more most → Adds bench keeps old new rows most
@@ -55,13 +63,27 @@ adds_more bench keeps old between new rows more most p q = record {
   took = λ k. took_more old between new p.extra q.extra (p.took k) (q.took k);
 }
 
-fault_more : (may : Bool) (plan : PlanFields) (f g h : Option BenchFault) → IfSome g (λ e. MatchOption f (IsNoWork may plan e) (λ d. e ≡ d))
-    → IfSome h (λ e. MatchOption g (IsNoWork may plan e) (λ d. e ≡ d)) → IfNone g (f ≡ None) → IfSome h (λ e. MatchOption f (IsNoWork may plan e) (λ d. e ≡ d))
-fault_more may plan f g None p q n = tt
-fault_more may plan None None (Some e) p q n = q
-fault_more may plan (Some d) None (Some e) p q n = cc
-fault_more may plan None (Some e') (Some e) p q n = subst (IsNoWork may plan) (sym q) p
-fault_more may plan (Some d) (Some e') (Some e) p q n = q ∙ p
+-- the counts of the pass stay, and with them what keeps a worker from its rows
+pub same_no_work : (may keeps : Bool) (plan : PlanFields) (old new : List ℕ) (e : BenchFault) → (keeps ≡ true → new ≡ old) → IsNoWork may keeps plan new e
+    → IsNoWork may keeps plan old e
+same_no_work may keeps plan old new fault.Memory same h = tt
+same_no_work may keeps plan old new (fault.Stranger t) same h = (h.0, λ k. h.1 (k.0, subst (AreCounts plan) (sym (same k.0)) k.1))
+same_no_work may keeps plan old new fault.Stalled same h = h
+same_no_work may keeps plan old new fault.Thread same h = absurd h
+same_no_work may keeps plan old new (fault.TestShape n) same h = absurd h
+same_no_work may keeps plan old new (fault.OriginalFails n) same h = absurd h
+same_no_work may keeps plan old new (fault.EquivalentUnknown n) same h = absurd h
+same_no_work may keeps plan old new (fault.EquivalentTwice n) same h = absurd h
+same_no_work may keeps plan old new (fault.Double t) same h = absurd h
+same_no_work may keeps plan old new (fault.Missing t) same h = absurd h
+
+fault_more : (P Q : BenchFault → Type 0) (f g h : Option BenchFault) → ((e : BenchFault) → Q e → P e) → IfSome g (λ e. MatchOption f (P e) (λ d. e ≡ d))
+    → IfSome h (λ e. MatchOption g (Q e) (λ d. e ≡ d)) → IfNone g (f ≡ None) → IfSome h (λ e. MatchOption f (P e) (λ d. e ≡ d))
+fault_more P Q f g None turn p q n = tt
+fault_more P Q None None (Some e) turn p q n = turn e q
+fault_more P Q (Some d) None (Some e) turn p q n = cc
+fault_more P Q None (Some e') (Some e) turn p q n = subst P (sym q) p
+fault_more P Q (Some d) (Some e') (Some e) turn p q n = q ∙ p
 
 none_first : (A : Type 0) (B : Type 0) (g : Option BenchFault) → IfNone g (A × B) → IfNone g A
 none_first A B None p = p.0
@@ -78,15 +100,16 @@ rows_more bench keeps old between new rows more most f (Some d) None p q = let y
 pub went_on : (bench : BenchFields) (may keeps : Bool) (old between new : View) (h i j : Gathered) → Went bench may keeps old between h i
     → Went bench may keeps between new i j → Went bench may keeps old new h j
 went_on bench may keeps old between new h i j p q = record {
-  fault = fault_more may bench.plan h.fault i.fault j.fault p.fault q.fault
+  fault = fault_more (IsNoWork may keeps bench.plan old.counts) (IsNoWork may keeps bench.plan between.counts) h.fault i.fault j.fault
+      (λ e. same_no_work may keeps bench.plan old.counts between.counts e (λ k. (p.pass k).counts)) p.fault q.fault
       (none_first (h.fault ≡ None) (Adds bench keeps old between h.rows.items i.rows.items) i.fault p.rows);
   rows = rows_more bench keeps old between new h.rows.items i.rows.items j.rows.items h.fault i.fault j.fault p.rows q.rows;
   pass = λ k. only_more old between new (p.pass k) (q.pass k);
 }
 
-same_fault : (may : Bool) (plan : PlanFields) (f : Option BenchFault) → IfSome f (λ e. MatchOption f (IsNoWork may plan e) (λ d. e ≡ d))
-same_fault may plan None = tt
-same_fault may plan (Some e) = refl
+same_fault : (P : BenchFault → Type 0) (f : Option BenchFault) → IfSome f (λ e. MatchOption f (P e) (λ d. e ≡ d))
+same_fault P None = tt
+same_fault P (Some e) = refl
 
 adds_none : (bench : BenchFields) (keeps : Bool) (old new : View) (rows : List Row) → (keeps ≡ true → new.taken ≡ old.taken) → Adds bench keeps old new rows rows
 adds_none bench keeps old new rows e = record {
@@ -105,19 +128,19 @@ same_rows bench keeps old new rows (Some d) e = tt
 pub went_idle : (bench : BenchFields) (may keeps : Bool) (old new : View) (h : Gathered) → (keeps ≡ true → OnlyTook old new) → (keeps ≡ true → new.taken ≡ old.taken)
     → Went bench may keeps old new h h
 went_idle bench may keeps old new h only e = record {
-  fault = same_fault may bench.plan h.fault;
+  fault = same_fault (IsNoWork may keeps bench.plan old.counts) h.fault;
   rows = same_rows bench keeps old new h.rows.items h.fault e;
   pass = only;
 }
 
 -- nothing was done
 pub went_still : (bench : BenchFields) (may keeps : Bool) (view : View) (h : Gathered) → Went bench may keeps view view h h
-went_still bench may keeps view h = went_idle bench may keeps view view h (λ k. record { part = refl; offered = refl; closings = refl }) (λ k. refl)
+went_still bench may keeps view h = went_idle bench may keeps view view h (λ k. record { counts = refl; part = refl; offered = refl; closings = refl }) (λ k. refl)
 
-stalled_fault : (may : Bool) (plan : PlanFields) (f g : Option BenchFault) → may ≡ true → MatchOption f (g ≡ Some fault.Stalled) (λ first. g ≡ Some first)
-    → IfSome g (λ e. MatchOption f (IsNoWork may plan e) (λ d. e ≡ d))
-stalled_fault may plan None g m e = subst (λ o. IfSome o (IsNoWork may plan)) (sym e) m
-stalled_fault may plan (Some d) g m e = subst (λ o. IfSome o (λ x. x ≡ d)) (sym e) refl
+stalled_fault : (may keeps : Bool) (plan : PlanFields) (counts : List ℕ) (f g : Option BenchFault) → may ≡ true
+    → MatchOption f (g ≡ Some fault.Stalled) (λ first. g ≡ Some first) → IfSome g (λ e. MatchOption f (IsNoWork may keeps plan counts e) (λ d. e ≡ d))
+stalled_fault may keeps plan counts None g m e = subst (λ o. IfSome o (IsNoWork may keeps plan counts)) (sym e) m
+stalled_fault may keeps plan counts (Some d) g m e = subst (λ o. IfSome o (λ x. x ≡ d)) (sym e) refl
 
 stalled_rows : (X : Type 0) (f g : Option BenchFault) → MatchOption f (g ≡ Some fault.Stalled) (λ first. g ≡ Some first) → IfNone g X
 stalled_rows X None g e = subst (λ o. IfNone o X) (sym e) tt
@@ -127,7 +150,7 @@ stalled_rows X (Some d) g e = subst (λ o. IfNone o X) (sym e) tt
 pub went_stalled : (bench : BenchFields) (may keeps : Bool) (old new : View) (h i : Gathered) → may ≡ true
     → MatchOption h.fault (i.fault ≡ Some fault.Stalled) (λ first. i.fault ≡ Some first) → (keeps ≡ true → OnlyTook old new) → Went bench may keeps old new h i
 went_stalled bench may keeps old new h i m e only = record {
-  fault = stalled_fault may bench.plan h.fault i.fault m e;
+  fault = stalled_fault may keeps bench.plan old.counts h.fault i.fault m e;
   rows = stalled_rows ((h.fault ≡ None) × Adds bench keeps old new h.rows.items i.rows.items) h.fault i.fault e;
   pass = only;
 }
@@ -157,20 +180,43 @@ took_one C old new op t row e h =
       once = subst (λ (x : Ticket). AreFresh old.taken (x ∷ [])) same (fresh_one op (h.0.handed + 1) old.taken h.2.1);
     }
 
-ran_fault : (may : Bool) (plan : PlanFields) (t : Ticket) (f g : Option BenchFault) → IfSome g (λ e. MatchOption f (IsNoVerdict plan t e) (λ d. e ≡ d))
-    → IfSome g (λ e. MatchOption f (IsNoWork may plan e) (λ d. e ≡ d))
-ran_fault may plan t f None h = tt
-ran_fault may plan t (Some d) (Some e) h = h
-ran_fault may plan t None (Some fault.Memory) h = tt
-ran_fault may plan t None (Some (fault.Stranger u)) h = subst (λ (x : Ticket). ¬ (Has plan x)) (sym h.0) h.1
-ran_fault may plan t None (Some fault.Thread) h = absurd h
-ran_fault may plan t None (Some (fault.TestShape n)) h = absurd h
-ran_fault may plan t None (Some (fault.OriginalFails n)) h = absurd h
-ran_fault may plan t None (Some (fault.EquivalentUnknown n)) h = absurd h
-ran_fault may plan t None (Some (fault.EquivalentTwice n)) h = absurd h
-ran_fault may plan t None (Some (fault.Double u)) h = absurd h
-ran_fault may plan t None (Some (fault.Missing u)) h = absurd h
-ran_fault may plan t None (Some fault.Stalled) h = absurd h
+took_room : (a c : Bool) (u t : Ticket) → cond a (cond c Finished Empty) (Taken u) ≡ Taken t → a ≡ false
+took_room true true u t e = absurd (cc)
+took_room true false u t e = absurd (cc)
+took_room false c u t e = refl
+
+room_left : (h o : ℕ) → eqb h o ≡ false → h ≤ o → h < o
+room_left h o e m = grind (arith, nat_tests)
+
+-- a ticket that was taken is one of the plan, where the counts are the plan's
+took_known : (C : ℕ) (plan : PlanFields) (old new : View) (op : Op) (t : Ticket) → AreCounts plan old.counts → TakeKept C old op (Taken t) new → Has plan t
+took_known C plan old new op t counts h =
+    let w = h.0 in
+    let is : ticket op (w.handed + 1) ≡ t = picked (eqb w.handed w.offered) w.closed (ticket op (w.handed + 1)) t h.2.0 in
+    let room = room_left w.handed w.offered (took_room (eqb w.handed w.offered) w.closed (ticket op (w.handed + 1)) t h.2.0) h.1.bounds.handed in
+    let below = h.1.bounds.offered in
+    let count = h.1.count in
+    let own = counts op in
+    subst (Has plan) is (omega arith, omega arith)
+
+ran_fault : (may keeps : Bool) (C : ℕ) (plan : PlanFields) (old new : View) (op : Op) (t : Ticket) (f g : Option BenchFault)
+    → (keeps ≡ true → TakeKept C old op (Taken t) new) → IfSome g (λ e. MatchOption f (IsNoVerdict plan t e) (λ d. e ≡ d))
+    → IfSome g (λ e. MatchOption f (IsNoWork may keeps plan old.counts e) (λ d. e ≡ d))
+ran_fault may keeps C plan old new op t f None kept h = tt
+ran_fault may keeps C plan old new op t (Some d) (Some e) kept h = h
+ran_fault may keeps C plan old new op t None (Some fault.Memory) kept h = tt
+ran_fault may keeps C plan old new op t None (Some (fault.Stranger u)) kept h = (
+  subst (λ (x : Ticket). ¬ (Has plan x)) (sym h.0) h.1,
+  λ k. h.1 (took_known C plan old new op t k.1 (kept k.0)),
+)
+ran_fault may keeps C plan old new op t None (Some fault.Thread) kept h = absurd h
+ran_fault may keeps C plan old new op t None (Some (fault.TestShape n)) kept h = absurd h
+ran_fault may keeps C plan old new op t None (Some (fault.OriginalFails n)) kept h = absurd h
+ran_fault may keeps C plan old new op t None (Some (fault.EquivalentUnknown n)) kept h = absurd h
+ran_fault may keeps C plan old new op t None (Some (fault.EquivalentTwice n)) kept h = absurd h
+ran_fault may keeps C plan old new op t None (Some (fault.Double u)) kept h = absurd h
+ran_fault may keeps C plan old new op t None (Some (fault.Missing u)) kept h = absurd h
+ran_fault may keeps C plan old new op t None (Some fault.Stalled) kept h = absurd h
 
 ran_rows : (bench : BenchFields) (keeps : Bool) (C : ℕ) (old new : View) (op : Op) (t : Ticket) (rows more : List Row) (f g : Option BenchFault)
     → (keeps ≡ true → TakeKept C old op (Taken t) new) → IfNone g ((f ≡ None) × AddsRow bench t rows more)
@@ -194,7 +240,7 @@ pub went_one : (bench : BenchFields) (may keeps : Bool) (C : ℕ) (old new : Vie
     → IfNone i.fault ((h.fault ≡ None) × AddsRow bench t h.rows.items i.rows.items)
     → IfSome i.fault (λ e. MatchOption h.fault (IsNoVerdict bench.plan t e) (λ d. e ≡ d)) → Went bench may keeps old new h i
 went_one bench may keeps C old new op t h i kept rows fails = record {
-  fault = ran_fault may bench.plan t h.fault i.fault fails;
+  fault = ran_fault may keeps C bench.plan old new op t h.fault i.fault kept fails;
   rows = ran_rows bench keeps C old new op t h.rows.items i.rows.items h.fault i.fault kept rows;
   pass = λ k. take_only C old op (Taken t) new (kept k);
 }
@@ -206,11 +252,11 @@ none_second A B (Some e) p = tt
 -- what a worker answers
 pub record Answers (bench : BenchFields) (may keeps : Bool) (old new : View) (outcome : Result (Vec Row Global) BenchFault) : Type 0 where
   pub verdicts : IfOk outcome (λ rows. AreVerdicts bench rows.items)
-  pub refused : IfErr outcome (IsNoWork may bench.plan)
+  pub refused : IfErr outcome (IsNoWork may keeps bench.plan old.counts)
   pub records : keeps ≡ true → IfOk outcome (λ rows. TookRows old new rows.items)
 
 answered : (bench : BenchFields) (may keeps : Bool) (old new : View) (empty : List Row) (rows : Vec Row Global) (f : Option BenchFault)
-    (outcome : Result (Vec Row Global) BenchFault) → empty ≡ [] → IfSome f (IsNoWork may bench.plan) → IfNone f (Adds bench keeps old new empty rows.items)
+    (outcome : Result (Vec Row Global) BenchFault) → empty ≡ [] → IfSome f (IsNoWork may keeps bench.plan old.counts) → IfNone f (Adds bench keeps old new empty rows.items)
     → MatchOption f (outcome ≡ Ok rows) (λ e. outcome ≡ Err e) → Answers bench may keeps old new outcome
 answered bench may keeps old new empty rows None outcome z s n out =
     let same : rows.items ≡ n.extra = n.added ∙ ap (λ (l : List Row). l ++ n.extra) z in
@@ -227,7 +273,7 @@ pub answers : (bench : BenchFields) (may keeps : Bool) (old new : View) (empty :
     → Answers bench may keeps old new outcome
 answers bench may keeps old new empty h outcome z none went out =
     answered bench may keeps old new empty.rows.items h.rows h.fault outcome z
-    (subst (λ f. IfSome h.fault (λ e. MatchOption f (IsNoWork may bench.plan e) (λ d. e ≡ d))) none went.fault)
+    (subst (λ f. IfSome h.fault (λ e. MatchOption f (IsNoWork may keeps bench.plan old.counts e) (λ d. e ≡ d))) none went.fault)
     (none_second (empty.fault ≡ None) (Adds bench keeps old new empty.rows.items h.rows.items) h.fault went.rows) out
 
 -- there was no fault before
@@ -241,3 +287,38 @@ pub lent_verdicts : {X : Type 0} (made : Result X BenchFault) (kept : Option X) 
 lent_verdicts made kept None x is own copied = tt
 lent_verdicts (Ok v) kept (Some r) x is own copied = same_Some r.now v (copied ∙ own) ∙ is
 lent_verdicts (Err e) kept (Some r) x is own copied = absurd (none-some r.now (sym (copied ∙ own)))
+
+-- with a fault there are no rows
+pub faulty_answer : (P : Vec Row Global → Type 0) (f : Option BenchFault) (rows : Vec Row Global) (outcome : Result (Vec Row Global) BenchFault) → IsSome f
+    → MatchOption f (outcome ≡ Ok rows) (λ e. outcome ≡ Err e) → IfOk outcome P
+faulty_answer P None rows outcome s out = absurd (true≢false (sym s))
+faulty_answer P (Some e) rows outcome s out = subst (λ (r : Result (Vec Row Global) BenchFault). IfOk r P) (sym out) tt
+
+pub any_rows : (X : Type 0) (outcome : Result (Vec Row Global) BenchFault) → X → IfOk outcome (λ rows. X)
+any_rows X (Ok rows) x = x
+any_rows X (Err e) x = tt
+
+same_over : (old new : View) (op : Op) → look_at new (index op) ≡ look_at old (index op) → IsOver old op → IsOver new op
+same_over old new op e over = subst (λ (l : Look). (l.seen.closed ≡ true) × (l.seen.handed ≡ l.seen.offered)) (sym e) over
+
+-- a take that answers Finished leaves what is over
+pub still_over : (C : ℕ) (old new : View) (op : Op) → TakeKept C old op Finished new → IsOver new op × ((other : Op) → IsOver old other → IsOver new other)
+still_over C old new op kept = (finished_over C old op new kept, λ other over. by_case (eqb (index other) (index op)) other over refl)
+  where
+    by_case : (b : Bool) (other : Op) → IsOver old other → eqb (index other) (index op) ≡ b → IsOver new other
+    by_case true other over e = subst (IsOver new) (sym (same_op other op (eqb-true (index other) (index op) e))) (finished_over C old op new kept)
+    by_case false other over e =
+        let ne : other ≢ op = (λ i. true≢false (sym (eq-eqb (index other) (index op) (ap index i)) ∙ e)) in
+        same_over old new other ((take_changes C old op Finished new kept).others other ne).look over
+
+-- one operator more is over
+pub all_over : (old new : View) (i : ℕ) → i < 22 → ((op : Op) → index op < i → IsOver old op) → IsOver new (op_at i)
+    → ((other : Op) → IsOver old other → IsOver new other) → (op : Op) → index op < i + 1 → IsOver new op
+all_over old new i small before here others op below = by_case (eqb (index op) i) refl
+  where
+    by_case : (b : Bool) → eqb (index op) i ≡ b → IsOver new op
+    by_case true e = subst (IsOver new) (ap op_at (sym (eqb-true (index op) i e)) ∙ op_at-index op) here
+    by_case false e = others op (before op (lower (index op) i e below))
+      where
+        lower : (a b : ℕ) → eqb a b ≡ false → a < b + 1 → a < b
+        lower a b e h = grind (arith, nat_tests)

@@ -20,11 +20,8 @@ pub record IsReport (bench : BenchFields) (text : List ℕ) : Type 0 where
   pub are : AreEntries bench entries
   pub is : text ≡ report_text bench entries
 
--- why there is no report: want of memory; a thread that could not begin; two rows of a mutant, a row of none, or none of a mutant
+-- why there is no report: want of memory, or a thread that could not begin
 abbrev pub IsNoReport : BenchFault → Type 0
 IsNoReport fault.Memory = ⊤
 IsNoReport fault.Thread = ⊤
-IsNoReport (fault.Double ticket) = ⊤
-IsNoReport (fault.Stranger ticket) = ⊤
-IsNoReport (fault.Missing ticket) = ⊤
 IsNoReport _ = ⊥

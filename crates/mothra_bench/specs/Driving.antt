@@ -1,13 +1,18 @@
 -- What workers and feeders come to together.
-use Rattle.std.specs.Prelude.{◌≡◌, ℕ, ◌≤◌, ⊤, Bool, true, List}
+use Rattle.std.specs.Prelude.{◌≡◌, ◌⊎◌, ℕ, ◌≤◌, ⊤, Bool, true, List, [], length, Contains}
 use Rattle.mothra_codes.specs.declared.op.Op.{Op}
 use Rattle.mothra_codes.specs.Op.{index}
+use Rattle.mothra_exchange.specs.Sharing.{MergesWell}
 use Rattle.mothra_exchange.specs.Tally.{word_at}
 use Rattle.mothra_exchange.specs.Ticket.{times, once_up_to}
+use Rattle.mothra_exchange.specs.View.{united_view, whole_part}
 use Rattle.mothra_exchange.specs.declared.ticket.Ticket.{Ticket}
+use Rattle.mothra_exchange.specs.declared.view.View.{View}
 use Rattle.mothra_exchange.specs.declared.word.Word.{Word}
-use Rattle.mothra_ops.specs.Plan.{PlanFields}
+use Rattle.mothra_ops.specs.Plan.{PlanFields, edits_of}
+use Rattle.mothra_bench.specs.Feeding.{AreCounts, IsFed}
 use Rattle.mothra_bench.specs.Verdict.{Has}
+use Rattle.mothra_bench.specs.Working.{AreOver, CountsPlan}
 use Rattle.mothra_bench.specs.declared.fault.BenchFault.{BenchFault}
 use Rattle.mothra_bench.specs.declared.fault.BenchFault.TheVariants as fault
 
@@ -15,10 +20,64 @@ use Rattle.mothra_bench.specs.declared.fault.BenchFault.TheVariants as fault
 abbrev pub AreHandedOnce : List Word → List Ticket → Type 0
 AreHandedOnce words tickets = (op : Op) (k : ℕ) → times (index op) k tickets ≤ once_up_to (word_at words op).handed k
 
--- Why there are no rows: want of memory; a thread that could not begin; a ticket of no mutant of the plan; or the gate gave up, which only some may.
-abbrev pub IsNoDrive : Bool → PlanFields → BenchFault → Type 0
-IsNoDrive may plan fault.Memory = ⊤
-IsNoDrive may plan fault.Thread = ⊤
-IsNoDrive may plan (fault.Stranger ticket) = ¬ (Has plan ticket)
-IsNoDrive may plan fault.Stalled = may ≡ true
-IsNoDrive may plan _ = ⊥
+-- the whole pass of an exchange with the counts of the plan, in which nothing was done
+pub record IsWhole (plan : PlanFields) (view : View) : Type 0 where
+  pub counts : AreCounts plan view.counts
+  pub part : view.part ≡ whole_part
+  pub offered : view.offered ≡ []
+  pub taken : view.taken ≡ []
+  pub closings : view.closings ≡ []
+
+-- the operator has so many tickets, all were offered and handed out, and it was closed
+abbrev pub complete_word : ℕ → Word
+complete_word count = record { count = count; offered = count; handed = count; closed = true }
+
+-- each operator ended with all its tickets handed out, and the tickets are those of the plan's mutants, each once
+pub record AreComplete (plan : PlanFields) (words : List Word) (tickets : List Ticket) : Type 0 where
+  pub ends : (op : Op) → word_at words op ≡ complete_word (length (edits_of plan op))
+  pub once : (op : Op) (k : ℕ) → times (index op) k tickets ≡ once_up_to (length (edits_of plan op)) k
+
+-- Why there are no rows: want of memory; a thread that could not begin; a ticket of no mutant of the plan, which no gate hands out that is known to
+-- count the plan's; or the gate gave up, which only some may.
+abbrev pub IsNoDrive : Bool → Bool → PlanFields → List ℕ → BenchFault → Type 0
+IsNoDrive may keeps plan counts fault.Memory = ⊤
+IsNoDrive may keeps plan counts fault.Thread = ⊤
+IsNoDrive may keeps plan counts (fault.Stranger ticket) = ¬ (Has plan ticket) × ¬ (CountsPlan keeps plan counts)
+IsNoDrive may keeps plan counts fault.Stalled = may ≡ true
+IsNoDrive may keeps plan counts _ = ⊥
+
+-- the pass was split, once or more, and did nothing else
+pub record OnlySplit (old new : View) : Type 0 where
+  pub counts : new.counts ≡ old.counts
+  pub offered : new.offered ≡ old.offered
+  pub taken : new.taken ≡ old.taken
+  pub closings : new.closings ≡ old.closings
+
+-- a pass of an exchange with these counts that did nothing
+pub record IsNew (counts : List ℕ) (view : View) : Type 0 where
+  pub same : view.counts ≡ counts
+  pub offered : view.offered ≡ []
+  pub taken : view.taken ≡ []
+  pub closings : view.closings ≡ []
+
+-- another pass was merged into this one
+pub record Joins (old other new : View) : Type 0 where
+  pub united : new ≡ united_view old other
+  pub well : MergesWell old other
+
+-- Of two feeders each operator has one.
+abbrev pub AreShared : List Op → List Op → Type 0
+AreShared front back = (op : Op)
+    → (Contains front op × ¬ (Contains back op)) ⊎ (¬ (Contains front op) × Contains back op)
+
+-- Passes that offered and closed nothing were merged into this one.
+pub record KeepsFed (old new : View) : Type 0 where
+  pub counts : new.counts ≡ old.counts
+  pub fed : (op : Op) → IsFed old op → IsFed new op
+
+-- what the pass has when all passes are merged into it
+pub record IsDone (plan : PlanFields) (view : View) : Type 0 where
+  pub counts : AreCounts plan view.counts
+  pub part : view.part ≡ whole_part
+  pub fed : (op : Op) → IsFed view op
+  pub over : AreOver view

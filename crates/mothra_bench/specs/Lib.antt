@@ -1,4 +1,5 @@
 pub mod Bench
+pub mod Closing
 pub mod Running
 pub mod Killing
 pub mod Equivalents

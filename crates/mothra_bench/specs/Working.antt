@@ -4,9 +4,11 @@ use Rattle.mothra_codes.specs.declared.op.Op.{Op}
 use Rattle.mothra_codes.specs.Op.{index}
 use Rattle.mothra_exchange.specs.declared.ticket.Ticket.{Ticket}
 use Rattle.mothra_exchange.specs.declared.view.View.{View}
+use Rattle.mothra_exchange.specs.Sharing.{IsOver}
 use Rattle.mothra_exchange.specs.Ticket.{times}
 use Rattle.mothra_ops.specs.Plan.{PlanFields}
 use Rattle.mothra_bench.specs.Bench.{BenchFields}
+use Rattle.mothra_bench.specs.Feeding.{AreCounts}
 use Rattle.mothra_bench.specs.Gathered.{AreVerdicts, tickets_in}
 use Rattle.mothra_bench.specs.Verdict.{Has}
 use Rattle.mothra_bench.specs.declared.fault.BenchFault.{BenchFault}
@@ -18,8 +20,9 @@ use Rattle.mothra_bench.specs.declared.verdict.Row.{Row}
 abbrev pub AreFresh : List Ticket → List Ticket → Type 0
 AreFresh old tickets = (op : Op) (k : ℕ) → times (index op) k tickets ≤ 1 - times (index op) k old
 
--- a worker's pass offers and closes nothing, and keeps its part
+-- a worker's pass offers and closes nothing, and keeps its counts and its part
 pub record OnlyTook (old new : View) : Type 0 where
+  pub counts : new.counts ≡ old.counts
   pub part : new.part ≡ old.part
   pub offered : new.offered ≡ old.offered
   pub closings : new.closings ≡ old.closings
@@ -29,12 +32,21 @@ pub record TookRows (old new : View) (rows : List Row) : Type 0 where
   pub taken : new.taken ≡ old.taken ++ tickets_in rows
   pub once : AreFresh old.taken (tickets_in rows)
 
--- Why a worker gives no rows: want of memory; a ticket of no mutant of the plan; or the gate gave up, which only some may.
-abbrev pub IsNoWork : Bool → PlanFields → BenchFault → Type 0
-IsNoWork may plan fault.Memory = ⊤
-IsNoWork may plan (fault.Stranger ticket) = ¬ (Has plan ticket)
-IsNoWork may plan fault.Stalled = may ≡ true
-IsNoWork may plan _ = ⊥
+-- the pass shows of each operator that it is closed and that all that was offered is handed out
+abbrev pub AreOver : View → Type 0
+AreOver view = (op : Op) → IsOver view op
+
+-- the gate keeps records, and its counts are those of the plan
+abbrev pub CountsPlan : Bool → PlanFields → List ℕ → Type 0
+CountsPlan keeps plan counts = (keeps ≡ true) × AreCounts plan counts
+
+-- Why a worker gives no rows: want of memory; a ticket of no mutant of the plan, which no gate hands out that is known to count the plan's; or the
+-- gate gave up, which only some may.
+abbrev pub IsNoWork : Bool → Bool → PlanFields → List ℕ → BenchFault → Type 0
+IsNoWork may keeps plan counts fault.Memory = ⊤
+IsNoWork may keeps plan counts (fault.Stranger ticket) = ¬ (Has plan ticket) × ¬ (CountsPlan keeps plan counts)
+IsNoWork may keeps plan counts fault.Stalled = may ≡ true
+IsNoWork may keeps plan counts _ = ⊥
 
 -- some rows were added, each with its verdict, and where records are kept the pass took their tickets
 pub record Adds (bench : BenchFields) (keeps : Bool) (old new : View) (rows more : List Row) : Type 0 where
@@ -45,6 +57,6 @@ pub record Adds (bench : BenchFields) (keeps : Bool) (old new : View) (rows more
 
 -- a worker went on, and its pass and what it has gathered with it; the first fault stays
 pub record Went (bench : BenchFields) (may keeps : Bool) (old new : View) (before after : Gathered) : Type 0 where
-  pub fault : IfSome after.fault (λ fault. MatchOption before.fault (IsNoWork may bench.plan fault) (λ first. fault ≡ first))
+  pub fault : IfSome after.fault (λ fault. MatchOption before.fault (IsNoWork may keeps bench.plan old.counts fault) (λ first. fault ≡ first))
   pub rows : IfNone after.fault ((before.fault ≡ None) × Adds bench keeps old new before.rows.items after.rows.items)
   pub pass : keeps ≡ true → OnlyTook old new

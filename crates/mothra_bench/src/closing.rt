@@ -1,6 +1,7 @@
 //! Closing operators.
 
 ghost use Rattle.std.specs.Prelude.{◌≡◌, true, false};
+ghost use Rattle.mothra_bench.specs.Closing.{Closes};
 ghost use Rattle.mothra_bench.specs.Feeding.{OnlyGave};
 
 use mothra_codes::Op;
@@ -14,6 +15,7 @@ pub(crate) fn close_one<G: Gate, R: Wait>(rt: &R, gate: &G, pass: &mut G::Pass, 
     ensures gives_up { result ≡ false → G.may_give_up ≡ true }
     ensures part { G.needs_parts ≡ true → (G.view pass.new).part ≡ (G.view pass.old).part }
     ensures records { G.keeps_records ≡ true → OnlyGave (G.view pass.old) (G.view pass.new) }
+    ensures closed { G.keeps_records ≡ true → result ≡ true → Closes op (G.view pass.old) (G.view pass.new) }
 {
     for _ in rt.forever() {
         match gate.close(rt, pass, op) {

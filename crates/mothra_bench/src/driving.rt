@@ -1,9 +1,11 @@
 //! Workers and feeders, started, joined, and their passes merged.
 
-ghost use Rattle.std.specs.Prelude.{◌≡◌, ◌+◌, ◌++◌, ◌<◌, ◌≤◌, [], true, None, All, IfOk, IfErr, IfSome, IfNone, IsSome};
-ghost use Rattle.mothra_bench.specs.Driving.{AreHandedOnce, IsNoDrive};
-ghost use Rattle.mothra_bench.specs.Feeding.{IsStalled};
+ghost use Rattle.std.specs.Prelude.{◌≡◌, ◌⊎◌, ◌+◌, ◌++◌, ◌<◌, ◌≤◌, [], true, None, All, IfOk, IfErr, IfSome, IfNone, IsSome, length};
+ghost use Rattle.mothra_exchange.specs.declared.view.View.{View};
+ghost use Rattle.mothra_bench.specs.Driving.{AreComplete, AreHandedOnce, AreShared, IsDone, IsNew, IsNoDrive, IsWhole, Joins, KeepsFed, OnlySplit};
+ghost use Rattle.mothra_bench.specs.Feeding.{AreFed, IsReady, IsStalled};
 ghost use Rattle.mothra_bench.specs.Gathered.{AreVerdicts, tickets_in};
+ghost use Rattle.mothra_bench.specs.Working.{AreOver};
 
 use crate::bench::Bench;
 use crate::closing::close_each;
@@ -35,10 +37,13 @@ where
     requires part { G.needs_parts ≡ true → workers < (G.view pass.old).part }
     ensures own { G.is_pass gate.now pass.new }
     ensures workers { All (λ worker. (worker.promise.gate.now ≡ gate.now) × (worker.promise.bench.now ≡ bench.now)
-        × (G.keeps_records ≡ true → (G.view worker.promise.pass.value).taken ≡ [])) result.0.items }
+        × (G.needs_parts ≡ true → (G.view worker.promise.pass.value).part ≡ 1)
+        × (G.keeps_records ≡ true → IsNew (G.view pass.old).counts (G.view worker.promise.pass.value))) result.0.items }
     ensures part { G.needs_parts ≡ true → (G.view pass.old).part ≤ (G.view pass.new).part + workers }
-    ensures records { G.keeps_records ≡ true → (G.view pass.new).taken ≡ (G.view pass.old).taken }
-    ensures refused { IfSome result.1 (IsNoDrive G.may_give_up bench.now.plan) }
+    ensures all { IfNone result.1 ((length result.0.items ≡ workers)
+        × (G.needs_parts ≡ true → (G.view pass.old).part ≡ (G.view pass.new).part + workers)) }
+    ensures records { G.keeps_records ≡ true → OnlySplit (G.view pass.old) (G.view pass.new) }
+    ensures refused { IfSome result.1 (IsNoDrive G.may_give_up G.keeps_records bench.now.plan (G.view pass.old).counts) }
 {
     let Ok(mut started) = Vec::with_capacity(alloc, workers as usize) else {
         return (Vec::new(alloc), Some(BenchFault::Memory));
@@ -48,9 +53,9 @@ where
         let Some(worker) = start_worker(scope, rt, alloc, gate, own, bench) else {
             return (started, Some(BenchFault::Thread));
         };
-        if started.push(worker).is_err() {
+        let Ok(()) = started.push(worker) else {
             return (started, Some(BenchFault::Memory));
-        }
+        };
     }
     (started, None)
 }
@@ -69,14 +74,18 @@ where
     G::Pass: Send + Drop + 's,
     requires own { G.is_pass gate.now pass.old }
     requires part { G.needs_parts ≡ true → 1 < (G.view pass.old).part }
-    requires fault { IfSome fault.old (IsNoDrive G.may_give_up plan.now) }
+    requires fault { IfSome fault.old (IsNoDrive G.may_give_up G.keeps_records plan.now (G.view pass.old).counts) }
     ensures own { G.is_pass gate.now pass.new }
-    ensures feeder { IfSome result (λ feeder. (feeder.promise.gate.now ≡ gate.now)
-        × (G.keeps_records ≡ true → (G.view feeder.promise.pass.value).taken ≡ [])) }
+    ensures feeder { IfSome result (λ feeder. (feeder.promise.gate.now ≡ gate.now) × (feeder.promise.ops.now ≡ ops.now)
+        × (feeder.promise.plan.now ≡ plan.now) × (G.needs_parts ≡ true → (G.view feeder.promise.pass.value).part ≡ 1)
+        × (G.keeps_records ≡ true → IsNew (G.view pass.old).counts (G.view feeder.promise.pass.value))) }
     ensures part { G.needs_parts ≡ true → (G.view pass.old).part ≤ (G.view pass.new).part + 1 }
-    ensures records { G.keeps_records ≡ true → (G.view pass.new).taken ≡ (G.view pass.old).taken }
-    ensures started { IfNone fault.new ((fault.old ≡ None) × IsSome result) }
-    ensures refused { IfSome fault.new (IsNoDrive G.may_give_up plan.now) }
+    ensures records { G.keeps_records ≡ true
+        → ((G.view pass.new).counts ≡ (G.view pass.old).counts) × ((G.view pass.new).taken ≡ (G.view pass.old).taken) }
+    ensures started { IfNone fault.new ((fault.old ≡ None) × IsSome result
+        × (G.needs_parts ≡ true → (G.view pass.old).part ≡ (G.view pass.new).part + 1)
+        × (G.keeps_records ≡ true → OnlySplit (G.view pass.old) (G.view pass.new))) }
+    ensures refused { IfSome fault.new (IsNoDrive G.may_give_up G.keeps_records plan.now (G.view pass.old).counts) }
 {
     if fault.is_none() {
         let own = gate.split(pass);
@@ -101,7 +110,14 @@ fn join_started<G: Gate, R: Threads>(
         × (G.keeps_records ≡ true → (G.view feeder.promise.pass.value).taken ≡ [])) }
     ensures own { G.is_pass gate.now pass.new }
     ensures refused { IfErr result (IsStalled G.may_give_up) }
-    ensures records { G.keeps_records ≡ true → (G.view pass.new).taken ≡ (G.view pass.old).taken }
+    ensures records { G.keeps_records ≡ true
+        → ((G.view pass.new).counts ≡ (G.view pass.old).counts) × ((G.view pass.new).taken ≡ (G.view pass.old).taken) }
+    ensures part { G.needs_parts ≡ true → IfSome feeder.entry
+        (λ feeder. (G.view pass.new).part ≡ (G.view pass.old).part + (G.view feeder.promise.pass.value).part) }
+    ensures joined { G.keeps_records ≡ true → IfSome feeder.entry
+        (λ feeder. (other : View) × Joins (G.view pass.old) other (G.view pass.new)
+        × (other.counts ≡ (G.view feeder.promise.pass.value).counts)
+        × (IsReady feeder.promise.plan.now (G.view feeder.promise.pass.value) → IfOk result (λ _. AreFed feeder.promise.ops.now other))) }
 {
     match feeder {
         Some(feeder) => join_feeder(rt, gate, pass, feeder),
@@ -122,12 +138,16 @@ where
     G::Pass: Drop,
     requires own { G.is_pass gate.now pass.old }
     requires workers { All (λ worker. (worker.promise.gate.now ≡ gate.now) × (worker.promise.bench.now ≡ bench.now)
-        × (G.keeps_records ≡ true → (G.view worker.promise.pass.value).taken ≡ [])) workers.items }
+        × (G.needs_parts ≡ true → (G.view worker.promise.pass.value).part ≡ 1)
+        × (G.keeps_records ≡ true → IsNew (G.view pass.old).counts (G.view worker.promise.pass.value))) workers.items }
     ensures own { G.is_pass gate.now pass.new }
     ensures verdicts { IfOk result (λ rows. AreVerdicts bench.now rows.items) }
-    ensures refused { IfErr result (IsNoDrive G.may_give_up bench.now.plan) }
+    ensures refused { IfErr result (IsNoDrive G.may_give_up G.keeps_records bench.now.plan (G.view pass.old).counts) }
+    ensures part { G.needs_parts ≡ true → (G.view pass.new).part ≡ (G.view pass.old).part + length workers.entry.items }
     ensures records { G.keeps_records ≡ true
         → IfOk result (λ rows. (G.view pass.new).taken ≡ (G.view pass.old).taken ++ tickets_in rows.items) }
+    ensures fed { G.keeps_records ≡ true → KeepsFed (G.view pass.old) (G.view pass.new) }
+    ensures over { G.keeps_records ≡ true → IfOk result (λ _. (workers.entry.items ≡ []) ⊎ AreOver (G.view pass.new)) }
 {
     let mut gathered = Gathered::new(alloc);
     for worker in workers {
@@ -155,9 +175,11 @@ where
     requires part { G.needs_parts ≡ true → workers + 3 ≤ (G.view pass).part }
     ensures own { G.is_pass gate.now result.0 }
     ensures verdicts { IfOk result.1 (λ rows. AreVerdicts bench.now rows.items) }
-    ensures refused { IfErr result.1 (IsNoDrive G.may_give_up bench.now.plan) }
+    ensures refused { IfErr result.1 (IsNoDrive G.may_give_up G.keeps_records bench.now.plan (G.view pass).counts) }
     ensures records { G.keeps_records ≡ true
         → IfOk result.1 (λ rows. (G.view result.0).taken ≡ (G.view pass).taken ++ tickets_in rows.items) }
+    ensures done { G.needs_parts ≡ true → G.keeps_records ≡ true → 1 ≤ workers → AreShared front.now back.now
+        → IsWhole bench.now.plan (G.view pass) → IfOk result.1 (λ _. IsDone bench.now.plan (G.view result.0)) }
 {
     let (crew, mut fault) = start_workers(scope, rt, alloc, gate, &mut pass, bench, workers);
     let one = start_or_close(scope, rt, gate, &mut pass, front, bench.plan(), &mut fault);
@@ -191,9 +213,11 @@ where
     requires part { G.needs_parts ≡ true → workers + 3 ≤ (G.view pass).part }
     ensures own { G.is_pass gate.now result.0 }
     ensures verdicts { IfOk result.1 (λ rows. AreVerdicts bench.now rows.items) }
-    ensures refused { IfErr result.1 (IsNoDrive G.may_give_up bench.now.plan) }
+    ensures refused { IfErr result.1 (IsNoDrive G.may_give_up G.keeps_records bench.now.plan (G.view pass).counts) }
     ensures records { G.keeps_records ≡ true
         → IfOk result.1 (λ rows. (G.view result.0).taken ≡ (G.view pass).taken ++ tickets_in rows.items) }
+    ensures done { G.needs_parts ≡ true → G.keeps_records ≡ true → 1 ≤ workers → AreShared front.now back.now
+        → IsWhole bench.now.plan (G.view pass) → IfOk result.1 (λ _. IsDone bench.now.plan (G.view result.0)) }
 {
     thread::scope(
         thread::scope_env(),
@@ -202,8 +226,10 @@ where
             requires { G.is_pass gate.now pass × (G.needs_parts ≡ true → workers + 3 ≤ (G.view pass).part) }
             ensures { G.is_pass gate.entry.now result.0
                 × IfOk result.1 (λ rows. AreVerdicts bench.entry.now rows.items)
-                × IfErr result.1 (IsNoDrive G.may_give_up bench.entry.now.plan)
-                × (G.keeps_records ≡ true → IfOk result.1 (λ rows. (G.view result.0).taken ≡ (G.view pass).taken ++ tickets_in rows.items)) }
+                × IfErr result.1 (IsNoDrive G.may_give_up G.keeps_records bench.entry.now.plan (G.view pass).counts)
+                × (G.keeps_records ≡ true → IfOk result.1 (λ rows. (G.view result.0).taken ≡ (G.view pass).taken ++ tickets_in rows.items))
+                × (G.needs_parts ≡ true → G.keeps_records ≡ true → 1 ≤ workers → AreShared front.entry.now back.entry.now
+                → IsWhole bench.entry.now.plan (G.view pass) → IfOk result.1 (λ _. IsDone bench.entry.now.plan (G.view result.0))) }
         { run_threads(scope, rt, alloc, gate, pass, bench, front, back, workers) },
     )
 }
@@ -228,8 +254,10 @@ where
     requires workers { (1 ≤ workers) × (workers ≤ 32) }
     requires part { G.needs_parts ≡ true → workers + 3 ≤ (G.view pass).part }
     ensures verdicts { IfOk result (λ driven. AreVerdicts bench.now driven.0.items) }
-    ensures refused { IfErr result (IsNoDrive G.may_give_up bench.now.plan) }
+    ensures refused { IfErr result (IsNoDrive G.may_give_up G.keeps_records bench.now.plan (G.view pass).counts) }
     ensures records { G.keeps_records ≡ true → IfOk result (λ driven. AreHandedOnce driven.1 (tickets_in driven.0.items)) }
+    ensures complete { G.needs_parts ≡ true → G.keeps_records ≡ true → IsWhole bench.now.plan (G.view pass)
+        → IfOk result (λ driven. AreComplete bench.now.plan driven.1 (tickets_in driven.0.items)) }
 {
     let all = Op::ALL;
     let (front, back) = all.split_at(11);

@@ -1,7 +1,11 @@
 //! Feeders: they offer the tickets of operators in order.
 
-ghost use Rattle.std.specs.Prelude.{◌≡◌, true, IfErr, IfNone};
-ghost use Rattle.mothra_bench.specs.Feeding.{IsStalled, OnlyGave};
+ghost use Rattle.std.specs.Prelude.{◌≡◌, ◌≢◌, ◌+◌, ◌<◌, ℕ, true, All, Contains, IfOk, IfErr, IfNone, IfSome, slice_index};
+ghost use Rattle.mothra_codes.specs.Op.{index};
+ghost use Rattle.mothra_codes.specs.declared.op.Op.{Op as OpModel};
+ghost use Rattle.mothra_exchange.specs.Law.{ChangesOnly};
+ghost use Rattle.mothra_bench.specs.Closing.{Closes, count_of};
+ghost use Rattle.mothra_bench.specs.Feeding.{AllShow, AreFed, IsReady, IsStalled, OnlyGave, Shows, stage_of};
 
 use crate::closing::close_one;
 use crate::fault::BenchFault;
@@ -35,12 +39,32 @@ fn offer<G: Gate, R: Wait>(
     ensures gives_up { IfNone result (G.may_give_up ≡ true) }
     ensures part { G.needs_parts ≡ true → (G.view pass.new).part ≡ (G.view pass.old).part }
     ensures records { G.keeps_records ≡ true → OnlyGave (G.view pass.old) (G.view pass.new) }
+    ensures shows { G.keeps_records ≡ true → (before : ℕ) → stage ≡ Stage.Offered before → ticket.number ≡ before + 1
+        → before < count_of (G.view pass.old) ticket.op → Shows (G.view pass.old) ticket.op stage → IfSome result (Shows (G.view pass.new) ticket.op) }
+    ensures others { G.keeps_records ≡ true → IfSome result (λ _. ChangesOnly ticket.op (G.view pass.old) (G.view pass.new)) }
 {
     match gate.offer(rt, pass, ticket) {
         Offer::Accepted => Some(Stage::Offered(ticket.number)),
         Offer::Full | Offer::Busy => Some(stage),
         Offer::Closed | Offer::PastEnd | Offer::OutOfTurn(_) => Some(Stage::Ended),
         Offer::GaveUp => None,
+    }
+}
+
+/// Closes an operator; none where the gate gave up.
+fn close_turn<G: Gate, R: Wait>(rt: &R, gate: &G, pass: &mut G::Pass, op: Op) -> Option<Stage>
+    requires { G.is_pass gate.now pass.old }
+    ensures own { G.is_pass gate.now pass.new }
+    ensures gives_up { IfNone result (G.may_give_up ≡ true) }
+    ensures part { G.needs_parts ≡ true → (G.view pass.new).part ≡ (G.view pass.old).part }
+    ensures records { G.keeps_records ≡ true → OnlyGave (G.view pass.old) (G.view pass.new) }
+    ensures closed { G.keeps_records ≡ true
+        → IfSome result (λ stage. (stage ≡ Stage.Closed) × Closes op (G.view pass.old) (G.view pass.new)) }
+{
+    if close_one(rt, gate, pass, op) {
+        Some(Stage::Closed)
+    } else {
+        None
     }
 }
 
@@ -58,19 +82,17 @@ fn offer_turn<G: Gate, R: Wait>(
     ensures gives_up { IfNone result (G.may_give_up ≡ true) }
     ensures part { G.needs_parts ≡ true → (G.view pass.new).part ≡ (G.view pass.old).part }
     ensures records { G.keeps_records ≡ true → OnlyGave (G.view pass.old) (G.view pass.new) }
+    ensures shows { G.keeps_records ≡ true → count_of (G.view pass.old) op ≡ count → Shows (G.view pass.old) op stage
+        → IfSome result (Shows (G.view pass.new) op) }
+    ensures others { G.keeps_records ≡ true → IfSome result (λ _. ChangesOnly op (G.view pass.old) (G.view pass.new)) }
 {
     match stage {
         Stage::Offered(before) if before < count => {
             let number = before + 1;
             offer(rt, gate, pass, Ticket { op, number }, stage)
         }
-        Stage::Offered(_) | Stage::Ended => {
-            if close_one(rt, gate, pass, op) {
-                Some(Stage::Closed)
-            } else {
-                None
-            }
-        }
+        Stage::Offered(_) => close_turn(rt, gate, pass, op),
+        Stage::Ended => close_turn(rt, gate, pass, op),
         Stage::Closed => Some(Stage::Closed),
     }
 }
@@ -87,6 +109,22 @@ enum Round {
     GaveUp,
 }
 
+impl Round {
+    /// The round behind the turn of an operator that went from a stage to another.
+    fn behind(self, from: Stage, to: Stage) -> Round
+        ensures closed { result ≡ Round.Closed → (self ≡ Round.Closed) × (to ≡ Stage.Closed) }
+        ensures gave_up { result ≡ Round.GaveUp → self ≡ Round.GaveUp }
+    {
+        if to != from {
+            return Round::Moved;
+        }
+        if to != Stage::Closed && self == Round::Closed {
+            return Round::Still;
+        }
+        self
+    }
+}
+
 /// Goes round the operators once, which have so many mutants each.
 fn feed_round<G: Gate, R: Wait>(
     rt: &R,
@@ -101,6 +139,11 @@ fn feed_round<G: Gate, R: Wait>(
     ensures gives_up { result ≡ Round.GaveUp → G.may_give_up ≡ true }
     ensures part { G.needs_parts ≡ true → (G.view pass.new).part ≡ (G.view pass.old).part }
     ensures records { G.keeps_records ≡ true → OnlyGave (G.view pass.old) (G.view pass.new) }
+    ensures shows { G.keeps_records ≡ true → result ≢ Round.GaveUp
+        → ((op : OpModel) → count_of (G.view pass.old) op ≡ slice_index counts.now (index op))
+        → AllShow (G.view pass.old) stages.old → AllShow (G.view pass.new) stages.new }
+    ensures closed { result ≡ Round.Closed → All (λ op. stage_of stages.new op ≡ Stage.Closed) ops.now }
+    ensures others { (op : OpModel) → ¬ (Contains ops.now op) → stage_of stages.new op ≡ stage_of stages.old op }
 {
     let mut round = Round::Closed;
     for op in ops {
@@ -108,11 +151,7 @@ fn feed_round<G: Gate, R: Wait>(
         let Some(stage) = offer_turn(rt, gate, pass, *op, counts[op.index()], old) else {
             return Round::GaveUp;
         };
-        if stage != old {
-            round = Round::Moved;
-        } else if stage != Stage::Closed && round == Round::Closed {
-            round = Round::Still;
-        }
+        round = round.behind(old, stage);
         stages[op.index()] = stage;
     }
     round
@@ -132,6 +171,7 @@ pub fn feed<G: Gate, R: Wait>(
     ensures refused { IfErr result.1 (IsStalled G.may_give_up) }
     ensures part { G.needs_parts ≡ true → (G.view result.0).part ≡ (G.view pass).part }
     ensures records { G.keeps_records ≡ true → OnlyGave (G.view pass) (G.view result.0) }
+    ensures fed { G.keeps_records ≡ true → IsReady plan.now (G.view pass) → IfOk result.1 (λ _. AreFed ops.now (G.view result.0)) }
 {
     let counts = counts(plan);
     let mut stages = [Stage::Offered(0); 22];

@@ -1,9 +1,11 @@
 //! Workers and feeders in threads of their own: what each promises, how it is started and joined.
 
 ghost use Rattle.std.specs.Prelude.{◌≡◌, ◌+◌, ◌++◌, [], true, IfOk, IfErr, IfSome};
-ghost use Rattle.mothra_bench.specs.Feeding.{IsStalled, OnlyGave};
+ghost use Rattle.mothra_exchange.specs.declared.view.View.{View};
+ghost use Rattle.mothra_bench.specs.Driving.{IsNew, Joins, KeepsFed};
+ghost use Rattle.mothra_bench.specs.Feeding.{AreFed, IsReady, IsStalled, OnlyGave};
 ghost use Rattle.mothra_bench.specs.Gathered.{AreVerdicts, tickets_in};
-ghost use Rattle.mothra_bench.specs.Working.{IsNoWork, OnlyTook, TookRows};
+ghost use Rattle.mothra_bench.specs.Working.{AreOver, IsNoWork, OnlyTook, TookRows};
 
 use crate::bench::Bench;
 use crate::fault::BenchFault;
@@ -30,16 +32,19 @@ pub(crate) struct WorkerPromise<'a, G: Gate> {
 impl<'a, G: Gate> Promise<(G::Pass, Result<Vec<Row>, BenchFault>)> for WorkerPromise<'a, G> {
     ghost kept_by = { λ p r. G.is_pass p.gate.now r.0
         × IfOk r.1 (λ rows. AreVerdicts p.bench.now rows.items)
-        × IfErr r.1 (IsNoWork G.may_give_up p.bench.now.plan)
+        × IfErr r.1 (IsNoWork G.may_give_up G.keeps_records p.bench.now.plan (G.view p.pass.value).counts)
         × (G.needs_parts ≡ true → (G.view r.0).part ≡ (G.view p.pass.value).part)
         × (G.keeps_records ≡ true → OnlyTook (G.view p.pass.value) (G.view r.0))
-        × (G.keeps_records ≡ true → IfOk r.1 (λ rows. TookRows (G.view p.pass.value) (G.view r.0) rows.items)) };
+        × (G.keeps_records ≡ true → IfOk r.1 (λ rows. TookRows (G.view p.pass.value) (G.view r.0) rows.items))
+        × (G.keeps_records ≡ true → IfOk r.1 (λ _. AreOver (G.view r.0))) };
 }
 
 /// What a feeder promises: the contract of `feed`.
 #[derive(Drop)]
 pub(crate) struct FeederPromise<'a, G: Gate> {
     pub(crate) gate: &'a G,
+    pub(crate) ops: &'a [Op],
+    pub(crate) plan: &'a Plan,
     /// The pass that the feeder was given.
     pub(crate) pass: Snapshot<G::Pass>,
 }
@@ -48,7 +53,8 @@ impl<'a, G: Gate> Promise<(G::Pass, Result<(), BenchFault>)> for FeederPromise<'
     ghost kept_by = { λ p r. G.is_pass p.gate.now r.0
         × IfErr r.1 (IsStalled G.may_give_up)
         × (G.needs_parts ≡ true → (G.view r.0).part ≡ (G.view p.pass.value).part)
-        × (G.keeps_records ≡ true → OnlyGave (G.view p.pass.value) (G.view r.0)) };
+        × (G.keeps_records ≡ true → OnlyGave (G.view p.pass.value) (G.view r.0))
+        × (G.keeps_records ≡ true → IsReady p.plan.now (G.view p.pass.value) → IfOk r.1 (λ _. AreFed p.ops.now (G.view r.0))) };
 }
 
 /// A worker in its thread.
@@ -101,10 +107,13 @@ pub(crate) fn start_feeder<'s, E, G: Gate + Sync, R: Threads + Wait + Sync>(
 where
     G::Pass: Send + Drop + 's,
     requires { G.is_pass gate.now pass }
-    ensures { IfSome result (λ feeder. (feeder.promise.gate.now ≡ gate.now) × (feeder.promise.pass.value ≡ pass)) }
+    ensures { IfSome result (λ feeder. (feeder.promise.gate.now ≡ gate.now) × (feeder.promise.ops.now ≡ ops.now)
+        × (feeder.promise.plan.now ≡ plan.now) × (feeder.promise.pass.value ≡ pass)) }
 {
     let promise = FeederPromise {
         gate,
+        ops,
+        plan,
         pass: Snapshot::of(&pass),
     };
     match scope.spawn_with(promise, move || feed(rt, gate, pass, ops, plan)) {
@@ -123,8 +132,13 @@ pub(crate) fn join_feeder<G: Gate, R: Threads>(
     requires own { G.is_pass gate.now pass.old × (feeder.promise.gate.now ≡ gate.now) }
     ensures own { G.is_pass gate.now pass.new }
     ensures refused { IfErr result (IsStalled G.may_give_up) }
+    ensures part { G.needs_parts ≡ true → (G.view pass.new).part ≡ (G.view pass.old).part + (G.view feeder.entry.promise.pass.value).part }
     ensures records { G.keeps_records ≡ true
         → (G.view pass.new).taken ≡ (G.view pass.old).taken ++ (G.view feeder.entry.promise.pass.value).taken }
+    ensures joined { G.keeps_records ≡ true → (other : View) × Joins (G.view pass.old) other (G.view pass.new)
+        × (other.counts ≡ (G.view feeder.entry.promise.pass.value).counts)
+        × (IsReady feeder.entry.promise.plan.now (G.view feeder.entry.promise.pass.value)
+        → IfOk result (λ _. AreFed feeder.entry.promise.ops.now other)) }
 {
     let (other, outcome) = feeder.join(rt);
     gate.merge(pass, other);
@@ -140,10 +154,14 @@ pub(crate) fn join_worker<G: Gate, R: Threads>(
     worker: Worker<'_, G>,
 ) -> Result<Vec<Row>, BenchFault>
     requires own { G.is_pass gate.now pass.old × (worker.promise.gate.now ≡ gate.now) × (worker.promise.bench.now ≡ bench.now) }
-    requires fresh { G.keeps_records ≡ true → (G.view worker.promise.pass.value).taken ≡ [] }
+    requires fresh { G.keeps_records ≡ true → IsNew (G.view pass.old).counts (G.view worker.promise.pass.value) }
     ensures own { G.is_pass gate.now pass.new }
     ensures verdicts { IfOk result (λ rows. AreVerdicts bench.now rows.items) }
-    ensures refused { IfErr result (IsNoWork G.may_give_up bench.now.plan) }
+    ensures refused { IfErr result (IsNoWork G.may_give_up G.keeps_records bench.now.plan (G.view worker.entry.promise.pass.value).counts) }
+    ensures part { G.needs_parts ≡ true → (G.view pass.new).part ≡ (G.view pass.old).part + (G.view worker.entry.promise.pass.value).part }
+    ensures fed { G.keeps_records ≡ true → KeepsFed (G.view pass.old) (G.view pass.new) }
+    ensures over { G.keeps_records ≡ true → IfOk result (λ _. AreOver (G.view pass.new)) }
+    ensures still_over { G.keeps_records ≡ true → AreOver (G.view pass.old) → AreOver (G.view pass.new) }
     ensures records { G.keeps_records ≡ true
         → IfOk result (λ rows. (G.view pass.new).taken ≡ (G.view pass.old).taken ++ tickets_in rows.items) }
 {

@@ -1,9 +1,11 @@
 //! Workers: they take tickets, and run their mutants.
 
-ghost use Rattle.std.specs.Prelude.{◌≡◌, true, IfOk, IfErr, IfSome};
+ghost use Rattle.std.specs.Prelude.{◌≡◌, ◌⊎◌, true, IfOk, IfErr, IfSome, IsSome};
+ghost use Rattle.mothra_codes.specs.declared.op.Op.{Op as OpModel};
 ghost use Rattle.mothra_bench.specs.Bench.{BenchFields};
 ghost use Rattle.mothra_bench.specs.Gathered.{AreVerdicts};
-ghost use Rattle.mothra_bench.specs.Working.{IsNoWork, OnlyTook, TookRows, Went};
+ghost use Rattle.mothra_bench.specs.Working.{AreOver, IsNoWork, OnlyTook, TookRows, Went};
+ghost use Rattle.mothra_exchange.specs.Sharing.{IsOver};
 
 use crate::bench::Bench;
 use crate::fault::BenchFault;
@@ -26,6 +28,20 @@ enum Turn {
     GaveUp,
 }
 
+impl Turn {
+    /// What a round has come to behind the turn of one operator.
+    fn behind(self, turn: Turn) -> Turn
+        ensures finished { result ≡ Turn.Finished → (self ≡ Turn.Finished) × (turn ≡ Turn.Finished) }
+        ensures gave_up { result ≡ Turn.GaveUp → (self ≡ Turn.GaveUp) ⊎ (turn ≡ Turn.GaveUp) }
+    {
+        match turn {
+            Turn::Finished => self,
+            Turn::Idle if self != Turn::Finished => self,
+            Turn::Idle | Turn::Ran | Turn::GaveUp => turn,
+        }
+    }
+}
+
 /// Tries to take a ticket of an operator, and runs its mutant.
 fn take_turn<G: Gate, R: Wait>(
     rt: &R,
@@ -41,6 +57,9 @@ fn take_turn<G: Gate, R: Wait>(
     ensures part { G.needs_parts ≡ true → (G.view pass.new).part ≡ (G.view pass.old).part }
     ensures went { (bench : BenchFields) → IfSome verdicts.entry (λ verdicts. verdicts.now ≡ bench)
         → Went bench G.may_give_up G.keeps_records (G.view pass.old) (G.view pass.new) gathered.old gathered.new }
+    ensures over { G.keeps_records ≡ true → result ≡ Turn.Finished
+        → IsOver (G.view pass.new) op × ((other : OpModel) → IsOver (G.view pass.old) other → IsOver (G.view pass.new) other) }
+    ensures gave_up { result ≡ Turn.GaveUp → IsSome gathered.new.fault }
 {
     match gate.take(rt, pass, op) {
         Take::Finished => Turn::Finished,
@@ -70,19 +89,16 @@ fn take_round<G: Gate, R: Wait>(
     ensures part { G.needs_parts ≡ true → (G.view pass.new).part ≡ (G.view pass.old).part }
     ensures went { (bench : BenchFields) → IfSome verdicts.entry (λ verdicts. verdicts.now ≡ bench)
         → Went bench G.may_give_up G.keeps_records (G.view pass.old) (G.view pass.new) gathered.old gathered.new }
+    ensures over { G.keeps_records ≡ true → result ≡ Turn.Finished → AreOver (G.view pass.new) }
+    ensures gave_up { result ≡ Turn.GaveUp → IsSome gathered.new.fault }
 {
     let mut round = Turn::Finished;
     for op in Op::ALL {
-        match take_turn(rt, alloc, gate, pass, verdicts, gathered, op) {
-            Turn::Finished => {}
-            Turn::Idle => {
-                if round == Turn::Finished {
-                    round = Turn::Idle;
-                }
-            }
-            Turn::Ran => round = Turn::Ran,
-            Turn::GaveUp => return Turn::GaveUp,
+        let turn = take_turn(rt, alloc, gate, pass, verdicts, gathered, op);
+        if turn == Turn::GaveUp {
+            return Turn::GaveUp;
         }
+        round = round.behind(turn);
     }
     round
 }
@@ -100,10 +116,11 @@ pub fn work<G: Gate, R: Wait>(
     requires { G.is_pass gate.now pass }
     ensures own { G.is_pass gate.now result.0 }
     ensures verdicts { IfOk result.1 (λ rows. AreVerdicts bench.now rows.items) }
-    ensures refused { IfErr result.1 (IsNoWork G.may_give_up bench.now.plan) }
+    ensures refused { IfErr result.1 (IsNoWork G.may_give_up G.keeps_records bench.now.plan (G.view pass).counts) }
     ensures part { G.needs_parts ≡ true → (G.view result.0).part ≡ (G.view pass).part }
     ensures pass { G.keeps_records ≡ true → OnlyTook (G.view pass) (G.view result.0) }
     ensures records { G.keeps_records ≡ true → IfOk result.1 (λ rows. TookRows (G.view pass) (G.view result.0) rows.items) }
+    ensures over { G.keeps_records ≡ true → IfOk result.1 (λ _. AreOver (G.view result.0)) }
 {
     let found = Verdicts::of(alloc, bench).ok();
     let verdicts = found.as_ref();

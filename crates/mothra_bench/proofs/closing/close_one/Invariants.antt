@@ -1,4 +1,5 @@
 use Rattle.std.proofs.Common.{◌≡◌, true}
+use Rattle.mothra_bench.specs.Closing.{LooksOnly}
 use Rattle.mothra_bench.specs.Feeding.{OnlyGave}
 use Rattle.mothra_bench.proofs.closing.close_one.Given as goal
 
@@ -9,3 +10,4 @@ invariant-loop g l =
     × g.G.Gate.is_pass l.gate l.pass
     × (g.G.Gate.needs_parts ≡ true → (g.G.Gate.view l.pass).part ≡ (g.G.Gate.view l.fn.pass).part)
     × (g.G.Gate.keeps_records ≡ true → OnlyGave (g.G.Gate.view l.fn.pass) (g.G.Gate.view l.pass))
+    × (g.G.Gate.keeps_records ≡ true → LooksOnly l.op (g.G.Gate.view l.fn.pass) (g.G.Gate.view l.pass))

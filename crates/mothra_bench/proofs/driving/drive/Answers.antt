@@ -1,8 +1,11 @@
-use Rattle.std.proofs.Common.{◌≡◌, ◌++◌, ap, subst, IfOk, arith}
-use Rattle.mothra_codes.specs.Op.{index}
+use Rattle.std.proofs.Common.{◌≡◌, List, ◌++◌, take, ap, sym, subst, IfOk, arith, ◌∙◌}
+use Rattle.mothra_codes.specs.Op.{all_ops, index}
+use Rattle.mothra_codes.specs.declared.op.Op.{Op}
 use Rattle.mothra_exchange.specs.Ticket.{times}
 use Rattle.mothra_exchange.proofs.Counting.{times-append}
+use Rattle.mothra_bench.specs.Driving.{AreShared, IsDone}
 use Rattle.mothra_bench.specs.Gathered.{tickets_in}
+use Rattle.mothra_bench.proofs.JoinedPasses.{all_complete, all_shared}
 use Rattle.mothra_bench.proofs.driving.drive.Goals as goal
 
 pub returns-in-Ok-clause-records : goal.returns-in-Ok-clause-records
@@ -15,3 +18,16 @@ returns-in-Ok-clause-records g c keeps op k =
     let same = ap (times (index op) k) was in
     let parts = times-append (index op) k old (tickets_in c.in-Ok.rows.items) in
     omega arith
+
+pub returns-in-Ok-clause-complete : goal.returns-in-Ok-clause-complete
+returns-in-Ok-clause-complete g c parts keeps whole =
+    let view = g.G.Gate.view c.run_scope-pass.result.0 in
+    let old = (g.G.Gate.view c.args.pass).taken in
+    let was = subst (λ outcome. IfOk outcome (λ rows. view.taken ≡ old ++ tickets_in rows.items)) c.in-Ok.is (c.run_scope-pass.ensures.records keeps) in
+    let shared : AreShared c.split_at.result.0.now c.split_at.result.1.now =
+    subst (λ (l : List Op). AreShared l c.split_at.result.1.now) (sym c.split_at.ensures.front)
+    (subst (λ (l : List Op). AreShared (take 11 all_ops) l) (sym c.split_at.ensures.back) all_shared) in
+    let done = subst (λ outcome. IfOk outcome (λ rows. IsDone c.args.bench.now.plan view)) c.in-Ok.is
+    (c.run_scope-pass.ensures.done parts keeps c.requires.workers.0 shared whole) in
+    all_complete g.G.Gate.bound c.args.bench.now.plan view _ (tickets_in c.in-Ok.rows.items) done (c.finish-tally.ensures.records keeps)
+    (was ∙ ap (λ l. l ++ tickets_in c.in-Ok.rows.items) whole.taken)

@@ -1,8 +1,9 @@
-use Rattle.std.proofs.Common.{◌≡◌, ◌++◌, [], true, All, IfSome}
+use Rattle.std.proofs.Common.{◌≡◌, ◌⊎◌, ◌+◌, ◌++◌, true, All, IfSome, length}
 use Rattle.std.specs.Prelude.{IfNone}
-use Rattle.std.specs.Vec.Iter.{into_iter_items}
-use Rattle.mothra_bench.specs.Driving.{IsNoDrive}
+use Rattle.std.specs.Vec.Iter.{into_iter_items, into_iter_len}
+use Rattle.mothra_bench.specs.Driving.{IsNew, IsNoDrive, KeepsFed}
 use Rattle.mothra_bench.specs.Gathered.{AreVerdicts, tickets_in}
+use Rattle.mothra_bench.specs.Working.{AreOver}
 use Rattle.mothra_bench.proofs.driving.join_workers.Given as goal
 
 abbrev pub invariant-loop-worker : goal.invariant-loop-worker
@@ -11,7 +12,14 @@ invariant-loop-worker g l =
     × (goal.iterator-loop-worker g).is_finite l.worker-iterator
     × g.G.Gate.is_pass l.gate l.pass
     × All (λ worker. (worker.promise.gate.now ≡ l.gate) × (worker.promise.bench.now ≡ l.bench)
-    × (g.G.Gate.keeps_records ≡ true → (g.G.Gate.view worker.promise.pass.value).taken ≡ [])) (into_iter_items l.worker-iterator)
-    × IfSome l.gathered.fault (IsNoDrive g.G.Gate.may_give_up l.bench.plan)
+    × (g.G.Gate.needs_parts ≡ true → (g.G.Gate.view worker.promise.pass.value).part ≡ 1)
+    × (g.G.Gate.keeps_records ≡ true → IsNew (g.G.Gate.view l.fn.pass).counts (g.G.Gate.view worker.promise.pass.value))) (into_iter_items l.worker-iterator)
+    × IfSome l.gathered.fault (IsNoDrive g.G.Gate.may_give_up g.G.Gate.keeps_records l.bench.plan (g.G.Gate.view l.fn.pass).counts)
     × IfNone l.gathered.fault (AreVerdicts l.bench l.gathered.rows.items
     × (g.G.Gate.keeps_records ≡ true → (g.G.Gate.view l.pass).taken ≡ (g.G.Gate.view l.fn.pass).taken ++ tickets_in l.gathered.rows.items))
+    × (g.G.Gate.needs_parts ≡ true
+    → (g.G.Gate.view l.pass).part + length (into_iter_items l.worker-iterator) ≡ (g.G.Gate.view l.fn.pass).part + length l.fn.workers.items)
+    × (g.G.Gate.keeps_records ≡ true → KeepsFed (g.G.Gate.view l.fn.pass) (g.G.Gate.view l.pass))
+    × (g.G.Gate.keeps_records ≡ true
+    → IfNone l.gathered.fault ((into_iter_items l.worker-iterator ≡ l.fn.workers.items) ⊎ AreOver (g.G.Gate.view l.pass)))
+    × (into_iter_len l.worker-iterator ≡ length (into_iter_items l.worker-iterator))

@@ -1,5 +1,10 @@
-use Rattle.std.proofs.Common.{◌≡◌, true, length}
-use Rattle.mothra_bench.specs.Feeding.{OnlyGave}
+use Rattle.std.proofs.Common.{◌≡◌, true, [], length, Contains}
+use Rattle.std.specs.Prelude.{slice_index}
+use Rattle.mothra_codes.specs.declared.op.Op.{Op}
+use Rattle.mothra_codes.specs.Op.{index}
+use Rattle.mothra_bench.specs.Closing.{count_of}
+use Rattle.mothra_bench.specs.Feeding.{AllShow, OnlyGave, stage_of}
+use Rattle.mothra_bench.specs.declared.feeding.Stage.TheVariants as stage
 use Rattle.mothra_bench.proofs.feeding.feed.Given as goal
 
 abbrev pub invariant-loop : goal.invariant-loop
@@ -10,3 +15,6 @@ invariant-loop g l =
     × (g.G.Gate.needs_parts ≡ true → (g.G.Gate.view l.pass).part ≡ (g.G.Gate.view l.fn.pass).part)
     × (g.G.Gate.keeps_records ≡ true → OnlyGave (g.G.Gate.view l.fn.pass) (g.G.Gate.view l.pass))
     × (length l.stages ≡ 22)
+    × (g.G.Gate.keeps_records ≡ true → ((op : Op) → count_of (g.G.Gate.view l.fn.pass) op ≡ slice_index l.counts (index op))
+    → (g.G.Gate.view l.fn.pass).offered ≡ [] → (g.G.Gate.view l.fn.pass).closings ≡ [] → AllShow (g.G.Gate.view l.pass) l.stages)
+    × ((op : Op) → ¬ (Contains l.ops op) → stage_of l.stages op ≡ stage.Offered 0)

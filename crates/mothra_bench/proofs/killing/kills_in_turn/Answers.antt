@@ -1,4 +1,4 @@
-use Rattle.std.proofs.Common.{◌∙◌, List, ◌++◌, ◌∷◌, [], take, length, map, ap, sym, subst, arith}
+use Rattle.std.proofs.Common.{◌∙◌, List, length, map, ap, sym, subst, arith}
 use Rattle.std.specs.Prelude.{All, IfSome, None, ◌≡◌, slice_get, Some}
 use Rattle.std.proofs.lemmas.List.{take_all}
 use Rattle.f77_tree.specs.Parsing.{line_of}

@@ -1,6 +1,10 @@
-use Rattle.std.proofs.Common.{◌≡◌, true, IfSome}
+use Rattle.std.proofs.Common.{◌≡◌, ◌≢◌, ◌<◌, true, IfSome}
+use Rattle.mothra_codes.specs.Op.{index}
+use Rattle.mothra_codes.specs.declared.op.Op.{Op}
+use Rattle.mothra_exchange.specs.Sharing.{IsOver}
 use Rattle.mothra_bench.specs.Bench.{BenchFields}
 use Rattle.mothra_bench.specs.Working.{Went}
+use Rattle.mothra_bench.specs.declared.working.Turn.TheVariants as turn
 use Rattle.mothra_bench.proofs.working.take_round.Given as goal
 
 abbrev pub invariant-loop-op : goal.invariant-loop-op
@@ -9,3 +13,5 @@ invariant-loop-op g l =
     × (g.G.Gate.needs_parts ≡ true → (g.G.Gate.view l.pass).part ≡ (g.G.Gate.view l.fn.pass).part)
     × ((bench : BenchFields) → IfSome l.verdicts (λ verdicts. verdicts.now ≡ bench)
     → Went bench g.G.Gate.may_give_up g.G.Gate.keeps_records (g.G.Gate.view l.fn.pass) (g.G.Gate.view l.pass) l.fn.gathered l.gathered)
+    × (g.G.Gate.keeps_records ≡ true → l.round ≡ turn.Finished → (op : Op) → index op < l.op-index → IsOver (g.G.Gate.view l.pass) op)
+    × (l.round ≢ turn.GaveUp)

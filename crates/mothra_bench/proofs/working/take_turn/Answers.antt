@@ -1,6 +1,7 @@
-use Rattle.std.proofs.Common.{inl, inr}
+use Rattle.std.proofs.Common.{inl, inr, subst}
+use Rattle.mothra_exchange.specs.Gate.{TakeKept}
 use Rattle.mothra_bench.proofs.PassSteps.{take_none, take_only}
-use Rattle.mothra_bench.proofs.WorkerSteps.{went_idle, went_one}
+use Rattle.mothra_bench.proofs.WorkerSteps.{still_over, went_idle, went_one}
 use Rattle.mothra_bench.proofs.working.take_turn.Goals as goal
 
 pub returns-in-Finished-clause-went : goal.returns-in-Finished-clause-went
@@ -23,3 +24,8 @@ pub returns-in-Taken-clause-went : goal.returns-in-Taken-clause-went
 returns-in-Taken-clause-went g c bench of =
     went_one bench g.G.Gate.may_give_up g.G.Gate.keeps_records g.G.Gate.bound (g.G.Gate.view c.args.pass.now) (g.G.Gate.view c.take.new.pass) c.args.op c.in-Taken.ticket
     c.args.gathered.now c.run.new.self c.in-Taken.ensures.records (c.run.ensures.row bench of) (c.run.ensures.fault bench of)
+
+pub returns-in-Finished-clause-over : goal.returns-in-Finished-clause-over
+returns-in-Finished-clause-over g c keeps is =
+    still_over g.G.Gate.bound (g.G.Gate.view c.args.pass.now) (g.G.Gate.view c.take.new.pass) c.args.op
+    (subst (λ a. TakeKept g.G.Gate.bound (g.G.Gate.view c.args.pass.now) c.args.op a (g.G.Gate.view c.take.new.pass)) c.in-Finished.is (c.take.ensures.records keeps))

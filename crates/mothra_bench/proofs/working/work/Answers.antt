@@ -1,5 +1,7 @@
-use Rattle.std.proofs.Common.{◌∙◌}
-use Rattle.mothra_bench.proofs.WorkerSteps.{answers, lent_verdicts, went_on}
+use Rattle.std.proofs.Common.{◌∙◌, Global, Vec, ⊎_elim}
+use Rattle.mothra_bench.specs.Working.{AreOver}
+use Rattle.mothra_bench.specs.declared.verdict.Row.{Row}
+use Rattle.mothra_bench.proofs.WorkerSteps.{answers, any_rows, faulty_answer, lent_verdicts, went_on}
 use Rattle.mothra_bench.proofs.working.work.Goals as goal
 
 pub loop-preserved-in-Ran : goal.loop-preserved-in-Ran
@@ -39,4 +41,9 @@ returns-in-Finished g c =
       part = λ parts. c.take_round.ensures.part parts ∙ c.loop.invariant.3 parts;
       pass = went.pass;
       records = answer.records;
+      over = λ keeps.
+          let all = (λ (rows : Vec Row Global). AreOver new) in
+          ⊎_elim (λ is. any_rows (AreOver new) c.outcome.result (c.take_round.ensures.over keeps is))
+          (λ is. faulty_answer all c.take_round.new.gathered.fault c.take_round.new.gathered.rows c.outcome.result (c.take_round.ensures.gave_up is) c.outcome.ensures)
+          c.in-Finished.is;
     }

@@ -1,0 +1,433 @@
+-- What the calls of a feeder leave of its pass.
+use Rattle.std.proofs.Common.{◌≡◌, ◌⊎◌, ◌≢◌, ℕ, ◌+◌, ◌<◌, ◌≤◌, List, [], ◌∷◌, ◌++◌, length, Bool, true, false, true≢false, cond, eqb, ltb, not, Option, None, Some, IfSome, All, Contains, get_or, set, take, zero, suc, refl, sym, ap, ◌∙◌, subst, ⊎_elim, arith, inl, inr, eq-eqb}
+use Rattle.std.specs.Prelude.{slice_index}
+use Rattle.std.proofs.lemmas.Bool.{eqb-true}
+use Rattle.std.proofs.lemmas.List.{take_more}
+use Rattle.std.proofs.lemmas.Bool.Decides.{nat_tests}
+use Rattle.std.proofs.lemmas.List.Elements.{All-append, All-cons, All-nil, All-weaker, Contains-get_or}
+use Rattle.mothra_codes.proofs.Operators.{index_below, same_op}
+use Rattle.mothra_codes.specs.declared.op.Op.{Op}
+use Rattle.mothra_codes.specs.Op.{index}
+use Rattle.mothra_exchange.specs.declared.ticket.Ticket.{Ticket}
+use Rattle.mothra_exchange.specs.declared.view.Look.{Look}
+use Rattle.mothra_exchange.specs.declared.view.View.{View}
+use Rattle.mothra_exchange.specs.declared.word.Word.{Word}
+use Rattle.mothra_exchange.specs.declared.answer.Close.{Close}
+use Rattle.mothra_exchange.specs.declared.answer.Close.TheVariants as close
+use Rattle.mothra_exchange.specs.declared.answer.Offer.{Offer}
+use Rattle.mothra_exchange.specs.declared.answer.Offer.TheVariants as offer
+use Rattle.mothra_exchange.specs.Gate.{CloseKept, OfferKept}
+use Rattle.mothra_exchange.specs.Law.{ChangesOnly, HaveSame}
+use Rattle.mothra_exchange.specs.Ticket.{one_if, once_up_to, ticket, times}
+use Rattle.mothra_exchange.specs.View.{closing, times_closed, view_after_load}
+use Rattle.mothra_exchange.specs.Word.{AtMost, word_after_offer}
+use Rattle.mothra_exchange.proofs.Counting.{get_or-set_else, get_or-set_there, is_closing-own, is_ticket-own, once_up_to-suc, times-more, times_closed-more}
+use Rattle.mothra_exchange.proofs.Others.{offer_only}
+use Rattle.mothra_bench.specs.Closing.{Closes, LooksOnly, Shuts, count_of, seen_of}
+use Rattle.mothra_bench.specs.Feeding.{AllShow, AreFed, HasClosed, HasOffered, IsFed, NeverClosed, OnlyGave, Shows, stage_of}
+use Rattle.mothra_bench.specs.declared.feeding.Stage.{Stage}
+use Rattle.mothra_bench.specs.declared.feeding.Stage.TheVariants as stage
+use Rattle.mothra_bench.proofs.Looking.{found, load_long, looks_load, looks_lost, seen_after_load}
+
+gave_same : (old new next : View) → new ≡ next → next.counts ≡ old.counts → next.part ≡ old.part → next.taken ≡ old.taken → OnlyGave old new
+gave_same old new next e c p t = record { counts = ap (λ (v : View). v.counts) e ∙ c; part = ap (λ (v : View). v.part) e ∙ p; taken = ap (λ (v : View). v.taken) e ∙ t }
+
+-- a close takes nothing
+pub close_gave : (C : ℕ) (old : View) (op : Op) (answer : Close) (new : View) → CloseKept C old op answer new → OnlyGave old new
+close_gave C old op close.Already new h = gave_same old new _ h.2.1 refl refl refl
+close_gave C old op close.Busy new h = gave_same old new _ h.2.1.3 refl refl refl
+close_gave C old op close.Done new h = gave_same old new _ h.2.2 refl refl refl
+close_gave C old op close.GaveUp new h = record { counts = h.counts; part = h.part; taken = h.taken }
+
+-- nor does an offer
+pub offer_gave : (C : ℕ) (old : View) (t : Ticket) (answer : Offer) (new : View) → OfferKept C old t answer new → OnlyGave old new
+offer_gave C old t offer.Closed new h = gave_same old new _ h.2.1 refl refl refl
+offer_gave C old t offer.PastEnd new h = gave_same old new _ h.2.1 refl refl refl
+offer_gave C old t (offer.OutOfTurn k) new h = gave_same old new _ h.2.1 refl refl refl
+offer_gave C old t offer.Full new h = gave_same old new _ h.2.1 refl refl refl
+offer_gave C old t offer.Busy new h = gave_same old new _ h.2.1.3 refl refl refl
+offer_gave C old t offer.Accepted new h = gave_same old new _ h.2.2 refl refl refl
+offer_gave C old t offer.GaveUp new h = record { counts = h.counts; part = h.part; taken = h.taken }
+
+pub gave_on : (old between new : View) → OnlyGave old between → OnlyGave between new → OnlyGave old new
+gave_on old between new p q = record { counts = q.counts ∙ p.counts; part = q.part ∙ p.part; taken = q.taken ∙ p.taken }
+
+pub gave_self : (view : View) → OnlyGave view view
+gave_self view = record { counts = refl; part = refl; taken = refl }
+
+same_count : (old new : View) (op : Op) → new.counts ≡ old.counts → count_of new op ≡ count_of old op
+same_count old new op e = ap (λ (l : List ℕ). slice_index l (index op)) e
+
+same_offers : (old new : View) (op : Op) (last : ℕ) → new.offered ≡ old.offered → HasOffered old op last → HasOffered new op last
+same_offers old new op last e h k = ap (times (index op) k) e ∙ h k
+
+same_closings : (old new : View) (op : Op) → new.closings ≡ old.closings → NeverClosed old op → NeverClosed new op
+same_closings old new op e h k = ap (times_closed (index op) k) e ∙ h k
+
+-- what was seen lies no lower
+higher : (op : Op) (old new : View) (last : ℕ) → AtMost (seen_of old op) (seen_of new op) → last ≤ (seen_of old op).offered → last ≤ (seen_of new op).offered
+higher op old new last r h = let e = r.offered in omega arith
+
+higher_still : (op : Op) (old new : View) (last : ℕ) → AtMost (seen_of old op) (seen_of new op) → last < (seen_of old op).offered → last < (seen_of new op).offered
+higher_still op old new last r h = let e = r.offered in omega arith
+
+-- a stage is still told behind a look
+pub shows_looked : (op : Op) (old new : View) (s : Stage) → LooksOnly op old new → Shows old op s → Shows new op s
+shows_looked op old new (stage.Offered last) l h = (
+  same_offers old new op last l.offered h.0,
+  same_closings old new op l.closings h.1,
+  (let e = same_count old new op l.changes.counts in let m = h.2 in omega arith),
+  higher op old new last l.rises h.3,
+)
+shows_looked op old new stage.Ended l h = (
+  h.0,
+  same_offers old new op h.0 l.offered h.1,
+  same_closings old new op l.closings h.2,
+  ⊎_elim (λ m. inl (higher_still op old new h.0 l.rises m)) (λ c. inr (l.rises.close c).0) h.3,
+)
+shows_looked op old new stage.Closed l (IsFed.by_itself o c) =
+    let e = same_count old new op l.changes.counts in
+    IsFed.by_itself (subst (HasOffered new op) (sym e) (same_offers old new op (count_of old op) l.offered o))
+    (subst (HasClosed new op) (sym e) (ap (times_closed (index op) (count_of old op)) l.closings ∙ c))
+shows_looked op old new stage.Closed l (IsFed.others_offered last o m) =
+    IsFed.others_offered last (same_offers old new op last l.offered o) (higher_still op old new last l.rises m)
+shows_looked op old new stage.Closed l (IsFed.others_closed last o n c) =
+    IsFed.others_closed last (same_offers old new op last l.offered o) (same_closings old new op l.closings n) (l.rises.close c).0
+
+-- and behind a call on another operator
+pub shows_other : (op other : Op) (old new : View) (s : Stage) → ChangesOnly op old new → other ≢ op → Shows old other s → Shows new other s
+shows_other op other old new s only ne h = shown s h
+  where
+    same : HaveSame other old new
+    same = only.others other ne
+
+    seen : seen_of new other ≡ seen_of old other
+    seen = ap (λ (l : Look). l.seen) same.look
+
+    count : count_of new other ≡ count_of old other
+    count = same_count old new other only.counts
+
+    offers : (last : ℕ) → HasOffered old other last → HasOffered new other last
+    offers last o k = same.offered k ∙ o k
+
+    never : NeverClosed old other → NeverClosed new other
+    never n k = same.closings k ∙ n k
+
+    shown : (s : Stage) → Shows old other s → Shows new other s
+    shown (stage.Offered last) h = (
+      offers last h.0,
+      never h.1,
+      (let e = count in let m = h.2 in omega arith),
+      subst (λ (w : Word). last ≤ w.offered) (sym seen) h.3,
+    )
+    shown stage.Ended h = (
+      h.0,
+      offers h.0 h.1,
+      never h.2,
+      subst (λ (w : Word). (h.0 < w.offered) ⊎ (w.closed ≡ true)) (sym seen) h.3,
+    )
+    shown stage.Closed (IsFed.by_itself o c) =
+        IsFed.by_itself (subst (HasOffered new other) (sym count) (offers (count_of old other) o))
+        (subst (HasClosed new other) (sym count) (same.closings (count_of old other) ∙ c))
+    shown stage.Closed (IsFed.others_offered last o m) =
+        IsFed.others_offered last (offers last o) (subst (λ (w : Word). last < w.offered) (sym seen) m)
+    shown stage.Closed (IsFed.others_closed last o n c) =
+        IsFed.others_closed last (offers last o) (never n) (subst (λ (w : Word). w.closed ≡ true) (sym seen) c)
+
+-- an operator that a feeder closes is fed
+pub fed_closed : (op : Op) (old new : View) → HasOffered old op (count_of old op) → NeverClosed old op → count_of old op ≤ (seen_of old op).offered
+    → Closes op old new → IsFed new op
+fed_closed op old new offers never most closes = by_case closes.closings
+  where
+    count : count_of new op ≡ count_of old op
+    count = same_count old new op closes.changes.counts
+
+    given : HasOffered new op (count_of new op)
+    given = subst (HasOffered new op) (sym count) (same_offers old new op (count_of old op) closes.offered offers)
+
+    all : (seen_of new op).offered ≡ count_of new op
+    all = let a = closes.bound in let b = closes.rises.offered in let c = count in let d = most in omega arith
+
+    by_case : (new.closings ≡ old.closings) ⊎ Shuts op old new → IsFed new op
+    by_case (inl e) = IsFed.others_closed (count_of new op) given (same_closings old new op e never) closes.closed
+    by_case (inr s) =
+        let n = (seen_of new op).offered in
+        let more = ap (times_closed (index op) (count_of new op)) s.closings ∙ times_closed-more (index op) (count_of new op) old.closings (closing op n) in
+        let own = ap one_if (is_closing-own op n (count_of new op) ∙ eq-eqb n (count_of new op) all) in
+        let none = never (count_of new op) in
+        IsFed.by_itself given (omega arith)
+
+pub fed_ended : (op : Op) (old new : View) → Shows old op stage.Ended → Closes op old new → IsFed new op
+fed_ended op old new h closes = by_case h.3 closes.closings
+  where
+    given : HasOffered new op h.0
+    given = same_offers old new op h.0 closes.offered h.1
+
+    by_case : ((h.0 < (seen_of old op).offered) ⊎ ((seen_of old op).closed ≡ true)) → (new.closings ≡ old.closings) ⊎ Shuts op old new → IsFed new op
+    by_case (inl m) way = IsFed.others_offered h.0 given (higher_still op old new h.0 closes.rises m)
+    by_case (inr c) (inl e) = IsFed.others_closed h.0 given (same_closings old new op e h.2) closes.closed
+    by_case (inr c) (inr s) = absurd (true≢false (sym c ∙ s.was))
+
+-- what the answers of an offer tell of the word that it found
+found_closed : (c past turn full : Bool) (n : ℕ) → cond c offer.Closed (cond past offer.PastEnd (cond turn (offer.OutOfTurn n) (cond full offer.Full offer.Accepted))) ≡ offer.Closed → c ≡ true
+found_closed true p t f n e = refl
+found_closed false true t f n e = absurd (cc)
+found_closed false false true f n e = absurd (cc)
+found_closed false false false true n e = absurd (cc)
+found_closed false false false false n e = absurd (cc)
+
+found_past : (c past turn full : Bool) (n : ℕ) → cond c offer.Closed (cond past offer.PastEnd (cond turn (offer.OutOfTurn n) (cond full offer.Full offer.Accepted))) ≡ offer.PastEnd → past ≡ true
+found_past true p t f n e = absurd (cc)
+found_past false true t f n e = refl
+found_past false false true f n e = absurd (cc)
+found_past false false false true n e = absurd (cc)
+found_past false false false false n e = absurd (cc)
+
+found_turn : (c past turn full : Bool) (n k : ℕ) → cond c offer.Closed (cond past offer.PastEnd (cond turn (offer.OutOfTurn n) (cond full offer.Full offer.Accepted))) ≡ offer.OutOfTurn k
+    → turn ≡ true
+found_turn true p t f n k e = absurd (cc)
+found_turn false true t f n k e = absurd (cc)
+found_turn false false true f n k e = refl
+found_turn false false false true n k e = absurd (cc)
+found_turn false false false false n k e = absurd (cc)
+
+found_accepted : (c past turn full : Bool) (n : ℕ) → cond c offer.Closed (cond past offer.PastEnd (cond turn (offer.OutOfTurn n) (cond full offer.Full offer.Accepted))) ≡ offer.Accepted
+    → turn ≡ false
+found_accepted true p t f n e = absurd (cc)
+found_accepted false true t f n e = absurd (cc)
+found_accepted false false true f n e = absurd (cc)
+found_accepted false false false true n e = absurd (cc)
+found_accepted false false false false n e = refl
+
+past_end : (n k : ℕ) → ltb n k ≡ true → n < k
+past_end n k e = grind (arith, nat_tests)
+
+in_turn : (k n : ℕ) → not (eqb k n) ≡ false → k ≡ n
+in_turn k n e = grind (arith, nat_tests)
+
+out_of_turn : (k n : ℕ) → not (eqb k n) ≡ true → k ≢ n
+out_of_turn k n e = grind (arith, nat_tests)
+
+-- an offer that found no room, or lost
+pub shows_full : (C : ℕ) (old new : View) (t : Ticket) (s : Stage) → Shows old t.op s → OfferKept C old t offer.Full new → Shows new t.op s
+shows_full C old new t s h kept =
+    shows_looked t.op old new s (looks_load C old new t.op kept.0 kept.1 kept.2.1 (offer_only C old t offer.Full new kept)) h
+
+pub shows_busy : (C : ℕ) (old new : View) (t : Ticket) (s : Stage) → Shows old t.op s → OfferKept C old t offer.Busy new → Shows new t.op s
+shows_busy C old new t s h kept =
+    shows_looked t.op old new s (looks_lost C old new t.op kept.0 kept.1 kept.2.1 (offer_only C old t offer.Busy new kept)) h
+
+-- one behind a close
+pub shows_closed : (C : ℕ) (old new : View) (t : Ticket) (last : ℕ) → Shows old t.op (stage.Offered last) → OfferKept C old t offer.Closed new
+    → Shows new t.op stage.Ended
+shows_closed C old new t last h kept =
+    let w = kept.0 in
+    let looks = looks_load C old new t.op w kept.1 kept.2.1 (offer_only C old t offer.Closed new kept) in
+    let seen = seen_after_load C old new t.op w kept.1 kept.2.1 in
+    let shut = found_closed w.closed (ltb w.count t.number) (not (eqb t.number (w.offered + 1))) (eqb w.offered (w.handed + C)) (w.offered + 1) kept.2.0 in (
+      last,
+      same_offers old new t.op last looks.offered h.0,
+      same_closings old new t.op looks.closings h.1,
+      inr (ap (λ (x : Word). x.closed) seen ∙ shut),
+    )
+
+-- none is past the end
+pub shows_past : (C : ℕ) (old new : View) (t : Ticket) (last : ℕ) → t.number ≡ last + 1 → last < count_of old t.op → OfferKept C old t offer.PastEnd new
+    → Shows new t.op stage.Ended
+shows_past C old new t last next below kept =
+    let w = kept.0 in
+    let past = past_end w.count t.number
+    (found_past w.closed (ltb w.count t.number) (not (eqb t.number (w.offered + 1))) (eqb w.offered (w.handed + C)) (w.offered + 1) kept.2.0) in
+    let count = kept.1.count in
+    absurd (omega arith)
+
+-- one that is out of turn, since another pass offered
+pub shows_turn : (C : ℕ) (old new : View) (t : Ticket) (last k : ℕ) → t.number ≡ last + 1 → Shows old t.op (stage.Offered last)
+    → OfferKept C old t (offer.OutOfTurn k) new → Shows new t.op stage.Ended
+shows_turn C old new t last k next h kept =
+    let w = kept.0 in
+    let looks = looks_load C old new t.op w kept.1 kept.2.1 (offer_only C old t (offer.OutOfTurn k) new kept) in
+    let seen = seen_after_load C old new t.op w kept.1 kept.2.1 in
+    let other = out_of_turn t.number (w.offered + 1)
+    (found_turn w.closed (ltb w.count t.number) (not (eqb t.number (w.offered + 1))) (eqb w.offered (w.handed + C)) (w.offered + 1) k kept.2.0) in
+    let rises = kept.1.rises.offered in
+    let most = h.3 in
+    let own : (seen_of new t.op).offered ≡ w.offered = ap (λ (x : Word). x.offered) seen in
+    let less : last < w.offered = above last w.offered (omega arith) (λ e. other (next ∙ ap (λ (n : ℕ). n + 1) e)) in (
+      last,
+      same_offers old new t.op last looks.offered h.0,
+      same_closings old new t.op looks.closings h.1,
+      inl (omega arith),
+    )
+  where
+    above : (a b : ℕ) → a ≤ b → a ≢ b → a < b
+    above a b m ne = grind (arith, nat_tests)
+
+offered_one : (op : Op) (old new : View) (n : ℕ) → new.offered ≡ old.offered ++ ticket op (n + 1) ∷ [] → HasOffered old op n → HasOffered new op (n + 1)
+offered_one op old new n e h k =
+    let more = ap (times (index op) k) e ∙ times-more (index op) k old.offered (ticket op (n + 1)) in
+    let own = ap one_if (is_ticket-own op (n + 1) k) in
+    let up = once_up_to-suc n k in
+    let was = h k in
+    omega arith
+
+-- one that was accepted
+pub shows_accepted : (C : ℕ) (old new : View) (t : Ticket) (last : ℕ) → t.number ≡ last + 1 → last < count_of old t.op → Shows old t.op (stage.Offered last)
+    → OfferKept C old t offer.Accepted new → Shows new t.op (stage.Offered t.number)
+shows_accepted C old new t last next below h kept =
+    let w = kept.0 in
+    let op = t.op in
+    let between = view_after_load old (index op) w in
+    let only = offer_only C old t offer.Accepted new kept in
+    let is = kept.2.2 in
+    let turn : t.number ≡ w.offered + 1 = in_turn t.number (w.offered + 1)
+    (found_accepted w.closed (ltb w.count t.number) (not (eqb t.number (w.offered + 1))) (eqb w.offered (w.handed + C)) (w.offered + 1) kept.2.0) in
+    let same : last ≡ w.offered = omega arith in
+    let seen : seen_of new op ≡ word_after_offer w =
+    ap (λ (u : View). seen_of u op) is ∙ found between op (word_after_offer w) (load_long old op w kept.1.looks) in
+    let own : (seen_of new op).offered ≡ w.offered + 1 = ap (λ (x : Word). x.offered) seen in
+    let count = same_count old new op only.counts in (
+      subst (HasOffered new op) (sym turn)
+          (offered_one op old new w.offered (ap (λ (u : View). u.offered) is) (subst (HasOffered old op) same h.0)),
+      same_closings old new op (ap (λ (u : View). u.closings) is) h.1,
+      (omega arith),
+      (omega arith),
+    )
+
+pub shows_waited : (C : ℕ) (old new : View) (t : Ticket) (s : Stage) (answer : Offer) → (answer ≡ offer.Full) ⊎ (answer ≡ offer.Busy) → Shows old t.op s
+    → OfferKept C old t answer new → Shows new t.op s
+shows_waited C old new t s answer (inl e) h kept = shows_full C old new t s h (subst (λ a. OfferKept C old t a new) e kept)
+shows_waited C old new t s answer (inr e) h kept = shows_busy C old new t s h (subst (λ a. OfferKept C old t a new) e kept)
+
+pub shows_ended : (C : ℕ) (old new : View) (t : Ticket) (last : ℕ) (answer : Offer)
+    → (answer ≡ offer.Closed) ⊎ ((answer ≡ offer.PastEnd) ⊎ ((k : ℕ) × (answer ≡ offer.OutOfTurn k))) → t.number ≡ last + 1 → last < count_of old t.op
+    → Shows old t.op (stage.Offered last) → OfferKept C old t answer new → Shows new t.op stage.Ended
+shows_ended C old new t last answer (inl e) next below h kept = shows_closed C old new t last h (subst (λ a. OfferKept C old t a new) e kept)
+shows_ended C old new t last answer (inr (inl e)) next below h kept = shows_past C old new t last next below (subst (λ a. OfferKept C old t a new) e kept)
+shows_ended C old new t last answer (inr (inr (k, e))) next below h kept = shows_turn C old new t last k next h (subst (λ a. OfferKept C old t a new) e kept)
+
+-- an offer changes what the pass has of its operator alone
+pub only_offered : (C : ℕ) (old : View) (t : Ticket) (answer : Offer) (new : View) → answer ≢ offer.GaveUp → OfferKept C old t answer new → ChangesOnly t.op old new
+only_offered C old t offer.Closed new ne kept = offer_only C old t offer.Closed new kept
+only_offered C old t offer.PastEnd new ne kept = offer_only C old t offer.PastEnd new kept
+only_offered C old t (offer.OutOfTurn k) new ne kept = offer_only C old t (offer.OutOfTurn k) new kept
+only_offered C old t offer.Full new ne kept = offer_only C old t offer.Full new kept
+only_offered C old t offer.Busy new ne kept = offer_only C old t offer.Busy new kept
+only_offered C old t offer.Accepted new ne kept = offer_only C old t offer.Accepted new kept
+only_offered C old t offer.GaveUp new ne kept = absurd (ne refl)
+
+-- an operator of which all was offered is closed
+pub fed_full : (op : Op) (old new : View) (last count : ℕ) → count_of old op ≡ count → Shows old op (stage.Offered last) → count ≤ last → Closes op old new → IsFed new op
+fed_full op old new last count is h most closes =
+    let below = h.2 in
+    let seen = h.3 in
+    let same : last ≡ count_of old op = omega arith in
+    fed_closed op old new (subst (HasOffered old op) same h.0) h.1 (omega arith) closes
+
+-- the turn of an operator leaves what the stages of all tell
+pub all_show_one : (old new : View) (stages : List Stage) (op : Op) (s : Stage) → length stages ≡ 22 → ChangesOnly op old new → Shows new op s → AllShow old stages
+    → AllShow new (set stages (index op) s)
+all_show_one old new stages op s long only h all o = by_case (eqb (index o) (index op)) refl
+  where
+    by_case : (b : Bool) → eqb (index o) (index op) ≡ b → Shows new o (stage_of (set stages (index op) s) o)
+    by_case true e =
+        let same : index o ≡ index op = eqb-true (index o) (index op) e in
+        let is : o ≡ op = same_op o op same in
+        let there : stage_of (set stages (index op) s) op ≡ s = get_or-set_there stages (index op) s (stage.Offered 0)
+        (subst (λ (n : ℕ). index op < n) (sym long) (index_below op)) in
+        subst (λ x. Shows new x (stage_of (set stages (index op) s) x)) (sym is) (subst (Shows new op) (sym there) h)
+    by_case false e =
+        let other : o ≢ op = (λ i. true≢false (sym (eq-eqb (index o) (index op) (ap index i)) ∙ e)) in
+        let there : stage_of (set stages (index op) s) o ≡ stage_of stages o = get_or-set_else stages (index op) (index o) s (stage.Offered 0) (λ i. other (same_op o op i)) in
+        subst (Shows new o) (sym there) (shows_other op o old new (stage_of stages o) only other (all o))
+
+-- an operator that is closed stays so
+pub stays_closed : (stages : List Stage) (op o : Op) → length stages ≡ 22 → stage_of stages o ≡ stage.Closed → stage_of (set stages (index op) stage.Closed) o ≡ stage.Closed
+stays_closed stages op o long h = by_case (eqb (index o) (index op)) refl
+  where
+    by_case : (b : Bool) → eqb (index o) (index op) ≡ b → stage_of (set stages (index op) stage.Closed) o ≡ stage.Closed
+    by_case true e =
+        let same : index o ≡ index op = eqb-true (index o) (index op) e in
+        ap (stage_of (set stages (index op) stage.Closed)) (same_op o op same)
+        ∙ get_or-set_there stages (index op) stage.Closed (stage.Offered 0) (subst (λ (n : ℕ). index op < n) (sym long) (index_below op))
+    by_case false e =
+        get_or-set_else stages (index op) (index o) stage.Closed (stage.Offered 0) (λ i. true≢false (sym (eq-eqb (index o) (index op) i) ∙ e)) ∙ h
+
+pub now_closed : (stages : List Stage) (op : Op) → length stages ≡ 22 → stage_of (set stages (index op) stage.Closed) op ≡ stage.Closed
+now_closed stages op long = get_or-set_there stages (index op) stage.Closed (stage.Offered 0) (subst (λ (n : ℕ). index op < n) (sym long) (index_below op))
+
+-- those visited so far are closed
+pub all_closed : (stages : List Stage) (ops : List Op) (op : Op) → length stages ≡ 22 → All (λ o. stage_of stages o ≡ stage.Closed) ops
+    → All (λ o. stage_of (set stages (index op) stage.Closed) o ≡ stage.Closed) (ops ++ op ∷ [])
+all_closed stages ops op long h =
+    All-append (λ o. stage_of (set stages (index op) stage.Closed) o ≡ stage.Closed) ops (op ∷ [])
+    (All-weaker (λ o. stage_of stages o ≡ stage.Closed) (λ o. stage_of (set stages (index op) stage.Closed) o ≡ stage.Closed)
+    (λ o e. stays_closed stages op o long e) ops h)
+    (All-cons (λ o. stage_of (set stages (index op) stage.Closed) o ≡ stage.Closed) op [] (now_closed stages op long) (All-nil _))
+
+-- the turn of one operator leaves another's stage
+pub other_stage : (stages : List Stage) (op o : Op) (s : Stage) → o ≢ op → stage_of (set stages (index op) s) o ≡ stage_of stages o
+other_stage stages op o s ne = get_or-set_else stages (index op) (index o) s (stage.Offered 0) (λ i. ne (same_op o op i))
+
+-- a closing behind all offers, or behind their end
+pub turn_full : (op : Op) (old new : View) (s : Stage) (last count : ℕ) (result : Option Stage) → s ≡ stage.Offered last → count_of old op ≡ count → Shows old op s → count ≤ last
+    → IfSome result (λ x. (x ≡ stage.Closed) × Closes op old new) → IfSome result (Shows new op)
+turn_full op old new s last count None is e h most r = tt
+turn_full op old new s last count (Some x) is e h most r =
+    subst (Shows new op) (sym r.0) (fed_full op old new last count e (subst (Shows old op) is h) most r.1)
+
+pub turn_ended : (op : Op) (old new : View) (s : Stage) (result : Option Stage) → s ≡ stage.Ended → Shows old op s
+    → IfSome result (λ x. (x ≡ stage.Closed) × Closes op old new) → IfSome result (Shows new op)
+turn_ended op old new s None is h r = tt
+turn_ended op old new s (Some x) is h r = subst (Shows new op) (sym r.0) (fed_ended op old new (subst (Shows old op) is h) r.1)
+
+-- the same for the place of an operator
+pub all_show_at : (old new : View) (stages : List Stage) (op : Op) (i : ℕ) (s : Stage) → i ≡ index op → length stages ≡ 22 → ChangesOnly op old new → Shows new op s
+    → AllShow old stages → AllShow new (set stages i s)
+all_show_at old new stages op i s at long only h all = subst (λ (j : ℕ). AllShow new (set stages j s)) (sym at) (all_show_one old new stages op s long only h all)
+
+pub all_closed_at : (stages : List Stage) (ops : List Op) (k i : ℕ) (s : Stage) → i ≡ index (get_or ops k Op.Aar) → s ≡ stage.Closed → k < length ops → length stages ≡ 22
+    → All (λ o. stage_of stages o ≡ stage.Closed) (take k ops) → All (λ o. stage_of (set stages i s) o ≡ stage.Closed) (take (k + 1) ops)
+all_closed_at stages ops k i s at is lt long h =
+    let op = get_or ops k Op.Aar in
+    let more = all_closed stages (take k ops) op long h in
+    subst (λ (l : List Op). All (λ o. stage_of (set stages i s) o ≡ stage.Closed) l) (sym (take_more ops k Op.Aar lt))
+    (subst (λ (j : ℕ). All (λ o. stage_of (set stages j s) o ≡ stage.Closed) (take k ops ++ op ∷ [])) (sym at)
+    (subst (λ (x : Stage). All (λ o. stage_of (set stages (index op) x) o ≡ stage.Closed) (take k ops ++ op ∷ [])) (sym is) more))
+
+pub other_stage_at : (stages : List Stage) (ops : List Op) (k i : ℕ) (o : Op) (s : Stage) → i ≡ index (get_or ops k Op.Aar) → k < length ops → ¬ (Contains ops o)
+    → stage_of (set stages i s) o ≡ stage_of stages o
+other_stage_at stages ops k i o s at lt none =
+    subst (λ (j : ℕ). stage_of (set stages j s) o ≡ stage_of stages o) (sym at)
+    (other_stage stages (get_or ops k Op.Aar) o s (λ e. none (subst (Contains ops) (sym e) (Contains-get_or ops k Op.Aar lt))))
+
+none_once : (k : ℕ) → once_up_to 0 k ≡ 0
+none_once k = grind (arith, nat_tests)
+
+-- a pass that has offered and closed nothing
+pub shows_first : (view : View) (op : Op) (s : Stage) → s ≡ stage.Offered 0 → view.offered ≡ [] → view.closings ≡ [] → Shows view op s
+shows_first view op s is offered closings = subst (Shows view op) (sym is) (
+  (λ k. ap (times (index op) k) offered ∙ sym (none_once k)),
+  (λ k. ap (times_closed (index op) k) closings),
+  (omega arith),
+  (omega arith),
+)
+
+abbrev filled : ℕ → List Stage
+filled zero = []
+filled (suc n) = stage.Offered 0 ∷ filled n
+
+pub first_stage : (n i : ℕ) → get_or (filled n) i (stage.Offered 0) ≡ stage.Offered 0
+first_stage zero i = refl
+first_stage (suc n) zero = refl
+first_stage (suc n) (suc i) = first_stage n i
+
+-- all operators of a feeder are closed
+pub all_fed : (view : View) (stages : List Stage) (ops : List Op) → AllShow view stages → All (λ op. stage_of stages op ≡ stage.Closed) ops
+    → ((op : Op) → ¬ (Contains ops op) → stage_of stages op ≡ stage.Offered 0) → AreFed ops view
+all_fed view stages ops all closed first = record {
+  own = All-weaker (λ op. stage_of stages op ≡ stage.Closed) (IsFed view) (λ op e. subst (Shows view op) e (all op)) ops closed;
+  others = λ op none.
+      let h : Shows view op (stage.Offered 0) = subst (Shows view op) (first op none) (all op) in
+      record { offered = λ k. h.0 k ∙ none_once k; closings = h.1 };
+}
