@@ -20,3 +20,5 @@ mod AlikePlans
 mod OneBench
 mod OneReport
 mod OneAnswer
+mod Headline
+mod NoFalseRefusal

@@ -53,7 +53,7 @@ same_text text other e = cc
 same_line : (f g : Fault) → (let one : Outcome = Err f in let two : Outcome = Err g in one ≡ two) → f ≡ g
 same_line f g e = cc
 
-not_both : {A : Type 0} (text : List ℕ) (f : Fault) → (let one : Outcome = Ok text in let two : Outcome = Err f in one ≡ two) → A
+pub not_both : {A : Type 0} (text : List ℕ) (f : Fault) → (let one : Outcome = Ok text in let two : Outcome = Err f in one ≡ two) → A
 not_both text f e = absurd (cc)
 
 one_told : (request : Request) (read : JobRead) (status other : Status) (text also : List ℕ) → Laws → IsBounded request
@@ -89,7 +89,7 @@ module _ (operators : List Op) (every steps workers more : ℕ) where
   other_told {read = read} (IsTold.report is) = IsTold.report (other_outcome read _ is)
   other_told {read = read} (IsTold.fault f is) = IsTold.fault f (other_outcome read _ is)
 
-asked_told : (words : List Text) (bytes : List ℕ) (request : Request) (status : Status) (text : List ℕ) → AsksFor words request → IsServed words bytes status text
+pub asked_told : (words : List Text) (bytes : List ℕ) (request : Request) (status : Status) (text : List ℕ) → AsksFor words request → IsServed words bytes status text
     → IsTold request (job_of bytes) status text
 asked_told words bytes request status text asks served =
     subst (λ r. IsTold r (job_of bytes) status text) (same_request served.0 request (request_of words) served.1.is asks.is) served.2

@@ -32,7 +32,7 @@ memory_faults (command.Exec test steps) = Job job.Memory ∷ of_runs
 memory_faults (command.List operators every) = Job job.Memory ∷ of_mutants
 memory_faults (command.Run operators every steps workers) = Job job.Memory ∷ of_mutants
 
--- what may come in place of any other answer of the command: want of memory, and of `run` what keeps its threads from a report
+-- what may come in place of any other answer of the command: want of memory, and of `run` a thread that could not begin
 abbrev pub MayFailRun : Fault → Type 0
 MayFailRun (Bench fault) = IsNoReport fault
 MayFailRun fault = Contains (Job job.Memory ∷ of_mutants) fault

@@ -13,3 +13,4 @@ pub mod Reporting
 pub mod Status
 pub mod Answer
 pub mod Serving
+pub mod Law

@@ -1,0 +1,101 @@
+-- A legal job is answered with its report, or broken off for want of memory or of a thread.
+use Rattle.std.proofs.Common.{◌≡◌, ◌∙◌, ℕ, List, [], ◌∷◌, All, Some, None, sym, ap, subst}
+use Rattle.std.specs.Prelude.{Contains}
+use Rattle.std.proofs.lemmas.List.Elements.{All-cons, All-contains, All-nil}
+use Rattle.clap.specs.Kinds.{IsAmong}
+use Rattle.clap.specs.Words.{Text}
+use Rattle.clap.specs.declared.error.kind.ErrorKind.TheVariants as kind
+use Rattle.f77_source.specs.declared.fault.FormFault.TheVariants as form
+use Rattle.f77_tree.specs.declared.fault.SyntaxFault.TheVariants as syntax
+use Rattle.f77_legal.specs.declared.fault.CheckFault.TheVariants as check
+use Rattle.f77_run.specs.declared.outcome.RunFault.TheVariants as run
+use Rattle.mothra_ops.specs.declared.fault.OpsFault.TheVariants as ops
+use Rattle.mothra_bench.specs.Analysis.{IsNoReport}
+use Rattle.mothra_bench.specs.declared.fault.BenchFault.{BenchFault}
+use Rattle.mothra_bench.specs.declared.fault.BenchFault.TheVariants as bench
+use Rattle.mothra_cli.specs.Request.{HasBadOperators, request_in, request_of}
+use Rattle.mothra_cli.specs.declared.request.Request.{Request}
+use Rattle.mothra_cli.specs.declared.request.Request.TheVariants as command
+use Rattle.mothra_app.specs.Answer.{IsAnswer}
+use Rattle.mothra_app.specs.Fault.{MayFailBy, MayFailRun, of_legal_programs, of_mutants, of_programs, of_runs}
+use Rattle.mothra_app.specs.Job.{job_of}
+use Rattle.mothra_app.specs.Law.{IsFairAnswer, IsLegalJob, IsWant}
+use Rattle.mothra_app.specs.Serving.{AsksFor, IsServed, MayBeWritten}
+use Rattle.mothra_app.specs.declared.fault.Fault.{Fault}
+use Rattle.mothra_app.specs.declared.fault.Fault.TheVariants.{Job, Form, Syntax, Check, Run, Ops, Bench}
+use Rattle.mothra_app.specs.declared.job.JobFault.TheVariants as job
+use Rattle.mothra_app.specs.declared.status.Status.{Status}
+use Rattle.mothra_app.specs.declared.status.Status.TheVariants as status
+
+-- ---- the answer
+
+-- words and bytes are served with one status and one text at most
+abbrev pub OneAnswer : Type 0
+OneAnswer = (words : List Text) (bytes : List ℕ) (status other : Status) (text also : List ℕ)
+    → IsServed words bytes status text → IsServed words bytes other also → (status ≡ other) × (text ≡ also)
+
+-- words with a bad list of operators ask for nothing
+asks_nothing : {A : Type 0} (words : List Text) (request : Request) → request_of words ≡ Some request → HasBadOperators words → A
+asks_nothing words request is bad = let none : Some request ≡ None = sym is ∙ ap request_in bad in absurd (cc)
+
+module _ (words : List Text) (bytes report : List ℕ) (law : OneAnswer) (legal : IsLegalJob words bytes report) where
+  of_request : (request : Request) (s : Status) (text : List ℕ) → AsksFor words request → IsAnswer request (job_of bytes) s text
+      → IsFairAnswer words report s text
+  of_request request s text asks (IsAnswer.told told) =
+      let same = law words bytes status.Report s report text legal.served (request, asks, told) in
+      subst (λ v. IsFairAnswer words report v text) same.0 (subst (IsFairAnswer words report status.Report) same.1 IsFairAnswer.whole)
+  of_request request s text asks (IsAnswer.broken_off fault may) = IsFairAnswer.broken_off fault asks may
+
+  pub fair : (s : Status) (text : List ℕ) → MayBeWritten words bytes s text → IsFairAnswer words report s text
+  fair s text (MayBeWritten.answer {request = request} asks is) = of_request request s text asks is
+  fair s text (MayBeWritten.bad_list bad) = asks_nothing words legal.served.0 legal.served.1.is bad
+  fair s text (MayBeWritten.refusal refused) = absurd (subst (IsAmong refused.0) legal.taken refused.3)
+  fair s text (MayBeWritten.help asks) = absurd (subst (IsAmong kind.DisplayHelp) legal.taken asks)
+
+-- ---- the faults for which it breaks off
+
+in_programs : All IsWant of_programs
+in_programs =
+    All-cons IsWant (Form form.Memory) (Syntax syntax.Memory ∷ []) tt (All-cons IsWant (Syntax syntax.Memory) [] tt (All-nil IsWant))
+
+in_legal_programs : All IsWant of_legal_programs
+in_legal_programs = All-cons IsWant (Check check.Memory) of_programs tt in_programs
+
+in_runs : All IsWant of_runs
+in_runs = All-cons IsWant (Run run.Memory) of_legal_programs tt in_legal_programs
+
+in_mutants : All IsWant of_mutants
+in_mutants = All-cons IsWant (Ops ops.Memory) of_legal_programs tt in_legal_programs
+
+with_job : (faults : List Fault) → All IsWant faults → All IsWant (Job job.Memory ∷ faults)
+with_job faults are = All-cons IsWant (Job job.Memory) faults tt are
+
+in_job : (fault : Fault) → Contains (Job job.Memory ∷ of_mutants) fault → IsWant fault
+in_job fault may = All-contains IsWant (Job job.Memory ∷ of_mutants) fault (with_job of_mutants in_mutants) may
+
+of_bench : (fault : BenchFault) → IsNoReport fault → IsWant (Bench fault)
+of_bench bench.Memory none = tt
+of_bench bench.Thread none = tt
+of_bench (bench.TestShape n) none = absurd none
+of_bench (bench.OriginalFails n) none = absurd none
+of_bench (bench.EquivalentUnknown n) none = absurd none
+of_bench (bench.EquivalentTwice n) none = absurd none
+of_bench (bench.Double t) none = absurd none
+of_bench (bench.Stranger t) none = absurd none
+of_bench (bench.Missing t) none = absurd none
+of_bench bench.Stalled none = absurd none
+
+of_run : (fault : Fault) → MayFailRun fault → IsWant fault
+of_run (Bench fault) may = of_bench fault may
+of_run (Job fault) may = in_job (Job fault) may
+of_run (Form fault) may = in_job (Form fault) may
+of_run (Syntax fault) may = in_job (Syntax fault) may
+of_run (Check fault) may = in_job (Check fault) may
+of_run (Run fault) may = in_job (Run fault) may
+of_run (Ops fault) may = in_job (Ops fault) may
+
+pub wanted : (request : Request) (fault : Fault) → MayFailBy request fault → IsWant fault
+wanted command.Print fault may = All-contains IsWant (Job job.Memory ∷ of_programs) fault (with_job of_programs in_programs) may
+wanted (command.Exec test steps) fault may = All-contains IsWant (Job job.Memory ∷ of_runs) fault (with_job of_runs in_runs) may
+wanted (command.List operators every) fault may = in_job fault may
+wanted (command.Run operators every steps workers) fault may = of_run fault may
