@@ -14,7 +14,7 @@ use std::thread::Threads;
 use test_benches::{SUM, counts, report, sum_bench, ticket};
 
 /// The report that so many workers come to through a gate.
-fn driven<G: Gate + Sync, R: AllocGlobal + Threads + Wait + Sync>(
+pub(crate) fn driven<G: Gate + Sync, R: AllocGlobal + Threads + Wait + Sync>(
     rt: &R,
     bench: &Bench,
     gate: G,
@@ -92,7 +92,7 @@ fn dropped<R: AllocGlobal + Threads + Wait + Sync>(
     dropped: Ticket,
 ) -> Result<Result<String, BenchFault>, Fail> {
     let (inner, pass) = TableExchange::<64>::new(rt.alloc(), counts(bench.plan()))?;
-    Ok(driven(rt, bench, Dropping { inner, dropped }, pass, 4))
+    Ok(driven(rt, bench, Dropping { inner, dropped }, pass, 2))
 }
 
 fn dropped_locked<R: AllocGlobal + Threads + Wait + Sync>(
@@ -101,11 +101,11 @@ fn dropped_locked<R: AllocGlobal + Threads + Wait + Sync>(
     dropped: Ticket,
 ) -> Result<Result<String, BenchFault>, Fail> {
     let (inner, pass) = LockedExchange::<64>::new(rt.alloc(), counts(bench.plan()))?;
-    Ok(driven(rt, bench, Dropping { inner, dropped }, pass, 4))
+    Ok(driven(rt, bench, Dropping { inner, dropped }, pass, 2))
 }
 
 /// Compares what was driven with the report.
-fn assert_report(rt: &impl Abort, report: Result<String, BenchFault>, want: &str) {
+pub(crate) fn assert_report(rt: &impl Abort, report: Result<String, BenchFault>, want: &str) {
     match report {
         Ok(report) => assert_eq!(rt; report.as_str(), want),
         Err(fault) => assert!(rt; false, "{fault:?}"),
@@ -113,7 +113,7 @@ fn assert_report(rt: &impl Abort, report: Result<String, BenchFault>, want: &str
 }
 
 /// Compares the fault of what was driven.
-fn assert_fault(rt: &impl Abort, report: Result<String, BenchFault>, want: BenchFault) {
+pub(crate) fn assert_fault(rt: &impl Abort, report: Result<String, BenchFault>, want: BenchFault) {
     assert_eq!(rt; report.err(), Some(want));
 }
 

@@ -4,10 +4,16 @@
 #[cfg(test)]
 mod cheating;
 #[cfg(test)]
+mod complete;
+#[cfg(test)]
 mod gates;
 #[cfg(test)]
 mod holding;
 #[cfg(test)]
 mod refused_memory;
+#[cfg(test)]
+mod tricked;
+#[cfg(test)]
+mod tricks;
 #[cfg(test)]
 mod workers;

@@ -1,0 +1,88 @@
+//! Two workers over gates that invent tickets, hand them out in another order, refuse offers, or give up.
+
+use crate::gates::{assert_fault, assert_report, driven};
+use crate::tricks::{Trick, Tricky};
+use mothra_bench::{Bench, BenchFault};
+use mothra_exchange::{LockedExchange, TableExchange};
+use std::process::Abort;
+use std::sync::Wait;
+use std::sync::atomic::AtomicU64;
+use std::test::Fail;
+use std::thread::Threads;
+use test_benches::{SUM, counts, report, sum_bench, ticket};
+
+/// The report that two workers come to over a gate that plays a trick, round an exchange of words.
+fn tricked<R: AllocGlobal + Threads + Wait + Sync>(
+    rt: &R,
+    bench: &Bench,
+    trick: Trick,
+) -> Result<Result<String, BenchFault>, Fail> {
+    let (inner, pass) = TableExchange::<64>::new(rt.alloc(), counts(bench.plan()))?;
+    let made = AtomicU64::new(0);
+    let gate = Tricky { inner, trick, made };
+    Ok(driven(rt, bench, gate, pass, 2))
+}
+
+/// Round a locked exchange.
+fn tricked_locked<R: AllocGlobal + Threads + Wait + Sync>(
+    rt: &R,
+    bench: &Bench,
+    trick: Trick,
+) -> Result<Result<String, BenchFault>, Fail> {
+    let (inner, pass) = LockedExchange::<64>::new(rt.alloc(), counts(bench.plan()))?;
+    let made = AtomicU64::new(0);
+    let gate = Tricky { inner, trick, made };
+    Ok(driven(rt, bench, gate, pass, 2))
+}
+
+/// Over both forms the trick leads to this fault.
+fn assert_refused<R: Abort + AllocGlobal + Threads + Wait + Sync>(
+    rt: &R,
+    bench: &Bench,
+    trick: Trick,
+    fault: BenchFault,
+) -> Result<(), Fail> {
+    assert_fault(rt, tricked(rt, bench, trick)?, fault);
+    assert_fault(rt, tricked_locked(rt, bench, trick)?, fault);
+    Ok(())
+}
+
+#[test]
+fn refuse_tickets_that_a_gate_invents(rt: HostRuntime) -> Result<(), Fail> {
+    let (first, none) = (ticket("ABS 1")?, ticket("ABS 10")?);
+    let bench = sum_bench(&rt)?;
+    let again = Trick::Invents(1, first);
+    assert_refused(&rt, &bench, again, BenchFault::Double(first))?;
+    let stranger = Trick::Invents(0, none);
+    assert_refused(&rt, &bench, stranger, BenchFault::Stranger(none))?;
+    assert_refused(&rt, &bench, Trick::Refuses, BenchFault::Missing(first))
+}
+
+#[test]
+fn end_where_a_gate_gives_up_at_any_call(rt: HostRuntime) -> Result<(), Fail> {
+    let bench = sum_bench(&rt)?;
+    for calls in 0..50 {
+        assert_refused(&rt, &bench, Trick::GivesUp(calls), BenchFault::Stalled)?;
+    }
+    Ok(())
+}
+
+/// Over both forms the report is the same.
+fn assert_same<R: Abort + AllocGlobal + Threads + Wait + Sync>(
+    rt: &R,
+    bench: &Bench,
+    trick: Trick,
+    want: &str,
+) -> Result<(), Fail> {
+    assert_report(rt, tricked(rt, bench, trick)?, want);
+    assert_report(rt, tricked_locked(rt, bench, trick)?, want);
+    Ok(())
+}
+
+#[test]
+fn write_the_report_where_a_gate_swaps_tickets(rt: HostRuntime) -> Result<(), Fail> {
+    let want = report(&rt, &SUM)?;
+    let swaps = Trick::Swaps(ticket("ABS 1")?, ticket("ABS 2")?);
+    let bench = sum_bench(&rt)?;
+    assert_same(&rt, &bench, swaps, want.as_str())
+}
