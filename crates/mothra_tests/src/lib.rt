@@ -4,6 +4,8 @@
 #[cfg(test)]
 mod answers;
 #[cfg(test)]
+mod damaged_jobs;
+#[cfg(test)]
 mod equivalents;
 #[cfg(test)]
 mod example_reports;
@@ -15,6 +17,8 @@ mod fault_texts;
 mod help;
 #[cfg(test)]
 mod job_keys;
+#[cfg(test)]
+mod job_texts;
 #[cfg(test)]
 mod jobs;
 #[cfg(test)]

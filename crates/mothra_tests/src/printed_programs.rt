@@ -42,6 +42,11 @@ FAULT F6 1
 FAULT S8
 
       SUBROUTINE ADD(I,J,K)
+      K=I+
+=>
+FAULT S2 2
+
+      SUBROUTINE ADD(I,J,K)
       K=I+J
       END
       K=1

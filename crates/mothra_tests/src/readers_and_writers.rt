@@ -2,7 +2,7 @@
 
 use crate::jobs::{LOWER_CASE, PRINTED};
 use crate::streams::{Narrow, Trickle};
-use mothra_app::{AppFault, Watched, serve};
+use mothra_app::{AppFault, Status, Watched, serve};
 use std::io;
 use std::process::Abort;
 use std::sync::Wait;
@@ -60,6 +60,24 @@ fn ends_at_a_failed_write(rt: HostRuntime) {
         assert_written(&rt, room, true);
         assert_written(&rt, room, false);
     }
+}
+
+#[test]
+fn bytes_may_come_and_go_one_by_one(rt: HostRuntime) {
+    let mut taken = Vec::new(rt.alloc());
+    let mut reader = Watched::new(Trickle {
+        bytes: LOWER_CASE.as_bytes(),
+        given: 0,
+        fails: false,
+    });
+    let mut writer = Watched::new(Narrow {
+        taken: &mut taken,
+        room: PRINTED.len(),
+        fails: true,
+    });
+    let served = serve(&rt, &PRINT, &mut reader, &mut writer);
+    assert!(rt; served == Ok(Status::Report));
+    assert!(rt; taken.as_slice() == PRINTED);
 }
 
 #[test]

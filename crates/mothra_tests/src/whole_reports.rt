@@ -20,7 +20,8 @@ mothra run --workers 8
 mothra run --workers 32
 ";
 
-const REPORT: &str = "\
+/// Of the sum, with the test `[2,3,0]`.
+pub(crate) const REPORT: &str = "\
 REPORT 2
 UNIT ADD
 TESTS 1
