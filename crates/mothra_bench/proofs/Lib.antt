@@ -15,7 +15,9 @@ mod KillsUnreached
 mod PassSteps
 mod Looking
 mod FeederSteps
+mod FeederRounds
 mod JoinedPasses
+mod SharedOperators
 mod WorkerSteps
 mod WorkerRows
 mod ReportEntries

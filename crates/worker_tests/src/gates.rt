@@ -1,17 +1,15 @@
-//! Workers over gates that hold the first of them, or hold tickets back.
+//! Workers over gates that hold the first of them.
 
 ghost use Rattle.std.specs.Prelude.{◌≡◌, ◌+◌, ◌≤◌, true};
 
-use crate::cheating::{Dropping, Ending};
 use crate::holding::Holding;
 use mothra_bench::{Bench, BenchFault, collect, drive, render};
-use mothra_exchange::{Gate, LockedExchange, TableExchange, Ticket};
+use mothra_exchange::{Gate, LockedExchange, TableExchange};
 use std::process::Abort;
 use std::sync::Wait;
-use std::sync::atomic::AtomicU64;
 use std::test::Fail;
 use std::thread::Threads;
-use test_benches::{SUM, counts, report, sum_bench, ticket};
+use test_benches::{SUM, counts, report, sum_bench};
 
 /// The report that so many workers come to through a gate.
 pub(crate) fn driven<G: Gate + Sync, R: AllocGlobal + Threads + Wait + Sync>(
@@ -56,52 +54,6 @@ fn held_locked<R: AllocGlobal + Threads + Wait + Sync>(
     let (inner, pass) = LockedExchange::<64>::new(rt.alloc(), counts(bench.plan()))?;
     let (gate, pass) = Holding::of(inner, pass);
     Ok(driven(rt, bench, gate, pass, workers))
-}
-
-fn ending<G>(inner: G) -> Ending<G>
-    ensures { result.inner ≡ inner }
-{
-    Ending {
-        inner,
-        taken: AtomicU64::new(0),
-        most: 16,
-    }
-}
-
-/// The same, by four workers, where the gate ends after sixteen tickets.
-fn ended<R: AllocGlobal + Threads + Wait + Sync>(
-    rt: &R,
-    bench: &Bench,
-) -> Result<Result<String, BenchFault>, Fail> {
-    let (inner, pass) = TableExchange::<64>::new(rt.alloc(), counts(bench.plan()))?;
-    Ok(driven(rt, bench, ending(inner), pass, 4))
-}
-
-fn ended_locked<R: AllocGlobal + Threads + Wait + Sync>(
-    rt: &R,
-    bench: &Bench,
-) -> Result<Result<String, BenchFault>, Fail> {
-    let (inner, pass) = LockedExchange::<64>::new(rt.alloc(), counts(bench.plan()))?;
-    Ok(driven(rt, bench, ending(inner), pass, 4))
-}
-
-/// The same, where the gate drops a ticket.
-fn dropped<R: AllocGlobal + Threads + Wait + Sync>(
-    rt: &R,
-    bench: &Bench,
-    dropped: Ticket,
-) -> Result<Result<String, BenchFault>, Fail> {
-    let (inner, pass) = TableExchange::<64>::new(rt.alloc(), counts(bench.plan()))?;
-    Ok(driven(rt, bench, Dropping { inner, dropped }, pass, 2))
-}
-
-fn dropped_locked<R: AllocGlobal + Threads + Wait + Sync>(
-    rt: &R,
-    bench: &Bench,
-    dropped: Ticket,
-) -> Result<Result<String, BenchFault>, Fail> {
-    let (inner, pass) = LockedExchange::<64>::new(rt.alloc(), counts(bench.plan()))?;
-    Ok(driven(rt, bench, Dropping { inner, dropped }, pass, 2))
 }
 
 /// Compares what was driven with the report.
@@ -149,45 +101,4 @@ fn assert_stalled<R: Abort + AllocGlobal + Threads + Wait + Sync>(
 fn give_up_where_one_worker_waits_for_another(rt: HostRuntime) -> Result<(), Fail> {
     let bench = sum_bench(&rt)?;
     assert_stalled(&rt, &bench)
-}
-
-/// Whether some ticket is told to be missing.
-fn is_short(report: Result<String, BenchFault>) -> bool {
-    matches!(report.err(), Some(BenchFault::Missing(_)))
-}
-
-fn assert_short<R: Abort + AllocGlobal + Threads + Wait + Sync>(
-    rt: &R,
-    bench: &Bench,
-) -> Result<(), Fail> {
-    assert!(rt; is_short(ended(rt, bench)?));
-    assert!(rt; is_short(ended_locked(rt, bench)?));
-    Ok(())
-}
-
-#[test]
-fn miss_mutants_where_a_gate_ends_early(rt: HostRuntime) -> Result<(), Fail> {
-    let bench = sum_bench(&rt)?;
-    assert_short(&rt, &bench)
-}
-
-fn assert_missing<R: Abort + AllocGlobal + Threads + Wait + Sync>(
-    rt: &R,
-    bench: &Bench,
-    ticket: Ticket,
-) -> Result<(), Fail> {
-    assert_fault(rt, dropped(rt, bench, ticket)?, BenchFault::Missing(ticket));
-    assert_fault(
-        rt,
-        dropped_locked(rt, bench, ticket)?,
-        BenchFault::Missing(ticket),
-    );
-    Ok(())
-}
-
-#[test]
-fn miss_the_mutant_that_a_gate_drops(rt: HostRuntime) -> Result<(), Fail> {
-    let last = ticket("UOI 9")?;
-    let bench = sum_bench(&rt)?;
-    assert_missing(&rt, &bench, last)
 }

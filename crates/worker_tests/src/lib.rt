@@ -2,8 +2,6 @@
 #![tactic(auto)]
 
 #[cfg(test)]
-mod cheating;
-#[cfg(test)]
 mod complete;
 #[cfg(test)]
 mod gates;

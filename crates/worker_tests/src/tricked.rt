@@ -1,4 +1,4 @@
-//! Two workers over gates that invent tickets, hand them out in another order, refuse offers, or give up.
+//! Two workers over gates that invent tickets, drop them, hand them out in another order, end early, refuse offers, or give up.
 
 use crate::gates::{assert_fault, assert_report, driven};
 use crate::tricks::{Trick, Tricky};
@@ -56,6 +56,35 @@ fn refuse_tickets_that_a_gate_invents(rt: HostRuntime) -> Result<(), Fail> {
     let stranger = Trick::Invents(0, none);
     assert_refused(&rt, &bench, stranger, BenchFault::Stranger(none))?;
     assert_refused(&rt, &bench, Trick::Refuses, BenchFault::Missing(first))
+}
+
+#[test]
+fn miss_the_mutant_that_a_gate_drops(rt: HostRuntime) -> Result<(), Fail> {
+    let last = ticket("UOI 9")?;
+    let bench = sum_bench(&rt)?;
+    assert_refused(&rt, &bench, Trick::Drops(last), BenchFault::Missing(last))
+}
+
+/// Whether some ticket is told to be missing.
+fn is_short(report: Result<String, BenchFault>) -> bool {
+    matches!(report.err(), Some(BenchFault::Missing(_)))
+}
+
+/// Over both forms some ticket is missing.
+fn assert_short<R: Abort + AllocGlobal + Threads + Wait + Sync>(
+    rt: &R,
+    bench: &Bench,
+    trick: Trick,
+) -> Result<(), Fail> {
+    assert!(rt; is_short(tricked(rt, bench, trick)?));
+    assert!(rt; is_short(tricked_locked(rt, bench, trick)?));
+    Ok(())
+}
+
+#[test]
+fn miss_mutants_where_a_gate_ends_early(rt: HostRuntime) -> Result<(), Fail> {
+    let bench = sum_bench(&rt)?;
+    assert_short(&rt, &bench, Trick::Ends(16))
 }
 
 #[test]

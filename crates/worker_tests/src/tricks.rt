@@ -13,6 +13,10 @@ pub(crate) enum Trick {
     Swaps(Ticket, Ticket),
     /// Each offer is answered as if the operator were closed.
     Refuses,
+    /// A ticket is dropped, and the take is made again.
+    Drops(Ticket),
+    /// The takes behind so many tickets answer that all is finished.
+    Ends(u64),
     /// Of all offers, takes and closes those behind so many give up.
     GivesUp(u64),
 }
@@ -22,7 +26,7 @@ pub(crate) enum Trick {
 pub(crate) struct Tricky<G> {
     pub(crate) inner: G,
     pub(crate) trick: Trick,
-    /// How many calls the trick has counted.
+    /// How many calls, or tickets, the trick has counted.
     pub(crate) made: AtomicU64,
 }
 
@@ -42,6 +46,28 @@ impl<G> Tricky<G> {
                 (self.made.fetch_add(1, Ordering::SeqCst) == takes).then_some(ticket)
             }
             _ => None,
+        }
+    }
+
+    /// Whether so many tickets were handed out that no more are.
+    fn ends(&self) -> bool {
+        match self.trick {
+            Trick::Ends(tickets) => self.made.load(Ordering::SeqCst) >= tickets,
+            _ => false,
+        }
+    }
+
+    /// Counts a ticket that is handed out, where the trick counts tickets.
+    fn count(&self) {
+        if let Trick::Ends(_) = self.trick {
+            self.made.fetch_add(1, Ordering::SeqCst);
+        }
+    }
+
+    fn drops(&self, ticket: Ticket) -> bool {
+        match self.trick {
+            Trick::Drops(dropped) => ticket == dropped,
+            _ => false,
         }
     }
 
@@ -97,8 +123,15 @@ impl<G: Gate> Gate for Tricky<G> {
         if let Some(ticket) = self.invented() {
             return Take::Taken(ticket);
         }
+        if self.ends() {
+            return Take::Finished;
+        }
         match self.inner.take(rt, pass, op) {
-            Take::Taken(ticket) => Take::Taken(self.handed(ticket)),
+            Take::Taken(ticket) if self.drops(ticket) => self.inner.take(rt, pass, op),
+            Take::Taken(ticket) => {
+                self.count();
+                Take::Taken(self.handed(ticket))
+            }
             answer => answer,
         }
     }

@@ -5,7 +5,8 @@ use Rattle.mothra_exchange.specs.Ticket.{times}
 use Rattle.mothra_exchange.proofs.Counting.{times-append}
 use Rattle.mothra_bench.specs.Driving.{AreShared, IsDone}
 use Rattle.mothra_bench.specs.Gathered.{tickets_in}
-use Rattle.mothra_bench.proofs.JoinedPasses.{all_complete, all_shared}
+use Rattle.mothra_bench.proofs.JoinedPasses.{all_complete}
+use Rattle.mothra_bench.proofs.SharedOperators.{all_shared}
 use Rattle.mothra_bench.proofs.driving.drive.Goals as goal
 
 pub returns-in-Ok-clause-records : goal.returns-in-Ok-clause-records

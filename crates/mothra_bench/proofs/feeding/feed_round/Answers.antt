@@ -5,7 +5,8 @@ use Rattle.mothra_codes.specs.Op.{index}
 use Rattle.mothra_codes.specs.declared.op.Op.{Op}
 use Rattle.mothra_bench.specs.Feeding.{Shows, stage_of}
 use Rattle.mothra_bench.specs.declared.feeding.Stage.TheVariants as stage
-use Rattle.mothra_bench.proofs.FeederSteps.{all_closed_at, all_show_at, gave_on, other_stage_at}
+use Rattle.mothra_bench.proofs.FeederRounds.{all_closed_at, all_show_at, other_stage_at}
+use Rattle.mothra_bench.proofs.FeederSteps.{gave_on}
 use Rattle.mothra_bench.proofs.feeding.feed_round.Goals as goal
 
 pub loop-op-preserved : goal.loop-op-preserved
