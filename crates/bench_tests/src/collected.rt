@@ -4,10 +4,10 @@ use f77_run::Values;
 use mothra_bench::{Bench, BenchFault, Matrix, Row, collect, verdict_of};
 use mothra_exchange::Tally;
 use mothra_ops::Op;
+use sample_benches::{rows, sum_bench, tally, ticket, whole_tally};
+use sample_programs::parts;
 use std::process::Abort;
 use std::test::Fail;
-use test_benches::{rows, sum_bench, tally, ticket, whole_tally};
-use test_programs::parts;
 
 /// `reversed`, `without the last`, or a row that is added: its ticket and its digits, `-` for none.
 const ROWS: &[&str] = &[

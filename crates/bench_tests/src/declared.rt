@@ -1,9 +1,9 @@
 //! Declared entries of operators that were not asked for.
 
+use sample_benches::{Job, lines_of, report};
+use sample_programs::ADD;
 use std::process::Abort;
 use std::test::Fail;
-use test_benches::{Job, lines_of, report};
-use test_checks::ADD;
 
 #[test]
 fn are_passed_over(rt: HostRuntime) -> Result<(), Fail> {

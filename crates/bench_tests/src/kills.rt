@@ -2,11 +2,10 @@
 //! mutant of the operator a digit for each test, 1 where it kills.
 
 use mothra_bench::Row;
+use sample_benches::{Job, bench, rows};
+use sample_programs::{ADD, LOOP, parts, repeated};
 use std::process::Abort;
 use std::test::Fail;
-use test_benches::{Job, bench, rows};
-use test_checks::{ADD, LOOP};
-use test_programs::{parts, repeated};
 
 const ROWS: &[&str] = &[
     // A division by zero; a power of zero.

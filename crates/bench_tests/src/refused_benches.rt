@@ -1,11 +1,10 @@
 //! What keeps a bench from being made, and which fault is told first. A row is tests that each end with `;`, declared mutants with commas between
 //! them, and which of the list of ABS is kept, with ` | ` between them, ` => ` and the fault.
 
+use sample_benches::{Job, SUM, report};
+use sample_programs::{LOOP, parts};
 use std::process::Abort;
 use std::test::Fail;
-use test_benches::{Job, SUM, report};
-use test_checks::LOOP;
-use test_programs::parts;
 
 const ROWS: &[&str] = &[
     // A test that does not fit.

@@ -1,10 +1,9 @@
 //! Reports. A row is the words that lines begin with, ` => ` and these lines of the report.
 
+use sample_benches::{Job, SUM, lines_of, report};
+use sample_programs::{LOOP, parts};
 use std::process::Abort;
 use std::test::Fail;
-use test_benches::{Job, SUM, lines_of, report};
-use test_checks::LOOP;
-use test_programs::parts;
 
 const SELECTED: &str =
     "SUBROUTINE SEL(I,K); GO TO (10,20),I; K=0; RETURN; 10 K=1; RETURN; 20 K=2; END";

@@ -4,10 +4,10 @@ use f77_run::Values;
 use mothra_bench::{Bench, Row, collect};
 use mothra_exchange::Ticket;
 use mothra_ops::Op;
+use sample_benches::{Job, SUM, bench, rows, whole_tally};
+use sample_programs::{parts, repeated};
 use std::process::Abort;
 use std::test::Fail;
-use test_benches::{Job, SUM, bench, rows, whole_tally};
-use test_programs::{parts, repeated};
 
 fn score_of(rt: &impl AllocGlobal, bench: &Bench, rows: Vec<Row>) -> Result<Option<u32>, Fail> {
     let tally = whole_tally(rt, bench)?;

@@ -1,8 +1,8 @@
 //! The limits on statements, names and elements.
 
 use crate::verdicts::{assert_verdicts, verdict};
+use sample_programs::repeated;
 use std::test::Fail;
-use test_programs::repeated;
 
 const ELEMENTS: &[&str] = &[
     "SUBROUTINE XB(K); INTEGER M(101,100); END => C14",

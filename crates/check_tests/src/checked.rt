@@ -2,9 +2,8 @@
 
 use f77_check::{Shape, Start};
 use f77_syntax::{Constant, print};
+use sample_programs::{checked, program};
 use std::test::Fail;
-use test_checks::checked;
-use test_programs::program;
 
 const SHAPES: &str = "SUBROUTINE S(K,M,P); INTEGER M(3,4); LOGICAL P; P=K.GT.M(1,2); END";
 

@@ -1,9 +1,9 @@
 //! The texts of faults of programs.
 
 use f77_check::{CheckFault, check};
+use sample_programs::program;
 use std::process::Abort;
 use std::test::Fail;
-use test_programs::program;
 
 /// Compares the text of a fault.
 fn assert_text(

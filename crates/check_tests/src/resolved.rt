@@ -1,9 +1,9 @@
 //! The resolved statements of programs.
 
 use crate::action_texts::shown;
+use sample_programs::checked;
 use std::process::Abort;
 use std::test::Fail;
-use test_checks::checked;
 
 /// Compares the number of slots and each resolved statement.
 fn assert_resolved(

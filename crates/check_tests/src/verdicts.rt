@@ -1,10 +1,9 @@
 //! Verdicts on programs.
 
 use f77_check::check;
+use sample_programs::{parts, program, verdict_of};
 use std::process::Abort;
 use std::test::Fail;
-use test_checks::verdict_of;
-use test_programs::{parts, program};
 
 /// The verdict on the program of these statements.
 pub(crate) fn verdict(rt: &impl AllocGlobal, statements: &str) -> Result<String, Fail> {

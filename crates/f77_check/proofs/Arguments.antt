@@ -4,7 +4,7 @@ use Rattle.std.specs.Prelude.{map, filter, is_some, nat_lt, if◌then◌else◌}
 use Rattle.std.specs.List.{list_any, sum}
 use Rattle.std.specs.Str.{bytes_eq}
 use Rattle.std.proofs.lemmas.Bool.Decides.{nat_tests}
-use Rattle.f77_tree.specs.Parsing.{LineFields}
+use Rattle.f77_program.specs.Program.{LineFields}
 use Rattle.f77_tree.specs.Tree.{Statement}
 use Rattle.f77_legal.specs.declared.names.Names.{Names}
 use Rattle.f77_check.specs.Checked.{shape_of, shapes}

@@ -7,7 +7,7 @@ use Rattle.std.proofs.lemmas.Bool.Decides.{nat_tests}
 use Rattle.std.proofs.lemmas.List.{length-map}
 use Rattle.std.proofs.lemmas.Option.{same_Some}
 use Rattle.indexmap.specs.IndexMap.{keys}
-use Rattle.f77_tree.specs.Parsing.{LineFields, IsProgram}
+use Rattle.f77_program.specs.Program.{LineFields, IsProgram}
 use Rattle.f77_tree.specs.Tree.{GroupFields, Statement}
 use Rattle.f77_tree.specs.declared.data.Constant.{Constant}
 use Rattle.f77_tree.specs.declared.tree.Kind.{Kind}

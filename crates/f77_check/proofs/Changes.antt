@@ -8,10 +8,10 @@ use Rattle.std.proofs.lemmas.Bool.Decides.{nat_tests}
 use Rattle.std.proofs.lemmas.List.{length-map, length-reverse}
 use Rattle.std.proofs.lemmas.Option.{same_Some, slice_get_cases, slice_get-map, slice_get_past, slice_get_read, slice_get_within}
 use Rattle.indexmap.specs.IndexMap.{keys}
-use Rattle.f77_tree.specs.Parsing.{LineFields, IsProgram, line_of}
+use Rattle.f77_program.specs.Program.{LineFields, IsProgram, line_of}
 use Rattle.f77_tree.specs.StatementGrammar.{IsFormed}
 use Rattle.f77_tree.specs.Tree.{Statement}
-use Rattle.f77_tree.specs.declared.program.Line.{Line}
+use Rattle.f77_program.specs.declared.program.Line.{Line}
 use Rattle.f77_check.specs.Checked.{CheckedFields, IsChecked, shapes}
 use Rattle.f77_check.specs.CheckedView.{fields_of}
 use Rattle.f77_check.specs.Patching.{IsChangedAlone}

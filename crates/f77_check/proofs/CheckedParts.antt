@@ -2,8 +2,8 @@
 use Rattle.std.proofs.Common.{arith, ◌≡◌, ◌≤◌, List, map, sym, subst, ap, ◌∙◌}
 use Rattle.std.specs.Prelude.{None}
 use Rattle.indexmap.specs.IndexMap.{keys}
-use Rattle.f77_tree.specs.Parsing.{LineFields, IsProgram, line_of}
-use Rattle.f77_tree.specs.declared.program.Line.{Line}
+use Rattle.f77_program.specs.Program.{LineFields, IsProgram, line_of}
+use Rattle.f77_program.specs.declared.program.Line.{Line}
 use Rattle.f77_check.specs.Checked.{CheckedFields, IsChecked, shapes}
 use Rattle.f77_check.specs.CheckedView.{fields_of}
 use Rattle.f77_check.specs.Ready.{CanResolve}

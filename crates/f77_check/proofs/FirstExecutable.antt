@@ -2,11 +2,11 @@
 use Rattle.std.proofs.Common.{◌≡◌, ◌≢◌, ℕ, Bool, true, false, List, ◌∷◌, Option, Some, None, refl}
 use Rattle.std.specs.Prelude.{position}
 use Rattle.std.specs.List.{list_any, position_or_len}
-use Rattle.f77_tree.specs.Group.{group_of}
-use Rattle.f77_tree.specs.Parsing.{LineFields, IsProgram}
+use Rattle.f77_program.specs.Group.{group_of}
+use Rattle.f77_program.specs.Program.{LineFields, IsProgram}
 use Rattle.f77_tree.specs.Tree.{Statement}
-use Rattle.f77_tree.specs.declared.group.Group.{Group}
-use Rattle.f77_tree.specs.declared.group.Group.TheVariants.{End}
+use Rattle.f77_program.specs.declared.group.Group.{Group}
+use Rattle.f77_program.specs.declared.group.Group.TheVariants.{End}
 use Rattle.f77_check.specs.Start.{is_executable}
 use Rattle.f77_legal.proofs.Positions.{found_there}
 

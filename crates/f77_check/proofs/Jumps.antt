@@ -3,7 +3,7 @@ use Rattle.std.proofs.Common.{arith, ◌+◌, ◌<◌, ℕ, zero, suc, List, [],
 use Rattle.std.specs.Prelude.{IsSome}
 use Rattle.std.proofs.lemmas.List.{take_more}
 use Rattle.indexmap.proofs.SetLemmas.{AllZip-push}
-use Rattle.f77_tree.specs.Parsing.{LineFields}
+use Rattle.f77_program.specs.Program.{LineFields}
 use Rattle.f77_legal.specs.Labels.{place_of}
 use Rattle.f77_check.specs.Action.{IsJump, AreJumps}
 use Rattle.f77_check.specs.Ready.{AreFound}

@@ -7,8 +7,8 @@ use Rattle.std.proofs.lemmas.List.{map-append}
 use Rattle.std.proofs.lemmas.Option.{slice_get_read, slice_get-map}
 use Rattle.indexmap.specs.IndexMap.{keys}
 use Rattle.f77_tree.specs.declared.data.Constant.{Constant}
-use Rattle.f77_tree.specs.declared.program.Line.{Line}
-use Rattle.f77_tree.specs.Parsing.{LineFields, line_of}
+use Rattle.f77_program.specs.declared.program.Line.{Line}
+use Rattle.f77_program.specs.Program.{LineFields, line_of}
 use Rattle.f77_tree.specs.StatementView.{statement_of}
 use Rattle.f77_check.specs.declared.resolve.Resolver.{Resolver}
 use Rattle.f77_check.specs.Initial.{give_groups, groups_kept}

@@ -4,7 +4,7 @@ use Rattle.std.specs.Prelude.{Some, None, is_some, position, option_map, nat_lt}
 use Rattle.std.specs.List.{position_or_len, sum}
 use Rattle.std.proofs.lemmas.Bool.Decides.{nat_tests}
 use Rattle.std.proofs.lemmas.List.{take-append-drop, length-append, length-drop, take_all}
-use Rattle.f77_tree.specs.Parsing.{LineFields}
+use Rattle.f77_program.specs.Program.{LineFields}
 use Rattle.f77_legal.specs.Blocks.{first_numbers}
 use Rattle.f77_legal.specs.Names.{Symbol, bounds_of, some_items}
 use Rattle.f77_legal.specs.Patches.{IsStock}

@@ -5,8 +5,8 @@ use Rattle.std.specs.List.{cons_option}
 use Rattle.std.proofs.lemmas.List.{append-nil, map-append}
 use Rattle.std.proofs.lemmas.List.Elements.{filter_map-append}
 use Rattle.indexmap.specs.IndexMap.{keys}
-use Rattle.f77_tree.specs.Parsing.{LineFields, line_of}
-use Rattle.f77_tree.specs.declared.program.Line.{Line}
+use Rattle.f77_program.specs.Program.{LineFields, line_of}
+use Rattle.f77_program.specs.declared.program.Line.{Line}
 use Rattle.f77_legal.specs.Labels.{labels}
 use Rattle.f77_legal.specs.Names.{symbols}
 use Rattle.f77_legal.specs.NameTable.{IsNameTable}

@@ -1,7 +1,7 @@
 -- What a checked program is: a legal one, with the shapes of its dummy arguments and what a run of it starts with.
 use Rattle.std.specs.Prelude.{◌≡◌, ℕ, List, map, Some, None, if◌then◌else◌}
-use Rattle.f77_tree.specs.Parsing.{LineFields, IsProgram, line_of}
-use Rattle.f77_tree.specs.declared.program.Line.{Line}
+use Rattle.f77_program.specs.Program.{LineFields, IsProgram, line_of}
+use Rattle.f77_program.specs.declared.program.Line.{Line}
 use Rattle.f77_check.specs.declared.checked.Shape.{Shape}
 use Rattle.f77_legal.specs.Legal.{is_array, IsLegal}
 use Rattle.f77_legal.specs.Names.{Symbol, kind_of, bounds_of}

@@ -1,7 +1,7 @@
 -- What a checked program is, from what it keeps.
 use Rattle.std.specs.Prelude.{List}
 use Rattle.indexmap.specs.IndexMap.{keys}
-use Rattle.f77_tree.specs.declared.program.Line.{Line}
+use Rattle.f77_program.specs.declared.program.Line.{Line}
 use Rattle.f77_check.specs.Checked.{CheckedFields}
 use Rattle.f77_check.specs.declared.checked.Shape.{Shape}
 use Rattle.f77_check.specs.declared.resolve.Resolver.{Resolver}

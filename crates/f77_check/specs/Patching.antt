@@ -1,7 +1,7 @@
 -- When a changed program is told from a checked one by the changed statement alone.
 use Rattle.std.specs.Prelude.{◌≡◌, ℕ, List}
-use Rattle.f77_tree.specs.Parsing.{LineFields}
-use Rattle.f77_tree.specs.Patching.{replaced}
+use Rattle.f77_program.specs.Program.{LineFields}
+use Rattle.f77_program.specs.Patching.{replaced}
 use Rattle.f77_tree.specs.Tree.{Statement}
 use Rattle.f77_legal.specs.Legal.{IsLegal}
 use Rattle.f77_legal.specs.Names.{Symbol}

@@ -1,8 +1,8 @@
 -- What the tables and the statements of a legal program have, by which names are looked up.
 use Rattle.std.specs.Prelude.{◌≡◌, ⊤, ℕ, true, List, [], ◌∷◌, Some, None, IsSome}
 use Rattle.indexmap.specs.IndexMap.{keys}
-use Rattle.f77_tree.specs.Formed.{is_action}
-use Rattle.f77_tree.specs.Parsing.{LineFields, IsProgram}
+use Rattle.f77_program.specs.Formed.{is_action}
+use Rattle.f77_program.specs.Program.{LineFields, IsProgram}
 use Rattle.f77_tree.specs.Tree.{Tree, Trees, Statement}
 use Rattle.f77_check.specs.Action.{IsAction, IsAssignment}
 use Rattle.f77_legal.specs.Blocks.{branch_end}

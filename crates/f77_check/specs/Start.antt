@@ -4,7 +4,7 @@ use Rattle.std.specs.Prelude.{◌≡◌, ℕ, ◌&&◌, ◌==◌, Bool, false, t
 use Rattle.std.specs.List.{find, flat_map, zip}
 use Rattle.std.specs.Option.{option_and_then}
 use Rattle.std.specs.Str.{bytes_eq}
-use Rattle.f77_tree.specs.Parsing.{LineFields}
+use Rattle.f77_program.specs.Program.{LineFields}
 use Rattle.f77_tree.specs.Tree.{GroupFields, Statement}
 use Rattle.f77_tree.specs.declared.data.Constant.{Constant}
 use Rattle.f77_check.specs.declared.start.Start.{Start}

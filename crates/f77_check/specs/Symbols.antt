@@ -1,6 +1,6 @@
 -- The variables and arrays of a program, each with its kind and its bounds.
 use Rattle.std.specs.Prelude.{ℕ, List}
-use Rattle.f77_tree.specs.Parsing.{LineFields}
+use Rattle.f77_program.specs.Program.{LineFields}
 use Rattle.f77_tree.specs.declared.tree.Kind.{Kind}
 use Rattle.f77_check.specs.declared.symbols.Variable.{Variable}
 use Rattle.f77_legal.specs.declared.names.Names.{Names}

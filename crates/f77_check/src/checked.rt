@@ -3,10 +3,10 @@
 ghost use Rattle.std.specs.Prelude.{◌≡◌, ◌≤◌, length, map};
 ghost use Rattle.std.specs.Coded.{codes};
 ghost use Rattle.indexmap.specs.IndexMap.{keys};
-ghost use Rattle.f77_tree.specs.Parsing.{line_of};
+ghost use Rattle.f77_program.specs.Program.{line_of};
 ghost use Rattle.f77_tree.specs.contracts.tree.Expr as expr;
 ghost use Rattle.f77_tree.specs.contracts.tree.Stmt as stmt;
-ghost use Rattle.f77_tree.specs.contracts.program.Line as line;
+ghost use Rattle.f77_program.specs.contracts.program.Line as line;
 ghost use Rattle.f77_check.specs.contracts.action.Action as action;
 ghost use Rattle.f77_check.specs.contracts.expression.Condition as condition;
 ghost use Rattle.f77_check.specs.contracts.expression.Element as element;
@@ -19,7 +19,8 @@ ghost use Rattle.f77_check.specs.Slots.{most_slots};
 use crate::resolve::Resolver;
 use crate::resolved::Resolved;
 use crate::start::Start;
-use f77_tree::{Kind, Program, Shared};
+use f77_program::Program;
+use f77_tree::{Kind, Shared};
 use std::marker::Model;
 
 /// What a dummy argument is: a variable, or an array of so many elements.

@@ -1,7 +1,7 @@
 //! The check of a program.
 
 ghost use Rattle.std.specs.Prelude.{◌≡◌, ◌⊎◌, map, IfOk, IfErr, Some};
-ghost use Rattle.f77_tree.specs.Parsing.{line_of};
+ghost use Rattle.f77_program.specs.Program.{line_of};
 ghost use Rattle.f77_check.specs.Checked.{shapes};
 ghost use Rattle.f77_legal.specs.Legal.{IsLegal, first_fault};
 ghost use Rattle.f77_legal.specs.Tables.{AreTables};
@@ -13,7 +13,8 @@ use crate::shapes::shapes;
 use crate::slots::Slots;
 use f77_legal::heading::arguments;
 use f77_legal::{CheckFault, Tables, judge};
-use f77_tree::{Line, Program, Shared};
+use f77_program::{Line, Program};
+use f77_tree::Shared;
 use std::alloc::Global;
 
 /// The tables of a legal program, or its first fault.

@@ -1,8 +1,8 @@
 //! Checked programs with one statement changed.
 
 ghost use Rattle.std.specs.Prelude.{◌≡◌, ◌<◌, ◌⊎◌, ◌-◌, true, false, length, map, IfOk, IfErr, IfSome, IsNone, None, Some};
-ghost use Rattle.f77_tree.specs.Parsing.{IsProgram, line_of};
-ghost use Rattle.f77_tree.specs.Patching.{Fits, replaced, patched};
+ghost use Rattle.f77_program.specs.Program.{IsProgram, line_of};
+ghost use Rattle.f77_program.specs.Patching.{Fits, replaced, patched};
 ghost use Rattle.f77_tree.specs.StatementView.{statement_of};
 ghost use Rattle.f77_check.specs.Checked.{shapes};
 ghost use Rattle.f77_check.specs.Patching.{IsChangedAlone};
@@ -15,7 +15,8 @@ use crate::checked::Checked;
 use crate::checking::{check, judged};
 use crate::resolved::Resolved;
 use f77_legal::{CheckFault, is_terminal, keeps_frame};
-use f77_tree::{Line, Program, Shared, Stmt};
+use f77_program::{Line, Program};
+use f77_tree::{Shared, Stmt};
 use std::alloc::Global;
 
 impl Checked {

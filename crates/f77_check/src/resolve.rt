@@ -2,8 +2,8 @@
 
 ghost use Rattle.std.specs.Prelude.{◌≡◌, ◌<◌, true, Some, List, length, map, option_map, IfOk, IfErr, IsSome};
 ghost use Rattle.indexmap.specs.IndexMap.{keys};
-ghost use Rattle.f77_tree.specs.Formed.{is_action};
-ghost use Rattle.f77_tree.specs.Parsing.{LineFields, line_of};
+ghost use Rattle.f77_program.specs.Formed.{is_action};
+ghost use Rattle.f77_program.specs.Program.{LineFields, line_of};
 ghost use Rattle.f77_tree.specs.StatementView.{statement_of};
 ghost use Rattle.f77_tree.specs.Tree.{Statement};
 ghost use Rattle.f77_tree.specs.View.{place_of, tree_of, trees};
@@ -21,7 +21,8 @@ use crate::resolved::Resolved;
 use crate::slots::Slots;
 use f77_legal::blocks::{next, statement};
 use f77_legal::{CheckFault, Tables};
-use f77_tree::{Expr, Kind, Line, Name, Ref, Shared, Stmt};
+use f77_program::Line;
+use f77_tree::{Expr, Kind, Name, Ref, Shared, Stmt};
 use std::alloc::Global;
 
 /// What the names and labels of single statements are looked up in.

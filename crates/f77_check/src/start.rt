@@ -4,7 +4,7 @@ ghost use Rattle.std.specs.Prelude.{◌≡◌, ◌++◌, true, Some, map, positi
 ghost use Rattle.std.specs.List.{flat_map, list_all};
 ghost use Rattle.indexmap.specs.IndexMap.{keys};
 ghost use Rattle.f77_tree.specs.Data.{data_group_of};
-ghost use Rattle.f77_tree.specs.Parsing.{line_of};
+ghost use Rattle.f77_program.specs.Program.{line_of};
 ghost use Rattle.f77_tree.specs.StatementView.{statement_of};
 ghost use Rattle.f77_legal.specs.Blocks.{first_numbers};
 ghost use Rattle.f77_check.specs.Initial as given;
@@ -23,7 +23,8 @@ use crate::resolve::Resolver;
 use f77_legal::CheckFault;
 use f77_legal::heading::arguments;
 use f77_legal::names::product;
-use f77_tree::{Constant, DataGroup, Form, Line, Name, Shared, Stmt, Value};
+use f77_program::Line;
+use f77_tree::{Constant, DataGroup, Form, Name, Shared, Stmt, Value};
 use std::alloc::Global;
 
 /// What a run of a program starts with. Statements and slots are numbered from 0.

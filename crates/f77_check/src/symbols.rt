@@ -2,7 +2,7 @@
 
 ghost use Rattle.std.specs.Prelude.{◌≡◌, map, IfOk, IfErr};
 ghost use Rattle.indexmap.specs.IndexMap.{keys};
-ghost use Rattle.f77_tree.specs.Parsing.{line_of};
+ghost use Rattle.f77_program.specs.Program.{line_of};
 ghost use Rattle.f77_check.specs.Symbols.{variable_of, variable_in, variable_at};
 ghost use Rattle.f77_legal.specs.Labels as labelled;
 ghost use Rattle.f77_legal.specs.Names.{symbols};

@@ -5,8 +5,8 @@ use Rattle.std.specs.List.{list_any, enumerate_from, slice_get}
 use Rattle.std.specs.Str.{bytes_eq}
 use Rattle.std.proofs.lemmas.Grind.{flat_map-append}
 use mathlib.Core.Bool.{true≢false}
-use Rattle.f77_tree.specs.Parsing.{LineFields, line_of}
-use Rattle.f77_tree.specs.declared.program.Line.{Line}
+use Rattle.f77_program.specs.Program.{LineFields, line_of}
+use Rattle.f77_program.specs.declared.program.Line.{Line}
 use Rattle.f77_tree.specs.declared.tree.Kind.{Kind}
 use Rattle.f77_tree.specs.StatementView.{statement_of}
 use Rattle.f77_legal.specs.Clause.{lines_where}

@@ -4,7 +4,7 @@ use Rattle.std.specs.Prelude.{IsSome, is_some, if◌then◌else◌}
 use Rattle.std.specs.List.{list_any}
 use Rattle.std.specs.Option.{option_and_then, option_map_or}
 use Rattle.std.proofs.lemmas.Bool.{and_parts, or_left, or_right, or_parts}
-use Rattle.f77_tree.specs.Parsing.{LineFields}
+use Rattle.f77_program.specs.Program.{LineFields}
 use Rattle.f77_tree.specs.Tree.{Tree, Statement}
 use Rattle.f77_legal.specs.declared.clause.Clause.TheVariants.{NamedLabels, Nests}
 use Rattle.f77_legal.specs.Blocks.{is_block_if, is_end_if, is_alternative, has_at, is_level, block_end, branch_end, behind, is_in_block, begins_branch}

@@ -13,7 +13,7 @@ use Rattle.f77_tree.specs.declared.tree.Stmt.TheViews as boxed
 use Rattle.f77_tree.specs.declared.tree.Stmt.TheOpen.{Stmt-F}
 use Rattle.f77_tree.specs.declared.tree.Stmt.TheFolds.{fold-roll-Stmt}
 use Rattle.f77_tree.specs.Data.{data_group_of}
-use Rattle.f77_tree.specs.Node.{NodeOf, tree_nodes, group_nodes, label_nodes, nodes_of}
+use Rattle.f77_nodes.specs.Node.{NodeOf, tree_nodes, group_nodes, label_nodes, nodes_of}
 use Rattle.f77_tree.specs.StatementView.{stmt_step, statement_of}
 use Rattle.f77_tree.specs.Tree.{Statement}
 use Rattle.f77_tree.specs.View.{tree_of}

@@ -6,8 +6,8 @@ use Rattle.std.specs.Str.{bytes_eq}
 use Rattle.std.proofs.lemmas.List.{append-nil, map-append}
 use Rattle.std.proofs.lemmas.List.Concat.{flat_map-append}
 use Rattle.std.proofs.lemmas.List.Sums.{fold-append}
-use Rattle.f77_tree.specs.declared.program.Line.{Line}
-use Rattle.f77_tree.specs.Parsing.{LineFields, line_of}
+use Rattle.f77_program.specs.declared.program.Line.{Line}
+use Rattle.f77_program.specs.Program.{LineFields, line_of}
 use Rattle.f77_tree.specs.StatementView.{statement_of}
 use Rattle.f77_legal.specs.Names.{Symbol, Mention, name_in, mentions_of, mentions, each_once}
 use Rattle.f77_legal.specs.NameTable.{FactsFields, Entries, facts_of, table, with_fact, no_facts, with_mention, with_mentions}

@@ -3,7 +3,7 @@ use Rattle.std.proofs.Common.{arith, ◌≡◌, ℕ, ◌+◌, List, [], ◌∷�
 use Rattle.std.specs.Prelude.{◌≤◌, nat_lt, ◌||◌}
 use Rattle.std.specs.List.{enumerate_from, list_all, sum}
 use Rattle.std.proofs.lemmas.Bool.Decides.{nat_tests}
-use Rattle.f77_tree.specs.Parsing.{LineFields}
+use Rattle.f77_program.specs.Program.{LineFields}
 use Rattle.f77_legal.specs.declared.clause.Clause.TheVariants.{Bounds}
 use Rattle.f77_legal.specs.Clause.{breaks, fault_at, lines_where}
 use Rattle.f77_legal.specs.Dimensions.{dimensions_fit}

@@ -11,15 +11,15 @@ use Rattle.std.proofs.lemmas.List.Folds.{list_all-append, list_all-map}
 use Rattle.std.proofs.lemmas.List.Sums.{AllPass-from_list_all, list_all-from_AllPass}
 use Rattle.std.proofs.lemmas.Map.Made.{is_some-lookup}
 use Rattle.indexmap.specs.IndexMap.{get, keys}
-use Rattle.f77_tree.specs.Formed.{is_action, statement_formed, formed}
-use Rattle.f77_tree.specs.Group.{group_of}
-use Rattle.f77_tree.specs.Node.{NodeOf, parts, all_parts, tree_nodes, step_parts, nodes_of, name_of, names_of}
-use Rattle.f77_tree.specs.Parsing.{LineFields}
-use Rattle.f77_tree.specs.Patching.{replaced}
+use Rattle.f77_program.specs.Formed.{is_action, statement_formed, formed}
+use Rattle.f77_program.specs.Group.{group_of}
+use Rattle.f77_nodes.specs.Node.{NodeOf, parts, all_parts, tree_nodes, step_parts, nodes_of, name_of, names_of}
+use Rattle.f77_program.specs.Program.{LineFields}
+use Rattle.f77_program.specs.Patching.{replaced}
 use Rattle.f77_tree.specs.StatementGrammar.{IsFormed}
 use Rattle.f77_tree.specs.Tree.{Tree, Trees, Statement}
-use Rattle.f77_tree.specs.declared.group.Group.TheVariants.{Executable}
-use Rattle.f77_tree.proofs.StatementForming.{is_formed}
+use Rattle.f77_program.specs.declared.group.Group.TheVariants.{Executable}
+use Rattle.f77_program.proofs.StatementForming.{is_formed}
 use Rattle.f77_tree.proofs.Tests.{and_true}
 use Rattle.f77_legal.specs.declared.names.Names.{Names}
 use Rattle.f77_legal.specs.Names.{Symbol, Mention, name_in, mentions_of, mentions, symbols}

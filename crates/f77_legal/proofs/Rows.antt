@@ -1,6 +1,6 @@
 -- The definitions at worked rows.
 use Rattle.std.specs.Prelude.{◌≡◌, refl, ℕ, ℤ, pos, List, [], ◌∷◌, Some, None, codes}
-use Rattle.f77_tree.specs.Parsing.{LineFields}
+use Rattle.f77_program.specs.Program.{LineFields}
 use Rattle.f77_tree.specs.Tree.{Tree, Trees, DeclFields, Statement}
 use Rattle.f77_tree.specs.declared.data.Constant.TheVariants.{Number}
 use Rattle.f77_tree.specs.declared.data.Value.{Value}

@@ -2,7 +2,7 @@
 use Rattle.std.proofs.Common.{◌≡◌, ℕ, suc, ◌+◌, Bool, true, false, cond, List, [], ◌∷◌, ◌++◌, Some, refl, sym, ◌∙◌, ap, arith, map, filter}
 use Rattle.std.specs.List.{All, enumerate_from}
 use Rattle.std.proofs.lemmas.List.Elements.{All-nil, All-cons, All-head, All-tail}
-use Rattle.f77_tree.specs.Parsing.{LineFields}
+use Rattle.f77_program.specs.Program.{LineFields}
 use Rattle.f77_tree.specs.Tree.{Statement}
 use Rattle.f77_legal.specs.declared.clause.Clause.{Clause}
 use Rattle.f77_legal.specs.declared.clause.Clause.TheVariants.{Kinds, Bounds, NamedLabels, Targets, Terminals, Nests, Jumps, Variables}

@@ -1,7 +1,7 @@
 -- Tables that answer for a program.
 use Rattle.std.proofs.Common.{◌≡◌, ◌∙◌, ℕ, List, map, ap, if◌then◌else◌, Option, None}
 use Rattle.std.specs.Prelude.{option_map}
-use Rattle.f77_tree.specs.Parsing.{LineFields}
+use Rattle.f77_program.specs.Program.{LineFields}
 use Rattle.f77_legal.specs.Blocks.{is_block_if, is_closing, is_in_block, ends_else}
 use Rattle.f77_legal.specs.BlockTable.{block_end_at, branch_end_at, tabled, IsBlockTable}
 use Rattle.f77_legal.specs.Frames.{HaveOneFrame}

@@ -4,7 +4,7 @@ use Rattle.std.specs.Prelude.{nat_lt, ◌||◌}
 use Rattle.std.specs.List.{All, sum}
 use Rattle.std.proofs.lemmas.Bool.Decides.{nat_tests}
 use Rattle.std.proofs.lemmas.List.Elements.{All-weaker}
-use Rattle.f77_tree.specs.Parsing.{LineFields}
+use Rattle.f77_program.specs.Program.{LineFields}
 use Rattle.f77_legal.specs.Legal.{IsLegal, is_array, is_too_large}
 use Rattle.f77_legal.specs.Names.{Symbol, name_in, mentions, symbols, is_real, is_twice}
 use Rattle.f77_legal.specs.Patches.{is_among, IsStock}

@@ -1,7 +1,7 @@
 -- The clauses that single statements keep or break, and what is told of one that breaks it.
 use Rattle.std.specs.Prelude.{ℕ, Bool, not, List, map, filter}
 use Rattle.std.specs.List.{enumerate_from}
-use Rattle.f77_tree.specs.Parsing.{LineFields}
+use Rattle.f77_program.specs.Program.{LineFields}
 use Rattle.f77_tree.specs.Tree.{Statement}
 use Rattle.f77_legal.specs.declared.clause.Clause.{Clause}
 use Rattle.f77_legal.specs.declared.clause.Clause.TheVariants.{Kinds, Bounds, NamedLabels, Targets, Terminals, Nests, Jumps, Variables}

@@ -1,7 +1,7 @@
 -- What a change of one statement leaves as it was: the frame of a program, in which every statement that can be executed has lost its
 -- expressions, references and jumps. Declarations and DATA, labels, blocks and the ranges of DOs are told from the frame alone.
 use Rattle.std.specs.Prelude.{◌≡◌, Bool, true, false, List, map, None}
-use Rattle.f77_tree.specs.Parsing.{LineFields}
+use Rattle.f77_program.specs.Program.{LineFields}
 use Rattle.f77_tree.specs.Tree.{Tree, Statement}
 use Rattle.f77_tree.specs.declared.form.Form.{Form}
 

@@ -1,7 +1,7 @@
 -- What a table of labels is of a program.
 use Rattle.std.specs.Prelude.{◌≡◌, ℕ, true, false, not, nat_eq, List, [], ◌∷◌, filter, Option, Some, None, option_map}
 use Rattle.indexmap.specs.IndexMap.{get, keys}
-use Rattle.f77_tree.specs.Parsing.{LineFields}
+use Rattle.f77_program.specs.Program.{LineFields}
 use Rattle.f77_legal.specs.Labels.{labels, is_double, place_of}
 use Rattle.f77_legal.specs.declared.labels.Labels.{Labels}
 use Rattle.f77_legal.specs.declared.labels.Place.{Place}

@@ -3,7 +3,7 @@ use Rattle.std.specs.Prelude.{◌==◌, ◌||◌, ◌∷◌}
 use Rattle.std.specs.Prelude.{ℕ, Bool, true, false, not, nat_le, List, [], length, filter, Option, Some, None, is_some, option_map, position}
 use Rattle.std.specs.List.{filter_map, list_any, slice_get}
 use Rattle.std.specs.Option.{option_and_then, option_map_or}
-use Rattle.f77_tree.specs.Parsing.{LineFields}
+use Rattle.f77_program.specs.Program.{LineFields}
 use Rattle.f77_tree.specs.Tree.{Statement}
 
 -- the labels that stand on a statement, in order

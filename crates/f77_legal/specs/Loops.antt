@@ -4,7 +4,7 @@ use Rattle.std.specs.List.{list_any, list_all, starts_with}
 use Rattle.std.specs.Option.{option_and_then, option_map_or}
 use Rattle.std.specs.Cmp.Lexicographic.{pointwise}
 use Rattle.std.specs.Str.{bytes_eq}
-use Rattle.f77_tree.specs.Parsing.{LineFields}
+use Rattle.f77_program.specs.Program.{LineFields}
 use Rattle.f77_tree.specs.Tree.{Statement}
 use Rattle.f77_legal.specs.Blocks.{numbers, branch_holds, breaks_block}
 use Rattle.f77_legal.specs.Labels.{statement_at, place_of, terminal_label, jumps_of}

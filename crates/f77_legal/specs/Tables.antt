@@ -4,7 +4,7 @@ use Rattle.std.specs.Option.{option_and_then}
 use Rattle.f77_tree.specs.Tree.{Statement}
 use Rattle.f77_legal.specs.Blocks.{begins_branch, branch_end}
 use Rattle.f77_legal.specs.Labels.{place_of, terminal_label}
-use Rattle.f77_tree.specs.Parsing.{LineFields}
+use Rattle.f77_program.specs.Program.{LineFields}
 use Rattle.f77_legal.specs.declared.tables.Tables.{Tables}
 use Rattle.f77_legal.specs.Names.{kind_of, bounds_of}
 use Rattle.f77_legal.specs.NameTable.{IsNameTable, kind_at, bounds_at}

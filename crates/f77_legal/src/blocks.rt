@@ -3,7 +3,7 @@
 ghost use Rattle.std.specs.Prelude.{◌≡◌, ◌+◌, ◌<◌, ◌^◌, ◌&&◌, ◌||◌, ◌==◌};
 ghost use Rattle.std.specs.Prelude.{ℕ, false, nat_lt, List, length, map, take, slice_index_or, Some, None, IfOk, IfErr};
 ghost use Rattle.std.specs.Option.{option_map_or};
-ghost use Rattle.f77_tree.specs.Parsing.{LineFields, line_of};
+ghost use Rattle.f77_program.specs.Program.{LineFields, line_of};
 ghost use Rattle.f77_tree.specs.StatementView.{statement_of};
 ghost use Rattle.f77_legal.specs.Blocks as words;
 ghost use Rattle.f77_legal.specs.Blocks.{first_numbers, behind, branch_holds, breaks_block, is_in_block};
@@ -13,7 +13,8 @@ ghost use Rattle.f77_legal.specs.Labels.{statement_at};
 ghost use Rattle.f77_legal.specs.declared.fault.CheckFault.TheVariants.{Memory};
 
 use crate::fault::CheckFault;
-use f77_tree::{Form, Line, Shared, Stmt};
+use f77_program::Line;
+use f77_tree::{Form, Shared, Stmt};
 use std::alloc::Global;
 
 /// What a statement begins whose end is looked for: a whole block, or a branch of one.

@@ -2,12 +2,13 @@
 
 ghost use Rattle.std.specs.Prelude.{◌≡◌, [], map, option_map};
 ghost use Rattle.std.specs.Option.{option_map_or};
-ghost use Rattle.f77_tree.specs.Parsing.{line_of};
+ghost use Rattle.f77_program.specs.Program.{line_of};
 ghost use Rattle.f77_tree.specs.StatementView.{statement_of};
 ghost use Rattle.f77_legal.specs.Names.{unit_name, unit_name_of};
 ghost use Rattle.f77_legal.specs.Heading.{dummies, dummies_of};
 
-use f77_tree::{Line, Name, Shared, Stmt};
+use f77_program::Line;
+use f77_tree::{Name, Shared, Stmt};
 
 /// The names of the unit and of its dummy arguments, where this is a SUBROUTINE statement.
 #[tactic(auto, using(crate::proofs::Forms::no_unit_name, crate::proofs::Forms::no_dummies))]

@@ -3,7 +3,7 @@
 ghost use Rattle.std.specs.Prelude.{◌≡◌, ◌&&◌, ◌==◌, false, not, List, length, IfOk, IfErr};
 ghost use Rattle.std.specs.Iterator.{YieldsFirst, item_count};
 ghost use Rattle.std.specs.Option.{option_map_or};
-ghost use Rattle.f77_tree.specs.Parsing.{LineFields};
+ghost use Rattle.f77_program.specs.Program.{LineFields};
 ghost use Rattle.f77_legal.specs.Holders as holders;
 ghost use Rattle.f77_legal.specs.Loops as loops;
 ghost use Rattle.f77_legal.specs.declared.fault.CheckFault.TheVariants as fault;

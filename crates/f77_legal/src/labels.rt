@@ -6,7 +6,7 @@ ghost use Rattle.std.specs.Prelude.{not, nat_eq, is_some, option_map, slice_get,
 ghost use Rattle.std.specs.List.{find, list_any};
 ghost use Rattle.std.specs.Option.{option_and_then, option_map_or};
 ghost use Rattle.indexmap.specs.IndexMap.{get, IsUnique};
-ghost use Rattle.f77_tree.specs.Parsing.{LineFields, line_of};
+ghost use Rattle.f77_program.specs.Program.{LineFields, line_of};
 ghost use Rattle.f77_tree.specs.StatementView.{statement_of};
 ghost use Rattle.f77_legal.specs.LabelTable.{IsLabelTable, noted};
 ghost use Rattle.f77_legal.specs.Labels as clause;
@@ -14,7 +14,8 @@ ghost use Rattle.f77_legal.specs.Labels.{is_double, place_of};
 ghost use Rattle.f77_legal.specs.declared.fault.CheckFault.TheVariants as fault;
 
 use crate::fault::CheckFault;
-use f77_tree::{Form, Line, Shared, Stmt};
+use f77_program::Line;
+use f77_tree::{Form, Shared, Stmt};
 use indexmap::IndexMap;
 use std::alloc::Global;
 

@@ -1,7 +1,7 @@
 //! What holds of legality itself.
 
 ghost use Rattle.std.specs.Prelude.{List};
-ghost use Rattle.f77_tree.specs.Parsing.{LineFields};
+ghost use Rattle.f77_program.specs.Program.{LineFields};
 ghost use Rattle.f77_legal.specs.Law.{KeepsEveryRule};
 ghost use Rattle.f77_legal.specs.Legal.{IsLegal};
 

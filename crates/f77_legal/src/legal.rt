@@ -1,7 +1,7 @@
 //! The clauses of legality, in the order of test.
 
 ghost use Rattle.std.specs.Prelude.{◌≡◌, ◌++◌, List, map, slice_get, Some, Err};
-ghost use Rattle.f77_tree.specs.Parsing.{LineFields, line_of};
+ghost use Rattle.f77_program.specs.Program.{LineFields, line_of};
 ghost use Rattle.f77_legal.specs.Legal.{Tells, TellsFirst, name_faults, clause_faults, label_faults};
 ghost use Rattle.f77_legal.specs.Legal.{data_faults, size_faults, statement_faults, faults};
 ghost use Rattle.f77_legal.specs.LabelTable.{IsLabelTable};
@@ -15,7 +15,8 @@ use crate::labels::Labels;
 use crate::names::Names;
 use crate::presets::first_bad_data;
 use crate::tables::Tables;
-use f77_tree::{Line, Shared};
+use f77_program::Line;
+use f77_tree::Shared;
 use std::alloc::Global;
 
 const MOST_STATEMENTS: usize = 500;

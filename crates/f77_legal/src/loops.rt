@@ -3,7 +3,7 @@
 ghost use Rattle.std.specs.Prelude.{◌≡◌, false, map, option_map};
 ghost use Rattle.std.specs.Option.{option_and_then, option_map_or};
 ghost use Rattle.std.specs.Str.{bytes_eq};
-ghost use Rattle.f77_tree.specs.Parsing.{line_of};
+ghost use Rattle.f77_program.specs.Program.{line_of};
 ghost use Rattle.f77_tree.specs.StatementView.{statement_of};
 ghost use Rattle.f77_legal.specs.Labels.{statement_at};
 ghost use Rattle.f77_legal.specs.Loops as loops;
@@ -11,7 +11,8 @@ ghost use Rattle.f77_legal.specs.LoopTable as table;
 ghost use Rattle.f77_legal.specs.LoopTable.{IsRangeTable};
 
 use crate::holders::Ranges;
-use f77_tree::{Line, Name, Shared, Stmt};
+use f77_program::Line;
+use f77_tree::{Name, Shared, Stmt};
 
 /// The variable that a statement sets by its own rule: the target of an assignment, a DO variable.
 pub(crate) fn set_by(stmt: &Stmt) -> Option<&Name>

@@ -8,7 +8,7 @@ ghost use Rattle.std.specs.Option.{option_and_then, option_map_or};
 ghost use Rattle.std.specs.Str.{bytes_eq};
 ghost use Rattle.indexmap.specs.IndexMap.{values};
 ghost use Rattle.f77_tree.specs.Intrinsic.{function_named};
-ghost use Rattle.f77_tree.specs.Parsing.{LineFields, line_of};
+ghost use Rattle.f77_program.specs.Program.{LineFields, line_of};
 ghost use Rattle.f77_legal.specs.declared.fault.CheckFault.TheVariants as fault;
 ghost use Rattle.f77_legal.specs.Legal.{is_array};
 ghost use Rattle.f77_legal.specs.Names as named;
@@ -19,7 +19,8 @@ ghost use Rattle.f77_legal.specs.Presets as presets;
 ghost use Rattle.f77_legal.specs.Presets.{product};
 
 use crate::fault::CheckFault;
-use f77_tree::{Intrinsic, Kind, Line, Name, Shared};
+use f77_program::Line;
+use f77_tree::{Intrinsic, Kind, Name, Shared};
 use indexmap::IndexMap;
 use std::alloc::Global;
 

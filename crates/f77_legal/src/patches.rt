@@ -1,7 +1,7 @@
 //! What a changed statement owes by itself, where the rest of a legal program stays.
 
 ghost use Rattle.std.specs.Prelude.{◌≡◌, true, None, map, filter, option_map, slice_get};
-ghost use Rattle.f77_tree.specs.Parsing.{line_of};
+ghost use Rattle.f77_program.specs.Program.{line_of};
 ghost use Rattle.f77_tree.specs.StatementView.{statement_of};
 ghost use Rattle.f77_tree.specs.Tree.{Tree, Statement};
 ghost use Rattle.f77_tree.specs.View.{tree_of, trees};
@@ -17,7 +17,8 @@ use crate::clause::Clause;
 use crate::fault::CheckFault;
 use crate::names::Names;
 use crate::tables::Tables;
-use f77_tree::{Expr, Form, Line, Name, Shared, Stmt};
+use f77_program::Line;
+use f77_tree::{Expr, Form, Name, Shared, Stmt};
 
 /// Whether the statement is a DO with this label and this variable.
 fn is_loop_with(stmt: &Stmt, terminal: u32, name: &Name) -> bool

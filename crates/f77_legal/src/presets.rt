@@ -4,7 +4,7 @@ ghost use Rattle.std.specs.Prelude.{◌≡◌, ◌==◌, ◌||◌, ◌≤◌, �
 ghost use Rattle.std.specs.List.{list_all, list_any};
 ghost use Rattle.std.specs.Str.{bytes_eq};
 ghost use Rattle.f77_tree.specs.Data.{data_group_of};
-ghost use Rattle.f77_tree.specs.Parsing.{line_of};
+ghost use Rattle.f77_program.specs.Program.{line_of};
 ghost use Rattle.f77_tree.specs.StatementView.{statement_of};
 ghost use Rattle.f77_legal.specs.declared.fault.CheckFault.TheVariants as fault;
 ghost use Rattle.f77_legal.specs.Kinds as kinds;
@@ -17,7 +17,8 @@ ghost use Rattle.f77_legal.specs.Runs.{kinds_in, kinds_left, behind, fills, misp
 use crate::fault::CheckFault;
 use crate::kinds::same_kind;
 use crate::names::Names;
-use f77_tree::{Constant, DataGroup, Kind, Line, Name, Shared, Stmt, Value};
+use f77_program::Line;
+use f77_tree::{Constant, DataGroup, Kind, Name, Shared, Stmt, Value};
 use indexmap::IndexSet;
 use std::alloc::Global;
 

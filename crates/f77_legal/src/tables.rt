@@ -4,7 +4,7 @@ ghost use Rattle.std.specs.Prelude.{◌≡◌, ◌||◌, List, length, map, slic
 ghost use Rattle.std.specs.Option.{option_map_or};
 ghost use Rattle.f77_legal.specs.Blocks.{first_numbers};
 ghost use Rattle.f77_legal.specs.Labels.{place_of};
-ghost use Rattle.f77_tree.specs.Parsing.{LineFields, line_of};
+ghost use Rattle.f77_program.specs.Program.{LineFields, line_of};
 ghost use Rattle.f77_tree.specs.StatementView.{statement_of};
 ghost use Rattle.f77_legal.specs.Clause as clauses;
 ghost use Rattle.f77_legal.specs.Legal.{clause_faults};
@@ -26,7 +26,8 @@ use crate::labels::{
 };
 use crate::loops::sets_variable;
 use crate::names::Names;
-use f77_tree::{Line, Shared, Stmt};
+use f77_program::Line;
+use f77_tree::{Shared, Stmt};
 use std::alloc::Global;
 
 /// What is looked up in a program: its names, its labels, its blocks and its ranges.

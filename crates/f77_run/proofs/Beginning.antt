@@ -7,7 +7,7 @@ use Rattle.std.specs.Str.{bytes_eq}
 use Rattle.std.proofs.lemmas.Bool.{and_parts}
 use Rattle.std.proofs.lemmas.Bool.Decides.{nat_tests}
 use Rattle.std.proofs.lemmas.List.{map-append, length-replicate}
-use Rattle.f77_tree.specs.Parsing.{LineFields, line_of}
+use Rattle.f77_program.specs.Program.{LineFields, line_of}
 use Rattle.f77_legal.specs.Blocks.{first_numbers}
 use Rattle.f77_check.specs.Checked.{CheckedFields, IsChecked, shapes}
 use Rattle.f77_check.specs.declared.checked.Shape.{Shape}

@@ -4,8 +4,8 @@ use Rattle.std.specs.Prelude.{Result, Ok, Err, IsSome, option_map, if◌then◌e
 use Rattle.std.specs.List.{list_any}
 use Rattle.std.specs.Option.{option_and_then, option_map_or}
 use Rattle.std.proofs.lemmas.Bool.Decides.{nat_tests}
-use Rattle.f77_tree.specs.Formed.{is_action}
-use Rattle.f77_tree.specs.Parsing.{LineFields}
+use Rattle.f77_program.specs.Formed.{is_action}
+use Rattle.f77_program.specs.Program.{LineFields}
 use Rattle.f77_tree.specs.Tree.{Tree, Trees, Statement}
 use Rattle.f77_legal.specs.Blocks.{has_at, is_alternative, block_end, branch_end, behind}
 use Rattle.f77_legal.specs.Labels.{place_of, statement_at, jumps_of, terminal_label}

@@ -4,7 +4,7 @@ use Rattle.std.specs.Prelude.{option_map}
 use Rattle.std.specs.Option.{option_map_or}
 use Rattle.std.proofs.lemmas.List.Quantifiers.{position-Some}
 use Rattle.std.proofs.lemmas.Option.{slice_get-get_or}
-use Rattle.f77_tree.specs.Parsing.{LineFields}
+use Rattle.f77_program.specs.Program.{LineFields}
 use Rattle.f77_check.specs.Start.{is_executable}
 use Rattle.f77_check.proofs.FirstExecutable.{first_executable}
 use Rattle.f77_run.specs.Control.{Stands, IsPlaced, Comes, Starts, LeadsOn, IsSound}

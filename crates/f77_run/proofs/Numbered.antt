@@ -3,7 +3,7 @@ use Rattle.std.proofs.Common.{◌≡◌, ℕ, zero, suc, ◌==◌, true, List, [
 use Rattle.std.specs.Prelude.{slice_get}
 use Rattle.std.specs.List.{list_all, list_any}
 use Rattle.std.proofs.lemmas.Bool.{and_parts, eq-eqb, or_left, or_right}
-use Rattle.f77_tree.specs.Parsing.{LineFields}
+use Rattle.f77_program.specs.Program.{LineFields}
 use Rattle.f77_check.specs.declared.action.Jump.{Jump}
 use Rattle.f77_check.specs.Action.{IsJump, AreJumps}
 use Rattle.f77_run.specs.Choice.{numbered}

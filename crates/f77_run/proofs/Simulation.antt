@@ -5,8 +5,8 @@ use Rattle.std.specs.Option.{option_and_then, option_map_or}
 use Rattle.std.proofs.Math.Nat.{mul-le-mul_left}
 use Rattle.std.proofs.lemmas.Bool.{and_parts, cases_lt, eqb-true, ltb-true}
 use Rattle.std.proofs.lemmas.Option.{slice_get_past, slice_get_within, same_Some}
-use Rattle.f77_tree.specs.Formed.{is_action}
-use Rattle.f77_tree.specs.Parsing.{LineFields, IsProgram}
+use Rattle.f77_program.specs.Formed.{is_action}
+use Rattle.f77_program.specs.Program.{LineFields, IsProgram}
 use Rattle.f77_tree.specs.Tree.{Tree, Trees, Statement}
 use Rattle.f77_check.specs.declared.action.Action.{Action, Declaration, AssignNumber, AssignTruth, Goto, ComputedGoto, ArithmeticIf, LogicalIf', Branch, Continue, Loop, Return, Stop, Trap}
 use Rattle.f77_check.specs.declared.action.Jump.{Jump}

@@ -2,8 +2,8 @@
 use Rattle.std.specs.Prelude.{◌≡◌, ℕ, ◌+◌, ◌==◌, Bool, true, false, List, Option, Some, None, IsSome}
 use Rattle.std.specs.List.{list_any}
 use Rattle.std.specs.Option.{option_and_then}
-use Rattle.f77_tree.specs.Formed.{is_action}
-use Rattle.f77_tree.specs.Parsing.{LineFields, IsProgram}
+use Rattle.f77_program.specs.Formed.{is_action}
+use Rattle.f77_program.specs.Program.{LineFields, IsProgram}
 use Rattle.f77_tree.specs.Tree.{Tree, Statement}
 use Rattle.f77_legal.specs.Blocks.{has_at, is_alternative, block_end, branch_end}
 use Rattle.f77_legal.specs.Labels.{place_of, statement_at, jumps_of, terminal_label}

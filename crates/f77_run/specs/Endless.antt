@@ -1,6 +1,6 @@
 -- Runs that come back to where they were, and so never end.
 use Rattle.std.specs.Prelude.{◌≡◌, ℕ, zero, suc, List}
-use Rattle.f77_tree.specs.Parsing.{LineFields}
+use Rattle.f77_program.specs.Program.{LineFields}
 use Rattle.f77_run.specs.declared.finish.Finish.TheVariants.{StepLimit}
 use Rattle.f77_run.specs.Outcome.{IsOutcome}
 use Rattle.f77_run.specs.Step.{Config, Goes, Step}

@@ -2,7 +2,7 @@
 use Rattle.std.specs.Prelude.{◌≡◌, ◌+◌, ◌==◌, ◌&&◌, ◌∷◌, if◌then◌else◌}
 use Rattle.std.specs.Prelude.{ℕ, Bool, true, false, not, List, [], length, map, Option, Some, None, option_map, position}
 use Rattle.std.specs.List.{AllZip, zip}
-use Rattle.f77_tree.specs.Parsing.{LineFields}
+use Rattle.f77_program.specs.Program.{LineFields}
 use Rattle.f77_tree.specs.declared.tree.Kind.TheVariants.{Integer, Logical}
 use Rattle.f77_check.specs.Checked.{shapes}
 use Rattle.f77_legal.specs.Kinds.{same_kind}

@@ -1,7 +1,7 @@
 -- Which statements control comes to in a run, and that the others do not matter to it. Statements are numbered from 0 here.
 use Rattle.std.specs.Prelude.{◌≡◌, ◌≢◌, ◌<◌, ℕ, Bool, List, length, map, Some, slice_get}
 use Rattle.std.specs.Bool.{Decides}
-use Rattle.f77_tree.specs.Parsing.{LineFields}
+use Rattle.f77_program.specs.Program.{LineFields}
 use Rattle.f77_legal.specs.Frames.{HaveOneFrame}
 use Rattle.f77_legal.specs.Labels.{statement_at}
 use Rattle.f77_run.specs.declared.argument.Arg.{Arg}

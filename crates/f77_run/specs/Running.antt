@@ -1,6 +1,6 @@
 -- A machine in a run of a program: where it stands is what the run comes to.
 use Rattle.std.specs.Prelude.{◌≡◌, ◌≢◌, ◌≤◌, ℕ, None, List, length}
-use Rattle.f77_tree.specs.Parsing.{LineFields, IsProgram}
+use Rattle.f77_program.specs.Program.{LineFields, IsProgram}
 use Rattle.f77_legal.specs.Legal.{IsLegal}
 use Rattle.f77_legal.specs.Names.{Symbol, bounds_of}
 use Rattle.f77_check.specs.Resolved.{AreResolved}

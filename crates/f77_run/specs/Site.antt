@@ -1,6 +1,6 @@
 -- The site of a checked program and values of its dummy arguments, and what the dummy arguments hold in a machine.
 use Rattle.std.specs.Prelude.{◌≡◌, List, length, map}
-use Rattle.f77_tree.specs.Parsing.{line_of}
+use Rattle.f77_program.specs.Program.{line_of}
 use Rattle.f77_check.specs.Checked.{CheckedFields}
 use Rattle.f77_legal.specs.Names.{bounds_of}
 use Rattle.f77_check.specs.Slots.{slot_count}

@@ -1,7 +1,7 @@
 -- One step of a run, by cases on the statement where control is (ANSI X3.9-1978, sections 10 and 11). Statements are numbered from 0 here.
 use Rattle.std.specs.Prelude.{◌≡◌, ◌+◌, ◌-◌, ◌<◌, ◌==◌, ◌⊎◌, if◌then◌else◌, ◌+ℤ◌}
 use Rattle.std.specs.Prelude.{ℕ, zero, suc, Bool, true, false, List, Option, Some, None, IsSome, ℤ, pos, negsuc, Result, Ok, MatchResult, MatchOption}
-use Rattle.f77_tree.specs.Parsing.{LineFields}
+use Rattle.f77_program.specs.Program.{LineFields}
 use Rattle.f77_tree.specs.Tree.{Tree, Trees, Statement}
 use Rattle.f77_legal.specs.Blocks.{branch_end, behind}
 use Rattle.f77_legal.specs.Labels.{place_of, statement_at}

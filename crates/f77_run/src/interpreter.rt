@@ -1,7 +1,7 @@
 //! Runs of checked programs.
 
 ghost use Rattle.std.specs.Prelude.{◌≡◌, ◌⊎◌, ◌≤◌, length, map, option_map, replicate, Some, None, Err, IfOk, IfErr, IfSome};
-ghost use Rattle.f77_tree.specs.Parsing.{line_of};
+ghost use Rattle.f77_program.specs.Program.{line_of};
 ghost use Rattle.f77_run.specs.Interpreter as meaning;
 ghost use Rattle.f77_run.specs.Interpreter.{AreFitting, AreArguments, IsOutcomeOf, Tells, refusal, values_in};
 ghost use Rattle.f77_run.specs.Running.{Site, IsRunning, config_at};

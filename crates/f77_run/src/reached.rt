@@ -1,7 +1,7 @@
 //! Which statements control comes to in a run.
 
 ghost use Rattle.std.specs.Prelude.{◌≡◌, ◌<◌, ◌⊎◌, false, replicate, length, map, slice_set, true, Some, Err, IfOk, IfErr, IfSome};
-ghost use Rattle.f77_tree.specs.Parsing.{line_of};
+ghost use Rattle.f77_program.specs.Program.{line_of};
 ghost use Rattle.f77_run.specs.Interpreter.{AreFitting, refusal};
 ghost use Rattle.f77_run.specs.Machine.{placed};
 ghost use Rattle.f77_run.specs.Reached.{AreReached, number_of};

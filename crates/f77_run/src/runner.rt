@@ -2,7 +2,7 @@
 
 ghost use Rattle.std.specs.Prelude.{◌≡◌, ◌⊎◌, map, option_map, Some, Err, IfOk, IfErr, IfSome};
 ghost use Rattle.std.specs.Bool.{Decides};
-ghost use Rattle.f77_tree.specs.Parsing.{line_of};
+ghost use Rattle.f77_program.specs.Program.{line_of};
 ghost use Rattle.f77_run.specs.Interpreter as meaning;
 ghost use Rattle.f77_run.specs.Interpreter.{AreArguments, AreFitting, IsOutcomeOf, Tells, refusal, values_in};
 ghost use Rattle.f77_run.specs.Running.{Site, IsRunning, config_at};

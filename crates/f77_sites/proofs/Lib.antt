@@ -2,4 +2,3 @@ pub mod Numbering
 pub mod Passes
 pub mod PutExpressions
 pub mod PutStatements
-pub mod Walks

@@ -12,7 +12,7 @@ use Rattle.f77_tree.specs.declared.tree.Expr.TheVariants.{rolls-Call, rolls-Zero
 use Rattle.f77_tree.specs.declared.tree.Expr.TheViews as views
 use Rattle.f77_tree.specs.declared.tree.Expr.TheOpen.{Expr-F}
 use Rattle.f77_tree.specs.declared.tree.Expr.TheFolds.{fold-roll-Expr}
-use Rattle.f77_tree.specs.Node.{NodeOf}
+use Rattle.f77_nodes.specs.Node.{NodeOf}
 use Rattle.f77_tree.specs.Tree.{Tree, Trees}
 use Rattle.f77_tree.specs.View.{trees, tree_of, expr_step, ref_step}
 use Rattle.f77_tree.proofs.Views.{signed_view, not_view, binary_view, reference_view, ref_view}

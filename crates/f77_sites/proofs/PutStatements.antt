@@ -14,7 +14,7 @@ use Rattle.f77_tree.specs.declared.tree.Stmt.TheVariants as forms
 use Rattle.f77_tree.specs.declared.tree.Stmt.TheViews as boxed
 use Rattle.f77_tree.specs.Data.{data_group_of}
 use Rattle.f77_tree.specs.Declaration.{decl_of}
-use Rattle.f77_tree.specs.Node.{NodeOf}
+use Rattle.f77_nodes.specs.Node.{NodeOf}
 use Rattle.f77_tree.specs.StatementView.{statement_of}
 use Rattle.f77_tree.specs.Tree.{Tree, Trees, GroupFields, Statement}
 use Rattle.f77_tree.specs.View.{tree_of}

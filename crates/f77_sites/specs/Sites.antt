@@ -2,7 +2,7 @@
 -- a place in this list, from 0.
 use Rattle.std.specs.Prelude.{ℕ, List, [], ◌∷◌, ◌++◌, map, Option, Some, None, slice_get}
 use Rattle.f77_tree.specs.declared.data.Value.{Value}
-use Rattle.f77_tree.specs.Node.{NodeOf}
+use Rattle.f77_nodes.specs.Node.{NodeOf}
 use Rattle.f77_tree.specs.Tree.{Tree, Trees, GroupFields, Statement}
 
 -- a node of a whole, and the whole with another node in its place

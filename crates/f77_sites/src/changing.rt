@@ -2,7 +2,7 @@
 
 ghost use Rattle.std.specs.Prelude.{◌≡◌, ◌-◌, ◌+◌, ◌<◌, ◌^◌, IfOk, map, option_map};
 ghost use Rattle.f77_tree.specs.Data.{data_group_of};
-ghost use Rattle.f77_tree.specs.Node.{node_of};
+ghost use Rattle.f77_nodes.specs.Node.{node_of};
 ghost use Rattle.f77_tree.specs.StatementView.{statement_of};
 ghost use Rattle.f77_tree.specs.Tree.{Statement};
 ghost use Rattle.f77_tree.specs.View.{tree_of};
@@ -12,7 +12,8 @@ ghost use Rattle.f77_sites.specs.Sites.{changed, label_sites, list_sites, sites,
 use crate::changing_data::put_groups;
 use crate::changing_expression::{put_expression, put_step, put_target};
 use crate::changing_node::{is_next, put_label, put_name};
-use f77_tree::{DataGroup, Expr, Name, Node, Ref, Stmt};
+use f77_nodes::Node;
+use f77_tree::{DataGroup, Expr, Name, Ref, Stmt};
 use std::alloc::{AllocError, Global};
 
 /// The statement with this node in the place of the one at this position; a node of another sort changes nothing.

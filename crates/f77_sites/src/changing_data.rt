@@ -2,12 +2,13 @@
 
 ghost use Rattle.std.specs.Prelude.{◌≡◌, IfOk, map};
 ghost use Rattle.f77_tree.specs.Data.{data_group_of};
-ghost use Rattle.f77_tree.specs.Node.{node_of};
+ghost use Rattle.f77_nodes.specs.Node.{node_of};
 ghost use Rattle.f77_sites.specs.Changing.{Passed};
 ghost use Rattle.f77_sites.specs.Sites.{group_sites, list_sites, value_sites};
 
 use crate::changing_node::put_value;
-use f77_tree::{DataGroup, Node, Value};
+use f77_nodes::Node;
+use f77_tree::{DataGroup, Value};
 use std::alloc::{AllocError, Global};
 
 fn put_values(

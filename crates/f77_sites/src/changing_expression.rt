@@ -1,13 +1,14 @@
 //! Expressions with another node in the place of one of theirs.
 
 ghost use Rattle.std.specs.Prelude.{◌≡◌, IfOk, map, option_map};
-ghost use Rattle.f77_tree.specs.Node.{node_of};
+ghost use Rattle.f77_nodes.specs.Node.{node_of};
 ghost use Rattle.f77_tree.specs.View.{tree_of, trees};
 ghost use Rattle.f77_sites.specs.Changing.{Passed, target_of};
 ghost use Rattle.f77_sites.specs.Sites.{item_sites, step_sites, target_sites, tree_sites};
 
 use crate::changing_node::is_next;
-use f77_tree::{Expr, Node, Ref};
+use f77_nodes::Node;
+use f77_tree::{Expr, Ref};
 use std::alloc::{AllocError, Global};
 
 /// The expression with this node in the place of the one with this number, from 1. The number falls by the nodes that were passed.

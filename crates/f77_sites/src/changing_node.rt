@@ -1,11 +1,12 @@
 //! One node in the place of another: what holds the two takes no memory.
 
 ghost use Rattle.std.specs.Prelude.{◌≡◌, ◌-◌, ◌↔◌, IsTrue};
-ghost use Rattle.f77_tree.specs.Node.{node_of};
+ghost use Rattle.f77_nodes.specs.Node.{node_of};
 ghost use Rattle.f77_sites.specs.Changing.{Passed};
 ghost use Rattle.f77_sites.specs.Sites as model;
 
-use f77_tree::{Name, Node, Value};
+use f77_nodes::Node;
+use f77_tree::{Name, Value};
 
 /// Whether the next node is the one that is looked for.
 pub fn is_next(number: &mut usize) -> bool

@@ -1,7 +1,7 @@
 //! Laws.
 
 ghost use Rattle.std.specs.Prelude.{◌≡◌, map};
-ghost use Rattle.f77_tree.specs.Node.{nodes_of};
+ghost use Rattle.f77_nodes.specs.Node.{nodes_of};
 ghost use Rattle.f77_tree.specs.Tree.{Statement};
 ghost use Rattle.f77_sites.specs.Sites.{node_at, sites};
 

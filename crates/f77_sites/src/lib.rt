@@ -1,4 +1,4 @@
-//! The nodes of statements, and statements with one node changed.
+//! Statements with one node changed.
 #![tactic(auto)]
 
 mod changing;
@@ -7,8 +7,6 @@ mod changing_expression;
 mod changing_node;
 pub mod law;
 mod new;
-mod node_list;
 
 pub use changing::with_node;
 pub use new::New;
-pub use node_list::nodes;

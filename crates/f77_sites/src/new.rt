@@ -1,10 +1,11 @@
 //! Nodes that take the place of others.
 
 ghost use Rattle.std.specs.Prelude.{◌≡◌};
-ghost use Rattle.f77_tree.specs.Node.{node_of};
+ghost use Rattle.f77_nodes.specs.Node.{node_of};
 ghost use Rattle.f77_sites.specs.New.{new_of};
 
-use f77_tree::{Expr, Name, Node, Ref, Stmt, Value};
+use f77_nodes::Node;
+use f77_tree::{Expr, Name, Ref, Stmt, Value};
 
 /// A node that may take the place of one of a statement.
 #[derive(Drop)]

@@ -1,14 +1,14 @@
 -- What the limits say of the text and of the statement that is kept, they say of the one that the text spells.
-use Rattle.std.proofs.Common.{arith, ◌≡◌, ◌⊎◌, inl, inr, ◌≤◌, ◌<◌, ℕ, List, Bool, true, false, ap, sym, ◌∙◌, subst}
-use Rattle.std.specs.Prelude.{min}
-use Rattle.f77_tree.specs.declared.fault.SyntaxFault.{SyntaxFault}
-use Rattle.f77_tree.specs.declared.fault.SyntaxFault.TheVariants.{Memory, Unknown, BadName, BadConstant, TooLong}
+use Rattle.std.proofs.Common.{◌≡◌, ◌⊎◌, inl, inr, ◌≤◌, ◌<◌, ℕ, List, Bool, true, false, refl, ap, sym, ◌∙◌, subst}
+use Rattle.f77_program.specs.declared.fault.SyntaxFault.{SyntaxFault}
+use Rattle.f77_program.specs.declared.fault.SyntaxFault.TheVariants.{Memory, Unknown, BadName}
 use Rattle.f77_tree.specs.Tree.{Statement}
 use Rattle.f77_tree.specs.StatementGrammar.{SpellsStatement}
 use Rattle.f77_syntax.specs.StatementView.{clip_statement}
-use Rattle.f77_tree.specs.Limits.{character_count, most_characters, IsTooDeep}
-use Rattle.f77_tree.specs.StatementLimits.{statement_names, statement_constants, statement_nodes}
-use Rattle.f77_tree.specs.Parsing.{IsAdmitted, IsRefused}
+use Rattle.f77_syntax.specs.TextLimits.{character_count, most_characters, IsTooDeep}
+use Rattle.f77_nodes.specs.Names.{statement_names}
+use Rattle.f77_nodes.specs.Limits.{most_nodes, statement_constants, statement_nodes}
+use Rattle.f77_syntax.specs.Parsing.{IsAdmitted, IsOutside, IsRefused}
 use Rattle.f77_syntax.proofs.StatementClip.{statement_constants_clip, statement_nodes_clip, statement_kept}
 
 -- a text within the limits on texts, and the statement that was kept of it
@@ -26,27 +26,24 @@ bad_name line text got b k e f =
     let (s, p, same) = k.spells in
     IsRefused.name k.characters k.flat p (sym (e s p same) ∙ f)
 
-pub bad_constant : (line : ℕ) (text : List ℕ) (got : Statement) (b d : Bool) → Kept text got → SaysNames text got b → b ≡ true
-    → d ≡ statement_constants got → d ≡ false → IsRefused line text (BadConstant line)
-bad_constant line text got b d k e f g h =
+-- a statement that is kept is outside the limits where the one that the text spells is
+pub outside : (line : ℕ) (text : List ℕ) (got : Statement) (b : Bool) {fault : SyntaxFault} → Kept text got → SaysNames text got b → b ≡ true
+    → IsOutside line got fault → (fault ≡ Memory) ⊎ IsRefused line text fault
+outside line text got b k e f IsOutside.memory = inl refl
+outside line text got b k e f (IsOutside.constant h) =
     let (s, p, same) = k.spells in
-    IsRefused.constant k.characters k.flat p (sym (e s p same) ∙ f)
-    (sym (statement_constants_clip s) ∙ ap statement_constants (sym same) ∙ sym g ∙ h)
-
-pub many_nodes : (line : ℕ) (text : List ℕ) (got : Statement) (b d : Bool) (n : ℕ) → Kept text got → SaysNames text got b → b ≡ true
-    → d ≡ statement_constants got → d ≡ true → n ≡ min (statement_nodes got) 4294967295 → 200 < n → IsRefused line text (TooLong line)
-many_nodes line text got b d n k e f g h i j =
+    inr (IsRefused.constant k.characters k.flat p (sym (e s p same) ∙ f) (sym (statement_constants_clip s) ∙ ap statement_constants (sym same) ∙ h))
+outside line text got b k e f (IsOutside.nodes h more) =
     let (s, p, same) = k.spells in
     let count : statement_nodes got ≡ statement_nodes s = ap statement_nodes same ∙ statement_nodes_clip s in
-    let more : 200 < statement_nodes got = omega arith in
-    IsRefused.nodes k.characters k.flat p (sym (e s p same) ∙ f)
-    (sym (statement_constants_clip s) ∙ ap statement_constants (sym same) ∙ sym g ∙ h) (rw (sym count) more)
+    inr (IsRefused.nodes k.characters k.flat p (sym (e s p same) ∙ f)
+    (sym (statement_constants_clip s) ∙ ap statement_constants (sym same) ∙ h) (subst (λ n. most_nodes < n) count more))
 
-pub all_well : (text : List ℕ) (got : Statement) (b d : Bool) (n : ℕ) → Kept text got → SaysNames text got b → b ≡ true
-    → d ≡ statement_constants got → d ≡ true → n ≡ min (statement_nodes got) 4294967295 → n ≤ 200 → IsAdmitted text got
-all_well text got b d n k e f g h i j =
+pub all_well : (text : List ℕ) (got : Statement) (b : Bool) → Kept text got → SaysNames text got b → b ≡ true
+    → statement_constants got ≡ true → statement_nodes got ≤ most_nodes → IsAdmitted text got
+all_well text got b k e f h few =
     let (s, p, same) = k.spells in
-    let small : statement_constants s ≡ true = sym (statement_constants_clip s) ∙ ap statement_constants (sym same) ∙ sym g ∙ h in
+    let small : statement_constants s ≡ true = sym (statement_constants_clip s) ∙ ap statement_constants (sym same) ∙ h in
     let short : statement_names s ≡ true = sym (e s p same) ∙ f in
     let is : s ≡ got = sym (statement_kept s short small) ∙ sym same in
     record {
@@ -54,8 +51,8 @@ all_well text got b d n k e f g h i j =
       flat = k.flat;
       spells = subst (λ z. SpellsStatement text z) is p;
       names = subst (λ z. statement_names z ≡ true) is short;
-      constants = sym g ∙ h;
-      nodes = omega arith;
+      constants = h;
+      nodes = few;
     }
 
 pub not_spelled : (line : ℕ) (text : List ℕ) (fault : SyntaxFault) → character_count text ≤ most_characters → ¬ (IsTooDeep text)

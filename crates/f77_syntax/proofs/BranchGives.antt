@@ -12,8 +12,8 @@ use Rattle.std.proofs.lemmas.Bool.Decides.{nat_tests}
 use Rattle.std.proofs.lemmas.Int.Digits.{digits_value-lt}
 use Rattle.std.proofs.lemmas.List.{drop_more, take_rest}
 use Rattle.std.proofs.Math.Nat.{pow-le-pow_right}
-use Rattle.f77_tree.specs.declared.fault.ReadError.{ReadError}
-use Rattle.f77_tree.specs.declared.fault.ReadError.TheVariants.{Unknown}
+use Rattle.f77_syntax.specs.declared.fault.ReadError.{ReadError}
+use Rattle.f77_syntax.specs.declared.fault.ReadError.TheVariants.{Unknown}
 use Rattle.f77_tree.specs.declared.tree.Expr.{Expr}
 use Rattle.f77_tree.specs.declared.tree.Stmt.{Stmt}
 use Rattle.f77_tree.specs.declared.tree.Stmt.TheVariants as forms
@@ -27,10 +27,10 @@ use Rattle.f77_syntax.specs.ComputedGoto.{computed_at}
 use Rattle.f77_syntax.specs.Condition.{arithmetic_at, condition_at}
 use Rattle.f77_syntax.specs.DoLoop.{control_at, step_at, parameters_at, loop_at}
 use Rattle.f77_syntax.specs.Classification.{behind, class_of}
-use Rattle.f77_tree.specs.Formed.{is_action}
+use Rattle.f77_program.specs.Formed.{is_action}
 use Rattle.f77_syntax.specs.declared.classification.Class.TheVariants.{Keyword}
 use Rattle.f77_syntax.specs.Statement.{word_statement, without_expression, simple_at, actions_only, simple_action_at, action_at, begins_digit, branch_at, else_at, declared_at, dimension_at, preset_at, specification_at}
-use Rattle.f77_tree.specs.Limits.{cut}
+use Rattle.f77_tree.specs.Name.{cut}
 use Rattle.f77_tree.specs.View.{tree_of}
 use Rattle.f77_syntax.specs.View.{clip, clipped, Fails, Gives}
 use Rattle.f77_tree.specs.StatementView.{statement_of}

@@ -3,16 +3,17 @@ use Rattle.std.proofs.Common.{◌≡◌, ◌≢◌, ◌⊎◌, inl, inr, List, [
 use Rattle.std.specs.Prelude.{Result, MatchResult, IfOk, IfErr, map}
 use Rattle.std.proofs.lemmas.List.{append-nil, map-append}
 use Rattle.f77_source.specs.Card.{CardFields}
-use Rattle.f77_tree.specs.declared.fault.SyntaxFault.{SyntaxFault}
-use Rattle.f77_tree.specs.declared.fault.SyntaxFault.TheVariants.{Memory}
-use Rattle.f77_tree.specs.declared.group.Group.{Group}
-use Rattle.f77_tree.specs.declared.group.Group.TheVariants.{End}
-use Rattle.f77_tree.specs.declared.program.Line.{Line}
+use Rattle.f77_program.specs.declared.fault.SyntaxFault.{SyntaxFault}
+use Rattle.f77_program.specs.declared.fault.SyntaxFault.TheVariants.{Memory}
+use Rattle.f77_program.specs.declared.group.Group.{Group}
+use Rattle.f77_program.specs.declared.group.Group.TheVariants.{End}
+use Rattle.f77_program.specs.declared.program.Line.{Line}
 use Rattle.f77_tree.specs.StatementView.{statement_of}
 use Rattle.f77_tree.specs.Tree.{Statement}
-use Rattle.f77_tree.specs.Group.{group_of, may_stand}
-use Rattle.f77_tree.specs.Parsing.{IsAdmitted, LineFields, line_of, line_with, AreLines, IsFirstFault, IsProgram, unfinished}
-use Rattle.f77_tree.proofs.StatementForming.{spelled_is_formed}
+use Rattle.f77_program.specs.Group.{group_of, may_stand}
+use Rattle.f77_syntax.specs.Parsing.{IsAdmitted, line_with, AreLines, IsFirstFault, unfinished}
+use Rattle.f77_program.specs.Program.{LineFields, line_of, IsProgram}
+use Rattle.f77_program.proofs.StatementForming.{spelled_is_formed}
 use Rattle.f77_syntax.proofs.Exact.{either_lines_or_fault, one_fault, one_program}
 
 -- the line of one more card

@@ -6,7 +6,10 @@ use Rattle.std.proofs.lemmas.Bool.Decides.{nat_tests}
 use Rattle.std.proofs.lemmas.List.{take_all}
 use Rattle.f77_tree.specs.Tree.{Tree, Trees}
 use Rattle.f77_syntax.specs.View.{clipped, clip, clip_all}
-use Rattle.f77_tree.specs.Limits.{is_short, cut, short_names, all_short_names, small_constants, all_small_constants, nodes, all_nodes}
+use Rattle.f77_tree.specs.Name.{is_short, cut}
+use Rattle.f77_nodes.specs.Names.{short_names, all_short_names}
+use Rattle.f77_nodes.proofs.Constants.{small_constants, all_small_constants}
+use Rattle.f77_syntax.proofs.NodeCounts.{nodes, all_nodes}
 use Rattle.f77_tree.proofs.Tests.{and_true}
 
 pub constant_clip : (n : ℕ) → nat_le (clipped n) 2147483647 ≡ nat_le n 2147483647

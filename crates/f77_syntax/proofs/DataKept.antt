@@ -8,9 +8,12 @@ use Rattle.f77_tree.specs.declared.data.Constant.{Constant}
 use Rattle.f77_tree.specs.declared.data.Constant.TheVariants.{Number, Truth}
 use Rattle.f77_tree.specs.declared.data.Value.{Value}
 use Rattle.f77_syntax.specs.View.{clipped}
-use Rattle.f77_tree.specs.Limits.{cut, largest}
+use Rattle.f77_tree.specs.Name.{cut}
+use Rattle.f77_nodes.specs.Limits.{largest, size, small_constant, small_value}
 use Rattle.f77_tree.specs.Tree.{GroupFields}
-use Rattle.f77_tree.specs.Data.{size, group_names, small_constant, small_value, group_constants, data_names, data_constants, data_nodes}
+use Rattle.f77_nodes.specs.Names.{group_names, data_names}
+use Rattle.f77_nodes.proofs.Constants.{group_constants, data_constants}
+use Rattle.f77_syntax.proofs.NodeCounts.{data_nodes}
 use Rattle.f77_syntax.specs.Data.{kept, clip_constant, clip_value, clip_group}
 use Rattle.f77_tree.proofs.Tests.{and_true}
 use Rattle.f77_syntax.proofs.Clip.{constant_clip, small_clipped, short_cuts}

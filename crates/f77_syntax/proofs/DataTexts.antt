@@ -24,7 +24,7 @@ use Rattle.f77_tree.proofs.Words.{word_front, past_word_front, name_words}
 use Rattle.f77_syntax.proofs.Gives.{after_is}
 use Rattle.f77_syntax.proofs.JoinedTexts.{Fronts, IsSound, IsRead, Stops, items_is, items_read, joined_no_equals}
 use Rattle.f77_syntax.proofs.DeclarationTexts.{names_is, name_read, number_is, number_read, number_words}
-use Rattle.f77_tree.proofs.DataForms.{unsigned_spelled, minus_spelled, repeated_spelled}
+use Rattle.f77_program.proofs.DataForms.{unsigned_spelled, minus_spelled, repeated_spelled}
 use Rattle.std.proofs.lemmas.List.Folds.{list_any-append}
 use Rattle.f77_tree.specs.declared.data.Value.{Value}
 use Rattle.f77_syntax.proofs.WordTexts.{is_equals, words_no_equals}

@@ -2,11 +2,11 @@
 use Rattle.std.proofs.Common.{◌≡◌, ◌≤◌, ℕ, length, List, [], true, false, refl, Option, Some, None, sym, ◌∙◌, subst}
 use Rattle.std.specs.Prelude.{◌==◌, map}
 use Rattle.std.specs.Str.Parse.{digits_value}
-use Rattle.f77_tree.specs.declared.fault.ReadError.{ReadError}
+use Rattle.f77_syntax.specs.declared.fault.ReadError.{ReadError}
 use Rattle.f77_tree.specs.Grammar.{is_name, is_number, word, past_word}
 use Rattle.f77_syntax.specs.Reading.{◌>>=◌, after, close_at}
 use Rattle.f77_syntax.specs.Assignment.{ended}
-use Rattle.f77_tree.specs.Limits.{cut}
+use Rattle.f77_tree.specs.Name.{cut}
 use Rattle.f77_syntax.specs.View.{clipped, Fails}
 use Rattle.f77_syntax.specs.Joined.{items_at}
 use Rattle.f77_tree.specs.Tree.{DeclFields}

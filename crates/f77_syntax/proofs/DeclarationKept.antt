@@ -5,7 +5,11 @@ use Rattle.std.specs.List.{list_all}
 use Rattle.std.proofs.lemmas.List.{length-map}
 use Rattle.f77_syntax.specs.View.{clipped}
 use Rattle.f77_tree.specs.Tree.{DeclFields}
-use Rattle.f77_tree.specs.Declaration.{all_bounded, decl_name, small_bound, decl_constants, declaration_names, declaration_constants, declaration_nodes}
+use Rattle.f77_tree.specs.Declaration.{all_bounded}
+use Rattle.f77_nodes.specs.Names.{decl_name, declaration_names}
+use Rattle.f77_nodes.specs.Limits.{small_bound, decl_constants}
+use Rattle.f77_nodes.proofs.Constants.{declaration_constants}
+use Rattle.f77_syntax.proofs.NodeCounts.{declaration_nodes}
 use Rattle.f77_syntax.specs.Declaration.{clip_decl}
 use Rattle.f77_tree.proofs.Tests.{and_true}
 use Rattle.f77_syntax.proofs.Clip.{constant_clip, small_clipped, short_cut}

@@ -1,14 +1,16 @@
 -- Cards are one program at most, or have one first fault.
 use Rattle.std.proofs.Common.{arith, ◌≡◌, ◌≢◌, ◌⊎◌, inl, inr, ℕ, List, ◌∷◌, Bool, true, false, refl, ap, sym, ◌∙◌, subst, Option, Some}
 use Rattle.f77_source.specs.Card.{CardFields}
-use Rattle.f77_tree.specs.declared.fault.SyntaxFault.{SyntaxFault}
-use Rattle.f77_tree.specs.declared.group.Group.{Group}
-use Rattle.f77_tree.specs.declared.group.Group.TheVariants.{Subroutine, Declaration, Data, Executable, End}
+use Rattle.f77_program.specs.declared.fault.SyntaxFault.{SyntaxFault}
+use Rattle.f77_program.specs.declared.group.Group.{Group}
+use Rattle.f77_program.specs.declared.group.Group.TheVariants.{Subroutine, Declaration, Data, Executable, End}
 use Rattle.f77_tree.specs.Tree.{Statement}
-use Rattle.f77_tree.specs.Group.{group_of, may_stand}
-use Rattle.f77_tree.specs.StatementLimits.{statement_names, statement_constants, statement_nodes}
-use Rattle.f77_tree.specs.declared.fault.SyntaxFault.TheVariants.{Memory, AfterEnd}
-use Rattle.f77_tree.specs.Parsing.{IsAdmitted, IsRefused, LineFields, line_with, AreLines, IsFirstFault, misplaced}
+use Rattle.f77_program.specs.Group.{group_of, may_stand}
+use Rattle.f77_nodes.specs.Names.{statement_names}
+use Rattle.f77_nodes.specs.Limits.{statement_constants, statement_nodes}
+use Rattle.f77_program.specs.declared.fault.SyntaxFault.TheVariants.{Memory, AfterEnd}
+use Rattle.f77_syntax.specs.Parsing.{IsAdmitted, IsRefused, line_with, AreLines, IsFirstFault, misplaced}
+use Rattle.f77_program.specs.Program.{LineFields}
 use Rattle.f77_syntax.proofs.StatementComplete.{one_statement}
 
 pub same_admitted : {text : List ℕ} {s t : Statement} → IsAdmitted text s → IsAdmitted text t → s ≡ t

@@ -5,8 +5,8 @@ use Rattle.std.specs.Borrow.{Bor}
 use Rattle.std.specs.declared.alloc.Global.{Global}
 use Rattle.std.proofs.lemmas.Option.{same_Some, none-some}
 use Rattle.std.proofs.lemmas.Bool.{eqb-true}
-use Rattle.f77_tree.specs.declared.fault.ReadError.{ReadError}
-use Rattle.f77_tree.specs.declared.fault.ReadError.TheVariants.{Memory, Unknown}
+use Rattle.f77_syntax.specs.declared.fault.ReadError.{ReadError}
+use Rattle.f77_syntax.specs.declared.fault.ReadError.TheVariants.{Memory, Unknown}
 use Rattle.f77_tree.specs.declared.operator.Operator.{Operator}
 use Rattle.f77_tree.specs.declared.operator.Sign.{Sign}
 use Rattle.f77_tree.specs.declared.operator.Sign.TheVariants.{Plus, Minus}
@@ -20,7 +20,7 @@ use Rattle.f77_tree.specs.declared.tree.Expr.TheVariants.{Number, Truth}
 use Rattle.f77_tree.specs.declared.intrinsic.Intrinsic.{Intrinsic}
 use Rattle.f77_tree.specs.Intrinsic.{function_named}
 use Rattle.f77_tree.specs.Grammar.{is_name, is_number, word, past_word}
-use Rattle.f77_tree.specs.Limits.{cut}
+use Rattle.f77_tree.specs.Name.{cut}
 use Rattle.f77_tree.specs.Tree.{Tree, Trees}
 use Rattle.f77_tree.specs.View.{tree_of, trees}
 use Rattle.f77_syntax.specs.View.{clip, clip_all, clipped, Fails, Gives, IsStart}

@@ -7,9 +7,10 @@ use Rattle.f77_tree.specs.declared.data.Value.{Value}
 use Rattle.f77_tree.specs.Tree.{DeclFields, GroupFields}
 use Rattle.f77_tree.specs.Grammar.{is_name}
 use Rattle.f77_tree.specs.Joined.{Joined}
-use Rattle.f77_tree.specs.Declaration.{SpellsName, SpellsNumber, SpellsDecl, SpellsDecls, decl_name, declaration_names}
-use Rattle.f77_tree.specs.Data.{SpellsConstant, SpellsValue, SpellsGroup, SpellsGroups, group_names, data_names}
-use Rattle.f77_tree.specs.Limits.{is_short}
+use Rattle.f77_tree.specs.Declaration.{SpellsName, SpellsNumber, SpellsDecl, SpellsDecls}
+use Rattle.f77_nodes.specs.Names.{decl_name, declaration_names, group_names, data_names}
+use Rattle.f77_tree.specs.Data.{SpellsConstant, SpellsValue, SpellsGroup, SpellsGroups}
+use Rattle.f77_tree.specs.Name.{is_short}
 use Rattle.f77_tree.specs.StatementGrammar.{SpellsLabel}
 use Rattle.f77_tree.proofs.Tests.{and_true}
 use Rattle.f77_syntax.specs.NameLengths.{has_short_words}

@@ -3,7 +3,7 @@ use Rattle.std.proofs.Common.{◌≡◌, ◌≤◌, ℕ, length, List, [], ◌�
 use Rattle.std.specs.Prelude.{map, MatchResult, Vec}
 use Rattle.std.specs.Borrow.{Bor}
 use Rattle.std.specs.declared.alloc.Global.{Global}
-use Rattle.f77_tree.specs.declared.fault.ReadError.{ReadError}
+use Rattle.f77_syntax.specs.declared.fault.ReadError.{ReadError}
 use Rattle.f77_syntax.specs.Reading.{after}
 use Rattle.f77_syntax.specs.Joined.{items_at}
 use Rattle.f77_syntax.specs.View.{Gives, Fails}

@@ -5,7 +5,7 @@ use Rattle.std.specs.List.{list_any}
 use Rattle.std.proofs.lemmas.Option.{none-some}
 use Rattle.std.proofs.lemmas.List.{map-append}
 use Rattle.std.proofs.lemmas.List.Folds.{list_any-append}
-use Rattle.f77_tree.specs.declared.fault.ReadError.{ReadError}
+use Rattle.f77_syntax.specs.declared.fault.ReadError.{ReadError}
 use Rattle.f77_syntax.specs.Reading.{◌>>=◌, after}
 use Rattle.f77_syntax.proofs.WordTexts.{is_equals}
 use Rattle.f77_syntax.specs.View.{Fails}

@@ -1,7 +1,7 @@
 -- What the readers of labels give, from what they call.
 use Rattle.std.proofs.Common.{◌≡◌, ◌≤◌, ℕ, length, List, true, false, refl, Some, None}
 use Rattle.std.specs.Prelude.{◌==◌}
-use Rattle.f77_tree.specs.declared.fault.ReadError.{ReadError}
+use Rattle.f77_syntax.specs.declared.fault.ReadError.{ReadError}
 use Rattle.f77_tree.specs.Grammar.{is_number}
 use Rattle.f77_tree.specs.StatementGrammar.{label_number}
 use Rattle.f77_syntax.specs.Reading.{◌>>=◌, digits, past_digits, after}

@@ -38,3 +38,6 @@ pub mod Cards
 pub mod Total
 pub mod InOrder
 pub mod NodeCounts
+pub mod CharacterCounts
+pub mod Counts
+pub mod ReadAgain

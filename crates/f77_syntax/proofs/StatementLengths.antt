@@ -9,9 +9,9 @@ use Rattle.f77_tree.specs.declared.tree.Kind.{Kind}
 use Rattle.f77_tree.specs.declared.tree.Kind.TheVariants.{Integer, Logical}
 use Rattle.f77_tree.specs.Tree.{Tree, Statement}
 use Rattle.f77_tree.specs.Grammar.{Spells, is_word, is_name, is_number}
-use Rattle.f77_tree.specs.Limits.{is_short, short_names, all_short_names}
+use Rattle.f77_tree.specs.Name.{is_short}
+use Rattle.f77_nodes.specs.Names.{short_names, all_short_names, statement_names}
 use Rattle.f77_tree.specs.StatementGrammar.{SpellsAction, SpellsStatement, optional_comma, kind_keyword}
-use Rattle.f77_tree.specs.StatementLimits.{statement_names}
 use Rattle.f77_syntax.specs.StatementView.{clip_statement}
 use Rattle.f77_tree.proofs.Tests.{and_true}
 use Rattle.f77_tree.proofs.Words.{name_words}

@@ -14,12 +14,12 @@ use Rattle.f77_syntax.specs.Reading.{◌>>=◌, strip, after, close_at, reading,
 use Rattle.f77_syntax.specs.Assignment.{ended}
 use Rattle.f77_syntax.specs.Names.{names_at}
 use Rattle.f77_tree.specs.Joined.{Joined, some_all}
-use Rattle.f77_tree.proofs.JoinedForms.{joined_all}
+use Rattle.f77_program.proofs.JoinedForms.{joined_all}
 use Rattle.f77_syntax.specs.Subroutine.{dummies_at, before_close, arguments_at, subroutine_at}
 use Rattle.f77_syntax.specs.Label.{label_at, last_label, label_comma, labels_at}
 use Rattle.f77_syntax.specs.Condition.{arithmetic_at, condition_at}
 use Rattle.f77_syntax.specs.DoLoop.{control_at, step_at, parameters_at, loop_at}
-use Rattle.f77_tree.specs.Formed.{is_action}
+use Rattle.f77_program.specs.Formed.{is_action}
 use Rattle.f77_syntax.specs.Classification.{class_of}
 use Rattle.f77_syntax.specs.Statement.{word_statement, goto_by, without_expression, computed_by, simple_at, actions_only, simple_action_at, action_by, action_at, begins_digit, branch_at, else_at, declared_at, dimension_at, preset_at, specification_by, specification_at, keyword_by, keyword_at, statement_by, statement_at}
 use Rattle.f77_syntax.specs.declared.classification.Class.{Class}

@@ -4,18 +4,19 @@ use Rattle.std.specs.Prelude.{nat_le, nat_lt}
 use Rattle.std.proofs.lemmas.Bool.Decides.{nat_tests}
 use Rattle.std.proofs.lemmas.List.{take_all}
 use Rattle.f77_source.specs.Card.{CardFields}
-use Rattle.f77_tree.specs.declared.fault.SyntaxFault.{SyntaxFault}
-use Rattle.f77_tree.specs.declared.fault.SyntaxFault.TheVariants.{Unknown, BadName, BadConstant, TooDeep, TooLong, AfterEnd}
-use Rattle.f77_tree.specs.declared.group.Group.{Group}
-use Rattle.f77_tree.specs.declared.group.Group.TheVariants.{Subroutine, Declaration, Data, Executable, End}
+use Rattle.f77_program.specs.declared.fault.SyntaxFault.{SyntaxFault}
+use Rattle.f77_program.specs.declared.fault.SyntaxFault.TheVariants.{Unknown, BadName, BadConstant, TooDeep, TooLong, AfterEnd}
+use Rattle.f77_program.specs.declared.group.Group.{Group}
+use Rattle.f77_program.specs.declared.group.Group.TheVariants.{Subroutine, Declaration, Data, Executable, End}
 use Rattle.f77_tree.specs.Tree.{Statement}
-use Rattle.f77_tree.specs.Group.{group_of, may_stand}
-use Rattle.f77_tree.specs.Limits.{count, most_open, character_count, most_characters, most_nodes, IsTooDeep}
-use Rattle.f77_tree.specs.Parsing.{IsAdmitted, IsRefused, line_with, AreLines, IsFirstFault, HasLinesOrFault, misplaced, unfinished}
+use Rattle.f77_program.specs.Group.{group_of, may_stand}
+use Rattle.f77_syntax.specs.TextLimits.{count, most_open, character_count, most_characters, IsTooDeep}
+use Rattle.f77_nodes.specs.Limits.{most_nodes, statement_constants, statement_nodes}
+use Rattle.f77_syntax.specs.Parsing.{IsAdmitted, IsRefused, line_with, AreLines, IsFirstFault, HasLinesOrFault, misplaced, unfinished}
 use Rattle.f77_syntax.specs.Statement.{statement_at}
 use Rattle.f77_tree.specs.StatementGrammar.{SpellsStatement}
-use Rattle.f77_tree.specs.StatementLimits.{statement_names, statement_constants, statement_nodes}
-use Rattle.f77_tree.proofs.Counts.{flat_none, flat_step}
+use Rattle.f77_nodes.specs.Names.{statement_names}
+use Rattle.f77_syntax.proofs.Counts.{flat_none, flat_step}
 use Rattle.f77_syntax.proofs.StatementComplete.{statement_read}
 use Rattle.f77_syntax.proofs.StatementSound.{statement_is}
 

@@ -10,11 +10,12 @@ use Rattle.f77_tree.specs.declared.data.DataGroup.{DataGroup}
 use Rattle.f77_syntax.specs.Names.{names_at}
 use Rattle.f77_syntax.specs.Declaration.{number_at}
 use Rattle.f77_syntax.specs.Joined.{items_at}
-use Rattle.f77_tree.specs.Limits.{cut, largest}
+use Rattle.f77_tree.specs.Name.{cut}
+use Rattle.f77_nodes.specs.Limits.{largest, size}
 use Rattle.f77_syntax.specs.Reading.{◌>>=◌, strip, after, past_comma}
 use Rattle.f77_tree.specs.Tree.{GroupFields}
 use Rattle.f77_syntax.specs.View.{clipped}
-use Rattle.f77_tree.specs.Data.{negative, size, data_group_of}
+use Rattle.f77_tree.specs.Data.{negative, data_group_of}
 
 -- How they are read: each with what follows it.
 abbrev pub signed_at : (ℕ → ℤ) → List ℕ → Option (Constant × List ℕ)

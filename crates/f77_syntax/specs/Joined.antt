@@ -2,8 +2,8 @@
 use Rattle.std.specs.Prelude.{ℕ, zero, suc, List, [], ◌∷◌, length, Option, Some, None, ◌≡◌, ◌≤◌, Result, Ok, Err}
 use Rattle.f77_syntax.specs.Reading.{◌>>=◌, after}
 use Rattle.std.specs.Borrow.{Bor}
-use Rattle.f77_tree.specs.declared.fault.ReadError.{ReadError}
-use Rattle.f77_tree.specs.declared.fault.ReadError.TheVariants.{Memory}
+use Rattle.f77_syntax.specs.declared.fault.ReadError.{ReadError}
+use Rattle.f77_syntax.specs.declared.fault.ReadError.TheVariants.{Memory}
 
 -- an item has been read: what stands behind the comma that follows it is more items
 abbrev pub with_others : {A : Type 0} → (List ℕ → Option (List A × List ℕ)) → A → List ℕ → Option (List ℕ) → Option (List A × List ℕ)

@@ -14,3 +14,6 @@ pub mod Subroutine
 pub mod DoLoop
 pub mod Statement
 pub mod NameLengths
+pub mod TextLimits
+pub mod Parsing
+pub mod Printing

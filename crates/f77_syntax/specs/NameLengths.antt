@@ -3,7 +3,7 @@ use Rattle.std.specs.Prelude.{ℕ, List, [], Bool, true, false, not, if◌then�
 use Rattle.std.specs.List.{list_all, slice_split, before_last}
 use Rattle.f77_tree.specs.Tree.{Statement}
 use Rattle.f77_tree.specs.Grammar.{is_word}
-use Rattle.f77_tree.specs.Limits.{is_short}
+use Rattle.f77_tree.specs.Name.{is_short}
 use Rattle.f77_syntax.specs.Reading.{strip, past_digits}
 use Rattle.f77_tree.specs.StatementGrammar.{kind_keyword}
 

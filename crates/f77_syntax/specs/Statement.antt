@@ -3,7 +3,7 @@ use Rattle.std.specs.Prelude.{ℕ, ◌==◌, List, [], ◌∷◌, length, Option
 use Rattle.std.specs.Str.{bytes_eq}
 use Rattle.f77_tree.specs.Grammar.{is_digit}
 use Rattle.f77_tree.specs.Tree.{Tree, Statement}
-use Rattle.f77_tree.specs.Formed.{is_action}
+use Rattle.f77_program.specs.Formed.{is_action}
 use Rattle.f77_syntax.specs.Reading.{◌>>=◌, strip}
 use Rattle.f77_syntax.specs.Assignment.{assign_at}
 use Rattle.f77_syntax.specs.Label.{last_label}

@@ -5,7 +5,7 @@ use Rattle.std.specs.declared.alloc.Global.{Global}
 use Rattle.f77_tree.specs.declared.tree.Expr.{Expr}
 use Rattle.f77_tree.specs.declared.tree.Ref.{Ref}
 use Rattle.f77_tree.specs.declared.tree.Stmt.{Stmt}
-use Rattle.f77_tree.specs.Limits.{cut}
+use Rattle.f77_tree.specs.Name.{cut}
 use Rattle.f77_tree.specs.Tree.{Tree, Trees, Statement}
 use Rattle.f77_tree.specs.View.{trees, tree_of, place_of}
 use Rattle.f77_syntax.specs.View.{clip, clip_all}

@@ -5,8 +5,9 @@ ghost use Rattle.f77_syntax.specs.View.{Gives};
 ghost use Rattle.f77_syntax.specs.StatementView.{IsStatement, IsReference};
 
 use crate::expression::{after_byte, closed, expression, list};
+use crate::fault::ReadError;
 use f77_tree::characters::{is_name, split_word};
-use f77_tree::{Name, ReadError, Ref, Stmt};
+use f77_tree::{Name, Ref, Stmt};
 use std::alloc::Global;
 
 /// Reads a name with its subscripts, and what follows.

@@ -7,9 +7,10 @@ ghost use Rattle.f77_syntax.specs.View.{Gives};
 ghost use Rattle.f77_syntax.specs.StatementView.{IsStatement, AreLabels};
 
 use crate::expression::{closed, expression, past_comma};
+use crate::fault::ReadError;
 use crate::joined::joined;
 use crate::label::label;
-use f77_tree::{ReadError, Stmt};
+use f77_tree::Stmt;
 use std::alloc::Global;
 
 /// Reads labels joined by commas, and what follows.

@@ -8,8 +8,9 @@ ghost use Rattle.f77_syntax.specs.View.{clip, Gives, IsTree};
 ghost use Rattle.f77_syntax.specs.StatementView.{IsStatement};
 
 use crate::expression::{closed, expression};
+use crate::fault::ReadError;
 use crate::label::labels;
-use f77_tree::{Expr, ReadError, Stmt};
+use f77_tree::{Expr, Stmt};
 use std::alloc::Global;
 
 /// Reads `IF(`, an expression and `)`, and what follows.

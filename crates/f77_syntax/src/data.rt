@@ -8,9 +8,10 @@ ghost use Rattle.f77_syntax.specs.View.{clipped, Gives};
 
 use crate::constants::{digits, read_constant};
 use crate::expression::{after_byte, past_comma};
+use crate::fault::ReadError;
 use crate::joined::joined;
 use crate::names::names;
-use f77_tree::{DataGroup, ReadError, Value};
+use f77_tree::{DataGroup, Value};
 use std::alloc::Global;
 
 /// Reads a repeat with its asterisk, and what follows.

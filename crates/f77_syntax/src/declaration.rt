@@ -5,10 +5,11 @@ ghost use Rattle.f77_syntax.specs.Declaration.{number_at, bounds_at, decl_at, de
 ghost use Rattle.f77_syntax.specs.View.{clipped, Gives};
 
 use crate::expression::{after_byte, closed};
+use crate::fault::ReadError;
 use crate::joined::joined;
 use crate::scan::number;
 use f77_tree::characters::{is_name, is_number, split_word};
-use f77_tree::{Decl, Name, ReadError};
+use f77_tree::{Decl, Name};
 use std::alloc::Global;
 
 /// Reads a bound, and what follows it.

@@ -7,9 +7,10 @@ ghost use Rattle.f77_syntax.specs.View.{Gives};
 ghost use Rattle.f77_syntax.specs.StatementView.{IsStatement, IsControl, IsStep};
 
 use crate::expression::{after_byte, expression, past_comma};
+use crate::fault::ReadError;
 use crate::label::label;
 use f77_tree::characters::{is_name, split_word};
-use f77_tree::{Expr, Name, ReadError, Stmt};
+use f77_tree::{Expr, Name, Stmt};
 use std::alloc::Global;
 
 /// Reads the label and the name of the DO variable, and what follows the equals sign.

@@ -6,13 +6,14 @@ ghost use Rattle.f77_tree.specs.Grammar.{word, past_word};
 ghost use Rattle.f77_syntax.specs.Reading.{start_at, enclosed_at, signed_at, negated_at, dotted_at, word_at, listed_by};
 ghost use Rattle.f77_tree.specs.Grammar.{is_name};
 ghost use Rattle.f77_tree.specs.Intrinsic.{function_named};
-ghost use Rattle.f77_tree.specs.Limits.{cut};
+ghost use Rattle.f77_tree.specs.Name.{cut};
 ghost use Rattle.f77_tree.specs.View.{tree_of, trees};
 ghost use Rattle.f77_syntax.specs.View.{Gives, IsTree, IsStart, IsList};
 
+use crate::fault::ReadError;
 use crate::scan::{next_operator, number};
 use f77_tree::characters::{is_name, is_number, split_word};
-use f77_tree::{Expr, Intrinsic, Name, ReadError, Ref, Sign};
+use f77_tree::{Expr, Intrinsic, Name, Ref, Sign};
 use std::alloc::Global;
 
 /// Reads an expression of the wanted level or a tighter one, and what follows it.

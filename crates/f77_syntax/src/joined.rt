@@ -4,7 +4,7 @@ ghost use Rattle.std.specs.Prelude.{MatchResult};
 ghost use Rattle.f77_syntax.specs.Joined.{Joins, Breaks, Shortens};
 
 use crate::expression::after_byte;
-use f77_tree::ReadError;
+use crate::fault::ReadError;
 use std::alloc::Global;
 
 /// Reads items joined by commas, each by this function, and what follows them.

@@ -8,8 +8,8 @@ ghost use Rattle.f77_tree.specs.StatementGrammar.{label_number};
 ghost use Rattle.f77_syntax.specs.View.{Gives};
 
 use crate::expression::after_byte;
+use crate::fault::ReadError;
 use crate::scan::{number, split_digits};
-use f77_tree::ReadError;
 use f77_tree::characters::is_number;
 
 const MOST_DIGITS: usize = 5;

@@ -5,12 +5,13 @@ ghost use Rattle.f77_source.specs.Card.{CardFields};
 ghost use Rattle.f77_tree.specs.Grammar.{Spells};
 ghost use Rattle.f77_tree.specs.StatementGrammar.{SpellsStatement};
 ghost use Rattle.f77_syntax.specs.Classification.{class_of, statement_class};
-ghost use Rattle.f77_tree.specs.Parsing.{LineFields, AreLines, HasLinesOrFault, IsFirstFault, IsProgram};
-ghost use Rattle.f77_tree.specs.Group.{group_of, AreInOrder};
+ghost use Rattle.f77_program.specs.Program.{LineFields, IsProgram};
+ghost use Rattle.f77_syntax.specs.Parsing.{AreLines, HasLinesOrFault, IsFirstFault};
+ghost use Rattle.f77_program.specs.Group.{group_of, AreInOrder};
 ghost use Rattle.f77_tree.specs.Tree.{Tree, Statement};
-ghost use Rattle.f77_tree.specs.Node.{nodes_of};
-ghost use Rattle.f77_tree.specs.StatementLimits.{statement_nodes};
-ghost use Rattle.f77_tree.specs.declared.fault.SyntaxFault.{SyntaxFault};
+ghost use Rattle.f77_nodes.specs.Node.{nodes_of};
+ghost use Rattle.f77_nodes.specs.Limits.{statement_nodes};
+ghost use Rattle.f77_program.specs.declared.fault.SyntaxFault.{SyntaxFault};
 
 /// A text spells one expression at most.
 #[tactic(auto, using(crate::proofs::Complete::one_tree))]
@@ -48,7 +49,6 @@ pub fn statements_are_in_order()
 {}
 
 /// The number of nodes that is limited is the number of those that an edit may name.
-#[tactic(auto, using(crate::proofs::NodeCounts::nodes_counted))]
 pub fn nodes_are_counted()
     ensures { (s : Statement) → length (nodes_of s) ≡ statement_nodes s }
 {}

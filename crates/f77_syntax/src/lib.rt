@@ -10,19 +10,25 @@ mod data;
 mod declaration;
 mod do_loop;
 mod expression;
+mod fault;
 mod joined;
 mod label;
 pub mod law;
 mod name_lengths;
 mod names;
 mod parsing;
+mod printing;
 mod scan;
 mod specification;
 mod statement;
 mod subroutine;
+mod text_limits;
 
+pub use f77_nodes::Node;
+pub use f77_program::{Group, Line, Program, SyntaxFault, print_stmt};
 pub use f77_tree::{
-    Constant, DataGroup, Decl, Expr, Group, Intrinsic, Kind, Line, Name, Node, Operator, Program,
-    Ref, Shared, Sign, Stmt, SyntaxFault, Value, print, print_stmt,
+    Constant, DataGroup, Decl, Expr, Intrinsic, Kind, Name, Operator, Ref, Shared, Sign, Stmt,
+    Value,
 };
 pub use parsing::parse;
+pub use printing::print;

@@ -4,16 +4,15 @@ ghost use Rattle.std.specs.Prelude.{◌≡◌};
 ghost use Rattle.std.specs.List.{before_last};
 ghost use Rattle.f77_tree.specs.Tree.{Statement};
 ghost use Rattle.f77_tree.specs.StatementGrammar.{SpellsStatement};
-ghost use Rattle.f77_tree.specs.StatementLimits.{statement_names};
+ghost use Rattle.f77_nodes.specs.Names.{statement_names};
 ghost use Rattle.f77_tree.specs.StatementView.{statement_of};
 ghost use Rattle.f77_syntax.specs.StatementView.{clip_statement};
 ghost use Rattle.f77_syntax.specs.NameLengths as lengths;
 ghost use Rattle.f77_syntax.specs.NameLengths.{is_between, names_part};
 
 use crate::scan::split_digits;
-use f77_tree::Stmt;
 use f77_tree::characters::is_word;
-use f77_tree::limits::LONGEST_NAME;
+use f77_tree::{LONGEST_NAME, Stmt};
 
 /// Whether the word has six characters at most, the digits at its front aside.
 fn is_short_word(word: &[u8]) -> bool

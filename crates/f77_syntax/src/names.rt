@@ -4,9 +4,10 @@ ghost use Rattle.std.specs.Prelude.{◌≤◌, length, IfOk};
 ghost use Rattle.f77_syntax.specs.Names.{name_at, names_at, IsName, AreNames};
 ghost use Rattle.f77_syntax.specs.View.{Gives};
 
+use crate::fault::ReadError;
 use crate::joined::joined;
+use f77_tree::Name;
 use f77_tree::characters::{is_name, split_word};
-use f77_tree::{Name, ReadError};
 use std::alloc::Global;
 
 /// Reads a name, and what follows it.

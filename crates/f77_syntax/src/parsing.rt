@@ -3,24 +3,27 @@
 ghost use Rattle.std.specs.Prelude.{◌≡◌, ◌≢◌, ◌≤◌, ◌⊎◌, List, ◌∷◌, [], ◌++◌, true, false, IfOk, IfErr, MatchResult, map, Some, None, Err};
 ghost use Rattle.f77_source.specs.Card.{CardFields};
 ghost use Rattle.f77_tree.specs.StatementGrammar.{SpellsStatement};
-ghost use Rattle.f77_tree.specs.Group.{group_of, may_stand};
-ghost use Rattle.f77_tree.specs.Limits.{character_count, most_characters};
-ghost use Rattle.f77_tree.specs.Parsing.{IsAdmitted, IsRefused, IsFirstFault, AreLines, IsProgram, LineFields, line_of, misplaced, unfinished};
+ghost use Rattle.f77_program.specs.Group.{group_of, may_stand};
+ghost use Rattle.f77_syntax.specs.TextLimits.{character_count, most_characters};
+ghost use Rattle.f77_nodes.specs.Limits.{most_nodes, statement_constants, statement_nodes};
+ghost use Rattle.f77_syntax.specs.Parsing.{IsAdmitted, IsOutside, IsRefused, IsFirstFault, AreLines, misplaced, unfinished};
+ghost use Rattle.f77_program.specs.Program.{IsProgram, LineFields, line_of};
 ghost use Rattle.f77_tree.specs.Tree.{Statement};
 ghost use Rattle.f77_tree.specs.StatementView.{statement_of};
 ghost use Rattle.f77_syntax.specs.StatementView.{clip_statement};
-ghost use Rattle.f77_tree.specs.declared.group.Group.TheVariants.{End};
+ghost use Rattle.f77_program.specs.declared.group.Group.TheVariants.{End};
 
+use crate::fault::ReadError;
 use crate::name_lengths::has_short_names;
 use crate::statement::statement;
+use crate::text_limits::{MOST_CHARACTERS, character_count, is_too_deep};
+use f77_nodes::{are_small, nodes};
+use f77_program::{Group, Line, Program, SyntaxFault, group_of, is_end};
 use f77_source::Card;
-use f77_tree::limits::{is_too_deep, statement_constants, statement_nodes};
-use f77_tree::{Group, Line, Program, ReadError, Shared, Stmt, SyntaxFault, is_end};
+use f77_tree::{Shared, Stmt};
 use std::alloc::Global;
 
-const MOST_CHARACTERS: usize = 1320;
-
-const MOST_NODES: u32 = 200;
+const MOST_NODES: usize = 200;
 
 /// The statement that a text spells.
 fn spelled(alloc: Global, line: u32, text: &[u8]) -> Result<Stmt, SyntaxFault>
@@ -33,6 +36,23 @@ fn spelled(alloc: Global, line: u32, text: &[u8]) -> Result<Stmt, SyntaxFault>
         Err(ReadError::Memory) => Err(SyntaxFault::Memory),
         Err(ReadError::Unknown) => Err(SyntaxFault::Unknown(line)),
     }
+}
+
+/// Asks the nodes of a statement whether its constants are in range, and whether they are not too many.
+fn within_limits(alloc: Global, line: u32, stmt: &Stmt) -> Result<(), SyntaxFault>
+    ensures constants { IfOk result (λ _. statement_constants (statement_of stmt.now) ≡ true) }
+    ensures few { IfOk result (λ _. statement_nodes (statement_of stmt.now) ≤ most_nodes) }
+    ensures refused { IfErr result (λ fault. IsOutside line (statement_of stmt.now) fault) }
+{
+    let list = nodes(alloc, stmt)?;
+    if !are_small(&list) {
+        return Err(SyntaxFault::BadConstant(line));
+    }
+    let count = list.as_slice().len();
+    if count > MOST_NODES {
+        return Err(SyntaxFault::TooLong(line));
+    }
+    Ok(())
 }
 
 /// The statement that a text of not too many characters spells within the other limits.
@@ -49,20 +69,8 @@ fn limited(alloc: Global, line: u32, text: &[u8]) -> Result<Stmt, SyntaxFault>
     if !has_short_names(&stmt, text) {
         return Err(SyntaxFault::BadName(line));
     }
-    if !statement_constants(&stmt) {
-        return Err(SyntaxFault::BadConstant(line));
-    }
-    if statement_nodes(&stmt) > MOST_NODES {
-        return Err(SyntaxFault::TooLong(line));
-    }
+    within_limits(alloc, line, &stmt)?;
     Ok(stmt)
-}
-
-/// How many characters the text has.
-fn character_count(text: &str) -> usize
-    ensures { result ≡ character_count text.now }
-{
-    text.chars().count()
 }
 
 /// The statement that a text spells within the limits.
@@ -96,7 +104,7 @@ fn in_place(alloc: Global, before: Option<Group>, card: &Card) -> Result<Stmt, S
         return Err(SyntaxFault::AfterEnd(card.line()));
     }
     let stmt = admitted(alloc, card.line(), card.text())?;
-    if !stmt.group().may_stand(before) {
+    if !group_of(&stmt).may_stand(before) {
         return Err(misplaced(before, card.line()));
     }
     Ok(stmt)
@@ -135,7 +143,7 @@ pub fn parse(alloc: Global, cards: &[Card]) -> Result<Program, SyntaxFault>
     let mut last = None;
     for card in cards {
         let stmt = in_place(alloc, last, card)?;
-        last = Some(stmt.group());
+        last = Some(group_of(&stmt));
         let line = Line {
             label: card.label(),
             stmt,

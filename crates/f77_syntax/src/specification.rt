@@ -6,7 +6,8 @@ ghost use Rattle.f77_syntax.specs.StatementView.{IsStatement};
 
 use crate::data::groups;
 use crate::declaration::declarations;
-use f77_tree::{Kind, ReadError, Stmt, all_bounded};
+use crate::fault::ReadError;
+use f77_tree::{Kind, Stmt, all_bounded};
 use std::alloc::Global;
 
 /// Reads what follows the keyword of a type statement.

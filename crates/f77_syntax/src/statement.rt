@@ -15,10 +15,12 @@ use crate::classification::{Class, class_of};
 use crate::computed_goto::computed;
 use crate::condition::{arithmetic, condition};
 use crate::do_loop::loop_statement;
+use crate::fault::ReadError;
 use crate::label::last_label;
 use crate::specification::{declared, dimension, preset};
 use crate::subroutine::subroutine;
-use f77_tree::{Expr, Kind, ReadError, Stmt};
+use f77_program::is_action;
+use f77_tree::{Expr, Kind, Stmt};
 use std::alloc::Global;
 
 fn spells(text: &[u8], word: &str) -> bool
@@ -78,7 +80,7 @@ fn simple_action(alloc: Global, text: &[u8]) -> Result<Stmt, ReadError>
     ensures { Gives IsStatement result (simple_action_at text.now) }
 {
     let stmt = simple(alloc, text)?;
-    if !stmt.is_action() {
+    if !is_action(&stmt) {
         return Err(ReadError::Unknown);
     }
     Ok(stmt)

@@ -6,9 +6,10 @@ ghost use Rattle.f77_syntax.specs.View.{Gives};
 ghost use Rattle.f77_syntax.specs.StatementView.{IsStatement};
 
 use crate::expression::after_byte;
+use crate::fault::ReadError;
 use crate::names::names;
 use f77_tree::characters::{is_name, split_word};
-use f77_tree::{Name, ReadError, Stmt};
+use f77_tree::{Name, Stmt};
 use std::alloc::Global;
 
 /// Reads names joined by commas up to the end, or nothing.

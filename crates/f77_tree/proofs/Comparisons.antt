@@ -7,11 +7,9 @@ use Rattle.std.specs.Ordering.{on}
 use Rattle.f77_tree.specs.declared.tree.Expr.{Expr}
 use Rattle.f77_tree.specs.declared.declaration.Decl.{Decl}
 use Rattle.f77_tree.specs.declared.data.DataGroup.{DataGroup}
-use Rattle.f77_tree.specs.declared.program.Line.{Line}
-use Rattle.f77_tree.specs.Comparing.{same_tree, same_trees, same_decl, same_group, same_line, same_lines}
+use Rattle.f77_tree.specs.Comparing.{same_tree, same_trees, same_decl, same_group}
 use Rattle.f77_tree.specs.Declaration.{decl_of}
 use Rattle.f77_tree.specs.Data.{data_group_of}
-use Rattle.f77_tree.specs.Parsing.{line_of}
 use Rattle.f77_tree.specs.View.{trees, tree_of}
 use Rattle.f77_tree.proofs.Views.{subroutine_view, declare_view, dimension_view, preset_view, assign_view, goto_view, computed_view, arithmetic_view}
 use Rattle.f77_tree.proofs.Views.{logical_view, inner_view, block_view, else_if_view, else_view, end_if_view, loop_view, continue_view, return_view}
@@ -57,7 +55,7 @@ rest_off xs ys i x y h same at_x at_y e = rest_is xs ys i x y h same at_x at_y �
 pub rest_done : (xs ys : List Expr) (i : ℕ) → length xs ≤ i → length xs ≡ length ys → same_rest xs ys i ≡ true
 rest_done xs ys i h same = rw (drop_all i xs h, drop_all i ys (omega arith)) refl
 
-by_views : {X A : Type 0} (view : X → A) (test : A → A → Bool) (xs ys : List X) → pointwise (on view test) xs ys ≡ pointwise test (map view xs) (map view ys)
+pub by_views : {X A : Type 0} (view : X → A) (test : A → A → Bool) (xs ys : List X) → pointwise (on view test) xs ys ≡ pointwise test (map view xs) (map view ys)
 by_views view test [] [] = refl
 by_views view test [] (y ∷ ys) = refl
 by_views view test (x ∷ xs) [] = refl
@@ -68,9 +66,6 @@ decls_by_view = by_views decl_of same_decl
 
 pub groups_by_view : (xs ys : List DataGroup) → pointwise (on data_group_of same_group) xs ys ≡ pointwise same_group (map data_group_of xs) (map data_group_of ys)
 groups_by_view = by_views data_group_of same_group
-
-pub lines_by_view : (xs ys : List Line) → pointwise (on line_of same_line) xs ys ≡ same_lines (map line_of xs) (map line_of ys)
-lines_by_view = by_views line_of same_line
 
 -- what each form of statement stands for, and lists of what it holds
 pub ruleset form_by_form = (

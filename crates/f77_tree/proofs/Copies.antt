@@ -1,5 +1,5 @@
 -- Lists that are copied item by item, and what holds such a list.
-use Rattle.std.proofs.Common.{◌≡◌, ℕ, List, [], ◌∷◌, map, refl, sym, ◌∙◌, ap, subst, None}
+use Rattle.std.proofs.Common.{◌≡◌, ℕ, List, [], ◌∷◌, map, refl, sym, ◌∙◌, ap}
 use Rattle.std.specs.Prelude.{Vec}
 use Rattle.std.specs.List.{AllZip}
 use Rattle.std.specs.declared.alloc.Global.{Global}
@@ -9,13 +9,11 @@ use Rattle.f77_tree.specs.declared.tree.Expr.{Expr}
 use Rattle.f77_tree.specs.declared.tree.Kind.{Kind}
 use Rattle.f77_tree.specs.declared.declaration.Decl.{Decl}
 use Rattle.f77_tree.specs.declared.data.DataGroup.{DataGroup}
-use Rattle.f77_tree.specs.declared.program.Line.{Line}
 use Rattle.f77_tree.specs.Tree.{Statement}
 use Rattle.f77_tree.specs.View.{tree_of}
 use Rattle.f77_tree.specs.StatementView.{statement_of}
 use Rattle.f77_tree.specs.Declaration.{decl_of}
 use Rattle.f77_tree.specs.Data.{data_group_of}
-use Rattle.f77_tree.specs.Parsing.{line_of, IsProgram}
 use Rattle.f77_tree.proofs.Views.{subroutine_view, declare_view, dimension_view, preset_view, computed_view}
 
 same_views : {X A : Type 0} (view : X → A) (xs ys : List X) → AllZip (λ x y. view y ≡ view x) xs ys → map view ys ≡ map view xs
@@ -48,15 +46,3 @@ pub same_computed_goto : (stmt : Stmt) (labels copies : Vec ℕ Global) (value c
     → tree_of copy ≡ tree_of value → statement_of (forms.ComputedGoto copies copy) ≡ statement_of stmt
 same_computed_goto stmt labels copies value copy is same kept =
     rw is (computed_view copies copy ∙ rw (same, kept) refl ∙ sym (computed_view labels value))
-
-same_items : {X : Type 0} (xs ys : List X) → AllZip (λ x y. y ≡ x) xs ys → ys ≡ xs
-same_items [] [] all = refl
-same_items [] (y ∷ ys) all = absurd all
-same_items (x ∷ xs) [] all = absurd all
-same_items (x ∷ xs) (y ∷ ys) all = rw (all.0, same_items xs ys all.1) refl
-
-pub same_lines : (lines copies : List Line) → AllZip (λ x y. y ≡ x) lines copies → map line_of copies ≡ map line_of lines
-same_lines lines copies all = ap (map line_of) (same_items lines copies all)
-
-pub same_program : (lines copies : List Line) → AllZip (λ x y. y ≡ x) lines copies → IsProgram None (map line_of lines) → IsProgram None (map line_of copies)
-same_program lines copies all is = subst (IsProgram None) (sym (same_lines lines copies all)) is

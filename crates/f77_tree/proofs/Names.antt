@@ -8,7 +8,7 @@ use Rattle.std.proofs.lemmas.List.{length-take, take_all, drop-replicate}
 use Rattle.std.proofs.lemmas.Str.{IsUtf8-from_ascii}
 use Rattle.std.proofs.lemmas.Str.Ascii.{IsAscii-nil, IsAscii-cons}
 use Rattle.f77_tree.specs.Grammar.{is_letter, is_word, is_name}
-use Rattle.f77_tree.specs.Limits.{is_short, cut}
+use Rattle.f77_tree.specs.Name.{is_short, cut}
 use Rattle.f77_tree.specs.Name.{padded, IsPadded}
 use Rattle.f77_tree.specs.Grammar.{word}
 use Rattle.f77_tree.proofs.Words.{name_words}

@@ -1,4 +1,4 @@
--- Which expressions, statements and lines are the same: those of one form with the same parts.
+-- Which expressions and statements are the same: those of one form with the same parts.
 use Rattle.std.specs.Prelude.{ℕ, ◌==◌, nat_eq, List, Bool, true, false, ◌&&◌}
 use Rattle.std.specs.Bool.{beq}
 use Rattle.std.specs.Cmp.Lexicographic.{pointwise}
@@ -18,7 +18,6 @@ use Rattle.f77_tree.specs.declared.tree.Kind.{Kind}
 use Rattle.f77_tree.specs.declared.tree.Kind.TheVariants.{Integer, Logical}
 use Rattle.f77_tree.specs.Tree.{Tree, Trees, Statement, DeclFields, GroupFields}
 use Rattle.f77_tree.specs.View.{trees}
-use Rattle.f77_tree.specs.Parsing.{LineFields}
 
 abbrev pub same_kind : Kind → Kind → Bool
 same_kind Integer Integer = true
@@ -113,9 +112,3 @@ same_statement Statement.Stop Statement.Stop = true
 same_statement Statement.Trap Statement.Trap = true
 same_statement Statement.End Statement.End = true
 same_statement _ _ = false
-
-abbrev pub same_line : LineFields → LineFields → Bool
-same_line l m = option_eq nat_eq l.label m.label && (same_statement l.stmt m.stmt && l.line == m.line)
-
-abbrev pub same_lines : List LineFields → List LineFields → Bool
-same_lines = pointwise same_line

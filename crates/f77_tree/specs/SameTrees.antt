@@ -1,5 +1,5 @@
--- Expressions, statements and lines are the same exactly where they are equal.
-use Rattle.std.specs.Prelude.{◌≡◌, ℕ, ◌==◌, nat_eq, List, [], ◌∷◌, Option, Bool, true, ◌&&◌, refl}
+-- Expressions and statements are the same exactly where they are equal.
+use Rattle.std.specs.Prelude.{◌≡◌, ℕ, ◌==◌, List, [], ◌∷◌, Option, Bool, true, ◌&&◌, refl}
 use Rattle.std.specs.Bool.{Decides}
 use Rattle.std.specs.Cmp.{IsEquivalence, decided, unsigned_Decides, signed_Decides, booleans_Decides, first_so, second_so}
 use Rattle.std.specs.Cmp.Derive.{both_true}
@@ -7,7 +7,7 @@ use Rattle.std.specs.Cmp.Lexicographic.{pointwise, pointwise_decides, bytes_deci
 use Rattle.std.specs.Option.{option_eq}
 use Rattle.std.specs.Str.{bytes_eq}
 use Rattle.std.proofs.Common.{true≢false, sym, ap, subst}
-use Rattle.f77_source.specs.SameCards.{decided_by, option_decides}
+use Rattle.f77_tree.specs.Deciding.{decided_by, option_decides}
 use Rattle.f77_tree.specs.declared.data.Constant.{Constant}
 use Rattle.f77_tree.specs.declared.data.Constant.TheVariants.{Number, Truth}
 use Rattle.f77_tree.specs.declared.data.Value.{Value}
@@ -21,9 +21,8 @@ use Rattle.f77_tree.specs.declared.tree.Kind.{Kind}
 use Rattle.f77_tree.specs.declared.tree.Kind.TheVariants.{Integer, Logical}
 use Rattle.f77_tree.specs.Tree.{Tree, Trees, Statement, DeclFields, GroupFields}
 use Rattle.f77_tree.specs.View.{trees}
-use Rattle.f77_tree.specs.Parsing.{LineFields}
 use Rattle.f77_tree.specs.Comparing.{same_kind, same_sign, same_function, same_operator, same_constant, same_value, same_tree, same_trees}
-use Rattle.f77_tree.specs.Comparing.{same_place, same_decl, same_group, same_statement, same_line, same_lines}
+use Rattle.f77_tree.specs.Comparing.{same_place, same_decl, same_group, same_statement}
 
 names_decide : (xs ys : List (List ℕ)) → Decides (pointwise bytes_eq xs ys) (xs ≡ ys)
 names_decide = pointwise_decides bytes_decides
@@ -222,7 +221,7 @@ decls_decide = pointwise_decides decl_decides
 pub groups_decide : (gs hs : List GroupFields) → Decides (pointwise same_group gs hs) (gs ≡ hs)
 groups_decide = pointwise_decides group_decides
 
-statement_is : (s t : Statement) → same_statement s t ≡ true → s ≡ t
+pub statement_is : (s t : Statement) → same_statement s t ≡ true → s ≡ t
 statement_is (Statement.Subroutine name names) (Statement.Subroutine other others) e =
     λ i. Statement.Subroutine ((bytes_decides name other).0 (first_so _ _ e) i) ((names_decide names others).0 (second_so _ _ e) i)
 statement_is (Statement.Declare kind ds) (Statement.Declare other es) e =
@@ -262,7 +261,7 @@ statement_is Statement.Trap Statement.Trap e = refl
 statement_is Statement.End Statement.End e = refl
 statement_is _ _ e = absurd (true≢false (sym e))
 
-statement_own : (s : Statement) → same_statement s s ≡ true
+pub statement_own : (s : Statement) → same_statement s s ≡ true
 statement_own (Statement.Subroutine name names) = both_true ((bytes_decides name name).1 refl) ((names_decide names names).1 refl)
 statement_own (Statement.Declare kind ds) = both_true (kind_own kind) ((decls_decide ds ds).1 refl)
 statement_own (Statement.Dimension ds) = (decls_decide ds ds).1 refl
@@ -289,25 +288,6 @@ statement_own Statement.End = refl
 pub statement_decides : (s t : Statement) → Decides (same_statement s t) (s ≡ t)
 statement_decides = decided_by same_statement statement_is statement_own
 
-labels_decide : (l m : Option ℕ) → Decides (option_eq nat_eq l m) (l ≡ m)
-labels_decide = option_decides nat_eq unsigned_Decides
-
-line_is : (l m : LineFields) → same_line l m ≡ true → l ≡ m
-line_is l m e = λ i. record {
-  label = (labels_decide l.label m.label).0 (first_so _ _ e) i;
-  stmt = statement_is l.stmt m.stmt (first_so _ _ (second_so _ _ e)) i;
-  line = (unsigned_Decides l.line m.line).0 (second_so _ _ (second_so _ _ e)) i;
-}
-
-line_own : (l : LineFields) → same_line l l ≡ true
-line_own l = both_true ((labels_decide l.label l.label).1 refl) (both_true (statement_own l.stmt) ((unsigned_Decides l.line l.line).1 refl))
-
-pub line_decides : (l m : LineFields) → Decides (same_line l m) (l ≡ m)
-line_decides = decided_by same_line line_is line_own
-
-pub lines_decide : (ls ms : List LineFields) → Decides (same_lines ls ms) (ls ≡ ms)
-lines_decide = pointwise_decides line_decides
-
 -- So each test is an equivalence.
 pub tree_equiv : IsEquivalence same_tree
 tree_equiv = decided same_tree tree_decides
@@ -323,9 +303,3 @@ group_equiv = decided same_group group_decides
 
 pub statement_equiv : IsEquivalence same_statement
 statement_equiv = decided same_statement statement_decides
-
-pub line_equiv : IsEquivalence same_line
-line_equiv = decided same_line line_decides
-
-pub lines_equiv : IsEquivalence same_lines
-lines_equiv = decided same_lines lines_decide

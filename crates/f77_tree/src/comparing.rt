@@ -5,17 +5,15 @@
 ghost use Rattle.std.specs.Prelude.{◌≡◌, map};
 ghost use Rattle.std.specs.Cmp.{on_equiv, partial_equiv_from_equiv};
 ghost use Rattle.std.specs.Ordering.{on};
-ghost use Rattle.f77_tree.specs.Comparing.{same_tree, same_trees, same_place, same_decl, same_group, same_statement, same_line};
-ghost use Rattle.f77_tree.specs.SameTrees.{tree_equiv, place_equiv, decl_equiv, group_equiv, statement_equiv, line_equiv};
+ghost use Rattle.f77_tree.specs.Comparing.{same_tree, same_trees, same_place, same_decl, same_group, same_statement};
+ghost use Rattle.f77_tree.specs.SameTrees.{tree_equiv, place_equiv, decl_equiv, group_equiv, statement_equiv};
 ghost use Rattle.f77_tree.specs.View.{trees, tree_of, place_of};
 ghost use Rattle.f77_tree.specs.StatementView.{statement_of};
 ghost use Rattle.f77_tree.specs.Declaration.{decl_of};
 ghost use Rattle.f77_tree.specs.Data.{data_group_of};
-ghost use Rattle.f77_tree.specs.Parsing.{line_of};
 
 use crate::data::DataGroup;
 use crate::declaration::Decl;
-use crate::program::Line;
 use crate::tree::{Expr, Ref, Stmt};
 
 impl PartialEq for Expr {
@@ -210,18 +208,4 @@ impl PartialEq for Stmt {
 
 impl Eq for Stmt {
     ghost laws = { on_equiv statement_of statement_equiv };
-}
-
-impl PartialEq for Line {
-    ghost eq = { on line_of same_line };
-
-    ghost laws = { partial_equiv_from_equiv (on_equiv line_of line_equiv) };
-
-    fn eq(&self, other: &Line) -> bool {
-        self.label == other.label && self.stmt == other.stmt && self.line == other.line
-    }
-}
-
-impl Eq for Line {
-    ghost laws = { on_equiv line_of line_equiv };
 }

@@ -7,11 +7,9 @@ ghost use Rattle.f77_tree.specs.View.{tree_of, place_of};
 ghost use Rattle.f77_tree.specs.StatementView.{statement_of};
 ghost use Rattle.f77_tree.specs.Declaration.{decl_of};
 ghost use Rattle.f77_tree.specs.Data.{data_group_of};
-ghost use Rattle.f77_tree.specs.Parsing.{line_of};
 
 use crate::data::DataGroup;
 use crate::declaration::Decl;
-use crate::program::Line;
 use crate::tree::{Expr, Ref, Stmt};
 use std::alloc::AllocError;
 
@@ -165,17 +163,5 @@ impl Clone for Stmt {
             Stmt::Trap => Ok(Stmt::Trap),
             Stmt::End => Ok(Stmt::End),
         }
-    }
-}
-
-impl Clone for Line {
-    ghost is_clone = { λ source copy. line_of copy ≡ line_of source };
-
-    fn clone(&self) -> Result<Line, AllocError> {
-        Ok(Line {
-            label: self.label,
-            stmt: self.stmt.clone()?,
-            line: self.line,
-        })
     }
 }

@@ -1,8 +1,7 @@
 //! What holds of equality itself.
 
 ghost use Rattle.std.specs.Prelude.{◌≡◌, ◌↔◌, ℕ, true, List};
-ghost use Rattle.f77_tree.specs.Comparing.{same_tree, same_place, same_decl, same_group, same_statement, same_line, same_lines};
-ghost use Rattle.f77_tree.specs.Parsing.{LineFields};
+ghost use Rattle.f77_tree.specs.Comparing.{same_tree, same_place, same_decl, same_group, same_statement};
 ghost use Rattle.f77_tree.specs.Tree.{Tree, DeclFields, GroupFields, Statement};
 
 /// Expressions and references are equal by `==` exactly where their trees are one.
@@ -18,11 +17,4 @@ pub fn equal_statements_are_one()
     ensures statements { (s t : Statement) → (same_statement s t ≡ true) ↔ (s ≡ t) }
     ensures declared { (d e : DeclFields) → (same_decl d e ≡ true) ↔ (d ≡ e) }
     ensures groups { (g h : GroupFields) → (same_group g h ≡ true) ↔ (g ≡ h) }
-{}
-
-/// The same of programs and of their lines.
-#[tactic(auto, using(crate::specs::SameTrees::line_decides, crate::specs::SameTrees::lines_decide))]
-pub fn equal_programs_are_one()
-    ensures lines { (l m : LineFields) → (same_line l m ≡ true) ↔ (l ≡ m) }
-    ensures programs { (ls ms : List LineFields) → (same_lines ls ms ≡ true) ↔ (ls ≡ ms) }
 {}

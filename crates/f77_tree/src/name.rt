@@ -9,15 +9,16 @@ ghost use Rattle.std.specs.Cmp.Rules.{hashing};
 ghost use Rattle.std.specs.Hash as fed;
 ghost use Rattle.std.proofs.Common.{rules};
 ghost use Rattle.f77_tree.specs.Grammar as grammar;
-ghost use Rattle.f77_tree.specs.Limits as limits;
-ghost use Rattle.f77_tree.specs.Limits.{cut};
+ghost use Rattle.f77_tree.specs.Name.{cut, is_short};
 
 use crate::characters::{is_name, split_word};
-use crate::limits::LONGEST_NAME;
 use std::fmt::{self, Debug, Display, Formatter};
 use std::hash::{Hash, Hasher};
 use std::marker::Model;
 use std::str;
+
+/// The most characters of a name (ANSI X3.9-1978, 2.2).
+pub const LONGEST_NAME: usize = 6;
 
 /// A symbolic name (ANSI X3.9-1978, 2.2): 1 to 6 letters and digits, the first of them a letter.
 ///
@@ -98,7 +99,7 @@ impl Name {
 
     /// The name that is written so, where it is 1 to 6 letters and digits and the first is a letter. It takes no memory.
     pub fn new(letters: &str) -> Option<Name>
-        ensures { result ≡ (if grammar.is_name letters.now && limits.is_short letters.now then Some letters.now else None) }
+        ensures { result ≡ (if grammar.is_name letters.now && is_short letters.now then Some letters.now else None) }
     {
         if !is_name(letters.as_bytes()) || letters.len() > LONGEST_NAME {
             return None;
@@ -110,7 +111,7 @@ impl Name {
     pub fn as_str(&self) -> &str
         ensures letters { result.now ≡ self.now }
         ensures name { grammar.is_name self.now ≡ true }
-        ensures short { limits.is_short self.now ≡ true }
+        ensures short { is_short self.now ≡ true }
     {
         let (letters, _) = split_word(&self.letters);
         match str::from_utf8(letters) {
@@ -121,9 +122,9 @@ impl Name {
 }
 
 /// What the type says of each of the names, told of all of them.
-pub(crate) fn known(names: &[Name])
+pub fn known_names(names: &[Name])
     ensures named { list_all grammar.is_name names.now ≡ true }
-    ensures short { list_all limits.is_short names.now ≡ true }
+    ensures short { list_all is_short names.now ≡ true }
 {
     for name in names {
         let _ = name.as_str();

@@ -11,7 +11,7 @@ use Rattle.clap.specs.declared.error.kind.ErrorKind.TheVariants as kind
 use Rattle.mothra_app.specs.Answer.{IsTold, IsAnswer, IsReady, IsRefusal, IsReportAnswer}
 use Rattle.mothra_cli.specs.Command.{mothra}
 use Rattle.mothra_cli.specs.Input.{limit, AreAll, IsRead, ReadsUpTo}
-use Rattle.mothra_app.specs.Job.{faults, job_of}
+use Rattle.mothra_job.specs.Job.{faults, job_of}
 use Rattle.mothra_cli.specs.Request.{HasBadOperators}
 use Rattle.mothra_app.specs.Serving.{AsksFor, MayBeWritten, IsReadFor, IsAnswered, IsReadyBy, IsReadyFor, bad_operators}
 use Rattle.mothra_app.specs.declared.answer.Ready.{Ready}

@@ -1,6 +1,6 @@
 -- From what the check and the run of a program answer to what a test of a job comes to.
 use Rattle.std.proofs.Common.{◌≡◌, ◌⊎◌, inl, inr, ℕ, List, refl, sym, subst, Option, Some, None, Result, Ok, Err, IfSome, MatchResult, String, Global, string_bytes}
-use Rattle.f77_tree.specs.Parsing.{LineFields}
+use Rattle.f77_program.specs.Program.{LineFields}
 use Rattle.f77_check.specs.Checked.{shapes}
 use Rattle.std.specs.Prelude.{Contains}
 use Rattle.f77_run.specs.Interpreter.{IsOutcomeOf, refusal}
@@ -10,7 +10,7 @@ use Rattle.f77_run.specs.declared.outcome.RunFault.{RunFault}
 use Rattle.f77_run.specs.declared.outcome.RunFault.TheVariants as run
 use Rattle.mothra_app.specs.Executing.{IsRun, IsExecuted}
 use Rattle.mothra_app.specs.Fault.{of_legal_programs, of_runs}
-use Rattle.mothra_app.specs.Job.{JobFields, test_at}
+use Rattle.mothra_job.specs.Job.{JobFields, test_at}
 use Rattle.mothra_app.specs.OutcomeLine.{outcome_line}
 use Rattle.mothra_app.specs.Program.{IsLegalProgramOf}
 use Rattle.mothra_app.specs.declared.fault.Fault.{Fault}

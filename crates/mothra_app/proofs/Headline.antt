@@ -12,14 +12,14 @@ use Rattle.mothra_exchange.specs.Log.{hands, one_to, taken_in}
 use Rattle.mothra_exchange.specs.Rule.{IsSound, OpRule}
 use Rattle.mothra_exchange.specs.View.{times_closed}
 use Rattle.mothra_exchange.specs.declared.log.Event.TheVariants.{Closed, Offered}
-use Rattle.mothra_exchange.specs.declared.ticket.Ticket.{Ticket}
+use Rattle.mothra_codes.specs.declared.ticket.Ticket.{Ticket}
 use Rattle.mothra_exchange.specs.declared.view.View.{View}
 use Rattle.mothra_exchange.specs.declared.word.Word.{Word}
 use Rattle.mothra_exchange.proofs.Exchanges.{fits}
 use Rattle.mothra_bench.specs.Feeding.{AreCounts}
 use Rattle.mothra_cli.specs.declared.request.Request.TheVariants as command
 use Rattle.mothra_app.specs.Answer.{IsTold}
-use Rattle.mothra_app.specs.Job.{JobFields, JobRead, job_of}
+use Rattle.mothra_job.specs.Job.{JobFields, JobRead, job_of}
 use Rattle.mothra_app.specs.Law.{HandsOutFront, HasHistory, KeepsLists, ReportsJob}
 use Rattle.mothra_app.specs.Reporting.{IsReported}
 use Rattle.mothra_app.specs.Serving.{AsksFor, IsServed}

@@ -1,7 +1,7 @@
 -- From what the reading and the check of a source answer to what its legal program is.
 use Rattle.std.proofs.Common.{◌≡◌, ◌⊎◌, inl, inr, ℕ, List, sym, subst, Some, Ok, Err}
 use Rattle.std.specs.Prelude.{Contains}
-use Rattle.f77_tree.specs.Parsing.{LineFields}
+use Rattle.f77_program.specs.Program.{LineFields}
 use Rattle.f77_legal.specs.Legal.{IsLegal, first_fault}
 use Rattle.f77_legal.specs.declared.fault.CheckFault.{CheckFault}
 use Rattle.f77_legal.specs.declared.fault.CheckFault.TheVariants as check

@@ -1,6 +1,3 @@
-mod Suites
-mod Entries
-mod EachValue
 mod Memory
 mod Sources
 mod LegalPrograms
@@ -9,7 +6,6 @@ mod Outcomes
 mod Chosen
 mod ListedLines
 mod Listings
-mod FewTests
 mod Reports
 mod Answered
 mod OneProgram

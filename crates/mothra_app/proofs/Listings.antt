@@ -1,7 +1,7 @@
 -- From what the plan of a program answers to how its mutants are listed.
 use Rattle.std.proofs.Common.{◌≡◌, ◌∙◌, ◌⊎◌, inl, inr, ℕ, List, ap, sym, subst, Ok, Err}
 use Rattle.std.specs.Prelude.{Contains, IsTrue, ◌↔◌}
-use Rattle.f77_tree.specs.Parsing.{LineFields}
+use Rattle.f77_program.specs.Program.{LineFields}
 use Rattle.mothra_app.specs.Fault.{of_legal_programs, of_mutants}
 use Rattle.mothra_app.specs.Listing.{IsListed, chosen, list_text, plan_text}
 use Rattle.mothra_app.specs.Program.{IsLegalProgramOf}

@@ -6,7 +6,7 @@ use Rattle.clap.specs.Kinds.{IsAmong}
 use Rattle.clap.specs.Words.{Text}
 use Rattle.clap.specs.declared.error.kind.ErrorKind.TheVariants as kind
 use Rattle.f77_source.specs.declared.fault.FormFault.TheVariants as form
-use Rattle.f77_tree.specs.declared.fault.SyntaxFault.TheVariants as syntax
+use Rattle.f77_program.specs.declared.fault.SyntaxFault.TheVariants as syntax
 use Rattle.f77_legal.specs.declared.fault.CheckFault.TheVariants as check
 use Rattle.f77_run.specs.declared.outcome.RunFault.TheVariants as run
 use Rattle.mothra_ops.specs.declared.fault.OpsFault.TheVariants as ops
@@ -18,12 +18,12 @@ use Rattle.mothra_cli.specs.declared.request.Request.{Request}
 use Rattle.mothra_cli.specs.declared.request.Request.TheVariants as command
 use Rattle.mothra_app.specs.Answer.{IsAnswer}
 use Rattle.mothra_app.specs.Fault.{MayFailBy, MayFailRun, of_legal_programs, of_mutants, of_programs, of_runs}
-use Rattle.mothra_app.specs.Job.{job_of}
+use Rattle.mothra_job.specs.Job.{job_of}
 use Rattle.mothra_app.specs.Law.{IsFairAnswer, IsLegalJob, IsWant}
 use Rattle.mothra_app.specs.Serving.{AsksFor, IsServed, MayBeWritten}
 use Rattle.mothra_app.specs.declared.fault.Fault.{Fault}
 use Rattle.mothra_app.specs.declared.fault.Fault.TheVariants.{Job, Form, Syntax, Check, Run, Ops, Bench}
-use Rattle.mothra_app.specs.declared.job.JobFault.TheVariants as job
+use Rattle.mothra_job.specs.declared.job.JobFault.TheVariants as job
 use Rattle.mothra_app.specs.declared.status.Status.{Status}
 use Rattle.mothra_app.specs.declared.status.Status.TheVariants as status
 

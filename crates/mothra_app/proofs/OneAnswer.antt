@@ -2,9 +2,9 @@
 use Rattle.std.proofs.Common.{◌≡◌, ◌∙◌, ℕ, List, sym, ap, refl, subst, Option, Some, Ok, Err}
 use Rattle.std.specs.List.{slice_get}
 use Rattle.clap.specs.Words.{Text}
-use Rattle.f77_tree.specs.Printing.{printed, print_faults}
+use Rattle.f77_program.specs.Printing.{printed, print_faults}
 use Rattle.mothra_app.specs.Answer.{Outcome, IsOutcome, IsTold}
-use Rattle.mothra_app.specs.Job.{JobRead, job_of}
+use Rattle.mothra_job.specs.Job.{JobRead, job_of}
 use Rattle.mothra_app.specs.Line.{line_of}
 use Rattle.mothra_app.specs.Printing.{IsPrinted}
 use Rattle.mothra_cli.specs.Request.{IsBounded, request_of}

@@ -1,7 +1,7 @@
 -- The mutants of a source are listed in one way at most.
 use Rattle.std.proofs.Common.{arith, ◌≡◌, ◌∙◌, ◌<◌, ◌≤◌, ◌⊎◌, ◌++◌, ℕ, Bool, true, false, inl, inr, List, [], ◌∷◌, length, map, sym, ap, ap₂, refl, subst, cond, Ok, Err, Result}
 use Rattle.std.specs.Prelude.{Contains, filter, flat_map, sum}
-use Rattle.f77_tree.specs.Parsing.{LineFields}
+use Rattle.f77_program.specs.Program.{LineFields}
 use Rattle.mothra_app.specs.Listing.{IsListed, chosen, is_named, list_text, operator_lines, total_line}
 use Rattle.mothra_app.specs.declared.fault.Fault.{Fault}
 use Rattle.mothra_app.specs.declared.fault.Fault.TheVariants.{Ops}

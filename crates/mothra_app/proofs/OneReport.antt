@@ -2,8 +2,8 @@
 use Rattle.std.proofs.Common.{◌≡◌, ◌≢◌, ◌∙◌, ◌↔◌, ◌≤◌, ◌++◌, ℕ, Bool, List, [], codes, length, get_or, All, sym, ap, subst, if◌then◌else◌, Ok, Err, Result}
 use Rattle.std.specs.Prelude.{Contains, IsTrue, filter, flat_map}
 use Rattle.std.specs.Option.{option_and_then, option_map_or}
-use Rattle.f77_tree.specs.Parsing.{LineFields}
-use Rattle.mothra_app.specs.Job.{JobFields}
+use Rattle.f77_program.specs.Program.{LineFields}
+use Rattle.mothra_job.specs.Job.{JobFields}
 use Rattle.mothra_app.specs.Program.{IsLegalProgramOf}
 use Rattle.mothra_app.specs.Reporting.{IsBenchOf, IsPlanOf, IsReported}
 use Rattle.mothra_app.specs.declared.fault.Fault.{Fault}
@@ -20,8 +20,8 @@ use Rattle.mothra_bench.specs.declared.fault.BenchFault.TheVariants.{Memory}
 use Rattle.mothra_bench.specs.declared.matrix.Entry.{Entry}
 use Rattle.mothra_codes.specs.Op.{all_ops}
 use Rattle.mothra_codes.specs.declared.op.Op.{Op}
-use Rattle.mothra_exchange.specs.Ticket.{ticket}
-use Rattle.mothra_exchange.specs.declared.ticket.Ticket.{Ticket}
+use Rattle.mothra_codes.specs.Ticket.{ticket}
+use Rattle.mothra_codes.specs.declared.ticket.Ticket.{Ticket}
 use Rattle.mothra_ops.specs.Edits.{numbered}
 use Rattle.mothra_ops.specs.Mutants.{edit_text, mutant_made, mutant_name, mutant_of, original_number, program_of}
 use Rattle.mothra_ops.specs.Plan.{IsFirstTooLong, PlanFields}

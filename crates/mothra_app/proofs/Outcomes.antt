@@ -4,7 +4,7 @@ use Rattle.std.specs.Prelude.{Contains}
 use Rattle.mothra_app.specs.Answer.{IsMade, IsOutcome, IsTold, IsAnswer, IsReportAnswer}
 use Rattle.mothra_app.specs.Executing.{IsExecuted}
 use Rattle.mothra_app.specs.Fault.{MayFailBy, of_programs, of_runs, of_mutants}
-use Rattle.mothra_app.specs.Job.{JobFields, JobRead}
+use Rattle.mothra_job.specs.Job.{JobFields, JobRead}
 use Rattle.mothra_app.specs.Line.{line_of}
 use Rattle.mothra_app.specs.Listing.{IsListed}
 use Rattle.mothra_app.specs.Printing.{IsPrinted}
@@ -13,7 +13,7 @@ use Rattle.mothra_app.specs.declared.answer.Product.{Product}
 use Rattle.mothra_app.specs.declared.answer.Product.TheVariants as product
 use Rattle.mothra_app.specs.declared.fault.Fault.{Fault}
 use Rattle.mothra_app.specs.declared.fault.Fault.TheVariants.{Bench}
-use Rattle.mothra_app.specs.declared.job.JobFault.TheVariants.{Memory}
+use Rattle.mothra_job.specs.declared.job.JobFault.TheVariants.{Memory}
 use Rattle.mothra_app.specs.declared.status.Status.{Status}
 use Rattle.mothra_app.specs.declared.status.Status.TheVariants as status
 use Rattle.mothra_bench.specs.Analysis.{IsNoReport}

@@ -1,9 +1,9 @@
 -- From what the calls of `run` answer to the bench of a job, and to what `run` comes to without one.
 use Rattle.std.proofs.Common.{◌⊎◌, inl, inr, ℕ, List, Ok, Err}
 use Rattle.std.specs.Prelude.{Contains}
-use Rattle.f77_tree.specs.Parsing.{LineFields}
+use Rattle.f77_program.specs.Program.{LineFields}
 use Rattle.mothra_app.specs.Fault.{MayFailRun, of_legal_programs}
-use Rattle.mothra_app.specs.Job.{JobFields}
+use Rattle.mothra_job.specs.Job.{JobFields}
 use Rattle.mothra_app.specs.Program.{IsLegalProgramOf}
 use Rattle.mothra_app.specs.Reporting.{IsPlanOf, IsReported}
 use Rattle.mothra_app.specs.declared.fault.Fault.{Fault}

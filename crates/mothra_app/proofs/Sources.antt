@@ -7,11 +7,11 @@ use Rattle.f77_source.specs.Read as forms
 use Rattle.f77_source.specs.Read.{AreCards, lines}
 use Rattle.f77_source.specs.declared.fault.FormFault.{FormFault}
 use Rattle.f77_source.specs.declared.fault.FormFault.TheVariants as form
-use Rattle.f77_tree.specs.Parsing as parsing
-use Rattle.f77_tree.specs.Parsing.{LineFields}
-use Rattle.f77_tree.specs.Printing.{printed, print_faults}
-use Rattle.f77_tree.specs.declared.fault.SyntaxFault.{SyntaxFault}
-use Rattle.f77_tree.specs.declared.fault.SyntaxFault.TheVariants as syntax
+use Rattle.f77_syntax.specs.Parsing as parsing
+use Rattle.f77_program.specs.Program.{LineFields}
+use Rattle.f77_program.specs.Printing.{printed, print_faults}
+use Rattle.f77_program.specs.declared.fault.SyntaxFault.{SyntaxFault}
+use Rattle.f77_program.specs.declared.fault.SyntaxFault.TheVariants as syntax
 use Rattle.mothra_app.specs.Fault.{of_programs}
 use Rattle.mothra_app.specs.Program.{IsProgramOf}
 use Rattle.mothra_app.specs.Printing.{IsPrinted}

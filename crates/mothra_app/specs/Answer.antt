@@ -5,7 +5,7 @@ use Rattle.clap.specs.declared.error.kind.ErrorKind.{ErrorKind}
 use Rattle.clap.specs.declared.error.kind.ErrorKind.TheVariants as kind
 use Rattle.mothra_app.specs.Executing.{IsExecuted}
 use Rattle.mothra_app.specs.Fault.{MayFailBy}
-use Rattle.mothra_app.specs.Job.{JobFields, JobRead}
+use Rattle.mothra_job.specs.Job.{JobFields, JobRead}
 use Rattle.mothra_app.specs.Line.{line_of}
 use Rattle.mothra_app.specs.Listing.{IsListed}
 use Rattle.mothra_app.specs.Printing.{IsPrinted}

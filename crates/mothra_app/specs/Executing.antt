@@ -1,17 +1,17 @@
 -- The command `exec`: what one test of the program of a job comes to.
 use Rattle.std.specs.Prelude.{◌≡◌, ℕ, List, Some, None, Result, Ok, Err}
-use Rattle.f77_tree.specs.Parsing.{LineFields}
+use Rattle.f77_program.specs.Program.{LineFields}
 use Rattle.f77_check.specs.Checked.{shapes}
 use Rattle.f77_run.specs.Interpreter.{IsOutcomeOf, refusal}
 use Rattle.f77_run.specs.declared.argument.Arg.{Arg}
 use Rattle.f77_run.specs.declared.outcome.Outcome.{Outcome}
 use Rattle.f77_run.specs.declared.outcome.RunFault.{RunFault}
-use Rattle.mothra_app.specs.Job.{JobFields, test_at}
+use Rattle.mothra_job.specs.Job.{JobFields, test_at}
 use Rattle.mothra_app.specs.OutcomeLine.{outcome_line}
 use Rattle.mothra_app.specs.Program.{IsLegalProgramOf}
 use Rattle.mothra_app.specs.declared.fault.Fault.{Fault}
 use Rattle.mothra_app.specs.declared.fault.Fault.TheVariants.{Job, Run}
-use Rattle.mothra_app.specs.declared.job.JobFault.TheVariants.{NoTest}
+use Rattle.mothra_job.specs.declared.job.JobFault.TheVariants.{NoTest}
 
 -- The line of the outcome of a run with these arguments within so many steps, or why the program is not run.
 pub data IsRun (program : List LineFields) (arguments : List Arg) (steps : ℕ) : Result (List ℕ) Fault → Type 0 where

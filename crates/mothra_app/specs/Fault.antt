@@ -3,9 +3,9 @@ use Rattle.std.specs.Prelude.{List, [], ◌∷◌, Contains}
 use Rattle.mothra_bench.specs.Analysis.{IsNoReport}
 use Rattle.mothra_app.specs.declared.fault.Fault.{Fault}
 use Rattle.mothra_app.specs.declared.fault.Fault.TheVariants.{Job, Form, Syntax, Check, Run, Ops, Bench}
-use Rattle.mothra_app.specs.declared.job.JobFault.TheVariants as job
+use Rattle.mothra_job.specs.declared.job.JobFault.TheVariants as job
 use Rattle.f77_source.specs.declared.fault.FormFault.TheVariants as form
-use Rattle.f77_tree.specs.declared.fault.SyntaxFault.TheVariants as syntax
+use Rattle.f77_program.specs.declared.fault.SyntaxFault.TheVariants as syntax
 use Rattle.f77_legal.specs.declared.fault.CheckFault.TheVariants as check
 use Rattle.f77_run.specs.declared.outcome.RunFault.TheVariants as run
 use Rattle.mothra_cli.specs.declared.request.Request.{Request}

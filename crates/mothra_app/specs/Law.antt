@@ -4,7 +4,7 @@ use mathlib.Core.Option.{some}
 use lib.ListN.{get_elem?}
 use Rattle.clap.specs.Words.{Text}
 use Rattle.f77_source.specs.declared.fault.FormFault.TheVariants as form
-use Rattle.f77_tree.specs.declared.fault.SyntaxFault.TheVariants as syntax
+use Rattle.f77_program.specs.declared.fault.SyntaxFault.TheVariants as syntax
 use Rattle.f77_legal.specs.declared.fault.CheckFault.TheVariants as check
 use Rattle.f77_run.specs.declared.outcome.RunFault.TheVariants as run
 use Rattle.mothra_codes.specs.Op.{index}
@@ -16,7 +16,7 @@ use Rattle.mothra_exchange.specs.Law.{IsInOrder, IsWordOf, Shows}
 use Rattle.mothra_exchange.specs.Log.{IsLegal, one_to, taken_in}
 use Rattle.mothra_exchange.specs.declared.log.Event.{Event}
 use Rattle.mothra_exchange.specs.declared.log.Event.TheVariants.{Closed, Offered}
-use Rattle.mothra_exchange.specs.declared.ticket.Ticket.{Ticket}
+use Rattle.mothra_codes.specs.declared.ticket.Ticket.{Ticket}
 use Rattle.mothra_exchange.specs.declared.view.View.{View}
 use Rattle.mothra_exchange.specs.declared.word.Word.{Word}
 use Rattle.mothra_bench.specs.Analysis.{IsReport}
@@ -25,13 +25,13 @@ use Rattle.mothra_bench.specs.declared.fault.BenchFault.TheVariants as bench
 use Rattle.mothra_cli.specs.Request.{IsTaken}
 use Rattle.mothra_cli.specs.declared.request.Request.{Request}
 use Rattle.mothra_app.specs.Fault.{MayFailBy}
-use Rattle.mothra_app.specs.Job.{JobFields, JobRead}
+use Rattle.mothra_job.specs.Job.{JobFields, JobRead}
 use Rattle.mothra_app.specs.Line.{line_of}
 use Rattle.mothra_app.specs.Reporting.{IsBenchOf}
 use Rattle.mothra_app.specs.Serving.{AsksFor, IsServed}
 use Rattle.mothra_app.specs.declared.fault.Fault.{Fault}
 use Rattle.mothra_app.specs.declared.fault.Fault.TheVariants.{Job, Form, Syntax, Check, Run, Ops, Bench}
-use Rattle.mothra_app.specs.declared.job.JobFault.TheVariants as job
+use Rattle.mothra_job.specs.declared.job.JobFault.TheVariants as job
 use Rattle.mothra_app.specs.declared.status.Status.{Status}
 use Rattle.mothra_app.specs.declared.status.Status.TheVariants as status
 

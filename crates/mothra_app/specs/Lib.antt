@@ -1,7 +1,3 @@
-pub mod FirstFault
-pub mod Suite
-pub mod Equivalent
-pub mod Job
 pub mod Fault
 pub mod Line
 pub mod Program

@@ -1,9 +1,9 @@
 -- The command `print`: how the program of a job is printed.
 use Rattle.std.specs.Prelude.{◌≡◌, ℕ, List, [], Some, Result, Ok, Err}
 use Rattle.std.specs.List.{slice_get}
-use Rattle.f77_tree.specs.Parsing.{LineFields}
-use Rattle.f77_tree.specs.Printing.{printed, print_faults}
-use Rattle.f77_tree.specs.declared.fault.SyntaxFault.{SyntaxFault}
+use Rattle.f77_program.specs.Program.{LineFields}
+use Rattle.f77_program.specs.Printing.{printed, print_faults}
+use Rattle.f77_program.specs.declared.fault.SyntaxFault.{SyntaxFault}
 use Rattle.mothra_app.specs.Program.{IsProgramOf}
 use Rattle.mothra_app.specs.declared.fault.Fault.{Fault}
 use Rattle.mothra_app.specs.declared.fault.Fault.TheVariants.{Syntax}

@@ -5,9 +5,10 @@ use Rattle.f77_source.specs.Read as form
 use Rattle.f77_source.specs.Read.{AreCards, lines}
 use Rattle.f77_source.specs.declared.fault.FormFault.{FormFault}
 use Rattle.f77_source.specs.declared.fault.FormFault.TheVariants.{TooLarge}
-use Rattle.f77_tree.specs.Parsing as syntax
-use Rattle.f77_tree.specs.Parsing.{LineFields, AreLines}
-use Rattle.f77_tree.specs.declared.fault.SyntaxFault.{SyntaxFault}
+use Rattle.f77_syntax.specs.Parsing as syntax
+use Rattle.f77_program.specs.Program.{LineFields}
+use Rattle.f77_syntax.specs.Parsing.{AreLines}
+use Rattle.f77_program.specs.declared.fault.SyntaxFault.{SyntaxFault}
 use Rattle.f77_legal.specs.Legal.{IsLegal, first_fault}
 use Rattle.f77_legal.specs.declared.fault.CheckFault.{CheckFault}
 use Rattle.mothra_app.specs.declared.fault.Fault.{Fault}

@@ -1,7 +1,7 @@
 -- The command `run`: the report on the mutants of the program of a job.
 use Rattle.std.specs.Prelude.{◌≡◌, ◌≢◌, ◌↔◌, ℕ, IsTrue, List, Contains, Result, Ok, Err}
-use Rattle.f77_tree.specs.Parsing.{LineFields}
-use Rattle.mothra_app.specs.Job.{JobFields}
+use Rattle.f77_program.specs.Program.{LineFields}
+use Rattle.mothra_job.specs.Job.{JobFields}
 use Rattle.mothra_app.specs.Program.{IsLegalProgramOf}
 use Rattle.mothra_app.specs.declared.fault.Fault.{Fault}
 use Rattle.mothra_app.specs.declared.fault.Fault.TheVariants.{Bench, Ops}

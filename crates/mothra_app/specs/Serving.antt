@@ -10,7 +10,7 @@ use Rattle.mothra_app.specs.declared.answer.Ready.{Ready}
 use Rattle.mothra_app.specs.declared.answer.Ready.TheVariants as ready
 use Rattle.mothra_cli.specs.Command.{mothra}
 use Rattle.mothra_cli.specs.Input.{limit, AreAll, IsRead}
-use Rattle.mothra_app.specs.Job.{job_of}
+use Rattle.mothra_job.specs.Job.{job_of}
 use Rattle.mothra_cli.specs.Output.{AppendsFront}
 use Rattle.mothra_cli.specs.Request.{HasBadOperators, IsBounded, request_of}
 use Rattle.mothra_cli.specs.declared.request.Request.{Request}

@@ -4,14 +4,13 @@ ghost use Rattle.std.specs.Prelude.{◌≡◌, ◌⊎◌, ◌≤◌, Err, IfOk, 
 ghost use Rattle.clap.specs.Values.{kind_of};
 ghost use Rattle.mothra_app.specs.Answer.{IsMade, IsOutcome, IsAnswer, IsReady, IsRefusal, IsReportAnswer};
 ghost use Rattle.mothra_app.specs.Fault.{MayFailBy};
-ghost use Rattle.mothra_app.specs.Job.{job_of};
+ghost use Rattle.mothra_job.specs.Job.{job_of};
 ghost use Rattle.mothra_app.specs.Line as Line;
 ghost use Rattle.mothra_app.specs.Serving.{bad_operators};
 ghost use Rattle.mothra_cli.specs.Request.{IsBounded};
 
 use crate::executing::execute;
 use crate::fault::Fault;
-use crate::job::read_job;
 use crate::line::line_of;
 use crate::listing::list_mutants;
 use crate::printing::print_source;
@@ -21,6 +20,7 @@ use clap::Error;
 use clap::error::ErrorKind;
 use mothra_bench::{Bench, analyse};
 use mothra_cli::Request;
+use mothra_job::read_job;
 use std::alloc::{AllocError, Global};
 use std::sync::Wait;
 use std::thread::Threads;

@@ -1,18 +1,18 @@
 //! The command `exec`: the outcome of the program of a job on one of its tests.
 
 ghost use Rattle.std.specs.Prelude.{◌≡◌, ◌⊎◌, Ok, Err, Contains, MatchResult, map, string_bytes};
-ghost use Rattle.f77_tree.specs.Parsing.{line_of};
+ghost use Rattle.f77_program.specs.Program.{line_of};
 ghost use Rattle.f77_check.specs.Checked.{shapes};
 ghost use Rattle.mothra_app.specs.Executing.{IsRun, IsExecuted};
 ghost use Rattle.mothra_app.specs.Fault.{of_runs};
 ghost use Rattle.mothra_app.specs.Program.{IsLegalProgramOf};
 
 use crate::fault::Fault;
-use crate::job::{Job, JobFault};
 use crate::outcome_line::outcome_line;
 use crate::program::legal_program_of;
 use f77_check::Checked;
 use f77_run::{Arg, run};
+use mothra_job::{Job, JobFault};
 use std::alloc::Global;
 
 /// The line of the outcome of a run.

@@ -3,12 +3,12 @@
 ghost use Rattle.std.specs.Prelude.{◌≡◌};
 ghost use Rattle.mothra_app.specs.declared.fault.Fault.TheVariants as fault;
 
-use crate::job::JobFault;
 use f77_check::CheckFault;
 use f77_run::RunFault;
 use f77_source::FormFault;
 use f77_syntax::SyntaxFault;
 use mothra_bench::BenchFault;
+use mothra_job::JobFault;
 use mothra_ops::OpsFault;
 
 /// Why a command has no report: the fault of the call that failed.

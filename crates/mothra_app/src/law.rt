@@ -3,7 +3,7 @@
 ghost use Rattle.std.specs.Prelude.{◌≡◌, ℕ, List};
 ghost use Rattle.clap.specs.Words.{Text};
 ghost use Rattle.mothra_app.specs.Fault.{MayFailBy};
-ghost use Rattle.mothra_app.specs.Job.{job_of};
+ghost use Rattle.mothra_job.specs.Job.{job_of};
 ghost use Rattle.mothra_app.specs.Law.{IsFairAnswer, IsLegalJob, IsWant, KeepsLists, ReportsJob};
 ghost use Rattle.mothra_app.specs.Serving.{AsksFor, IsServed, MayBeWritten};
 ghost use Rattle.mothra_app.specs.declared.fault.Fault.{Fault};

@@ -2,11 +2,8 @@
 #![tactic(auto)]
 
 mod answer;
-mod equivalent;
 mod executing;
 mod fault;
-mod job;
-mod key;
 pub mod law;
 mod line;
 mod listing;
@@ -16,10 +13,8 @@ mod program;
 mod reporting;
 mod serving;
 mod status;
-mod suite;
 
-pub use job::{Job, JobFault, read_job};
-pub use key::Key;
 pub use mothra_cli::Watched;
+pub use mothra_job::{Job, JobFault, Key, read_job};
 pub use serving::serve;
 pub use status::{AppFault, Status};

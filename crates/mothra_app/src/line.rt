@@ -4,13 +4,13 @@ ghost use Rattle.std.specs.Prelude.{◌≡◌, IfOk, string_bytes};
 ghost use Rattle.mothra_app.specs.Line as definition;
 
 use crate::fault::Fault;
-use crate::job::JobFault;
 use f77_check::CheckFault;
 use f77_run::RunFault;
 use f77_source::FormFault;
 use f77_syntax::SyntaxFault;
 use mothra_bench::BenchFault;
 use mothra_exchange::Ticket;
+use mothra_job::JobFault;
 use mothra_ops::OpsFault;
 use std::alloc::{AllocError, Global};
 

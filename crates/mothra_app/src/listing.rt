@@ -1,7 +1,7 @@
 //! The command `list`: the mutants of the program of a job.
 
 ghost use Rattle.std.specs.Prelude.{◌≡◌, ◌⊎◌, ◌++◌, ◌≤◌, Ok, Err, Contains, IfErr, IfOk, MatchResult, OnOk, codes, map, string_bytes};
-ghost use Rattle.f77_tree.specs.Parsing.{line_of};
+ghost use Rattle.f77_program.specs.Program.{line_of};
 ghost use Rattle.mothra_app.specs.Fault.{of_mutants};
 ghost use Rattle.mothra_app.specs.Listing as definition;
 ghost use Rattle.mothra_app.specs.Listing.{IsListed, asked_lines, asked_total, plan_lines, plan_text, total_line};

@@ -1,7 +1,7 @@
 //! The program of a job.
 
 ghost use Rattle.std.specs.Prelude.{◌≡◌, ◌⊎◌, Ok, Err, Contains, IfOk, MatchResult, map};
-ghost use Rattle.f77_tree.specs.Parsing.{line_of};
+ghost use Rattle.f77_program.specs.Program.{line_of};
 ghost use Rattle.f77_check.specs.Checked.{shapes};
 ghost use Rattle.mothra_app.specs.Fault.{of_programs, of_legal_programs};
 ghost use Rattle.mothra_app.specs.Program.{IsProgramOf, IsLegalProgramOf};

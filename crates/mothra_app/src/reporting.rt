@@ -5,10 +5,10 @@ ghost use Rattle.mothra_app.specs.Fault.{MayFailRun};
 ghost use Rattle.mothra_app.specs.Reporting.{IsBenchOf, IsReported};
 
 use crate::fault::Fault;
-use crate::job::Job;
 use crate::program::legal_program_of;
 use mothra_bench::Bench;
 use mothra_codes::Op;
+use mothra_job::Job;
 use mothra_ops::Plan;
 use std::alloc::Global;
 

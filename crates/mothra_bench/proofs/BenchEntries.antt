@@ -5,7 +5,7 @@ use Rattle.std.proofs.lemmas.List.{length-take-le, take_all, get_or_default}
 use Rattle.std.proofs.lemmas.List.Elements.{All-nil, All-push, Contains-get_or, Contains-append_left, Contains-push, Contains-push_cases}
 use Rattle.std.proofs.lemmas.List.Quantifiers.{all_pairs_push}
 use Rattle.mothra_ops.specs.Plan.{PlanFields, asked}
-use Rattle.mothra_exchange.specs.declared.ticket.Ticket.{Ticket}
+use Rattle.mothra_codes.specs.declared.ticket.Ticket.{Ticket}
 use Rattle.mothra_bench.specs.Bench.{AreFine, IsKnownEntry, IsUnknownEntry, IsEntryTwice}
 use Rattle.mothra_bench.specs.Equivalents.{AreNamed, Adds, IsNoted}
 use Rattle.mothra_bench.specs.declared.equivalents.Noted.{Noted}

@@ -9,8 +9,8 @@ use Rattle.indexmap.proofs.CallerLemmas.{Contains-list_any}
 use Rattle.indexmap.specs.IndexSet.{insert_key}
 use Rattle.mothra_codes.specs.Op.{index}
 use Rattle.mothra_codes.proofs.Operators.{same_op}
-use Rattle.mothra_exchange.specs.contracts.ticket.TicketPartialEq.TheImpl.{ghosts}
-use Rattle.mothra_exchange.specs.declared.ticket.Ticket.{Ticket}
+use Rattle.mothra_codes.specs.contracts.ticket.TicketPartialEq.TheImpl.{ghosts}
+use Rattle.mothra_codes.specs.declared.ticket.Ticket.{Ticket}
 use Rattle.mothra_bench.specs.Equivalents.{AreNamed, Adds}
 
 -- the equality of tickets

@@ -5,8 +5,8 @@ use Rattle.std.proofs.lemmas.Bool.Decides.{nat_tests}
 use Rattle.std.proofs.lemmas.List.Elements.{filter-append}
 use Rattle.mothra_codes.specs.Op.{index}
 use Rattle.mothra_codes.proofs.Operators.{same_op}
-use Rattle.mothra_exchange.specs.Ticket.{ticket}
-use Rattle.mothra_exchange.specs.declared.ticket.Ticket.{Ticket}
+use Rattle.mothra_codes.specs.Ticket.{ticket}
+use Rattle.mothra_codes.specs.declared.ticket.Ticket.{Ticket}
 use Rattle.mothra_ops.specs.Plan.{PlanFields}
 use Rattle.mothra_bench.specs.Collecting.{IsFirstDouble, NoDouble, is_row_of, rows_of}
 use Rattle.mothra_bench.specs.RowMap.{HasRows, row_at}

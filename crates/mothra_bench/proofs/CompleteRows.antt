@@ -5,8 +5,8 @@ use Rattle.std.proofs.lemmas.List.{map-append}
 use Rattle.std.proofs.lemmas.Slice.Zip.{AllZip-long}
 use Rattle.f77_run.specs.declared.argument.Arg.{Arg}
 use Rattle.mothra_codes.specs.Op.{index}
-use Rattle.mothra_exchange.specs.Ticket.{is_ticket, once_up_to, one_if, times}
-use Rattle.mothra_exchange.specs.declared.ticket.Ticket.{Ticket}
+use Rattle.mothra_codes.specs.Ticket.{is_ticket, once_up_to, one_if, times}
+use Rattle.mothra_codes.specs.declared.ticket.Ticket.{Ticket}
 use Rattle.mothra_exchange.specs.View.{whole_view}
 use Rattle.mothra_exchange.specs.declared.view.View.{View}
 use Rattle.mothra_exchange.specs.declared.word.Word.{Word}

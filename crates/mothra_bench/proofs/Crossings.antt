@@ -15,8 +15,8 @@ use Rattle.f77_check.proofs.expression.Condition.TheLaws.TheKnot as condition_kn
 use Rattle.f77_check.proofs.expression.Element.TheLaws.TheKnot as element_knot
 use Rattle.f77_tree.specs.contracts.tree.Expr as expr
 use Rattle.f77_tree.specs.contracts.tree.Stmt as stmt
-use Rattle.f77_tree.specs.contracts.program.Line as line
-use Rattle.f77_tree.specs.contracts.program.Program as program
+use Rattle.f77_program.specs.contracts.program.Line as line
+use Rattle.f77_program.specs.contracts.program.Program as program
 use Rattle.f77_check.specs.contracts.expression.Element as element
 use Rattle.f77_check.specs.contracts.expression.Number as number
 use Rattle.f77_check.specs.contracts.expression.Condition as condition
@@ -31,7 +31,7 @@ use Rattle.mothra_codes.specs.contracts.op.Op as op
 use Rattle.f77_run.specs.contracts.argument.Arg as arg
 use Rattle.f77_run.specs.contracts.outcome.Outcome as outcome
 use Rattle.f77_run.specs.contracts.values.Values as values
-use Rattle.mothra_exchange.specs.contracts.ticket.Ticket as ticket
+use Rattle.mothra_codes.specs.contracts.ticket.Ticket as ticket
 
 -- a closure may go to another thread with the five things that it captured
 pub captures_send : (ν : Sym) (A B C D E : RattleType) → IsSend A → IsSend B → IsSend C → IsSend D → IsSend E

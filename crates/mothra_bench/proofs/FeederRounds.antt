@@ -9,7 +9,7 @@ use Rattle.mothra_codes.specs.declared.op.Op.{Op}
 use Rattle.mothra_codes.specs.Op.{index}
 use Rattle.mothra_exchange.specs.declared.view.View.{View}
 use Rattle.mothra_exchange.specs.Law.{ChangesOnly}
-use Rattle.mothra_exchange.specs.Ticket.{once_up_to, times}
+use Rattle.mothra_codes.specs.Ticket.{once_up_to, times}
 use Rattle.mothra_exchange.specs.View.{times_closed}
 use Rattle.mothra_exchange.proofs.Counting.{get_or-set_else, get_or-set_there}
 use Rattle.mothra_bench.specs.Feeding.{AllShow, AreFed, IsFed, Shows, stage_of}

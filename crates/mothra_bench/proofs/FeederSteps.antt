@@ -5,7 +5,7 @@ use Rattle.std.proofs.lemmas.Bool.{ltb-true}
 use Rattle.std.proofs.lemmas.Bool.Decides.{nat_tests}
 use Rattle.mothra_codes.specs.declared.op.Op.{Op}
 use Rattle.mothra_codes.specs.Op.{index}
-use Rattle.mothra_exchange.specs.declared.ticket.Ticket.{Ticket}
+use Rattle.mothra_codes.specs.declared.ticket.Ticket.{Ticket}
 use Rattle.mothra_exchange.specs.declared.view.Look.{Look}
 use Rattle.mothra_exchange.specs.declared.view.View.{View}
 use Rattle.mothra_exchange.specs.declared.word.Word.{Word}
@@ -15,7 +15,7 @@ use Rattle.mothra_exchange.specs.declared.answer.Offer.{Offer}
 use Rattle.mothra_exchange.specs.declared.answer.Offer.TheVariants as offer
 use Rattle.mothra_exchange.specs.Gate.{CloseKept, OfferKept}
 use Rattle.mothra_exchange.specs.Law.{ChangesOnly, HaveSame}
-use Rattle.mothra_exchange.specs.Ticket.{one_if, ticket, times}
+use Rattle.mothra_codes.specs.Ticket.{one_if, ticket, times}
 use Rattle.mothra_exchange.specs.View.{closing, times_closed, view_after_load}
 use Rattle.mothra_exchange.specs.Word.{AtMost, word_after_offer}
 use Rattle.mothra_exchange.proofs.Counting.{is_closing-own, is_ticket-own, once_up_to-suc, times-more, times_closed-more}

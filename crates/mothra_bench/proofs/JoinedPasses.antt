@@ -6,12 +6,12 @@ use Rattle.std.proofs.lemmas.Bool.Decides.{nat_tests}
 use Rattle.std.proofs.lemmas.List.Elements.{All-contains}
 use Rattle.mothra_codes.specs.declared.op.Op.{Op}
 use Rattle.mothra_codes.specs.Op.{index}
-use Rattle.mothra_exchange.specs.declared.ticket.Ticket.{Ticket}
+use Rattle.mothra_codes.specs.declared.ticket.Ticket.{Ticket}
 use Rattle.mothra_exchange.specs.declared.view.View.{View}
 use Rattle.mothra_exchange.specs.declared.word.Word.{Word}
 use Rattle.mothra_exchange.specs.Sharing.{IsOver}
 use Rattle.mothra_exchange.specs.Tally.{Ends, EndsAt, word_at}
-use Rattle.mothra_exchange.specs.Ticket.{once_up_to, one_if, times}
+use Rattle.mothra_codes.specs.Ticket.{once_up_to, one_if, times}
 use Rattle.mothra_exchange.specs.View.{once_if_closed, split_off_view, times_closed, view_after_split, whole_part}
 use Rattle.mothra_exchange.specs.Word.{AtMost}
 use Rattle.mothra_exchange.proofs.Counting.{times-append, times_closed-append}

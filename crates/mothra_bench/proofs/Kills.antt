@@ -3,14 +3,14 @@ use Rattle.std.proofs.Common.{inl, inr, None, ◌≡◌, arith, ◌∙◌, ℕ, 
 use Rattle.std.specs.Prelude.{◌≤◌}
 use Rattle.std.specs.Bool.{Decides}
 use Rattle.std.proofs.lemmas.Option.{none-some, same_Some, slice_get_cases}
-use Rattle.f77_tree.specs.Parsing.{LineFields}
+use Rattle.f77_program.specs.Program.{LineFields}
 use Rattle.f77_run.specs.Interpreter.{IsOutcomeOf, OneAnswer}
 use Rattle.f77_run.specs.declared.argument.Arg.{Arg}
 use Rattle.f77_run.specs.declared.outcome.Outcome.{Outcome}
 use Rattle.mothra_ops.specs.Edits.{numbered}
 use Rattle.mothra_ops.specs.Mutants.{MutantFields, program_of}
 use Rattle.mothra_ops.specs.Plan.{PlanFields, edits_of}
-use Rattle.mothra_exchange.specs.declared.ticket.Ticket.{Ticket}
+use Rattle.mothra_codes.specs.declared.ticket.Ticket.{Ticket}
 use Rattle.mothra_bench.specs.Bench.{BenchFields}
 use Rattle.mothra_bench.specs.Verdict.{Has, IsAlone, IsKill, IsVerdict, killed, mutated, survived}
 

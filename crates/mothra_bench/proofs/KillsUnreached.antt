@@ -5,11 +5,11 @@ use Rattle.std.specs.Prelude.{IfSome, option_map, slice_get}
 use Rattle.std.specs.List.{AllZip}
 use Rattle.std.proofs.lemmas.Option.{same_Some, slice_get_cases}
 use Rattle.std.proofs.lemmas.Slice.Zip.{all_zipped_more}
-use Rattle.f77_tree.specs.Parsing.{LineFields, line_of}
-use Rattle.f77_tree.specs.Patching.{Fits, patched}
+use Rattle.f77_program.specs.Program.{LineFields, line_of}
+use Rattle.f77_program.specs.Patching.{Fits, patched}
 use Rattle.f77_tree.specs.StatementView.{statement_of}
 use Rattle.f77_tree.specs.Tree.{Statement}
-use Rattle.f77_tree.specs.declared.program.Line.{Line}
+use Rattle.f77_program.specs.declared.program.Line.{Line}
 use Rattle.f77_legal.specs.Frames.{framed}
 use Rattle.f77_legal.proofs.Replaced.{other_line, replaced_frame}
 use Rattle.f77_check.proofs.Changes.{line_read}

@@ -1,7 +1,7 @@
 -- What a take of a gate that keeps records leaves of a pass.
 use Rattle.std.proofs.Common.{◌≡◌, ◌≢◌, ℕ, ap, refl}
 use Rattle.mothra_codes.specs.declared.op.Op.{Op}
-use Rattle.mothra_exchange.specs.declared.ticket.Ticket.{Ticket}
+use Rattle.mothra_codes.specs.declared.ticket.Ticket.{Ticket}
 use Rattle.mothra_exchange.specs.declared.view.View.{View}
 use Rattle.mothra_exchange.specs.declared.answer.Take.{Take}
 use Rattle.mothra_exchange.specs.declared.answer.Take.TheVariants as take

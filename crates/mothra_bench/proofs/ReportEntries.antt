@@ -3,8 +3,8 @@ use Rattle.std.proofs.Common.{◌≡◌, ◌↔◌, ℕ, List, [], ◌∷◌, ma
 use Rattle.std.specs.Prelude.{IsTrue}
 use Rattle.std.proofs.lemmas.List.Elements.{All-filter, All-tail}
 use Rattle.f77_run.specs.Interpreter.{OneAnswer}
-use Rattle.mothra_exchange.specs.Ticket.{ticket}
-use Rattle.mothra_exchange.specs.declared.ticket.Ticket.{Ticket}
+use Rattle.mothra_codes.specs.Ticket.{ticket}
+use Rattle.mothra_codes.specs.declared.ticket.Ticket.{Ticket}
 use Rattle.mothra_exchange.specs.declared.word.Word.{Word}
 use Rattle.mothra_bench.specs.Analysis.{AreEntries, IsReport}
 use Rattle.mothra_bench.specs.Bench.{BenchFields}

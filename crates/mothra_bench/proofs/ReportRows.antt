@@ -4,7 +4,7 @@ use Rattle.std.specs.Prelude.{codes}
 use Rattle.std.specs.Fmt.{digits}
 use Rattle.f77_check.specs.Checked.{CheckedFields}
 use Rattle.mothra_codes.specs.declared.op.Op.TheVariants.{Abs}
-use Rattle.mothra_exchange.specs.Ticket.{ticket}
+use Rattle.mothra_codes.specs.Ticket.{ticket}
 use Rattle.mothra_ops.specs.Plan.{PlanFields}
 use Rattle.mothra_bench.specs.Matrix.{counts, score_of}
 use Rattle.mothra_bench.specs.Report.{bits_of, counts_line, mutant_line, operator_line, score_line, score_text, survivor_line, wrong_line}

@@ -2,7 +2,7 @@
 use Rattle.std.proofs.Common.{◌≡◌, ◌⊎◌, ℕ, suc, List, [], ◌∷◌, ◌++◌, All, Bool, true, Vec, Global, Option, None, Some, Result, Ok, Err, IfSome, IsSome, IfOk, IfErr, length, true≢false, refl, MatchOption, MatchResult, sym, ap, ◌∙◌, subst, append_assoc, arith, inr}
 use Rattle.std.specs.Prelude.{IfNone, IsOkAnd}
 use Rattle.std.proofs.lemmas.List.Elements.{All-append, All-cons, All-nil}
-use Rattle.mothra_exchange.specs.declared.ticket.Ticket.{Ticket}
+use Rattle.mothra_codes.specs.declared.ticket.Ticket.{Ticket}
 use Rattle.mothra_ops.specs.Plan.{PlanFields}
 use Rattle.mothra_bench.specs.Bench.{BenchFields}
 use Rattle.mothra_bench.specs.Driving.{IsNoDrive}

@@ -13,9 +13,9 @@ use Rattle.mothra_exchange.specs.Gate.{TakeKept}
 use Rattle.mothra_exchange.specs.Sharing.{IsOver}
 use Rattle.mothra_exchange.specs.View.{look_at}
 use Rattle.mothra_exchange.specs.declared.view.Look.{Look}
-use Rattle.mothra_exchange.specs.Ticket.{one_if, ticket, times}
+use Rattle.mothra_codes.specs.Ticket.{one_if, ticket, times}
 use Rattle.mothra_exchange.specs.declared.answer.Take.TheVariants.{Finished, Empty, Taken}
-use Rattle.mothra_exchange.specs.declared.ticket.Ticket.{Ticket}
+use Rattle.mothra_codes.specs.declared.ticket.Ticket.{Ticket}
 use Rattle.mothra_exchange.specs.declared.view.View.{View}
 use Rattle.mothra_codes.proofs.Operators.{op_at-index, same_op}
 use Rattle.mothra_exchange.proofs.Counting.{times-append}

@@ -1,7 +1,7 @@
 -- A bench: a plan, the tests that its mutants are run on, and what the program itself comes to on each.
 use Rattle.std.specs.Prelude.{◌≡◌, ◌≢◌, ◌+◌, ◌≤◌, ⊤, ℕ, true, List, ◌∷◌, ◌++◌, length, All, AllPairs, Contains, None}
 use Rattle.std.specs.List.{AllZip}
-use Rattle.f77_tree.specs.Parsing.{LineFields}
+use Rattle.f77_program.specs.Program.{LineFields}
 use Rattle.f77_check.specs.Checked.{shapes}
 use Rattle.f77_run.specs.Interpreter.{IsOutcomeOf, refusal}
 use Rattle.f77_run.specs.declared.argument.Arg.{Arg}
@@ -9,7 +9,7 @@ use Rattle.f77_run.specs.declared.outcome.Outcome.{Outcome}
 use Rattle.f77_run.specs.declared.outcome.Outcome.TheVariants.{Returned, Stopped}
 use Rattle.mothra_ops.specs.Mutants.{program_of}
 use Rattle.mothra_ops.specs.Plan.{PlanFields, asked, whole_of}
-use Rattle.mothra_exchange.specs.declared.ticket.Ticket.{Ticket}
+use Rattle.mothra_codes.specs.declared.ticket.Ticket.{Ticket}
 use Rattle.mothra_bench.specs.declared.fault.BenchFault.{BenchFault}
 use Rattle.mothra_bench.specs.declared.fault.BenchFault.TheVariants as fault
 

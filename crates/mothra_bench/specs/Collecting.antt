@@ -4,8 +4,8 @@ use Rattle.mothra_codes.specs.Op.{index}
 use Rattle.mothra_ops.specs.Mutants.{original_number}
 use Rattle.mothra_ops.specs.Plan.{PlanFields}
 use Rattle.mothra_exchange.specs.Tally.{word_at}
-use Rattle.mothra_exchange.specs.Ticket.{ticket}
-use Rattle.mothra_exchange.specs.declared.ticket.Ticket.{Ticket}
+use Rattle.mothra_codes.specs.Ticket.{ticket}
+use Rattle.mothra_codes.specs.declared.ticket.Ticket.{Ticket}
 use Rattle.mothra_exchange.specs.declared.word.Word.{Word}
 use Rattle.mothra_bench.specs.Bench.{BenchFields}
 use Rattle.mothra_bench.specs.Matrix.{tickets_of}

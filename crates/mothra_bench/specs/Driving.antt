@@ -4,9 +4,9 @@ use Rattle.mothra_codes.specs.declared.op.Op.{Op}
 use Rattle.mothra_codes.specs.Op.{index}
 use Rattle.mothra_exchange.specs.Sharing.{MergesWell}
 use Rattle.mothra_exchange.specs.Tally.{word_at}
-use Rattle.mothra_exchange.specs.Ticket.{times, once_up_to}
+use Rattle.mothra_codes.specs.Ticket.{times, once_up_to}
 use Rattle.mothra_exchange.specs.View.{united_view, whole_part}
-use Rattle.mothra_exchange.specs.declared.ticket.Ticket.{Ticket}
+use Rattle.mothra_codes.specs.declared.ticket.Ticket.{Ticket}
 use Rattle.mothra_exchange.specs.declared.view.View.{View}
 use Rattle.mothra_exchange.specs.declared.word.Word.{Word}
 use Rattle.mothra_ops.specs.Plan.{PlanFields, edits_of}

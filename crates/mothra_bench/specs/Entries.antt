@@ -1,7 +1,7 @@
 -- The entries of tickets, from rows that are kept by their tickets.
 use Rattle.std.specs.Prelude.{◌≡◌, ◌↔◌, ◌≤◌, ⊤, IsTrue, List, ◌∷◌, ◌++◌, Some, IsSome, All}
 use Rattle.mothra_exchange.specs.Tally.{word_at}
-use Rattle.mothra_exchange.specs.declared.ticket.Ticket.{Ticket}
+use Rattle.mothra_codes.specs.declared.ticket.Ticket.{Ticket}
 use Rattle.mothra_exchange.specs.declared.word.Word.{Word}
 use Rattle.mothra_bench.specs.Bench.{BenchFields}
 use Rattle.mothra_bench.specs.Collecting.{IsDeclared}

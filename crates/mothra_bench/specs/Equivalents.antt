@@ -1,7 +1,7 @@
 -- The mutants that declared entries name, and what is told of an entry behind those before it.
 use Rattle.std.specs.Prelude.{◌≡◌, ◌↔◌, ◌⊎◌, ◌<◌, ◌^◌, ⊤, true, List, All, Contains}
 use Rattle.mothra_ops.specs.Plan.{PlanFields, asked}
-use Rattle.mothra_exchange.specs.declared.ticket.Ticket.{Ticket}
+use Rattle.mothra_codes.specs.declared.ticket.Ticket.{Ticket}
 use Rattle.mothra_bench.specs.Bench.{IsKnownEntry, IsUnknownEntry, IsEntryTwice}
 use Rattle.mothra_bench.specs.declared.equivalents.Noted.{Noted}
 use Rattle.mothra_bench.specs.declared.equivalents.Noted.TheVariants as noted

@@ -3,7 +3,7 @@ use Rattle.std.specs.Prelude.{◌≡◌, ◌⊎◌, ℕ, ◌<◌, ◌≤◌, Boo
 use Rattle.mothra_codes.specs.declared.op.Op.{Op}
 use Rattle.mothra_codes.specs.Op.{index}
 use Rattle.mothra_exchange.specs.declared.view.View.{View}
-use Rattle.mothra_exchange.specs.Ticket.{times, once_up_to}
+use Rattle.mothra_codes.specs.Ticket.{times, once_up_to}
 use Rattle.mothra_exchange.specs.View.{times_closed}
 use Rattle.mothra_ops.specs.Plan.{PlanFields, edits_of}
 use Rattle.mothra_bench.specs.Closing.{count_of, seen_of}

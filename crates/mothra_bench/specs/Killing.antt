@@ -1,7 +1,7 @@
 -- What a mutant leaves as it was: it need not be run where control does not come to what it changed.
 use Rattle.std.specs.Prelude.{ℕ, Bool, List}
 use Rattle.std.specs.List.{AllZip}
-use Rattle.f77_tree.specs.Parsing.{LineFields}
+use Rattle.f77_program.specs.Program.{LineFields}
 use Rattle.f77_legal.specs.Frames.{HaveOneFrame}
 use Rattle.f77_run.specs.Reached.{AreReached, AreSameBut}
 use Rattle.f77_run.specs.declared.argument.Arg.{Arg}

@@ -1,7 +1,7 @@
 -- The text of a report, version 2.
 use Rattle.std.specs.Prelude.{ℕ, ◌/◌, ◌%◌, ◌==◌, ◌&&◌, Bool, not, List, [], ◌++◌, length, map, filter, flat_map, codes, Option, Some, None, unwrap_or, if◌then◌else◌}
 use Rattle.std.specs.Fmt.{decimal}
-use Rattle.f77_tree.specs.Parsing.{LineFields}
+use Rattle.f77_program.specs.Program.{LineFields}
 use Rattle.f77_legal.specs.Names.{unit_name}
 use Rattle.mothra_codes.specs.Op.{all_ops, code_of}
 use Rattle.mothra_codes.specs.declared.op.Op.{Op}

@@ -2,7 +2,7 @@
 use Rattle.std.specs.Prelude.{◌≡◌, ⊤, ◌&&◌, List, Option, nat_eq, option_to_list}
 use Rattle.std.specs.HashMap.{get}
 use Rattle.mothra_codes.specs.Op.{index}
-use Rattle.mothra_exchange.specs.declared.ticket.Ticket.{Ticket}
+use Rattle.mothra_codes.specs.declared.ticket.Ticket.{Ticket}
 use Rattle.mothra_ops.specs.Plan.{PlanFields}
 use Rattle.mothra_bench.specs.Collecting.{IsFirstDouble, rows_of}
 use Rattle.mothra_bench.specs.declared.fault.BenchFault.{BenchFault}

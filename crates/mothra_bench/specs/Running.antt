@@ -1,6 +1,6 @@
 -- Why the program's outcomes on tests cannot be had.
 use Rattle.std.specs.Prelude.{⊤, ℕ, List}
-use Rattle.f77_tree.specs.Parsing.{LineFields}
+use Rattle.f77_program.specs.Program.{LineFields}
 use Rattle.f77_run.specs.declared.argument.Arg.{Arg}
 use Rattle.mothra_bench.specs.Bench.{Ends, IsFirstNot}
 use Rattle.mothra_bench.specs.declared.fault.BenchFault.{BenchFault}

@@ -1,14 +1,14 @@
 -- The verdict of running a mutant alone (DeMillo, Lipton and Sayward 1978): which tests kill it.
 use Rattle.std.specs.Prelude.{◌≡◌, ◌≢◌, ◌≤◌, ⊤, ℕ, Bool, true, false, List, length, Some}
 use Rattle.std.specs.List.{AllZip}
-use Rattle.f77_tree.specs.Parsing.{LineFields}
-use Rattle.f77_tree.specs.Patching.{patched}
+use Rattle.f77_program.specs.Program.{LineFields}
+use Rattle.f77_program.specs.Patching.{patched}
 use Rattle.f77_run.specs.Interpreter.{IsOutcomeOf}
 use Rattle.f77_run.specs.declared.argument.Arg.{Arg}
 use Rattle.f77_run.specs.declared.outcome.Outcome.{Outcome}
 use Rattle.mothra_ops.specs.Mutants.{MutantFields, mutant_of, program_of}
 use Rattle.mothra_ops.specs.Plan.{PlanFields, edits_of}
-use Rattle.mothra_exchange.specs.declared.ticket.Ticket.{Ticket}
+use Rattle.mothra_codes.specs.declared.ticket.Ticket.{Ticket}
 use Rattle.mothra_bench.specs.Bench.{BenchFields}
 use Rattle.mothra_bench.specs.declared.fault.BenchFault.{BenchFault}
 use Rattle.mothra_bench.specs.declared.fault.BenchFault.TheVariants as fault

@@ -2,10 +2,10 @@
 use Rattle.std.specs.Prelude.{◌≡◌, ℕ, ◌-◌, ◌≤◌, ⊤, Bool, true, List, ◌++◌, None, IfSome, IfNone, MatchOption}
 use Rattle.mothra_codes.specs.declared.op.Op.{Op}
 use Rattle.mothra_codes.specs.Op.{index}
-use Rattle.mothra_exchange.specs.declared.ticket.Ticket.{Ticket}
+use Rattle.mothra_codes.specs.declared.ticket.Ticket.{Ticket}
 use Rattle.mothra_exchange.specs.declared.view.View.{View}
 use Rattle.mothra_exchange.specs.Sharing.{IsOver}
-use Rattle.mothra_exchange.specs.Ticket.{times}
+use Rattle.mothra_codes.specs.Ticket.{times}
 use Rattle.mothra_ops.specs.Plan.{PlanFields}
 use Rattle.mothra_bench.specs.Bench.{BenchFields}
 use Rattle.mothra_bench.specs.Feeding.{AreCounts}

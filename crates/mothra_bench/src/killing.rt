@@ -1,7 +1,7 @@
 //! Which tests kill a mutant.
 
 ghost use Rattle.std.specs.Prelude.{◌≡◌, ◌<◌, ℕ, List, length, map, slice_get, true, false, Some, None, All, IfOk, IfErr, IfSome};
-ghost use Rattle.f77_tree.specs.Parsing.{line_of};
+ghost use Rattle.f77_program.specs.Program.{line_of};
 ghost use Rattle.f77_run.specs.Interpreter.{refusal};
 ghost use Rattle.f77_run.specs.declared.argument.Arg.{Arg};
 ghost use Rattle.mothra_ops.specs.Mutants.{program_of};

@@ -1,7 +1,7 @@
 //! What holds of verdicts and reports on every bench.
 
 ghost use Rattle.std.specs.Prelude.{◌≡◌, ℕ, List, Bool};
-ghost use Rattle.mothra_exchange.specs.declared.ticket.Ticket.{Ticket};
+ghost use Rattle.mothra_codes.specs.declared.ticket.Ticket.{Ticket};
 ghost use Rattle.mothra_bench.specs.Analysis.{IsReport};
 ghost use Rattle.mothra_bench.specs.Bench.{BenchFields};
 ghost use Rattle.mothra_bench.specs.Verdict.{IsVerdict};

@@ -2,7 +2,7 @@
 
 ghost use Rattle.std.specs.Prelude.{◌≡◌, ◌++◌, map, flat_map, codes, IfOk, IfErr, OnOk, string_bytes};
 ghost use Rattle.std.specs.Fmt.{decimal};
-ghost use Rattle.f77_tree.specs.Parsing.{line_of};
+ghost use Rattle.f77_program.specs.Program.{line_of};
 ghost use Rattle.mothra_bench.specs.Report as definition;
 ghost use Rattle.mothra_bench.specs.Report.{bits_of, counts_line, entry_lines, mutant_line, operator_lines, report_text, score_line, status_of, survivor_line, wrong_line};
 ghost use Rattle.mothra_bench.specs.declared.fault.BenchFault.TheVariants.{Memory};
@@ -12,7 +12,8 @@ use crate::counts::Counts;
 use crate::fault::BenchFault;
 use crate::matrix::{Entry, Matrix};
 use f77_legal::heading::unit;
-use f77_tree::{Line, Shared};
+use f77_program::Line;
+use f77_tree::Shared;
 use mothra_ops::{Mutants, Op, Plan, push_name};
 use std::alloc::{AllocError, Global};
 

@@ -2,7 +2,7 @@
 
 ghost use Rattle.std.specs.Prelude.{◌≡◌, ◌&&◌, ◌==◌, IfOk, IfErr, None, Some, is_none, if◌then◌else◌};
 ghost use Rattle.mothra_codes.specs.Op.{index};
-ghost use Rattle.mothra_exchange.specs.declared.ticket.Ticket.{Ticket};
+ghost use Rattle.mothra_codes.specs.declared.ticket.Ticket.{Ticket};
 ghost use Rattle.mothra_bench.specs.Collecting.{is_row_of};
 ghost use Rattle.mothra_bench.specs.RowMap.{row_at, HasRows, IsNoRowMap};
 
@@ -27,7 +27,7 @@ impl RowMap {
         let mut map = RowMap {
             rows: HashMap::new(alloc),
         };
-        'placing: for row in rows {
+        for row in rows {
             let ticket = row.ticket;
             if !map.put(row)? {
                 return Err(BenchFault::Double(ticket));

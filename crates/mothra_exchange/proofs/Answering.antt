@@ -2,12 +2,12 @@
 use Rattle.std.proofs.Common.{◌≡◌, ◌≢◌, ℕ, ◌+◌, ◌<◌, ◌≤◌, Bool, true, false, true≢false, cond, eqb, ltb, not, refl, sym, ◌∙◌, arith, eq-eqb, ne_eqb}
 use Rattle.std.proofs.lemmas.Bool.Decides.{nat_tests}
 use Rattle.mothra_codes.specs.declared.op.Op.{Op}
-use Rattle.mothra_exchange.specs.declared.ticket.Ticket.{Ticket}
+use Rattle.mothra_codes.specs.declared.ticket.Ticket.{Ticket}
 use Rattle.mothra_exchange.specs.declared.word.Word.{Word}
 use Rattle.mothra_exchange.specs.declared.answer.Offer.TheVariants.{Closed, PastEnd, OutOfTurn, Full, Accepted}
 use Rattle.mothra_exchange.specs.declared.answer.Take.TheVariants.{Finished, Empty, Taken}
 use Rattle.mothra_exchange.specs.declared.answer.Close.TheVariants.{Already, Done}
-use Rattle.mothra_exchange.specs.Ticket.{ticket}
+use Rattle.mothra_codes.specs.Ticket.{ticket}
 use Rattle.mothra_exchange.specs.Answer.{offer_answer, take_answer, close_answer}
 
 accepted_means : (n : ℕ) (c past turn full : Bool) → cond c Closed (cond past PastEnd (cond (not turn) (OutOfTurn n) (cond full Full Accepted))) ≡ Accepted

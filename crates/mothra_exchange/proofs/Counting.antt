@@ -4,12 +4,12 @@ use mathlib.Core.Option.{some, some-ne-none, some-injective}
 use lib.ListN.{get_elem?}
 use Rattle.std.proofs.lemmas.Bool.Decides.{nat_tests}
 use Rattle.mothra_codes.specs.declared.op.Op.{Op}
-use Rattle.mothra_exchange.specs.declared.ticket.Ticket.{Ticket}
+use Rattle.mothra_codes.specs.declared.ticket.Ticket.{Ticket}
 use Rattle.mothra_exchange.specs.declared.word.Word.{Word}
 use Rattle.mothra_exchange.specs.declared.view.View.{View}
 use Rattle.mothra_codes.specs.Op.{index}
 use Rattle.mothra_exchange.specs.Word.{AtMost}
-use Rattle.mothra_exchange.specs.Ticket.{one_if, is_ticket, times, once_up_to, ticket}
+use Rattle.mothra_codes.specs.Ticket.{one_if, is_ticket, times, once_up_to, ticket}
 use Rattle.mothra_exchange.specs.declared.view.Closing.{Closing}
 use Rattle.mothra_exchange.specs.View.{closing, is_closing, times_closed, total, once_if_closed}
 

@@ -10,7 +10,7 @@ use Rattle.mothra_exchange.specs.declared.view.Look.{Look}
 use Rattle.mothra_exchange.specs.declared.view.View.{View}
 use Rattle.mothra_codes.specs.Op.{index}
 use Rattle.mothra_exchange.specs.Word.{pack, AtMost, opening_word, Fits}
-use Rattle.mothra_exchange.specs.Ticket.{times, once_up_to}
+use Rattle.mothra_codes.specs.Ticket.{times, once_up_to}
 use Rattle.mothra_exchange.specs.View.{times_closed, total, first_look, whole_view, spent_view}
 use Rattle.mothra_exchange.specs.Rule.{Knows, IsLive, IsSound, Holds}
 use Rattle.mothra_exchange.specs.Tally.{word_at, EndsAt, Ends}

@@ -12,7 +12,7 @@ use Rattle.mothra_exchange.specs.declared.view.Look.{Look}
 use Rattle.mothra_exchange.specs.declared.view.View.{View}
 use Rattle.mothra_codes.specs.Op.{index}
 use Rattle.mothra_exchange.specs.Word.{bit, pack, Fits, AtMost, InBounds, word_after_take, word_after_offer, word_after_close}
-use Rattle.mothra_exchange.specs.Ticket.{one_if, times, ticket}
+use Rattle.mothra_codes.specs.Ticket.{one_if, times, ticket}
 use Rattle.mothra_exchange.specs.View.{closing, times_closed, look_at, view_after_finding, view_after_take, view_after_offer, view_after_close, once_if_closed}
 use Rattle.mothra_exchange.specs.Rule.{OpRule, Holds, Takes, Offers, Closes, Loses}
 use Rattle.mothra_exchange.proofs.Counting.{total_has, once_up_to-past, times-more, is_ticket-own, is_ticket-other, times_closed-more, is_closing-own, is_closing-other, once_up_to-suc, AtMost-refl}

@@ -6,7 +6,7 @@ use mathlib.Core.Logic.{dite}
 use native.Mathlib.Decide.{ℕ_discrete}
 use lib.ListN.{get_elem?}
 use Rattle.mothra_codes.specs.declared.op.Op.{Op}
-use Rattle.mothra_exchange.specs.declared.ticket.Ticket.{Ticket}
+use Rattle.mothra_codes.specs.declared.ticket.Ticket.{Ticket}
 use Rattle.mothra_exchange.specs.declared.log.Event.{Event}
 use Rattle.mothra_exchange.specs.declared.log.Event.TheVariants.{Offered, Handed, Closed}
 use Rattle.mothra_exchange.specs.declared.word.Word.{Word}
@@ -15,7 +15,7 @@ use Rattle.mothra_exchange.specs.declared.answer.Take.TheVariants.{Taken}
 use Rattle.mothra_exchange.specs.declared.answer.Close.TheVariants.{Done}
 use Rattle.mothra_exchange.specs.Answer.{offer_answer, take_answer, close_answer}
 use Rattle.mothra_codes.specs.Op.{index}
-use Rattle.mothra_exchange.specs.Ticket.{one_if, ticket}
+use Rattle.mothra_codes.specs.Ticket.{one_if, ticket}
 use Rattle.mothra_exchange.specs.Word.{word_after_offer, word_after_take, word_after_close}
 use Rattle.mothra_exchange.specs.Log.{word_of, offers, hands, MayFollow, IsLegal}
 use Rattle.mothra_exchange.proofs.Logs.{offers-more, hands-more, legal_more, stands, word-offered, word-handed, word-closed}

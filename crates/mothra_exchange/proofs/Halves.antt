@@ -11,7 +11,7 @@ use Rattle.mothra_exchange.specs.declared.view.Look.{Look}
 use Rattle.mothra_exchange.specs.declared.view.View.{View}
 use Rattle.mothra_codes.specs.Op.{index}
 use Rattle.mothra_exchange.specs.Word.{AtMost, greater_word}
-use Rattle.mothra_exchange.specs.Ticket.{times}
+use Rattle.mothra_codes.specs.Ticket.{times}
 use Rattle.mothra_exchange.specs.View.{times_closed, total, look_at, first_look, spent_view, view_after_split, split_off_view, joined_look, joined_looks, merging_view, settled_view}
 use Rattle.mothra_exchange.specs.Rule.{Knows, OpRule, IsLive, Holds, Settles}
 use Rattle.mothra_exchange.proofs.Counting.{total_set, total_has, total-snoc, times-append, times_closed-append, once_up_to-most, once_if_closed-most}

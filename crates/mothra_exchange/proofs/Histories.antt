@@ -7,11 +7,11 @@ use mathlib.Core.Logic.{dite}
 use native.Mathlib.Decide.{ℕ_discrete}
 use lib.ListN.{get_elem?}
 use Rattle.mothra_codes.specs.declared.op.Op.{Op}
-use Rattle.mothra_exchange.specs.declared.ticket.Ticket.{Ticket}
+use Rattle.mothra_codes.specs.declared.ticket.Ticket.{Ticket}
 use Rattle.mothra_exchange.specs.declared.log.Event.{Event}
 use Rattle.mothra_exchange.specs.declared.log.Event.TheVariants.{Offered, Handed, Closed}
 use Rattle.mothra_codes.specs.Op.{index}
-use Rattle.mothra_exchange.specs.Ticket.{one_if}
+use Rattle.mothra_codes.specs.Ticket.{one_if}
 use Rattle.mothra_exchange.specs.Log.{closes_in, hands, closes, MayFollow, IsLegalAfter, IsLegal, taken_of, taken_in, one_to}
 use Rattle.mothra_exchange.proofs.Logs.{append-cons, append-nil, hands-more}
 

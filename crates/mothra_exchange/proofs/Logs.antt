@@ -8,7 +8,7 @@ use native.Mathlib.Decide.{ℕ_discrete, dec_le}
 use lib.ListN.{get_elem?}
 use Rattle.atomic_table.proofs.Lists.{at_longer, at_last}
 use Rattle.mothra_codes.specs.declared.op.Op.{Op}
-use Rattle.mothra_exchange.specs.declared.ticket.Ticket.{Ticket}
+use Rattle.mothra_codes.specs.declared.ticket.Ticket.{Ticket}
 use Rattle.mothra_exchange.specs.declared.word.Word.{Word}
 use Rattle.mothra_exchange.specs.declared.log.Event.{Event}
 use Rattle.mothra_exchange.specs.declared.log.Event.TheVariants.{Offered, Handed, Closed}
@@ -17,7 +17,7 @@ use Rattle.mothra_exchange.specs.declared.answer.Take.TheVariants.{Taken}
 use Rattle.mothra_exchange.specs.declared.answer.Close.TheVariants.{Done}
 use Rattle.mothra_codes.specs.Op.{index, op_at}
 use Rattle.mothra_exchange.specs.Word.{bit, InBounds, opening_word, word_after_offer, word_after_take, word_after_close}
-use Rattle.mothra_exchange.specs.Ticket.{one_if, ticket}
+use Rattle.mothra_codes.specs.Ticket.{one_if, ticket}
 use Rattle.mothra_exchange.specs.Log.{offers_in, hands_in, closes_in, offers, hands, closes, word_of, Stands, MayFollow, IsLegalAfter, IsLegal}
 use Rattle.mothra_exchange.specs.Answer.{offer_answer, take_answer, close_answer}
 use Rattle.mothra_exchange.specs.State.{History, history, used_by, used, room, counts_of, Keeps}

@@ -2,7 +2,7 @@
 use Rattle.std.proofs.Common.{◌≡◌, ◌≢◌, ℕ, ◌+◌, refl, sym, ap, ◌∙◌, subst, arith}
 use Rattle.mothra_codes.specs.declared.op.Op.{Op}
 use Rattle.mothra_codes.specs.Op.{index}
-use Rattle.mothra_exchange.specs.declared.ticket.Ticket.{Ticket}
+use Rattle.mothra_codes.specs.declared.ticket.Ticket.{Ticket}
 use Rattle.mothra_exchange.specs.declared.word.Word.{Word}
 use Rattle.mothra_exchange.specs.declared.view.Look.{Look}
 use Rattle.mothra_exchange.specs.declared.view.View.{View}
@@ -12,7 +12,7 @@ use Rattle.mothra_exchange.specs.declared.answer.Take.{Take}
 use Rattle.mothra_exchange.specs.declared.answer.Take.TheVariants.{Finished, Empty, Busy as TakeBusy, Taken, GaveUp as TakeGaveUp}
 use Rattle.mothra_exchange.specs.declared.answer.Close.{Close}
 use Rattle.mothra_exchange.specs.declared.answer.Close.TheVariants.{Already, Busy as CloseBusy, Done, GaveUp as CloseGaveUp}
-use Rattle.mothra_exchange.specs.Ticket.{one_if, is_ticket, ticket}
+use Rattle.mothra_codes.specs.Ticket.{one_if, is_ticket, ticket}
 use Rattle.mothra_exchange.specs.View.{closing, is_closing, first_look, look_at, with_look, view_after_load, view_after_finding, view_after_take, view_after_offer, view_after_close}
 use Rattle.mothra_exchange.specs.Calls.{LostTo, OfferDid, TakeDid, CloseDid}
 use Rattle.mothra_exchange.specs.Law.{ChangesOnly}

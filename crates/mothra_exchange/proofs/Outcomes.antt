@@ -9,7 +9,7 @@ use Rattle.mothra_exchange.specs.declared.answer.Take.TheVariants.{Busy, Taken}
 use Rattle.mothra_exchange.specs.declared.answer.Close.TheVariants.{Already, Busy as CloseBusy, Done}
 use Rattle.mothra_codes.specs.Op.{index}
 use Rattle.mothra_exchange.specs.Word.{pack, AtMost}
-use Rattle.mothra_exchange.specs.Ticket.{ticket}
+use Rattle.mothra_codes.specs.Ticket.{ticket}
 use Rattle.mothra_exchange.specs.View.{look_at, view_after_finding}
 use Rattle.mothra_exchange.specs.Rule.{Loses, Takes, Closes}
 use Rattle.mothra_exchange.specs.Answer.{take_answer}

@@ -4,12 +4,12 @@ use Rattle.mothra_codes.specs.declared.op.Op.{Op}
 use Rattle.mothra_exchange.specs.declared.word.Word.{Word}
 use Rattle.mothra_exchange.specs.declared.view.Look.{Look}
 use Rattle.mothra_exchange.specs.declared.view.View.{View}
-use Rattle.mothra_exchange.specs.declared.ticket.Ticket.{Ticket}
+use Rattle.mothra_codes.specs.declared.ticket.Ticket.{Ticket}
 use Rattle.mothra_exchange.specs.declared.answer.Offer.TheVariants.{Closed as OfferClosed, PastEnd, OutOfTurn, Full, Accepted}
 use Rattle.mothra_exchange.specs.declared.answer.Take.{Take}
 use Rattle.mothra_exchange.specs.declared.answer.Take.TheVariants.{Finished, Empty, Busy, Taken, GaveUp}
 use Rattle.mothra_codes.specs.Op.{index}
-use Rattle.mothra_exchange.specs.Ticket.{ticket}
+use Rattle.mothra_codes.specs.Ticket.{ticket}
 use Rattle.mothra_exchange.specs.Word.{AtMost, greater_word, word_after_take}
 use Rattle.mothra_exchange.specs.View.{look_at, joined_look, united_view, merging_view, view_after_load, view_after_split, split_off_view}
 use Rattle.mothra_exchange.specs.Rule.{Loads, Agrees}

@@ -11,7 +11,7 @@ use Rattle.mothra_exchange.specs.declared.view.View.{View}
 use Rattle.mothra_exchange.specs.declared.log.Event.{Event}
 use Rattle.mothra_exchange.specs.declared.log.Event.TheVariants.{Offered, Handed, Closed}
 use Rattle.mothra_exchange.specs.Word.{InBounds, opening_word, word_after_offer, word_after_take, word_after_close}
-use Rattle.mothra_exchange.specs.Ticket.{ticket}
+use Rattle.mothra_codes.specs.Ticket.{ticket}
 use Rattle.mothra_exchange.specs.Log.{offers, hands, closes, word_of, IsLegal}
 use Rattle.mothra_exchange.specs.Rule.{IsSound, Loads}
 use Rattle.mothra_exchange.specs.Law.{ShowOneLog, ShowsLog}

@@ -8,11 +8,11 @@ use lib.ListN.{get_elem?}
 use Rattle.std.proofs.lemmas.Bool.Decides.{nat_tests}
 use Rattle.mothra_codes.specs.declared.op.Op.{Op}
 use Rattle.mothra_codes.specs.Op.{index}
-use Rattle.mothra_exchange.specs.declared.ticket.Ticket.{Ticket}
+use Rattle.mothra_codes.specs.declared.ticket.Ticket.{Ticket}
 use Rattle.mothra_exchange.specs.declared.word.Word.{Word}
 use Rattle.mothra_exchange.specs.declared.view.View.{View}
 use Rattle.mothra_exchange.specs.Word.{AtMost}
-use Rattle.mothra_exchange.specs.Ticket.{one_if, times, once_up_to}
+use Rattle.mothra_codes.specs.Ticket.{one_if, times, once_up_to}
 use Rattle.mothra_exchange.specs.View.{times_closed, total, once_if_closed, spent_view, look_at}
 use Rattle.mothra_exchange.specs.Rule.{OpRule, IsLive, IsSound}
 use Rattle.mothra_exchange.specs.Law.{IsWordOf, IsAmong, StandsInOne, StandsInNone, AreOneTo, AreInOrder}

@@ -13,7 +13,7 @@ use Rattle.mothra_exchange.specs.declared.view.Look.{Look}
 use Rattle.mothra_exchange.specs.declared.view.View.{View}
 use Rattle.mothra_codes.specs.Op.{index}
 use Rattle.mothra_exchange.specs.Word.{pack, AtMost, InBounds}
-use Rattle.mothra_exchange.specs.Ticket.{times, once_up_to}
+use Rattle.mothra_codes.specs.Ticket.{times, once_up_to}
 use Rattle.mothra_exchange.specs.View.{times_closed, look_at, view_after_load, spent_view, with_look, first_look, once_if_closed}
 use Rattle.mothra_exchange.specs.Rule.{Knows, OpRule, IsLive, Holds, Looks}
 use Rattle.mothra_exchange.proofs.Counting.{total_set, AtMost-refl, AtMost-trans, get_or-set_there, get_or-set_else}

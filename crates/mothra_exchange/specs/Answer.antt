@@ -8,7 +8,7 @@ use Rattle.mothra_exchange.specs.declared.answer.Take.{Take}
 use Rattle.mothra_exchange.specs.declared.answer.Take.TheVariants.{Finished, Empty, Taken}
 use Rattle.mothra_exchange.specs.declared.answer.Close.{Close}
 use Rattle.mothra_exchange.specs.declared.answer.Close.TheVariants.{Already, Done}
-use Rattle.mothra_exchange.specs.Ticket.{ticket}
+use Rattle.mothra_codes.specs.Ticket.{ticket}
 
 -- an offer of number k, where C tickets may wait
 abbrev pub offer_answer : ℕ → ℕ → Word → Offer

@@ -2,7 +2,7 @@
 use Rattle.std.specs.Prelude.{◌≡◌, ◌≢◌, ℕ, ◌+◌}
 use Rattle.mothra_codes.specs.declared.op.Op.{Op}
 use Rattle.mothra_codes.specs.Op.{index}
-use Rattle.mothra_exchange.specs.declared.ticket.Ticket.{Ticket}
+use Rattle.mothra_codes.specs.declared.ticket.Ticket.{Ticket}
 use Rattle.mothra_exchange.specs.declared.word.Word.{Word}
 use Rattle.mothra_exchange.specs.declared.view.View.{View}
 use Rattle.mothra_exchange.specs.declared.answer.Offer.{Offer}
@@ -12,7 +12,7 @@ use Rattle.mothra_exchange.specs.declared.answer.Take.TheVariants.{Busy as TakeB
 use Rattle.mothra_exchange.specs.declared.answer.Close.{Close}
 use Rattle.mothra_exchange.specs.declared.answer.Close.TheVariants.{Busy as CloseBusy, Done, GaveUp as CloseGaveUp}
 use Rattle.mothra_exchange.specs.Word.{AtMost, InBounds}
-use Rattle.mothra_exchange.specs.Ticket.{times}
+use Rattle.mothra_codes.specs.Ticket.{times}
 use Rattle.mothra_exchange.specs.View.{times_closed, look_at, view_after_load, view_after_finding, view_after_take, view_after_offer, view_after_close}
 use Rattle.mothra_exchange.specs.Rule.{Loads}
 use Rattle.mothra_exchange.specs.Answer.{offer_answer, take_answer, close_answer}

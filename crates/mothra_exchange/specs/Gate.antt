@@ -1,7 +1,7 @@
 -- What a gate says of the passes that its calls are lent.
 use Rattle.std.specs.Prelude.{◌≡◌, ℕ, Bool, true}
 use Rattle.mothra_codes.specs.declared.op.Op.{Op}
-use Rattle.mothra_exchange.specs.declared.ticket.Ticket.{Ticket}
+use Rattle.mothra_codes.specs.declared.ticket.Ticket.{Ticket}
 use Rattle.mothra_exchange.specs.declared.view.View.{View}
 use Rattle.mothra_exchange.specs.declared.answer.Offer.{Offer}
 use Rattle.mothra_exchange.specs.declared.answer.Offer.TheVariants.{GaveUp as OfferGaveUp}

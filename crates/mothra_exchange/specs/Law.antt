@@ -4,12 +4,12 @@ use mathlib.Core.Option.{some}
 use lib.ListN.{get_elem?}
 use Rattle.mothra_codes.specs.declared.op.Op.{Op}
 use Rattle.mothra_codes.specs.Op.{index}
-use Rattle.mothra_exchange.specs.declared.ticket.Ticket.{Ticket}
+use Rattle.mothra_codes.specs.declared.ticket.Ticket.{Ticket}
 use Rattle.mothra_exchange.specs.declared.word.Word.{Word}
 use Rattle.mothra_exchange.specs.declared.view.View.{View}
 use Rattle.mothra_exchange.specs.declared.log.Event.{Event}
 use Rattle.mothra_exchange.specs.Word.{pack, Fits}
-use Rattle.mothra_exchange.specs.Ticket.{times}
+use Rattle.mothra_codes.specs.Ticket.{times}
 use Rattle.mothra_exchange.specs.View.{times_closed, look_at}
 use Rattle.mothra_exchange.specs.Rule.{IsSound}
 use Rattle.mothra_exchange.specs.Log.{IsLegal, word_of}

@@ -10,6 +10,5 @@ pub mod Sharing
 pub mod State
 pub mod Table
 pub mod Tally
-pub mod Ticket
 pub mod View
 pub mod Word

@@ -4,7 +4,7 @@ use mathlib.Core.Option.{some}
 use lib.ListN.{get_elem?}
 use Rattle.mothra_codes.specs.declared.op.Op.{Op}
 use Rattle.mothra_codes.specs.Op.{index}
-use Rattle.mothra_exchange.specs.declared.ticket.Ticket.{Ticket}
+use Rattle.mothra_codes.specs.declared.ticket.Ticket.{Ticket}
 use Rattle.mothra_exchange.specs.declared.word.Word.{Word}
 use Rattle.mothra_exchange.specs.declared.log.Event.{Event}
 use Rattle.mothra_exchange.specs.declared.log.Event.TheVariants.{Offered, Handed, Closed}
@@ -14,7 +14,7 @@ use Rattle.mothra_exchange.specs.declared.answer.Take.{Take}
 use Rattle.mothra_exchange.specs.declared.answer.Take.TheVariants.{Taken}
 use Rattle.mothra_exchange.specs.declared.answer.Close.{Close}
 use Rattle.mothra_exchange.specs.declared.answer.Close.TheVariants.{Done}
-use Rattle.mothra_exchange.specs.Ticket.{one_if}
+use Rattle.mothra_codes.specs.Ticket.{one_if}
 
 abbrev pub offers_in : ℕ → Event → ℕ
 offers_in i (Offered t) = one_if (index t.op == i)

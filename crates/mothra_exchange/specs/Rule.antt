@@ -8,7 +8,7 @@ use Rattle.mothra_codes.specs.Op.{index, op_at}
 use Rattle.mothra_exchange.specs.declared.word.Word.{Word}
 use Rattle.mothra_exchange.specs.declared.view.View.{View}
 use Rattle.mothra_exchange.specs.Word.{pack, Fits, AtMost, InBounds}
-use Rattle.mothra_exchange.specs.Ticket.{times, once_up_to}
+use Rattle.mothra_codes.specs.Ticket.{times, once_up_to}
 use Rattle.mothra_exchange.specs.View.{times_closed, once_if_closed, total, first_look, look_at, whole_part, spent_view, settled_view}
 use Rattle.mothra_exchange.specs.View.{view_after_load, view_after_finding, view_after_take, view_after_offer, view_after_close}
 

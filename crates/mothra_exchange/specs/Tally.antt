@@ -5,7 +5,7 @@ use Rattle.mothra_codes.specs.Op.{index}
 use Rattle.mothra_exchange.specs.declared.word.Word.{Word}
 use Rattle.mothra_exchange.specs.declared.view.View.{View}
 use Rattle.mothra_exchange.specs.Word.{AtMost, InBounds, opening_word}
-use Rattle.mothra_exchange.specs.Ticket.{times, once_up_to}
+use Rattle.mothra_codes.specs.Ticket.{times, once_up_to}
 use Rattle.mothra_exchange.specs.View.{times_closed, look_at, whole_part, once_if_closed}
 
 -- an operator's numbers in a tally

@@ -7,7 +7,7 @@ use Rattle.mothra_exchange.specs.declared.view.Look.{Look}
 use Rattle.mothra_exchange.specs.declared.view.Closing.{Closing}
 use Rattle.mothra_exchange.specs.declared.view.View.{View}
 use Rattle.mothra_exchange.specs.Word.{opening_word, word_after_offer, word_after_take, word_after_close, greater_word}
-use Rattle.mothra_exchange.specs.Ticket.{one_if, ticket}
+use Rattle.mothra_codes.specs.Ticket.{one_if, ticket}
 
 abbrev pub closing : Op → ℕ → Closing
 closing op k = record { op = op; offered = k }

@@ -1,6 +1,6 @@
 //! What the calls of an exchange answer.
 
-use crate::ticket::Ticket;
+use mothra_codes::Ticket;
 
 /// The answer to an offer. The refusals are tested in the order in which they stand here.
 #[derive(Clone, Copy, PartialEq, Eq, Debug, Drop)]

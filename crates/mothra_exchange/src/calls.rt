@@ -10,9 +10,8 @@ ghost use Rattle.mothra_exchange.specs.Table.{view_of, IsPassOf};
 use crate::answer::{Close, Offer, Take};
 use crate::rule::{ClosePlay, LoadPlay, OfferPlay, TakePlay};
 use crate::table::{Pass, TableExchange};
-use crate::ticket::Ticket;
 use crate::word::Word;
-use mothra_codes::Op;
+use mothra_codes::{Op, Ticket};
 
 impl<const C: u32> TableExchange<C> {
     /// Offers a ticket. It tries once, waits for nobody and takes no memory.

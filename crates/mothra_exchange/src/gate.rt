@@ -9,8 +9,7 @@ ghost use Rattle.mothra_exchange.specs.Gate.{MayOffer, MayTake, MayClose, OfferK
 
 use crate::answer::{Close, Offer, Take};
 use crate::tally::Tally;
-use crate::ticket::Ticket;
-use mothra_codes::Op;
+use mothra_codes::{Op, Ticket};
 use std::sync::Wait;
 
 /// What feeders and workers go through: an exchange, or a wrapper round one. Whoever calls it has

@@ -6,7 +6,7 @@ ghost use mathlib.Core.Option.{some};
 ghost use lib.ListN.{get_elem?};
 ghost use Rattle.mothra_codes.specs.declared.op.Op.{Op};
 ghost use Rattle.mothra_codes.specs.Op.{index};
-ghost use Rattle.mothra_exchange.specs.declared.ticket.Ticket.{Ticket};
+ghost use Rattle.mothra_codes.specs.declared.ticket.Ticket.{Ticket};
 ghost use Rattle.mothra_exchange.specs.declared.word.Word.{Word};
 ghost use Rattle.mothra_exchange.specs.declared.view.View.{View};
 ghost use Rattle.mothra_exchange.specs.declared.log.Event.TheVariants.{Closed, Offered, Handed};
@@ -17,7 +17,7 @@ ghost use Rattle.mothra_exchange.specs.declared.answer.Take.TheVariants.{Finishe
 ghost use Rattle.mothra_exchange.specs.declared.answer.Close.{Close};
 ghost use Rattle.mothra_exchange.specs.declared.answer.Close.TheVariants.{Done};
 ghost use Rattle.mothra_exchange.specs.Word.{AtMost, word_after_offer, word_after_take, word_after_close};
-ghost use Rattle.mothra_exchange.specs.Ticket.{ticket};
+ghost use Rattle.mothra_codes.specs.Ticket.{ticket};
 ghost use Rattle.mothra_exchange.specs.View.{times_closed, total, look_at, whole_part, spent_view, view_after_split, split_off_view, united_view};
 ghost use Rattle.mothra_exchange.specs.Rule.{IsSound, Loads};
 ghost use Rattle.mothra_exchange.specs.Answer.{offer_answer, take_answer, close_answer};

@@ -21,7 +21,6 @@ mod state;
 mod table;
 mod table_gate;
 mod tally;
-mod ticket;
 mod view;
 mod word;
 
@@ -30,7 +29,7 @@ pub use fault::ExchangeFault;
 pub use gate::Gate;
 pub use locked::{LockedExchange, LockedPass};
 pub use log::Event;
+pub use mothra_codes::Ticket;
 pub use state::State;
 pub use table::{Pass, TableExchange};
 pub use tally::Tally;
-pub use ticket::Ticket;

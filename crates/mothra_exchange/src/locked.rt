@@ -15,8 +15,7 @@ use crate::fault::ExchangeFault;
 use crate::gate::Gate;
 use crate::state::{State, opening_state};
 use crate::tally::Tally;
-use crate::ticket::Ticket;
-use mothra_codes::Op;
+use mothra_codes::{Op, Ticket};
 use std::alloc::Global;
 use std::sync::{Mutex, Wait};
 

@@ -1,7 +1,6 @@
 //! What happens in an exchange.
 
-use crate::ticket::Ticket;
-use mothra_codes::Op;
+use mothra_codes::{Op, Ticket};
 
 /// One change of an exchange.
 #[derive(Clone, Copy, PartialEq, Eq, Debug, Drop)]

@@ -13,9 +13,8 @@ use crate::answer::{Close, Offer, Take};
 use crate::fault::{ExchangeFault, first_too_large};
 use crate::log::Event;
 use crate::tally::Tally;
-use crate::ticket::Ticket;
 use crate::word::Word;
-use mothra_codes::Op;
+use mothra_codes::{Op, Ticket};
 use std::alloc::Global;
 use std::marker::Model;
 

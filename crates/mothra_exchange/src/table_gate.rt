@@ -4,8 +4,7 @@ use crate::answer::{Close, Offer, Take};
 use crate::gate::Gate;
 use crate::table::{Pass, TableExchange};
 use crate::tally::Tally;
-use crate::ticket::Ticket;
-use mothra_codes::Op;
+use mothra_codes::{Op, Ticket};
 use std::sync::Wait;
 
 impl<const C: u32> Gate for TableExchange<C> {

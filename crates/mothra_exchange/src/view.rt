@@ -1,8 +1,7 @@
 //! What a pass knows.
 
-use crate::ticket::Ticket;
 use crate::word::Word;
-use mothra_codes::Op;
+use mothra_codes::{Op, Ticket};
 use std::collections::LinkedList;
 
 /// What a pass knows of one operator. No value of it is made.

@@ -6,8 +6,7 @@ ghost use Rattle.mothra_exchange.specs.Word.{pack, Fits, InBounds, opening_word}
 ghost use Rattle.mothra_exchange.specs.Answer as table;
 
 use crate::answer::{Close, Offer, Take};
-use crate::ticket::Ticket;
-use mothra_codes::Op;
+use mothra_codes::{Op, Ticket};
 
 /// How many tickets an operator has, how many were offered, how many were handed out, and whether
 /// it is closed.

@@ -1,8 +1,8 @@
 -- Whether an edit is one of its operator's, by what it makes.
 use Rattle.std.proofs.Common.{◌≡◌, List, Some, None, refl, ap, sym, ◌∙◌, subst}
 use Rattle.std.proofs.lemmas.Option.{none-some, same_Some}
-use Rattle.f77_tree.specs.Parsing.{LineFields}
-use Rattle.f77_tree.specs.Patching.{patched}
+use Rattle.f77_program.specs.Program.{LineFields}
+use Rattle.f77_program.specs.Patching.{patched}
 use Rattle.f77_tree.specs.Tree.{Statement}
 use Rattle.mothra_ops.specs.Edits.{IsMember, IsMutant, made}
 use Rattle.mothra_ops.specs.Pools.{PoolFields, pools_of}

@@ -1,7 +1,7 @@
 -- What operators put in the place of a reference, in the place of what has none, and as other sorts of nodes.
 use Rattle.std.proofs.Common.{◌≡◌, ◌∷◌, [], List, false, map, refl, sym, ap, ◌∙◌}
 use Rattle.std.specs.List.{filter_map}
-use Rattle.f77_tree.specs.Node.{NodeOf}
+use Rattle.f77_nodes.specs.Node.{NodeOf}
 use Rattle.f77_tree.specs.Tree.{Tree, Trees, DeclFields}
 use Rattle.f77_tree.specs.View.{trees, place_of}
 use Rattle.f77_tree.specs.declared.tree.Ref.{Ref}

@@ -1,7 +1,7 @@
 -- Lists of edits that are too long.
 use Rattle.std.proofs.Common.{◌<◌, ◌≤◌, ℕ, List, length, subst, arith, inl, inr}
 use Rattle.std.specs.Prelude.{◌⊎◌}
-use Rattle.f77_tree.specs.Parsing.{LineFields}
+use Rattle.f77_program.specs.Program.{LineFields}
 use Rattle.mothra_ops.specs.Edits.{IsMember, IsTooLong, Lists, thinned, most_edits, most_whole}
 use Rattle.mothra_ops.specs.declared.edit.Edit.{Edit}
 use Rattle.mothra_codes.specs.declared.op.Op.{Op}

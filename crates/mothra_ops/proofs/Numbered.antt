@@ -5,7 +5,7 @@ use Rattle.std.specs.Option.{IfNone, IfSome, option_map, option_map_or}
 use Rattle.std.proofs.lemmas.List.Elements.{Contains-get_or}
 use Rattle.std.proofs.lemmas.Option.{none-some, same_Some, slice_get_within, get_or_from_slice_get}
 use Rattle.f77_check.specs.Checked.{CheckedFields}
-use Rattle.f77_tree.specs.Parsing.{line_of}
+use Rattle.f77_program.specs.Program.{line_of}
 use Rattle.f77_tree.specs.StatementView.{statement_of}
 use Rattle.f77_tree.specs.Tree.{Statement}
 use Rattle.mothra_ops.specs.Edits.{IsMember, IsMutant, made, numbered, thinned}

@@ -8,7 +8,7 @@ use Rattle.std.proofs.lemmas.List.Elements.{All-head, All-tail, All-push, All-ni
 use Rattle.std.proofs.lemmas.List.Folds.{find-append}
 use Rattle.std.proofs.lemmas.Bool.{cases_lt}
 use Rattle.std.proofs.lemmas.Bool.Decides.{nat_tests}
-use Rattle.f77_tree.specs.Parsing.{LineFields, line_of}
+use Rattle.f77_program.specs.Program.{LineFields, line_of}
 use Rattle.f77_check.specs.Checked.{CheckedFields}
 use Rattle.mothra_ops.specs.Edits.{IsCountedList, IsList, IsNoList, IsTooLong}
 use Rattle.mothra_codes.specs.Op.{index}

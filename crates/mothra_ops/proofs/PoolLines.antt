@@ -8,8 +8,8 @@ use Rattle.std.proofs.lemmas.Bool.Decides.{nat_tests}
 use Rattle.std.proofs.lemmas.Map.Made.{keys_of-map_values}
 use Rattle.indexmap.specs.IndexMap.{keys}
 use Rattle.f77_tree.specs.Comparing.{same_tree}
-use Rattle.f77_tree.specs.Node.{NodeOf}
-use Rattle.f77_tree.specs.Parsing.{LineFields}
+use Rattle.f77_nodes.specs.Node.{NodeOf}
+use Rattle.f77_program.specs.Program.{LineFields}
 use Rattle.f77_tree.specs.Tree.{Tree}
 use Rattle.f77_tree.specs.declared.tree.Kind.{Kind}
 use Rattle.f77_legal.specs.Labels.{labels}

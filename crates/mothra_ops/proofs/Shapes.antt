@@ -7,14 +7,14 @@ use Rattle.std.specs.Str.{bytes_eq}
 use Rattle.std.proofs.lemmas.List.Elements.{filter-append, filter_map-append}
 use Rattle.std.proofs.lemmas.Option.{none-some, same_Some, option_and_then_some}
 use Rattle.f77_tree.specs.Form.{form_of}
-use Rattle.f77_tree.specs.Group.{group_of}
-use Rattle.f77_tree.specs.Node.{NodeOf, names_of}
-use Rattle.f77_tree.specs.Parsing.{LineFields}
-use Rattle.f77_tree.specs.Patching.{Fits, replaced, patched}
+use Rattle.f77_program.specs.Group.{group_of}
+use Rattle.f77_nodes.specs.Node.{NodeOf, names_of}
+use Rattle.f77_program.specs.Program.{LineFields}
+use Rattle.f77_program.specs.Patching.{Fits, replaced, patched}
 use Rattle.f77_tree.specs.StatementView.{statement_of}
 use Rattle.f77_tree.specs.Tree.{Statement}
-use Rattle.f77_tree.specs.declared.group.Group.{Group}
-use Rattle.f77_tree.specs.declared.group.Group.TheVariants.{Subroutine, Declaration}
+use Rattle.f77_program.specs.declared.group.Group.{Group}
+use Rattle.f77_program.specs.declared.group.Group.TheVariants.{Subroutine, Declaration}
 use Rattle.f77_tree.specs.declared.tree.Kind.TheVariants.{Integer}
 use Rattle.f77_legal.specs.Heading.{dummies_of, dummies}
 use Rattle.f77_legal.specs.Names.{Symbol, Mention, Plain, name_in, mentions_of, mentions, kind_in, bounds_in, some_items, first_or}
@@ -26,7 +26,7 @@ use Rattle.mothra_codes.specs.declared.op.Op.TheVariants.{Der, Dsa, Glr}
 use Rattle.mothra_ops.specs.Edits.{IsMutant, made, numbered}
 use Rattle.mothra_ops.specs.Mutants.{MutantFields, mutant_fields, mutant_made}
 use Rattle.mothra_ops.specs.Pools.{PoolFields, pools_of, is_executable}
-use Rattle.mothra_ops.specs.Replacements.{gives, replacements, stands_in, is_form}
+use Rattle.mothra_ops.specs.Replacements.{gives, replacements, stands_in}
 use Rattle.mothra_ops.specs.declared.edit.Edit.{Edit}
 use Rattle.mothra_ops.specs.declared.mutants.Mutant.{Mutant}
 use Rattle.mothra_ops.proofs.MakesMutant.{counted_at}

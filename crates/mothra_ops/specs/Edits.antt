@@ -2,8 +2,8 @@
 use Rattle.std.specs.Prelude.{◌≡◌, ◌≢◌, ◌↔◌, ◌⊎◌, ◌<◌, ◌≤◌, ◌-◌, ◌==◌, ◌%◌, ⊤, ℕ, zero, suc, List, Option, Some, None, slice_get, All, AllPairs, Contains, length, map, filter}
 use Rattle.std.specs.List.{enumerate_from}
 use Rattle.std.specs.Option.{option_and_then}
-use Rattle.f77_tree.specs.Parsing.{LineFields}
-use Rattle.f77_tree.specs.Patching.{Fits, patched}
+use Rattle.f77_program.specs.Program.{LineFields}
+use Rattle.f77_program.specs.Patching.{Fits, patched}
 use Rattle.f77_tree.specs.Tree.{Statement}
 use Rattle.f77_legal.specs.Labels.{statement_at}
 use Rattle.f77_legal.specs.Legal.{IsLegal}

@@ -1,5 +1,5 @@
 -- References as other sorts of nodes.
-use Rattle.f77_tree.specs.Node.{NodeOf}
+use Rattle.f77_nodes.specs.Node.{NodeOf}
 use Rattle.f77_tree.specs.View.{trees, place_of}
 use Rattle.f77_tree.specs.declared.tree.Ref.{Ref}
 

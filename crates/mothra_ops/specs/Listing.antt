@@ -1,6 +1,6 @@
 -- A list of edits that is being made, statement by statement, node by node, replacement by replacement.
 use Rattle.std.specs.Prelude.{◌≡◌, ◌≤◌, ℕ, List, length}
-use Rattle.f77_tree.specs.Parsing.{LineFields}
+use Rattle.f77_program.specs.Program.{LineFields}
 use Rattle.mothra_ops.specs.Edits.{Below, IsMember, Lists, most_edits, most_whole, thinned}
 use Rattle.mothra_ops.specs.declared.edit.Edit.{Edit}
 use Rattle.mothra_ops.specs.declared.listing.Listing.{Listing}

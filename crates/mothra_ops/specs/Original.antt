@@ -1,7 +1,7 @@
 -- A program that mutants are made of.
 use Rattle.std.specs.Prelude.{◌≡◌, ℕ, List, Some, map, option_map, slice_get}
-use Rattle.f77_tree.specs.Node.{NodeOf, node_of, nodes_of}
-use Rattle.f77_tree.specs.Parsing.{LineFields, line_of}
+use Rattle.f77_nodes.specs.Node.{NodeOf, node_of, nodes_of}
+use Rattle.f77_program.specs.Program.{LineFields, line_of}
 use Rattle.f77_tree.specs.StatementView.{statement_of}
 use Rattle.f77_tree.specs.Tree.{Statement}
 use Rattle.mothra_ops.specs.Edits.{numbered}

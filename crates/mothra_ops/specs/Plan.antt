@@ -1,7 +1,7 @@
 -- A plan: the lists of the operators that were asked for.
 use Rattle.std.specs.Prelude.{◌≡◌, ◌<◌, ◌≤◌, ◌==◌, ⊤, ℕ, Bool, true, List, [], map, Option, is_some, Contains, find}
 use Rattle.std.specs.Option.{option_map_or}
-use Rattle.f77_tree.specs.Parsing.{LineFields, line_of}
+use Rattle.f77_program.specs.Program.{LineFields, line_of}
 use Rattle.f77_check.specs.Checked.{CheckedFields}
 use Rattle.mothra_ops.specs.Edits.{IsCountedList, IsList, IsTooLong}
 use Rattle.mothra_codes.specs.Op.{index}

@@ -1,9 +1,11 @@
 -- What the operators draw from: the scalars and arrays of a program, its array references, its constants and its labels.
 use Rattle.std.specs.Prelude.{ℕ, Bool, true, false, not, nat_lt, List, [], ◌∷◌, filter, map, fold, Option, Some, None, if◌then◌else◌}
 use Rattle.std.specs.List.{flat_map, filter_map}
+use Rattle.f77_tree.specs.declared.form.Form.{Form}
+use Rattle.f77_tree.specs.Form.{form_of}
 use Rattle.f77_tree.specs.Comparing.{same_tree}
-use Rattle.f77_tree.specs.Node.{NodeOf, nodes_of}
-use Rattle.f77_tree.specs.Parsing.{LineFields}
+use Rattle.f77_nodes.specs.Node.{NodeOf, nodes_of}
+use Rattle.f77_program.specs.Program.{LineFields}
 use Rattle.f77_tree.specs.Tree.{Tree, Trees, Statement}
 use Rattle.f77_tree.specs.View.{trees, tree_of, place_of}
 use Rattle.f77_tree.specs.declared.tree.Kind.{Kind}
@@ -27,12 +29,15 @@ placed n (m ∷ ms) = if nat_lt m n then m ∷ placed n ms else n ∷ (m ∷ ms)
 abbrev pub ascending : List ℕ → List ℕ
 ascending = fold (λ ns n. placed n ns) []
 
+abbrev pub executes : Form → Bool
+executes Form.Subroutine = false
+executes Form.Declare = false
+executes Form.Dimension = false
+executes Form.Preset = false
+executes _ = true
+
 abbrev pub is_executable : Statement → Bool
-is_executable (Statement.Subroutine name names) = false
-is_executable (Statement.Declare kind declarations) = false
-is_executable (Statement.Dimension declarations) = false
-is_executable (Statement.Preset groups) = false
-is_executable _ = true
+is_executable statement = executes (form_of statement)
 
 -- the nodes of the executable statements, in order
 abbrev pub executable_nodes : List LineFields → List NodeOf

@@ -5,7 +5,7 @@ use Rattle.std.specs.List.{filter_map}
 use Rattle.std.specs.Str.{bytes_eq}
 use Rattle.f77_tree.specs.Comparing.{same_tree, same_operator, same_statement}
 use Rattle.f77_tree.specs.Form.{form_of}
-use Rattle.f77_tree.specs.Node.{NodeOf}
+use Rattle.f77_nodes.specs.Node.{NodeOf}
 use Rattle.f77_tree.specs.Tree.{Tree, Trees, Statement}
 use Rattle.f77_tree.specs.declared.data.Constant.{Constant}
 use Rattle.f77_tree.specs.declared.form.Form.{Form}
@@ -211,16 +211,19 @@ replacements Src pools = in_parts (drawn is_constant pools.kinds pools.constants
 replacements Svr pools = in_variables (in_place Svr pools)
 replacements Uoi pools = in_computed (λ t. with_unary (kind_in pools.kinds t) t)
 
--- The statements in which an operator has sites: executable ones, but for DATA; of the two that exchange labels DER has the DOs.
-abbrev pub is_form : Form → Statement → Bool
-is_form Form.Loop (Statement.Loop label name a b c) = true
-is_form Form.Preset (Statement.Preset groups) = true
-is_form _ _ = false
+abbrev pub is_loop : Form → Bool
+is_loop Form.Loop = true
+is_loop _ = false
 
+abbrev pub is_preset : Form → Bool
+is_preset Form.Preset = true
+is_preset _ = false
+
+-- The statements in which an operator has sites: executable ones, but for DATA; of the two that exchange labels DER has the DOs.
 abbrev pub stands_in : Op → Statement → Bool
-stands_in Der s = is_form Form.Loop s
-stands_in Dsa s = is_form Form.Preset s
-stands_in Glr s = is_executable s && not (is_form Form.Loop s)
+stands_in Der s = is_loop (form_of s)
+stands_in Dsa s = is_preset (form_of s)
+stands_in Glr s = is_executable s && not (is_loop (form_of s))
 stands_in _ s = is_executable s
 
 abbrev pub gives : Op → PoolFields → Statement → NodeOf → List NodeOf

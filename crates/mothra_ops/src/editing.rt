@@ -1,8 +1,8 @@
 //! The list of an operator's edits, and the program that an edit makes.
 
 ghost use Rattle.std.specs.Prelude.{◌≡◌, ◌↔◌, ◌<◌, ◌≤◌, ◌+◌, ◌^◌, ◌⊎◌, map, OnOk, IfOk, IfErr, IsTrue};
-ghost use Rattle.f77_tree.specs.Parsing.{line_of};
-ghost use Rattle.f77_tree.specs.Patching.{patched};
+ghost use Rattle.f77_program.specs.Program.{line_of};
+ghost use Rattle.f77_program.specs.Patching.{patched};
 ghost use Rattle.f77_tree.specs.StatementView.{statement_of};
 ghost use Rattle.f77_sites.specs.New.{new_of};
 ghost use Rattle.f77_sites.specs.Sites.{changed};
@@ -18,7 +18,8 @@ use crate::original::Original;
 use crate::replacing::gives;
 use crate::site::Site;
 use f77_check::Checked;
-use f77_sites::{New, nodes, with_node};
+use f77_nodes::nodes;
+use f77_sites::{New, with_node};
 use f77_tree::Stmt;
 use mothra_codes::Op;
 use std::alloc::Global;

@@ -1,7 +1,7 @@
 //! What operators put in the place of a reference: in an expression, where an assignment assigns, or as a DO variable.
 
 ghost use Rattle.std.specs.Prelude.{◌≡◌, [], map, if◌then◌else◌, IfOk, IfErr};
-ghost use Rattle.f77_tree.specs.Node.{NodeOf};
+ghost use Rattle.f77_nodes.specs.Node.{NodeOf};
 ghost use Rattle.f77_tree.specs.View.{trees, tree_of, place_of};
 ghost use Rattle.f77_sites.specs.New.{new_of};
 ghost use Rattle.mothra_ops.specs.Pools.{fields_of, reference_of};

@@ -1,7 +1,7 @@
 //! Laws of the operators' lists.
 
 ghost use Rattle.std.specs.Prelude.{◌≡◌, ◌*◌, ◌<◌, ◌≤◌, ◌⊎◌, ℕ, List, length, slice_get};
-ghost use Rattle.f77_tree.specs.Parsing.{LineFields};
+ghost use Rattle.f77_program.specs.Program.{LineFields};
 ghost use Rattle.mothra_ops.specs.Edits.{Lists, IsMember, IsTooLong, thinned, most_edits, most_whole};
 ghost use Rattle.mothra_ops.specs.declared.edit.Edit.{Edit};
 ghost use Rattle.mothra_codes.specs.declared.op.Op.{Op};

@@ -2,7 +2,7 @@
 
 ghost use Rattle.std.specs.Prelude.{◌≡◌, ◌++◌, ◌≤◌, option_map, string_bytes, codes, None, IfOk, IfErr, IfSome, IfNone, OnOk};
 ghost use Rattle.f77_check.specs.Checked.{shapes};
-ghost use Rattle.f77_tree.specs.Patching.{patched};
+ghost use Rattle.f77_program.specs.Patching.{patched};
 ghost use Rattle.f77_tree.specs.StatementView.{statement_of};
 ghost use Rattle.mothra_ops.specs.Edits.{IsMutant, numbered};
 ghost use Rattle.mothra_ops.specs.Mutants.{change_text, line_at, mutant_fields, mutant_made, mutant_name, mutant_of, mutant_text, program_of};
@@ -14,7 +14,8 @@ use crate::edit::Edit;
 use crate::fault::OpsFault;
 use crate::original::Original;
 use crate::plan::Plan;
-use f77_tree::{Stmt, print_stmt};
+use f77_program::print_stmt;
+use f77_tree::Stmt;
 use mothra_codes::Op;
 use std::alloc::{AllocError, Global};
 use std::marker::Model;

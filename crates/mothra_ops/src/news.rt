@@ -1,7 +1,7 @@
 //! Lists of what operators put in the place of nodes, as nodes.
 
 ghost use Rattle.std.specs.Prelude.{◌≡◌, map, IfOk, IfErr};
-ghost use Rattle.f77_tree.specs.Node.{NodeOf};
+ghost use Rattle.f77_nodes.specs.Node.{NodeOf};
 ghost use Rattle.f77_tree.specs.View.{tree_of};
 ghost use Rattle.f77_sites.specs.New.{new_of};
 ghost use Rattle.mothra_ops.specs.InPlaces.{target_of, variable_of};

@@ -12,7 +12,8 @@ use crate::fault::OpsFault;
 use crate::pools::Pools;
 use crate::replacing::gives;
 use f77_check::{CheckFault, Checked};
-use f77_sites::{nodes, with_node};
+use f77_nodes::nodes;
+use f77_sites::with_node;
 use f77_tree::Stmt;
 use std::alloc::Global;
 

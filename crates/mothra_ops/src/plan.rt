@@ -2,7 +2,7 @@
 
 ghost use Rattle.std.specs.Prelude.{◌≡◌, ◌↔◌, ◌≤◌, map, length, option_map, Contains, IfOk, IfErr, IsTrue};
 ghost use Rattle.std.specs.Coded.{codes};
-ghost use Rattle.f77_tree.specs.Parsing.{line_of};
+ghost use Rattle.f77_program.specs.Program.{line_of};
 ghost use Rattle.f77_tree.specs.contracts.tree.Expr as expr;
 ghost use Rattle.f77_tree.specs.contracts.tree.Stmt as stmt;
 ghost use Rattle.f77_check.specs.contracts.action.Action as action;

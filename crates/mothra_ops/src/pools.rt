@@ -5,8 +5,8 @@ ghost use Rattle.std.specs.Bool.{beq};
 ghost use Rattle.std.specs.List.{filter_map, insert};
 ghost use Rattle.indexmap.specs.IndexMap.{keys};
 ghost use Rattle.f77_tree.specs.Comparing.{same_tree};
-ghost use Rattle.f77_tree.specs.Node.{node_of};
-ghost use Rattle.f77_tree.specs.Parsing.{line_of};
+ghost use Rattle.f77_nodes.specs.Node.{node_of};
+ghost use Rattle.f77_program.specs.Program.{line_of};
 ghost use Rattle.f77_tree.specs.StatementView.{statement_of};
 ghost use Rattle.f77_tree.specs.View.{tree_of};
 ghost use Rattle.f77_legal.specs.Names.{some_items};
@@ -19,8 +19,9 @@ use crate::fault::OpsFault;
 use crate::places::is_element;
 use f77_check::Checked;
 use f77_legal::Names;
-use f77_sites::nodes;
-use f77_tree::{Expr, Line, Name, Node, Ref, Shared, Stmt};
+use f77_nodes::{Node, nodes};
+use f77_program::Line;
+use f77_tree::{Expr, Form, Name, Ref, Shared, Stmt};
 use std::alloc::Global;
 
 /// What the operators draw from: the names of a program with their kinds and bounds, its scalars and arrays, its array
@@ -44,27 +45,10 @@ pub(crate) struct Pools<'a> {
 pub(crate) fn is_executable(stmt: &Stmt) -> bool
     ensures { result ≡ model.is_executable (statement_of stmt.now) }
 {
-    match stmt {
-        Stmt::Subroutine { .. }
-        | Stmt::Declare { .. }
-        | Stmt::Dimension { .. }
-        | Stmt::Preset { .. } => false,
-        Stmt::Assign { .. }
-        | Stmt::Goto { .. }
-        | Stmt::ComputedGoto { .. }
-        | Stmt::ArithIf { .. }
-        | Stmt::LogicalIf { .. }
-        | Stmt::BlockIf { .. }
-        | Stmt::ElseIf { .. }
-        | Stmt::Else
-        | Stmt::EndIf
-        | Stmt::Loop { .. }
-        | Stmt::Continue
-        | Stmt::Return
-        | Stmt::Stop
-        | Stmt::Trap
-        | Stmt::End => true,
-    }
+    !matches!(
+        stmt.form(),
+        Form::Subroutine | Form::Declare | Form::Dimension | Form::Preset
+    )
 }
 
 /// The nodes of the executable statements, in order.

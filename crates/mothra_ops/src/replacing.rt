@@ -2,8 +2,7 @@
 
 ghost use Rattle.std.specs.Prelude.{◌≡◌, ◌&&◌, ◌∷◌, [], not, map, if◌then◌else◌, IfOk, IfErr};
 ghost use Rattle.f77_tree.specs.Comparing.{same_statement};
-ghost use Rattle.f77_tree.specs.declared.form.Form.TheVariants as form;
-ghost use Rattle.f77_tree.specs.Node.{NodeOf, node_of};
+ghost use Rattle.f77_nodes.specs.Node.{NodeOf, node_of};
 ghost use Rattle.f77_tree.specs.StatementView.{statement_of};
 ghost use Rattle.f77_sites.specs.New.{new_of};
 ghost use Rattle.mothra_ops.specs.Pools.{PoolFields, fields_of};
@@ -16,63 +15,24 @@ use crate::in_places::{in_target, in_variable};
 use crate::news::{in_labels, in_parts, in_values};
 use crate::pools::{Pools, is_executable};
 use crate::statements::{acts, acts_or_continues, next_constants, other_labels};
+use f77_nodes::Node;
 use f77_sites::New;
-use f77_tree::{Node, Stmt, Value};
+use f77_tree::{Form, Stmt, Value};
 use mothra_codes::Op;
 use std::alloc::Global;
 
-/// Whether the statement is a DO.
-fn is_loop(stmt: &Stmt) -> bool
-    ensures { result ≡ model.is_form form.Loop (statement_of stmt.now) }
+/// Whether statements of this form are DOs.
+fn is_loop(form: Form) -> bool
+    ensures { result ≡ model.is_loop form }
 {
-    match stmt {
-        Stmt::Loop { .. } => true,
-        Stmt::Subroutine { .. }
-        | Stmt::Declare { .. }
-        | Stmt::Dimension { .. }
-        | Stmt::Preset { .. }
-        | Stmt::Assign { .. }
-        | Stmt::Goto { .. }
-        | Stmt::ComputedGoto { .. }
-        | Stmt::ArithIf { .. }
-        | Stmt::LogicalIf { .. }
-        | Stmt::BlockIf { .. }
-        | Stmt::ElseIf { .. }
-        | Stmt::Else
-        | Stmt::EndIf
-        | Stmt::Continue
-        | Stmt::Return
-        | Stmt::Stop
-        | Stmt::Trap
-        | Stmt::End => false,
-    }
+    matches!(form, Form::Loop)
 }
 
-/// Whether the statement is DATA.
-fn is_preset(stmt: &Stmt) -> bool
-    ensures { result ≡ model.is_form form.Preset (statement_of stmt.now) }
+/// Whether statements of this form are DATA.
+fn is_preset(form: Form) -> bool
+    ensures { result ≡ model.is_preset form }
 {
-    match stmt {
-        Stmt::Preset { .. } => true,
-        Stmt::Subroutine { .. }
-        | Stmt::Declare { .. }
-        | Stmt::Dimension { .. }
-        | Stmt::Assign { .. }
-        | Stmt::Goto { .. }
-        | Stmt::ComputedGoto { .. }
-        | Stmt::ArithIf { .. }
-        | Stmt::LogicalIf { .. }
-        | Stmt::BlockIf { .. }
-        | Stmt::ElseIf { .. }
-        | Stmt::Else
-        | Stmt::EndIf
-        | Stmt::Loop { .. }
-        | Stmt::Continue
-        | Stmt::Return
-        | Stmt::Stop
-        | Stmt::Trap
-        | Stmt::End => false,
-    }
+    matches!(form, Form::Preset)
 }
 
 /// Whether the operator has sites in the statement.
@@ -80,9 +40,9 @@ fn stands_in(op: Op, stmt: &Stmt) -> bool
     ensures { result ≡ model.stands_in op (statement_of stmt.now) }
 {
     match op {
-        Op::Der => is_loop(stmt),
-        Op::Dsa => is_preset(stmt),
-        Op::Glr => is_executable(stmt) && !is_loop(stmt),
+        Op::Der => is_loop(stmt.form()),
+        Op::Dsa => is_preset(stmt.form()),
+        Op::Glr => is_executable(stmt) && !is_loop(stmt.form()),
         _ => is_executable(stmt),
     }
 }

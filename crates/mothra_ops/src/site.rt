@@ -1,6 +1,7 @@
 //! Sites.
 
-use f77_tree::{Node, Stmt};
+use f77_nodes::Node;
+use f77_tree::Stmt;
 
 /// A node of a statement of a program, in the place of which an operator puts others.
 #[derive(Clone, Copy, Drop)]

@@ -1,8 +1,8 @@
 //! Constants and the values of DATA: CRP, SRC, SCR and DSA.
 
 use crate::listed::assert_mutants;
+use sample_programs::LOOP;
 use std::test::Fail;
-use test_checks::LOOP;
 
 const ZEROS: &str = "SUBROUTINE Z(K); K=K-0; K=-0; END";
 

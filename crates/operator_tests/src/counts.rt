@@ -1,8 +1,8 @@
 //! How many mutants operators have.
 
 use crate::listed::{assert_counts, assert_mutants};
+use sample_programs::repeated;
 use std::test::Fail;
-use test_programs::repeated;
 
 #[test]
 fn counts_the_mutants_of_a_sum(rt: HostRuntime) -> Result<(), Fail> {

@@ -1,8 +1,8 @@
 //! Operators, signs and values of expressions: AOR, LCR, ROR, ABS and UOI.
 
 use crate::listed::assert_mutants;
+use sample_programs::{ADD, LOOP};
 use std::test::Fail;
-use test_checks::{ADD, LOOP};
 
 const LOG: &str = "SUBROUTINE LOG(P,Q); LOGICAL P,Q; P=P.AND.Q; END";
 

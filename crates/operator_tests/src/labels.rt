@@ -1,8 +1,8 @@
 //! Labels in the place of others: GLR and DER.
 
 use crate::listed::assert_mutants;
+use sample_programs::LOOP;
 use std::test::Fail;
-use test_checks::LOOP;
 
 const SELECTED: &str =
     "SUBROUTINE SEL(I,K); GO TO (10,20),I; K=0; RETURN; 10 K=1; RETURN; 20 K=2; END";

@@ -1,12 +1,11 @@
 //! The mutants of a program as texts.
 
 use f77_check::Checked;
-use f77_tree::print_stmt;
+use f77_program::print_stmt;
 use mothra_ops::{Edit, Op, apply, edits};
+use sample_programs::{checked, parts};
 use std::process::Abort;
 use std::test::Fail;
-use test_checks::checked;
-use test_programs::parts;
 
 /// The operator with this code.
 pub(crate) fn operator(code: &str) -> Result<Op, Fail> {

@@ -2,12 +2,11 @@
 
 use crate::listed::operator;
 use f77_check::Checked;
-use f77_tree::print;
+use f77_program::print;
 use mothra_ops::{Edit, OpsFault, apply};
+use sample_programs::{ADD, LOOP, checked, parts, program};
 use std::process::Abort;
 use std::test::Fail;
-use test_checks::{ADD, LOOP, checked};
-use test_programs::{parts, program};
 
 /// The edit of an operator's code and the numbers of the statement, the position and the rank.
 fn edit(code: &str, statement: usize, position: usize, rank: usize) -> Result<Edit, Fail> {

@@ -2,10 +2,9 @@
 
 use crate::listed::operator;
 use mothra_ops::{Edit, Op, Plan};
+use sample_programs::{ADD, checked, parts};
 use std::process::Abort;
 use std::test::Fail;
-use test_checks::{ADD, checked};
-use test_programs::parts;
 
 /// The plan of the sum for these operators.
 fn plan(rt: &impl AllocGlobal, ops: &[Op], every: u32) -> Result<Plan, Fail> {

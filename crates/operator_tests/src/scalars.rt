@@ -1,8 +1,8 @@
 //! Scalars in the place of others: SVR, and which sites DO variables, targets and names that are only declared are.
 
 use crate::listed::assert_mutants;
+use sample_programs::{ADD, LOOP};
 use std::test::Fail;
-use test_checks::{ADD, LOOP};
 
 const LOG: &str = "SUBROUTINE LOG(P,Q); LOGICAL P,Q; P=P.AND.Q; END";
 

@@ -1,8 +1,8 @@
 //! Statements in the place of others: SDL, RSR and SAN.
 
 use crate::listed::assert_mutants;
+use sample_programs::LOOP;
 use std::test::Fail;
-use test_checks::LOOP;
 
 const RETURNS: &str = "SUBROUTINE S(K); RETURN; END";
 

@@ -1,8 +1,8 @@
 //! Lists of which each such mutant is kept, from the first.
 
 use crate::listed::assert_mutants;
+use sample_programs::ADD;
 use std::test::Fail;
-use test_checks::ADD;
 
 #[test]
 fn thins_absolute_values(rt: HostRuntime) -> Result<(), Fail> {

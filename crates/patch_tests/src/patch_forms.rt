@@ -3,9 +3,9 @@
 
 use f77_check::Checked;
 use f77_syntax::Stmt;
+use sample_programs::{changed, checked, held, holder, patch_fault, patched_fault, whole_fault};
 use std::process::Abort;
 use std::test::Fail;
-use test_checks::{changed, checked, held, holder, patch_fault, patched_fault, whole_fault};
 
 /// A program that has each form of statement.
 const FORMS: &str =

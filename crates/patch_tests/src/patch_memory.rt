@@ -3,10 +3,11 @@
 
 use f77_check::{CheckFault, Checked};
 use f77_syntax::Stmt;
+use sample_programs::{
+    checked, held, holder, number_and_text, patch_fault, patched_fault, program,
+};
 use std::process::Abort;
 use std::test::Fail;
-use test_checks::{checked, held, holder, number_and_text, patch_fault, patched_fault};
-use test_programs::program;
 
 const LOOP: &str = "SUBROUTINE S(K); DO 10 I=1,3; 10 K=K+I; END";
 

@@ -3,10 +3,11 @@
 
 use f77_check::Checked;
 use f77_syntax::print;
+use sample_programs::{
+    ADD, LOOP, PRESET, changed, checked, held, holder, number_and_text, parts, program, verdict_on,
+};
 use std::process::Abort;
 use std::test::Fail;
-use test_checks::{ADD, LOOP, PRESET, changed, checked, held, holder, number_and_text, verdict_on};
-use test_programs::{parts, program};
 
 const BLOCK: &str = "SUBROUTINE S(K); IF (K.GT.0) THEN; L=1; ELSE; K=2; END IF; 10 K=K; END";
 

@@ -1,9 +1,9 @@
 //! The variables, arrays and labels of checked programs.
 
 use f77_check::{Checked, Variable};
+use sample_programs::{changed, checked};
 use std::process::Abort;
 use std::test::Fail;
-use test_checks::{changed, checked};
 
 const PROGRAM: &str =
     "SUBROUTINE S(K,P); DIMENSION M(2,3); INTEGER L,V(4); LOGICAL P,Q(5); DATA N/1/; \

@@ -2,11 +2,9 @@
 
 use f77_check::Checked;
 use f77_run::{Arg, Outcome, RunFault, run};
+use sample_programs::{arguments, checked, parts};
 use std::process::Abort;
 use std::test::Fail;
-use test_arguments::arguments;
-use test_checks::checked;
-use test_programs::parts;
 
 fn show_numbers(text: &mut String, values: &[i32]) -> Result<(), Fail> {
     text.push_str(" (")?;

@@ -1,11 +1,9 @@
 //! Whether runs of one program, one after another, have outcomes: each run is as if it were the first.
 
 use f77_run::{Outcome, RunFault, Runner, Values};
+use sample_programs::{arguments, checked, parts};
 use std::process::Abort;
 use std::test::Fail;
-use test_arguments::arguments;
-use test_checks::checked;
-use test_programs::parts;
 
 /// An outcome, written as `Returned 2 3`, `Stopped 2 3`, or its name.
 fn outcome(rt: &impl AllocGlobal, text: &str) -> Result<Outcome, Fail> {

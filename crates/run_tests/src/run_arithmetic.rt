@@ -1,10 +1,9 @@
 //! Outcomes of assignments.
 
 use crate::outcomes::{assert_outcomes, outcome};
+use sample_programs::{checked, parts};
 use std::process::Abort;
 use std::test::Fail;
-use test_checks::checked;
-use test_programs::parts;
 
 const ASSIGNMENTS: &[&str] = &[
     "K=I/J at -7 2 => Returned -7 2 -3",

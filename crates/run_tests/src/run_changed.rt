@@ -1,9 +1,9 @@
 //! Outcomes of programs with one statement changed.
 
 use crate::outcomes::assert_outcomes_of;
+use sample_programs::{ADD, LOOP, PRESET, changed, checked};
 use std::process::Abort;
 use std::test::Fail;
-use test_checks::{ADD, LOOP, PRESET, changed, checked};
 
 fn assert_runs(
     rt: &(impl AllocGlobal + Abort),

@@ -2,11 +2,9 @@
 
 use f77_check::Checked;
 use f77_run::{RunFault, Values, reached_statements};
+use sample_programs::{arguments, checked, parts};
 use std::process::Abort;
 use std::test::Fail;
-use test_arguments::arguments;
-use test_checks::checked;
-use test_programs::parts;
 
 fn digits(rt: &impl AllocGlobal, reached: &Values<bool>) -> Result<String, Fail> {
     let mut text = String::new(rt.alloc());

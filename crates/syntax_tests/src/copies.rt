@@ -1,14 +1,14 @@
 //! Copies of programs and statements, which print as what they were made from.
 
 ghost use Rattle.std.specs.Prelude.{◌≡◌, IfOk, IfErr, map};
-ghost use Rattle.f77_tree.specs.Parsing.{line_of};
+ghost use Rattle.f77_program.specs.Program.{line_of};
 ghost use Rattle.f77_tree.specs.StatementView.{statement_of};
 
 use crate::lines::{assign, lines, lines_of, printed};
 use f77_syntax::{Expr, Program, Stmt, SyntaxFault};
+use sample_programs::{read, source};
 use std::process::Abort;
 use std::test::Fail;
-use test_programs::{read, source};
 
 /// A caller that answers with faults: it knows the lines of the copy, and the only fault.
 fn copy_program(program: &Program) -> Result<Program, SyntaxFault>

@@ -1,17 +1,17 @@
 //! Which cards, statements and programs are equal.
 
 ghost use Rattle.std.specs.Prelude.{◌≡◌, ◌↔◌, true, map};
-ghost use Rattle.f77_tree.specs.Parsing.{line_of};
+ghost use Rattle.f77_program.specs.Program.{line_of};
 
 use crate::cards::parsed;
 use f77_source::Card;
 use f77_syntax::{Expr, Line, Program, Stmt};
+use sample_programs::{parts, program};
 use std::process::Abort;
 use std::test::Fail;
-use test_programs::{parts, program};
 
 /// A caller that answers by `==`: it knows that equal programs have the same lines, and unequal ones not.
-#[tactic(auto, using(f77_tree::specs::SameTrees::lines_decide))]
+#[tactic(auto, using(f77_program::specs::SameLines::lines_decide))]
 fn is_same(program: &Program, other: &Program) -> bool
     ensures { (result ≡ true) ↔ (map line_of program.now ≡ map line_of other.now) }
 {

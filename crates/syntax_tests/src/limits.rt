@@ -1,9 +1,9 @@
 //! The limits on one statement.
 
 use crate::statements::shown;
+use sample_programs::{parts, repeated};
 use std::process::Abort;
 use std::test::Fail;
-use test_programs::{parts, repeated};
 
 /// Compares what is shown of K = I in so many parentheses.
 fn assert_depth(rt: &(impl AllocGlobal + Abort), depth: usize, want: &str) -> Result<(), Fail> {

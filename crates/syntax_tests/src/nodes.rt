@@ -1,10 +1,11 @@
 //! The nodes of statements, in the order of their numbers.
 
 use crate::cards::parsed;
+use f77_nodes::nodes;
 use f77_syntax::{Constant, Expr, Name, Node, Program, Stmt, Value, print_stmt};
+use sample_programs::parts;
 use std::process::Abort;
 use std::test::Fail;
-use test_programs::parts;
 
 const HEADING: &str = "SUBROUTINEA(I,B1)";
 
@@ -75,13 +76,10 @@ fn borne_text(rt: &impl AllocGlobal, node: Node<'_>) -> Result<String, Fail> {
 }
 
 /// The nodes of a statement, from node 0 on.
-fn nodes(rt: &impl AllocGlobal, stmt: &Stmt) -> Result<String, Fail> {
+fn node_texts(rt: &impl AllocGlobal, stmt: &Stmt) -> Result<String, Fail> {
     let mut text = String::new(rt.alloc());
-    for position in 0..200 {
-        let Some(node) = stmt.node(position) else {
-            break;
-        };
-        text.push_str(node_text(rt, node)?.as_str())?;
+    for node in &nodes(rt.alloc(), stmt)? {
+        text.push_str(node_text(rt, *node)?.as_str())?;
         text.push(';')?;
     }
     Ok(text)
@@ -90,11 +88,8 @@ fn nodes(rt: &impl AllocGlobal, stmt: &Stmt) -> Result<String, Fail> {
 /// The names and the labels of a statement's nodes, in order.
 fn borne(rt: &impl AllocGlobal, stmt: &Stmt) -> Result<String, Fail> {
     let mut text = String::new(rt.alloc());
-    for position in 0..200 {
-        let Some(node) = stmt.node(position) else {
-            break;
-        };
-        text.push_str(borne_text(rt, node)?.as_str())?;
+    for node in &nodes(rt.alloc(), stmt)? {
+        text.push_str(borne_text(rt, *node)?.as_str())?;
         text.push(';')?;
     }
     Ok(text)
@@ -105,7 +100,7 @@ fn assert_nodes(rt: &(impl AllocGlobal + Abort), rows: &[&str]) -> Result<(), Fa
     for row in rows {
         let (text, want) = parts(row)?;
         let program = parsed(rt, HEADING, text)?;
-        let found = nodes(rt, statement(&program, 2)?)?;
+        let found = node_texts(rt, statement(&program, 2)?)?;
         assert_eq!(rt; found.as_str(), want, "{row}");
     }
     Ok(())
@@ -145,7 +140,7 @@ fn numbers_the_nodes(rt: HostRuntime) -> Result<(), Fail> {
 #[test]
 fn numbers_the_nodes_of_a_heading(rt: HostRuntime) -> Result<(), Fail> {
     let program = parsed(&rt, HEADING, "CONTINUE")?;
-    let found = nodes(&rt, statement(&program, 1)?)?;
+    let found = node_texts(&rt, statement(&program, 1)?)?;
     assert_eq!(rt; found.as_str(), "SUBROUTINE A(I,B1);I;B1;");
     Ok(())
 }

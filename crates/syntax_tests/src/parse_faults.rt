@@ -3,9 +3,9 @@
 use crate::statements::{assert_statements, fault_text};
 use f77_source::read_form;
 use f77_syntax::{Program, parse};
+use sample_programs::parts;
 use std::process::Abort;
 use std::test::Fail;
-use test_programs::parts;
 
 const STATEMENTS: &[&str] = &[
     "K=I**-J => Unknown(2)",

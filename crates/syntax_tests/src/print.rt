@@ -1,9 +1,9 @@
 //! Programs in fixed form.
 
 use crate::lines::{lines_of, printed};
+use sample_programs::{parts, read};
 use std::process::Abort;
 use std::test::Fail;
-use test_programs::{parts, read};
 
 /// The program of a source, printed.
 fn reprinted(rt: &impl AllocGlobal, source: &str) -> Result<String, Fail> {

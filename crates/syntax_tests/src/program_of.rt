@@ -2,9 +2,9 @@
 
 use crate::lines::{assign, lines, lines_of, name, printed};
 use f77_syntax::{Expr, Intrinsic, Line, Ref, Stmt};
+use sample_programs::read;
 use std::process::Abort;
 use std::test::Fail;
-use test_programs::read;
 
 const ADD: &str = "      SUBROUTINE ADD(I,J,K)\n      K=I+J\n      END\n";
 

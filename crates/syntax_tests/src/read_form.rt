@@ -1,9 +1,9 @@
 //! Sources and their cards, from the rules of fixed form.
 
 use f77_source::{Card, read_form};
+use sample_programs::{parts, repeated};
 use std::process::Abort;
 use std::test::Fail;
-use test_programs::{parts, repeated};
 
 /// Cards as `line:label:text;`.
 fn cards_text(rt: &impl AllocGlobal, cards: &[Card]) -> Result<String, Fail> {

@@ -2,9 +2,9 @@
 
 use crate::cards::parsed;
 use f77_syntax::{Program, SyntaxFault, print_stmt};
+use sample_programs::parts;
 use std::process::Abort;
 use std::test::Fail;
-use test_programs::parts;
 
 /// A fault by its name, and its line.
 pub(crate) fn fault_text(rt: &impl AllocGlobal, fault: SyntaxFault) -> Result<String, Fail> {

@@ -1,8 +1,8 @@
 //! Cards and their lines, from the rules of fixed form.
 
 use f77_source::{Card, write_form};
+use sample_programs::repeated;
 use std::test::Fail;
-use test_programs::repeated;
 
 /// The lines of a card, or its fault.
 fn written(rt: &impl AllocGlobal, card: Card) -> Result<String, Fail> {

@@ -5,11 +5,11 @@ ghost use Rattle.std.specs.Prelude.{◌≤◌};
 use mothra_bench::{Bench, Row, drive};
 use mothra_exchange::{TableExchange, Tally, Ticket};
 use mothra_ops::{Op, Plan};
+use sample_benches::{counts, sum_bench};
 use std::process::Abort;
 use std::sync::Wait;
 use std::test::Fail;
 use std::thread::Threads;
-use test_benches::{counts, sum_bench};
 
 /// How many of the rows are of this ticket.
 fn times(rows: &[Row], ticket: Ticket) -> usize {

@@ -5,11 +5,11 @@ ghost use Rattle.std.specs.Prelude.{◌≡◌, ◌+◌, ◌≤◌, true};
 use crate::holding::Holding;
 use mothra_bench::{Bench, BenchFault, collect, drive, render};
 use mothra_exchange::{Gate, LockedExchange, TableExchange};
+use sample_benches::{SUM, counts, report, sum_bench};
 use std::process::Abort;
 use std::sync::Wait;
 use std::test::Fail;
 use std::thread::Threads;
-use test_benches::{SUM, counts, report, sum_bench};
 
 /// The report that so many workers come to through a gate.
 pub(crate) fn driven<G: Gate + Sync, R: AllocGlobal + Threads + Wait + Sync>(

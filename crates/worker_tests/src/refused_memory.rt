@@ -2,11 +2,11 @@
 
 use mothra_bench::{Bench, BenchFault, drive};
 use mothra_exchange::TableExchange;
+use sample_benches::{counts, sum_bench};
 use std::process::Abort;
 use std::sync::Wait;
 use std::test::Fail;
 use std::thread::Threads;
-use test_benches::{counts, sum_bench};
 
 /// Drives four workers through an exchange, whose making may be refused, too.
 fn assert_undisturbed<R: Abort + AllocGlobal + Threads + Wait + Sync>(

@@ -4,12 +4,12 @@ use crate::gates::{assert_fault, assert_report, driven};
 use crate::tricks::{Trick, Tricky};
 use mothra_bench::{Bench, BenchFault};
 use mothra_exchange::{LockedExchange, TableExchange};
+use sample_benches::{SUM, counts, report, sum_bench, ticket};
 use std::process::Abort;
 use std::sync::Wait;
 use std::sync::atomic::AtomicU64;
 use std::test::Fail;
 use std::thread::Threads;
-use test_benches::{SUM, counts, report, sum_bench, ticket};
 
 /// The report that two workers come to over a gate that plays a trick, round an exchange of words.
 fn tricked<R: AllocGlobal + Threads + Wait + Sync>(

@@ -3,12 +3,12 @@
 ghost use Rattle.std.specs.Prelude.{◌≤◌};
 
 use mothra_bench::{Bench, analyse};
+use sample_benches::{Job, SUM, bench, report};
+use sample_programs::repeated;
 use std::process::Abort;
 use std::sync::Wait;
 use std::test::Fail;
 use std::thread::Threads;
-use test_benches::{Job, SUM, bench, report};
-use test_programs::repeated;
 
 /// Compares the report by so many workers, so many times.
 fn assert_same<R: Abort + AllocGlobal + Threads + Wait + Sync>(

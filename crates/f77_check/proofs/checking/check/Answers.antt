@@ -1,5 +1,5 @@
 use Rattle.std.proofs.Common.{◌≡◌, None, map, ap, sym, subst, ◌∙◌}
-use Rattle.f77_tree.specs.Parsing.{IsProgram, line_of}
+use Rattle.f77_program.specs.Program.{IsProgram, line_of}
 use Rattle.f77_check.specs.Checked.{shapes, IsChecked}
 use Rattle.f77_check.specs.CheckedView.{fields_of}
 use Rattle.f77_check.specs.Ready.{CanResolve}

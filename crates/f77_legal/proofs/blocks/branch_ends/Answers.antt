@@ -1,6 +1,6 @@
 use Rattle.std.proofs.Common.{◌≡◌, ◌<◌, ◌++◌, ◌∷◌, [], length, map, get_or, None, false, arith, ap, sym, ◌∙◌}
 use Rattle.std.proofs.lemmas.List.{length-map}
-use Rattle.f77_tree.specs.Parsing.{line_of}
+use Rattle.f77_program.specs.Program.{line_of}
 use Rattle.f77_legal.specs.Blocks.{is_in_block}
 use Rattle.f77_legal.specs.BlockTable.{block_end_at, branch_end_at}
 use Rattle.f77_legal.proofs.FirstNumbers.{get_or-table, table_more}

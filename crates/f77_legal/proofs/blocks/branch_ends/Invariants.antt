@@ -1,5 +1,5 @@
 use Rattle.std.proofs.Common.{◌≡◌, map}
-use Rattle.f77_tree.specs.Parsing.{line_of}
+use Rattle.f77_program.specs.Program.{line_of}
 use Rattle.f77_legal.specs.Blocks.{first_numbers, is_in_block}
 use Rattle.f77_legal.specs.BlockTable.{tabled, block_end_at, branch_end_at}
 use Rattle.f77_legal.proofs.blocks.branch_ends.Given as goal

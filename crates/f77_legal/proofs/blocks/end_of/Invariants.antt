@@ -1,5 +1,5 @@
 use Rattle.std.specs.Prelude.{map}
-use Rattle.f77_tree.specs.Parsing.{line_of}
+use Rattle.f77_program.specs.Program.{line_of}
 use Rattle.f77_legal.proofs.BlockScan.{Scanning}
 use Rattle.f77_legal.proofs.blocks.end_of.Given as goal
 

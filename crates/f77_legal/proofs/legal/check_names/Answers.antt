@@ -1,6 +1,6 @@
 use Rattle.std.proofs.Common.{map, ap, ◌∙◌, sym}
 use Rattle.std.specs.Prelude.{option_map}
-use Rattle.f77_tree.specs.Parsing.{line_of}
+use Rattle.f77_program.specs.Program.{line_of}
 use Rattle.f77_legal.specs.declared.fault.CheckFault.TheVariants.{RealName, Twice}
 use Rattle.f77_legal.proofs.First.{first_of, second_told, nothing_told}
 use Rattle.f77_legal.proofs.legal.check_names.Goals as goal

@@ -2,7 +2,7 @@ use Rattle.std.proofs.Common.{rules, tests, map, false}
 use Rattle.std.specs.Prelude.{◌&&◌}
 use Rattle.std.specs.Option.{option_and_then, option_map_or}
 use Rattle.std.specs.Str.{bytes_eq}
-use Rattle.f77_tree.specs.Parsing.{line_of}
+use Rattle.f77_program.specs.Program.{line_of}
 use Rattle.f77_legal.specs.Holders.{in_range}
 use Rattle.f77_legal.specs.Labels.{statement_at}
 use Rattle.f77_legal.specs.Loops.{variable_of}

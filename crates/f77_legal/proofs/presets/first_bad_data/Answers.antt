@@ -1,5 +1,5 @@
 use Rattle.std.proofs.Common.{sym, ap, ◌∙◌, map, Some}
-use Rattle.f77_tree.specs.Parsing.{line_of}
+use Rattle.f77_program.specs.Program.{line_of}
 use Rattle.f77_legal.specs.NameTable.{kind_at, bounds_at, dummy_at}
 use Rattle.f77_legal.specs.Runs.{breaks_data, names_held}
 use Rattle.f77_legal.proofs.FirstBad.{bad_here, none_bad, first_is}

@@ -1,5 +1,5 @@
 use Rattle.std.proofs.Common.{◌≡◌, [], map, drop}
-use Rattle.f77_tree.specs.Parsing.{line_of}
+use Rattle.f77_program.specs.Program.{line_of}
 use Rattle.f77_legal.specs.NameTable.{kind_at, bounds_at, dummy_at}
 use Rattle.f77_legal.specs.Runs.{names_held}
 use Rattle.f77_legal.proofs.FirstBad.{first_bad}

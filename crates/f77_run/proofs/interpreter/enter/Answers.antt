@@ -1,7 +1,7 @@
 use Rattle.std.proofs.Common.{◌≡◌, length, ap, sym, ◌∙◌}
 use Rattle.std.specs.List.{zip}
 use Rattle.std.proofs.lemmas.List.{length-map}
-use Rattle.f77_tree.specs.Parsing.{line_of}
+use Rattle.f77_program.specs.Program.{line_of}
 use Rattle.f77_run.specs.Spans.{all_filled}
 use Rattle.f77_run.specs.declared.machine.Place.TheVariants as places
 use Rattle.f77_run.proofs.Beginning.{filled_cells, room, machine_starts, machine_runs}

@@ -1,5 +1,5 @@
 use Rattle.std.proofs.Common.{arith, refl}
-use Rattle.f77_tree.specs.Node.{node_of}
+use Rattle.f77_nodes.specs.Node.{node_of}
 use Rattle.f77_sites.specs.Sites.{label_sites}
 use Rattle.f77_sites.proofs.Passes.{building_starts, next_item, last_item}
 use Rattle.f77_sites.proofs.changing.put_labels.Goals as goal

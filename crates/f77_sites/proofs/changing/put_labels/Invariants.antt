@@ -1,5 +1,5 @@
 use Rattle.std.proofs.Common.{drop}
-use Rattle.f77_tree.specs.Node.{node_of}
+use Rattle.f77_nodes.specs.Node.{node_of}
 use Rattle.f77_sites.specs.Sites.{label_sites}
 use Rattle.f77_sites.proofs.Passes.{Building}
 use Rattle.f77_sites.proofs.changing.put_labels.Given as goal

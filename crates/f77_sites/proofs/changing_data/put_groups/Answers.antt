@@ -1,7 +1,7 @@
 use Rattle.std.proofs.Common.{arith}
 use Rattle.std.specs.Prelude.{map}
 use Rattle.f77_tree.specs.Data.{data_group_of}
-use Rattle.f77_tree.specs.Node.{node_of}
+use Rattle.f77_nodes.specs.Node.{node_of}
 use Rattle.f77_sites.specs.Sites.{group_sites}
 use Rattle.f77_sites.proofs.Passes.{building_starts, next_viewed, last_viewed}
 use Rattle.f77_sites.proofs.changing_data.put_groups.Goals as goal

@@ -1,5 +1,5 @@
 use Rattle.std.proofs.Common.{drop}
-use Rattle.f77_tree.specs.Node.{node_of}
+use Rattle.f77_nodes.specs.Node.{node_of}
 use Rattle.f77_sites.specs.Sites.{value_sites}
 use Rattle.f77_sites.proofs.Passes.{Building}
 use Rattle.f77_sites.proofs.changing_data.put_values.Given as goal

@@ -1,5 +1,5 @@
 use Rattle.std.proofs.Common.{arith, refl, map}
-use Rattle.f77_tree.specs.Node.{node_of}
+use Rattle.f77_nodes.specs.Node.{node_of}
 use Rattle.f77_tree.specs.View.{tree_of}
 use Rattle.f77_sites.specs.Sites.{tree_sites}
 use Rattle.f77_sites.proofs.Passes.{building_starts, next_viewed, last_viewed, passed_items}

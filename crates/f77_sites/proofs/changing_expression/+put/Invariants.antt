@@ -1,6 +1,6 @@
 use Rattle.std.proofs.Common.{drop}
 use Rattle.std.specs.Prelude.{map}
-use Rattle.f77_tree.specs.Node.{node_of}
+use Rattle.f77_nodes.specs.Node.{node_of}
 use Rattle.f77_tree.specs.View.{tree_of}
 use Rattle.f77_sites.specs.Sites.{tree_sites}
 use Rattle.f77_sites.proofs.Passes.{Building}

@@ -4,7 +4,7 @@ use Rattle.f77_tree.specs.declared.tree.Expr.{Expr}
 use Rattle.f77_tree.specs.View.{tree_of, trees}
 use Rattle.std.proofs.lemmas.Result.{err_from_is_err_and}
 use Rattle.f77_tree.specs.Grammar.{is_name}
-use Rattle.f77_tree.specs.Limits.{cut}
+use Rattle.f77_tree.specs.Name.{cut}
 use Rattle.f77_syntax.specs.Reading.{after}
 use Rattle.f77_syntax.proofs.StatementGives.{reference_none, reference_scalar, reference_fails_items, reference_fails_close, reference_element, reference_whole}
 use Rattle.f77_syntax.proofs.assignment.reference.Goals as goal

@@ -1,7 +1,7 @@
 use Rattle.std.proofs.Common.{◌≡◌, true, false, refl, sym, ◌∙◌, ap}
 use Rattle.std.proofs.lemmas.Result.{err_from_is_err_and}
 use Rattle.f77_tree.specs.Grammar.{is_name}
-use Rattle.f77_tree.specs.Limits.{cut}
+use Rattle.f77_tree.specs.Name.{cut}
 use Rattle.f77_syntax.specs.Reading.{after}
 use Rattle.f77_syntax.proofs.DeclarationGives.{decl_none, decl_scalar, decl_fails_bounds, decl_fails_close, decl_array, decl_shorter}
 use Rattle.f77_syntax.proofs.declaration.declaration.Goals as goal

@@ -1,6 +1,6 @@
 use Rattle.std.proofs.Common.{ap, ◌∙◌, sym, ℕ, List}
 use Rattle.std.specs.Prelude.{map}
-use Rattle.f77_tree.specs.Limits.{cut}
+use Rattle.f77_tree.specs.Name.{cut}
 use Rattle.f77_tree.specs.Tree.{Tree}
 use Rattle.f77_syntax.specs.Reading.{listed_by}
 use Rattle.f77_tree.specs.View.{tree_of, trees}

@@ -1,5 +1,5 @@
 use Rattle.std.proofs.Common.{length, ℕ, List, ◌++◌}
-use Rattle.f77_tree.specs.declared.fault.ReadError.{ReadError}
+use Rattle.f77_syntax.specs.declared.fault.ReadError.{ReadError}
 use Rattle.f77_syntax.specs.Joined.{Joins, Breaks}
 use Rattle.f77_syntax.proofs.joined.joined.Given as goal
 

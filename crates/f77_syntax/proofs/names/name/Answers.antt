@@ -1,6 +1,6 @@
 use Rattle.std.proofs.Common.{◌≡◌, true, false, sym, ap, ◌∙◌}
 use Rattle.f77_tree.specs.Grammar.{is_name, word, past_word}
-use Rattle.f77_tree.specs.Limits.{cut}
+use Rattle.f77_tree.specs.Name.{cut}
 use Rattle.f77_syntax.proofs.DataGives.{no_name, a_name}
 use Rattle.f77_syntax.proofs.names.name.Goals as goal
 

@@ -1,5 +1,5 @@
 use Rattle.std.proofs.Common.{inr}
-use Rattle.f77_tree.specs.Parsing.{IsRefused}
+use Rattle.f77_syntax.specs.Parsing.{IsRefused}
 use Rattle.f77_syntax.proofs.parsing.admitted.Goals as goal
 
 pub returns-then-character_count-gt-MOST_CHARACTERS : goal.returns-then-character_count-gt-MOST_CHARACTERS

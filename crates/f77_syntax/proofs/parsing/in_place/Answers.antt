@@ -1,7 +1,7 @@
 use Rattle.std.proofs.Common.{inr, sym, ◌∙◌, subst, ap}
 use Rattle.std.proofs.lemmas.Result.{err_from_is_err_and}
-use Rattle.f77_tree.specs.Parsing.{IsAdmitted}
-use Rattle.f77_tree.specs.Group.{may_stand}
+use Rattle.f77_syntax.specs.Parsing.{IsAdmitted}
+use Rattle.f77_program.specs.Group.{may_stand}
 use Rattle.f77_tree.specs.StatementView.{statement_of}
 use Rattle.f77_syntax.proofs.Exact.{behind_end, refused_first, out_first}
 use Rattle.f77_syntax.proofs.parsing.in_place.Goals as goal
@@ -16,11 +16,11 @@ returns-in_err-stmt c =
 
 pub returns-then-not-may_stand : goal.returns-then-not-may_stand
 returns-then-not-may_stand c =
-    inr (out_first c.args.before c.args.card.now c.line-then-not-may_stand.result c.text.result.now (statement_of c.in_ok-stmt.stmt) c.misplaced.result c.group.result c.may_stand.result
-    (c.is_end.ensures.no c.if-is_end.false) c.line-then-not-may_stand.ensures c.text.ensures c.in_ok-stmt.ensures c.group.ensures c.may_stand.ensures c.if-not-may_stand.true c.misplaced.ensures)
+    inr (out_first c.args.before c.args.card.now c.line-then-not-may_stand.result c.text.result.now (statement_of c.in_ok-stmt.stmt) c.misplaced.result c.group_of.result c.may_stand.result
+    (c.is_end.ensures.no c.if-is_end.false) c.line-then-not-may_stand.ensures c.text.ensures c.in_ok-stmt.ensures c.group_of.ensures c.may_stand.ensures c.if-not-may_stand.true c.misplaced.ensures)
 
 pub returns : goal.returns
 returns c = (
   subst (λ z. IsAdmitted z (statement_of c.in_ok-stmt.stmt)) c.text.ensures c.in_ok-stmt.ensures,
-  ap (λ z. may_stand c.args.before z) (sym c.group.ensures) ∙ sym c.may_stand.ensures ∙ c.if-not-may_stand.false,
+  ap (λ z. may_stand c.args.before z) (sym c.group_of.ensures) ∙ sym c.may_stand.ensures ∙ c.if-not-may_stand.false,
 )

@@ -1,8 +1,8 @@
 use Rattle.std.proofs.Common.{inr}
 use Rattle.std.proofs.lemmas.Result.{err_from_is_err_and}
-use Rattle.f77_tree.specs.Parsing.{IsRefused}
+use Rattle.f77_syntax.specs.Parsing.{IsRefused}
 use Rattle.f77_tree.specs.StatementView.{statement_of}
-use Rattle.f77_syntax.proofs.Admit.{Kept, bad_name, bad_constant, many_nodes, all_well, not_spelled}
+use Rattle.f77_syntax.proofs.Admit.{Kept, bad_name, outside, all_well, not_spelled}
 use Rattle.f77_syntax.proofs.parsing.limited.Goals as goal
 
 pub returns-then-is_too_deep : goal.returns-then-is_too_deep
@@ -22,23 +22,15 @@ returns-then-not-has_short_names c =
     } in
     inr (bad_name c.args.line c.args.text.now _ c.has_short_names.result k c.has_short_names.ensures c.if-not-has_short_names.true)
 
-pub returns-then-not-statement_constants : goal.returns-then-not-statement_constants
-returns-then-not-statement_constants c =
+pub returns-in_err-within_limits : goal.returns-in_err-within_limits
+returns-in_err-within_limits c =
     let k : Kept c.args.text.now (statement_of c.in_ok-stmt.stmt) = record {
       characters = c.requires;
       flat = c.is_too_deep.ensures.flat c.if-is_too_deep.false;
       spells = c.in_ok-stmt.ensures;
     } in
-    inr (bad_constant c.args.line c.args.text.now _ c.has_short_names.result c.statement_constants.result k c.has_short_names.ensures c.if-not-has_short_names.false c.statement_constants.ensures c.if-not-statement_constants.true)
-
-pub returns-then-statement_nodes-gt-MOST_NODES : goal.returns-then-statement_nodes-gt-MOST_NODES
-returns-then-statement_nodes-gt-MOST_NODES c =
-    let k : Kept c.args.text.now (statement_of c.in_ok-stmt.stmt) = record {
-      characters = c.requires;
-      flat = c.is_too_deep.ensures.flat c.if-is_too_deep.false;
-      spells = c.in_ok-stmt.ensures;
-    } in
-    inr (many_nodes c.args.line c.args.text.now _ c.has_short_names.result c.statement_constants.result c.statement_nodes.result k c.has_short_names.ensures c.if-not-has_short_names.false c.statement_constants.ensures c.if-not-statement_constants.false c.statement_nodes.ensures c.if-statement_nodes-gt-MOST_NODES.true)
+    let p = err_from_is_err_and c.from_residual-in_err-within_limits.result c.from_residual-in_err-within_limits.ensures.1 in
+    rw (p.1, p.2) (outside c.args.line c.args.text.now _ c.has_short_names.result k c.has_short_names.ensures c.if-not-has_short_names.false c.in_err-within_limits.ensures.refused)
 
 pub returns : goal.returns
 returns c =
@@ -47,4 +39,4 @@ returns c =
       flat = c.is_too_deep.ensures.flat c.if-is_too_deep.false;
       spells = c.in_ok-stmt.ensures;
     } in
-    all_well c.args.text.now _ c.has_short_names.result c.statement_constants.result c.statement_nodes.result k c.has_short_names.ensures c.if-not-has_short_names.false c.statement_constants.ensures c.if-not-statement_constants.false c.statement_nodes.ensures c.if-statement_nodes-gt-MOST_NODES.false
+    all_well c.args.text.now _ c.has_short_names.result k c.has_short_names.ensures c.if-not-has_short_names.false c.in_ok-within_limits.ensures.constants c.in_ok-within_limits.ensures.few

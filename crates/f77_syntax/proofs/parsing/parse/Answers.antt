@@ -23,9 +23,9 @@ returns-in_err-stmt-clause-first_fault c = exactly_first c.args.cards.now c.from
 
 pub loop-card-preserved : goal.loop-card-preserved
 loop-card-preserved c = record {
-  lines = more_lines c.args.cards.now _ _ c.card-item.result c.loop-card.last c.group.result _ _ (statement_of c.in_ok-stmt.stmt) (drop_more c.args.cards.now c.loop-card.card-index c.card-item.result c.loop-card-test.true ∙ ap (λ z. z ∷ drop (c.loop-card.card-index + 1) c.args.cards.now) (sym c.card-item.is)) c.in_ok-stmt.ensures.0 c.in_ok-stmt.ensures.1 c.group.ensures
+  lines = more_lines c.args.cards.now _ _ c.card-item.result c.loop-card.last c.group_of.result _ _ (statement_of c.in_ok-stmt.stmt) (drop_more c.args.cards.now c.loop-card.card-index c.card-item.result c.loop-card-test.true ∙ ap (λ z. z ∷ drop (c.loop-card.card-index + 1) c.args.cards.now) (sym c.card-item.is)) c.in_ok-stmt.ensures.0 c.in_ok-stmt.ensures.1 c.group_of.ensures
       (pushed c.loop-card.lines.items c.push.new.self.items (record { label = c.label.result; stmt = c.in_ok-stmt.stmt; line = c.line.result }) c.card-item.result (c.in_ok-push.ensures.items ∙ ap (λ line. c.loop-card.lines.items ++ line ∷ []) c.in_ok-new.ensures) c.label.ensures c.line.ensures) c.loop-card.invariant.lines;
-  fault = more_faults c.args.cards.now _ _ c.card-item.result c.loop-card.last c.group.result (statement_of c.in_ok-stmt.stmt) (drop_more c.args.cards.now c.loop-card.card-index c.card-item.result c.loop-card-test.true ∙ ap (λ z. z ∷ drop (c.loop-card.card-index + 1) c.args.cards.now) (sym c.card-item.is)) c.in_ok-stmt.ensures.0 c.in_ok-stmt.ensures.1 c.group.ensures c.loop-card.invariant.fault;
+  fault = more_faults c.args.cards.now _ _ c.card-item.result c.loop-card.last c.group_of.result (statement_of c.in_ok-stmt.stmt) (drop_more c.args.cards.now c.loop-card.card-index c.card-item.result c.loop-card-test.true ∙ ap (λ z. z ∷ drop (c.loop-card.card-index + 1) c.args.cards.now) (sym c.card-item.is)) c.in_ok-stmt.ensures.0 c.in_ok-stmt.ensures.1 c.group_of.ensures c.loop-card.invariant.fault;
 }
 
 pub finished-requires : goal.finished-requires

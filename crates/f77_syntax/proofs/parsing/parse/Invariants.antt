@@ -1,7 +1,8 @@
 use Rattle.std.proofs.Common.{◌++◌, List, drop, None}
 use Rattle.std.specs.Prelude.{map}
-use Rattle.f77_tree.specs.declared.fault.SyntaxFault.{SyntaxFault}
-use Rattle.f77_tree.specs.Parsing.{AreLines, IsFirstFault, LineFields, line_of}
+use Rattle.f77_program.specs.declared.fault.SyntaxFault.{SyntaxFault}
+use Rattle.f77_syntax.specs.Parsing.{AreLines, IsFirstFault}
+use Rattle.f77_program.specs.Program.{LineFields, line_of}
 use Rattle.f77_syntax.proofs.parsing.parse.Given as goal
 
 -- what the other cards are, says what all the cards are

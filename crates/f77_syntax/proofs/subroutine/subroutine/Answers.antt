@@ -4,7 +4,7 @@ use Rattle.std.proofs.lemmas.Result.{err_from_is_err_and}
 use Rattle.std.proofs.lemmas.List.{nil_from_length}
 use Rattle.std.proofs.lemmas.Bool.{eqb-true}
 use Rattle.f77_tree.specs.Grammar.{is_name}
-use Rattle.f77_tree.specs.Limits.{cut}
+use Rattle.f77_tree.specs.Name.{cut}
 use Rattle.f77_tree.proofs.Views.{subroutine_view}
 use Rattle.f77_syntax.proofs.StatementGives.{subroutine_none, subroutine_bare, subroutine_other, subroutine_open, subroutine_fails, subroutine_whole}
 use Rattle.f77_syntax.proofs.subroutine.subroutine.Goals as goal

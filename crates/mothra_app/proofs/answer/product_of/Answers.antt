@@ -1,12 +1,12 @@
 use Rattle.std.proofs.Common.{◌≡◌, ◌⊎◌, inl, inr, refl, subst, sym, Err, Ok}
 use Rattle.mothra_app.specs.Answer.{IsOutcome}
 use Rattle.mothra_app.specs.Fault.{MayFailBy}
-use Rattle.mothra_app.specs.Job.{JobRead, job_of}
+use Rattle.mothra_job.specs.Job.{JobRead, job_of}
 use Rattle.mothra_app.specs.declared.fault.Fault.TheVariants.{Job}
-use Rattle.mothra_app.specs.declared.job.JobFault.{JobFault}
-use Rattle.mothra_app.specs.declared.job.JobFault.TheVariants.{Memory}
+use Rattle.mothra_job.specs.declared.job.JobFault.{JobFault}
+use Rattle.mothra_job.specs.declared.job.JobFault.TheVariants.{Memory}
 use Rattle.mothra_cli.specs.declared.request.Request.{Request}
-use Rattle.mothra_app.proofs.FewTests.{few_tests}
+use Rattle.mothra_job.proofs.FewTests.{few_tests}
 use Rattle.mothra_app.proofs.Memory.{job_in}
 use Rattle.mothra_app.proofs.Outcomes.{bench_made, executed, listed, printed, read_so, text_made}
 use Rattle.mothra_app.proofs.Sources.{told}

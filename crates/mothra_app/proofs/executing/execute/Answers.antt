@@ -1,6 +1,6 @@
 use Rattle.std.proofs.Common.{◌⊎◌, Ok, Err, map, subst}
 use Rattle.std.specs.Prelude.{Contains}
-use Rattle.f77_tree.specs.Parsing.{line_of}
+use Rattle.f77_program.specs.Program.{line_of}
 use Rattle.mothra_app.specs.Program.{IsLegalProgramOf}
 use Rattle.mothra_app.specs.Fault.{of_legal_programs}
 use Rattle.mothra_app.proofs.Executions.{executed_refused}

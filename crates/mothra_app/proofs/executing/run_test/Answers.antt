@@ -1,5 +1,5 @@
 use Rattle.std.proofs.Common.{rules, inl, map}
-use Rattle.f77_tree.specs.Parsing.{line_of}
+use Rattle.f77_program.specs.Program.{line_of}
 use Rattle.mothra_app.specs.Executing.{IsExecuted}
 use Rattle.mothra_app.proofs.Executions.{run_executed}
 use Rattle.mothra_app.proofs.executing.run_test.Goals as goal

@@ -1,6 +1,6 @@
 use Rattle.std.proofs.Common.{◌∙◌, ◌∷◌, [], refl, sym, append_assoc, string_bytes}
 use Rattle.std.specs.Fmt.{signed_decimal}
-use Rattle.f77_tree.proofs.JoinedForms.{separated_next}
+use Rattle.f77_program.proofs.JoinedForms.{separated_next}
 use Rattle.mothra_app.proofs.outcome_line.push_numbers.Goals as goal
 
 pub loop-number-preserved : goal.loop-number-preserved

@@ -1,6 +1,6 @@
 use Rattle.std.proofs.Common.{◌++◌, ◌∙◌, ◌∷◌, [], ap, refl, string_bytes}
 use Rattle.mothra_app.specs.OutcomeLine.{truth_text}
-use Rattle.f77_tree.proofs.JoinedForms.{separated_next}
+use Rattle.f77_program.proofs.JoinedForms.{separated_next}
 use Rattle.mothra_app.proofs.outcome_line.push_truths.Goals as goal
 
 pub loop-truth-preserved : goal.loop-truth-preserved

@@ -1,5 +1,5 @@
 use Rattle.std.proofs.Common.{map}
-use Rattle.f77_tree.specs.Parsing.{line_of}
+use Rattle.f77_program.specs.Program.{line_of}
 use Rattle.mothra_app.specs.declared.fault.Fault.TheVariants.{Syntax}
 use Rattle.mothra_app.proofs.Sources.{told, program_refused, text_refused, text_is}
 use Rattle.mothra_app.proofs.printing.print_source.Goals as goal

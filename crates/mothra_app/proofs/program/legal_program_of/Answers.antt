@@ -1,5 +1,5 @@
 use Rattle.std.proofs.Common.{map}
-use Rattle.f77_tree.specs.Parsing.{line_of}
+use Rattle.f77_program.specs.Program.{line_of}
 use Rattle.mothra_app.specs.declared.fault.Fault.TheVariants.{Check}
 use Rattle.mothra_app.proofs.LegalPrograms.{program_refused, check_refused, legal_is}
 use Rattle.mothra_app.proofs.Sources.{told}

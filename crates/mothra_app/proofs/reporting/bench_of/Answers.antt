@@ -1,6 +1,6 @@
 use Rattle.std.proofs.Common.{◌∙◌, ◌⊎◌, ap, sym, subst, map, Ok, Err}
 use Rattle.std.specs.Prelude.{Contains}
-use Rattle.f77_tree.specs.Parsing.{line_of}
+use Rattle.f77_program.specs.Program.{line_of}
 use Rattle.f77_check.specs.Checked.{CheckedFields}
 use Rattle.mothra_app.specs.Fault.{of_legal_programs}
 use Rattle.mothra_app.specs.Program.{IsLegalProgramOf}

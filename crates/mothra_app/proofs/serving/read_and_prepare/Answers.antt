@@ -1,6 +1,6 @@
 use Rattle.std.proofs.Common.{ℕ, List, subst}
 use Rattle.mothra_app.specs.Answer.{IsReady}
-use Rattle.mothra_app.specs.Job.{job_of}
+use Rattle.mothra_job.specs.Job.{job_of}
 use Rattle.mothra_app.proofs.Answered.{ready_by}
 use Rattle.mothra_app.proofs.serving.read_and_prepare.Goals as goal
 

@@ -1,6 +1,6 @@
 use Rattle.std.proofs.Common.{◌≡◌, List, All, sym, subst, ◌∙◌, rules}
 use Rattle.std.specs.Prelude.{AllPairs}
-use Rattle.mothra_exchange.specs.declared.ticket.Ticket.{Ticket}
+use Rattle.mothra_codes.specs.declared.ticket.Ticket.{Ticket}
 use Rattle.mothra_bench.specs.Collecting.{AreCollected, Before, IsKnown, IsNoMatrix}
 use Rattle.mothra_bench.specs.Entries.{AreNoEntries}
 use Rattle.mothra_bench.specs.Matrix.{tickets_of}

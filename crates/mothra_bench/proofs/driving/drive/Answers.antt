@@ -1,7 +1,7 @@
 use Rattle.std.proofs.Common.{◌≡◌, List, ◌++◌, take, ap, sym, subst, IfOk, arith, ◌∙◌}
 use Rattle.mothra_codes.specs.Op.{all_ops, index}
 use Rattle.mothra_codes.specs.declared.op.Op.{Op}
-use Rattle.mothra_exchange.specs.Ticket.{times}
+use Rattle.mothra_codes.specs.Ticket.{times}
 use Rattle.mothra_exchange.proofs.Counting.{times-append}
 use Rattle.mothra_bench.specs.Driving.{AreShared, IsDone}
 use Rattle.mothra_bench.specs.Gathered.{tickets_in}

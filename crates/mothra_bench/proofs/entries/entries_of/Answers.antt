@@ -2,8 +2,8 @@ use Rattle.std.proofs.Common.{◌≡◌, ◌<◌, ◌∷◌, [], ◌++◌, List,
 use Rattle.std.proofs.lemmas.List.{map-append}
 use Rattle.std.proofs.lemmas.List.Elements.{All-push}
 use Rattle.mothra_codes.specs.declared.op.Op.TheVariants.{Aar}
-use Rattle.mothra_exchange.specs.Ticket.{ticket}
-use Rattle.mothra_exchange.specs.declared.ticket.Ticket.{Ticket}
+use Rattle.mothra_codes.specs.Ticket.{ticket}
+use Rattle.mothra_codes.specs.declared.ticket.Ticket.{Ticket}
 use Rattle.mothra_bench.specs.Entries.{IsEntry}
 use Rattle.mothra_bench.specs.declared.matrix.Entry.{Entry}
 use Rattle.mothra_bench.proofs.CollectLists.{any_default, taken_more}

@@ -1,7 +1,7 @@
 use Rattle.std.proofs.Common.{◌∙◌, List, length, map, ap, sym, subst, arith}
 use Rattle.std.specs.Prelude.{All, IfSome, None, ◌≡◌, slice_get, Some}
 use Rattle.std.proofs.lemmas.List.{take_all}
-use Rattle.f77_tree.specs.Parsing.{line_of}
+use Rattle.f77_program.specs.Program.{line_of}
 use Rattle.f77_check.specs.Checked.{CheckedFields}
 use Rattle.f77_run.specs.Interpreter.{refusal}
 use Rattle.f77_run.specs.declared.argument.Arg.{Arg}

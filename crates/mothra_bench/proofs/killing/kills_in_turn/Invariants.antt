@@ -1,5 +1,5 @@
 use Rattle.std.proofs.Common.{◌≡◌, map, take}
-use Rattle.f77_tree.specs.Parsing.{line_of}
+use Rattle.f77_program.specs.Program.{line_of}
 use Rattle.mothra_ops.specs.Mutants.{program_of}
 use Rattle.mothra_bench.specs.Verdict.{IsAlone}
 use Rattle.mothra_bench.proofs.killing.kills_in_turn.Given as goal

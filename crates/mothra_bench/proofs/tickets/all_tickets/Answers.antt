@@ -3,7 +3,7 @@ use Rattle.std.proofs.lemmas.List.{length-append}
 use Rattle.mothra_codes.specs.Op.{all_ops, op_at}
 use Rattle.mothra_codes.specs.declared.op.Op.TheVariants.{Aar}
 use Rattle.mothra_ops.specs.Plan.{edits_of}
-use Rattle.mothra_exchange.specs.declared.ticket.Ticket.{Ticket}
+use Rattle.mothra_codes.specs.declared.ticket.Ticket.{Ticket}
 use Rattle.mothra_bench.specs.Matrix.{tickets}
 use Rattle.mothra_bench.proofs.CollectLists.{flat_map_more}
 use Rattle.mothra_bench.proofs.CollectTickets.{few_edits, length-tickets}

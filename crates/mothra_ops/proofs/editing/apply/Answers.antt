@@ -1,7 +1,7 @@
 use Rattle.std.proofs.Common.{◌≡◌, Some, map, ap, sym, ◌∙◌, refl, inr, true≢false}
 use Rattle.std.specs.Prelude.{option_map}
 use Rattle.f77_check.specs.Checked.{CheckedFields}
-use Rattle.f77_tree.specs.Parsing.{line_of}
+use Rattle.f77_program.specs.Program.{line_of}
 use Rattle.f77_tree.specs.StatementView.{statement_of}
 use Rattle.mothra_ops.specs.Edits.{made}
 use Rattle.mothra_ops.specs.Original.{lines_of}

@@ -1,5 +1,5 @@
 use Rattle.std.proofs.Common.{◌≡◌, map}
-use Rattle.f77_tree.specs.Node.{NodeOf}
+use Rattle.f77_nodes.specs.Node.{NodeOf}
 use Rattle.f77_sites.specs.New.{new_of}
 use Rattle.mothra_ops.proofs.news.in_values.Given as goal
 

@@ -1,5 +1,5 @@
 use Rattle.std.proofs.Common.{◌≡◌, map, take}
-use Rattle.f77_tree.specs.Parsing.{line_of}
+use Rattle.f77_program.specs.Program.{line_of}
 use Rattle.f77_legal.specs.Labels.{labels}
 use Rattle.f77_check.proofs.checked.Checked.labels.Given as goal
 

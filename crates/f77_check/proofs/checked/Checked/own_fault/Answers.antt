@@ -1,5 +1,5 @@
 use Rattle.std.proofs.Common.{map, sym, ap, subst, get_or, ◌∙◌}
-use Rattle.f77_tree.specs.Parsing.{line_of}
+use Rattle.f77_program.specs.Program.{line_of}
 use Rattle.f77_tree.specs.StatementView.{statement_of}
 use Rattle.f77_legal.specs.Patches as patches
 use Rattle.f77_legal.specs.Tables.{Serve}

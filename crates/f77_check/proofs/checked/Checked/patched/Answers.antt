@@ -1,6 +1,6 @@
 use Rattle.std.proofs.Common.{None, map, refl, sym, ap, subst, ◌∙◌, ◌-◌}
-use Rattle.f77_tree.specs.Parsing.{line_of}
-use Rattle.f77_tree.specs.Patching.{patched}
+use Rattle.f77_program.specs.Program.{line_of}
+use Rattle.f77_program.specs.Patching.{patched}
 use Rattle.f77_tree.specs.StatementView.{statement_of}
 use Rattle.f77_legal.specs.Legal.{IsLegal}
 use Rattle.f77_check.proofs.Changes.{none_legal}

@@ -1,6 +1,6 @@
 use Rattle.std.proofs.Common.{map, sym, subst, ap, ◌∙◌}
 use Rattle.indexmap.specs.IndexMap.{keys}
-use Rattle.f77_tree.specs.Parsing.{line_of}
+use Rattle.f77_program.specs.Program.{line_of}
 use Rattle.f77_check.specs.Checked.{IsChecked}
 use Rattle.f77_check.specs.CheckedView.{fields_of}
 use Rattle.f77_check.specs.Ready.{CanResolve}

@@ -1,7 +1,7 @@
 use Rattle.std.proofs.Common.{◌≡◌, ◌<◌, arith, ap, length, map, refl, set, sym, subst, ◌∙◌}
 use Rattle.std.proofs.lemmas.List.{length-map}
 use Rattle.indexmap.specs.IndexMap.{keys}
-use Rattle.f77_tree.specs.Parsing.{line_of}
+use Rattle.f77_program.specs.Program.{line_of}
 use Rattle.f77_check.specs.Patching.{IsChangedAlone}
 use Rattle.f77_check.specs.Ready.{CanResolve}
 use Rattle.f77_check.specs.Resolved.{IsResolved, AreResolved}

@@ -1,5 +1,5 @@
 use Rattle.std.proofs.Common.{map}
-use Rattle.f77_tree.specs.Parsing.{line_of}
+use Rattle.f77_program.specs.Program.{line_of}
 use Rattle.f77_check.proofs.checked.Checked.statements_with.Given as goal
 
 -- the lines of the changed program

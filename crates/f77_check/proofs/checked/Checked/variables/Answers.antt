@@ -1,5 +1,5 @@
 use Rattle.std.proofs.Common.{◌≡◌, IfOk, map, ap, subst, ◌∙◌}
-use Rattle.f77_tree.specs.Parsing.{line_of}
+use Rattle.f77_program.specs.Program.{line_of}
 use Rattle.f77_legal.specs.Names.{symbols}
 use Rattle.f77_check.specs.Symbols.{variable_of, variable_in}
 use Rattle.f77_check.proofs.Variables.{variables_are}

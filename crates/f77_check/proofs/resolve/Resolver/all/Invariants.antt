@@ -1,6 +1,6 @@
 use Rattle.indexmap.specs.IndexMap.{keys}
 use Rattle.std.specs.Prelude.{map}
-use Rattle.f77_tree.specs.Parsing.{line_of}
+use Rattle.f77_program.specs.Program.{line_of}
 use Rattle.f77_check.proofs.Sites.{AreFirst}
 use Rattle.f77_check.proofs.resolve.Resolver.all.Given as goal
 

@@ -1,5 +1,5 @@
 use Rattle.std.proofs.Common.{◌≡◌, map, take}
-use Rattle.f77_tree.specs.Parsing.{line_of}
+use Rattle.f77_program.specs.Program.{line_of}
 use Rattle.f77_check.proofs.Presetting.{preset_by}
 use Rattle.f77_check.proofs.resolve.Resolver.initial.Given as goal
 

@@ -1,7 +1,7 @@
 use Rattle.std.proofs.Common.{map, sym, ap, ◌∙◌}
 use Rattle.std.specs.List.{list_all}
 use Rattle.indexmap.specs.IndexMap.{keys}
-use Rattle.f77_tree.specs.Parsing.{line_of}
+use Rattle.f77_program.specs.Program.{line_of}
 use Rattle.f77_check.specs.Kept.{is_kept}
 use Rattle.f77_check.specs.Slots.{first_slot}
 use Rattle.f77_check.specs.Start.{is_executable}

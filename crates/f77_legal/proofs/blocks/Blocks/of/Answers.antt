@@ -1,5 +1,5 @@
 use Rattle.std.proofs.Common.{◌≡◌, map, ◌∙◌}
-use Rattle.f77_tree.specs.Parsing.{line_of}
+use Rattle.f77_program.specs.Program.{line_of}
 use Rattle.f77_legal.specs.Blocks.{is_in_block}
 use Rattle.f77_legal.specs.BlockTable.{tabled}
 use Rattle.f77_legal.proofs.BlockTables.{closing_table, after_else_table, inside_table}

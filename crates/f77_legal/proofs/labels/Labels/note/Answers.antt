@@ -1,5 +1,5 @@
 use Rattle.std.proofs.Common.{◌≡◌, None, rules}
-use Rattle.f77_tree.specs.Parsing.{line_of}
+use Rattle.f77_program.specs.Program.{line_of}
 use Rattle.f77_legal.specs.declared.labels.Labels.{Labels}
 use Rattle.f77_legal.proofs.LabelTables.{unlabelled, labelled}
 use Rattle.f77_legal.proofs.labels.Labels.note.Goals as goal

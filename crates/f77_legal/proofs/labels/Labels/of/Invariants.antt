@@ -1,5 +1,5 @@
 use Rattle.std.proofs.Common.{map, take}
-use Rattle.f77_tree.specs.Parsing.{line_of}
+use Rattle.f77_program.specs.Program.{line_of}
 use Rattle.f77_legal.specs.LabelTable.{IsLabelTable}
 use Rattle.f77_legal.proofs.labels.Labels.of.Given as goal
 

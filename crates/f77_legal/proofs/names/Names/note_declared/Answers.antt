@@ -1,6 +1,6 @@
 use Rattle.std.proofs.Common.{ap, sym, ◌∙◌, [], ◌∷◌}
 use Rattle.f77_tree.specs.Declaration.{decl_of}
-use Rattle.f77_tree.specs.Node.{NodeOf}
+use Rattle.f77_nodes.specs.Node.{NodeOf}
 use Rattle.f77_legal.specs.NameTable.{entries_of, with_nodes}
 use Rattle.f77_legal.proofs.Listing.{view_more}
 use Rattle.f77_legal.proofs.names.Names.note_declared.Goals as goal

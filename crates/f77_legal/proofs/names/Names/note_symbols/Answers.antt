@@ -1,5 +1,5 @@
 use Rattle.std.proofs.Common.{ap, sym, ◌∙◌, [], ◌∷◌}
-use Rattle.f77_tree.specs.Node.{NodeOf}
+use Rattle.f77_nodes.specs.Node.{NodeOf}
 use Rattle.f77_legal.specs.NameTable.{entries_of, with_nodes}
 use Rattle.f77_legal.proofs.Listing.{node_more}
 use Rattle.f77_legal.proofs.names.Names.note_symbols.Goals as goal

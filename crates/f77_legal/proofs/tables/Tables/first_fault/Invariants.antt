@@ -1,5 +1,5 @@
 use Rattle.std.proofs.Common.{◌≡◌, map, drop, slice_get}
-use Rattle.f77_tree.specs.Parsing.{line_of}
+use Rattle.f77_program.specs.Program.{line_of}
 use Rattle.f77_legal.specs.Legal.{clause_faults}
 use Rattle.f77_legal.specs.Tables.{Serve}
 use Rattle.f77_legal.proofs.tables.Tables.first_fault.Given as goal

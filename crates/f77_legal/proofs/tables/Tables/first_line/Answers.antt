@@ -1,6 +1,6 @@
 use Rattle.std.proofs.Common.{◌≤◌, map, length, ◌∙◌, sym, ap, arith, Some}
 use Rattle.std.proofs.lemmas.List.{length-map}
-use Rattle.f77_tree.specs.Parsing.{line_of}
+use Rattle.f77_program.specs.Program.{line_of}
 use Rattle.f77_legal.specs.Clause.{breaks}
 use Rattle.f77_legal.proofs.First.{skipped, found, none_left, line_here}
 use Rattle.f77_legal.proofs.tables.Tables.first_line.Goals as goal

@@ -1,5 +1,5 @@
 use Rattle.std.proofs.Common.{◌≡◌, map}
-use Rattle.f77_tree.specs.Parsing.{line_of}
+use Rattle.f77_program.specs.Program.{line_of}
 use Rattle.f77_legal.specs.Clause.{breaks}
 use Rattle.f77_legal.specs.Tables.{Serve}
 use Rattle.f77_legal.proofs.First.{first_from}

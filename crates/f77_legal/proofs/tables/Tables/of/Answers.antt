@@ -1,5 +1,5 @@
 use Rattle.std.proofs.Common.{map, refl}
-use Rattle.f77_tree.specs.Parsing.{line_of}
+use Rattle.f77_program.specs.Program.{line_of}
 use Rattle.f77_legal.proofs.Entries.{are_terminals, one_entry_each, branches_of_all}
 use Rattle.f77_legal.proofs.tables.Tables.of.Goals as goal
 

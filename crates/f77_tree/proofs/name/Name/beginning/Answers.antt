@@ -1,5 +1,5 @@
 use Rattle.std.proofs.Common.{sym, subst, ap, ◌∙◌}
-use Rattle.f77_tree.specs.Limits.{cut}
+use Rattle.f77_tree.specs.Name.{cut}
 use Rattle.f77_tree.specs.Name.{IsPadded}
 use Rattle.f77_tree.specs.Grammar.{word}
 use Rattle.f77_tree.proofs.Names.{cut_named, cut_short, padded_word, padded_well, written_over}

@@ -1,7 +1,7 @@
 use Rattle.std.proofs.Common.{◌≡◌, ◌∙◌, List, ap, subst}
 use Rattle.mothra_ops.specs.Mutants.{original_number}
-use Rattle.mothra_exchange.specs.Ticket.{ticket}
-use Rattle.mothra_exchange.specs.declared.ticket.Ticket.{Ticket}
+use Rattle.mothra_codes.specs.Ticket.{ticket}
+use Rattle.mothra_codes.specs.declared.ticket.Ticket.{Ticket}
 use Rattle.mothra_bench.specs.Bench.{BenchFields}
 use Rattle.mothra_bench.specs.Equivalents.{AreNamed}
 use Rattle.mothra_bench.proofs.BenchSets.{declared_by}

@@ -1,7 +1,7 @@
 use Rattle.std.proofs.Common.{List, rules, subst}
 use Rattle.std.specs.Prelude.{All}
 use Rattle.f77_run.specs.declared.argument.Arg.{Arg}
-use Rattle.mothra_exchange.specs.declared.ticket.Ticket.{Ticket}
+use Rattle.mothra_codes.specs.declared.ticket.Ticket.{Ticket}
 use Rattle.mothra_ops.specs.Mutants.{program_of}
 use Rattle.mothra_bench.specs.Bench.{AreOutcomes, Fits, IsNoBench}
 use Rattle.mothra_bench.specs.Equivalents.{IsNoEntry}

@@ -6,14 +6,14 @@ use Rattle.mothra_bench.proofs.row_map.RowMap.of.Goals as goal
 
 pub returns-then-not-branch-clause-refused : goal.returns-then-not-branch-clause-refused
 returns-then-not-branch-clause-refused c =
-    double_here c.placing.map c.args.rows.items c.placing.yielded (into_iter_items c.next.new.self) c.in-Some.row
-    (c.placing.invariant.2 ∙ ap (λ (l : List Row). c.placing.yielded ++ l) c.in-Some.ensures.steps.0)
-    (search rules) c.placing.invariant.3
+    double_here c.loop-row.map c.args.rows.items c.loop-row.yielded (into_iter_items c.next.new.self) c.in-Some.row
+    (c.loop-row.invariant.2 ∙ ap (λ (l : List Row). c.loop-row.yielded ++ l) c.in-Some.ensures.steps.0)
+    (search rules) c.loop-row.invariant.3
 
-pub placing-preserved : goal.placing-preserved
-placing-preserved c = (
+pub loop-row-preserved : goal.loop-row-preserved
+loop-row-preserved c = (
   tt,
   tt,
-  c.placing.invariant.2 ∙ (ap (λ (l : List Row). c.placing.yielded ++ l) c.in-Some.ensures.steps.0 ∙ sym (append_assoc c.placing.yielded (c.in-Some.row ∷ []) (into_iter_items c.next.new.self))),
-  has_more c.placing.map c.put.new.self c.placing.yielded c.in-Some.row (search rules) c.in_ok-put.ensures.rows c.placing.invariant.3,
+  c.loop-row.invariant.2 ∙ (ap (λ (l : List Row). c.loop-row.yielded ++ l) c.in-Some.ensures.steps.0 ∙ sym (append_assoc c.loop-row.yielded (c.in-Some.row ∷ []) (into_iter_items c.next.new.self))),
+  has_more c.loop-row.map c.put.new.self c.loop-row.yielded c.in-Some.row (search rules) c.in_ok-put.ensures.rows c.loop-row.invariant.3,
 )

@@ -3,9 +3,9 @@ use Rattle.std.specs.Vec.Iter.{into_iter_items}
 use Rattle.mothra_bench.specs.RowMap.{HasRows}
 use Rattle.mothra_bench.proofs.row_map.RowMap.of.Given as goal
 
-abbrev pub invariant-placing : goal.invariant-placing
-invariant-placing l =
-    (goal.iterator-placing).can_next l.row-iterator
-    × (goal.iterator-placing).is_finite l.row-iterator
+abbrev pub invariant-loop-row : goal.invariant-loop-row
+invariant-loop-row l =
+    (goal.iterator-loop-row).can_next l.row-iterator
+    × (goal.iterator-loop-row).is_finite l.row-iterator
     × (l.fn.rows.items ≡ l.yielded ++ into_iter_items l.row-iterator)
     × HasRows l.map l.yielded

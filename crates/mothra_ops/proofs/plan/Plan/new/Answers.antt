@@ -2,7 +2,7 @@ use Rattle.std.proofs.Common.{rules, ◌≡◌, map, arith, subst, sym, ℕ, ◌
 use Rattle.mothra_codes.specs.contracts.op.OpPartialEq.TheImpl.{ghosts}
 use Rattle.std.proofs.lemmas.Bool.Decides.{not_from_Decides}
 use Rattle.std.proofs.lemmas.List.Elements.{Decides-contains, contains_decides}
-use Rattle.f77_tree.specs.Parsing.{line_of}
+use Rattle.f77_program.specs.Program.{line_of}
 use Rattle.mothra_ops.specs.Edits.{IsCountedList}
 use Rattle.mothra_codes.specs.Op.{index, op_at}
 use Rattle.mothra_ops.specs.Plan.{IsNoPlan}

@@ -1,5 +1,5 @@
 use Rattle.std.specs.Prelude.{map}
-use Rattle.f77_tree.specs.Parsing.{line_of}
+use Rattle.f77_program.specs.Program.{line_of}
 use Rattle.mothra_ops.proofs.Plans.{HasLists}
 use Rattle.mothra_ops.proofs.plan.Plan.new.Given as goal
 

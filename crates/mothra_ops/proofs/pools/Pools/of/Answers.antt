@@ -1,8 +1,8 @@
 use Rattle.std.proofs.Common.{◌≡◌, map, subst, ap, ◌∙◌}
 use Rattle.std.specs.List.{filter_map}
 use Rattle.f77_tree.specs.Comparing.{same_tree}
-use Rattle.f77_tree.specs.Node.{node_of}
-use Rattle.f77_tree.specs.Parsing.{line_of}
+use Rattle.f77_nodes.specs.Node.{node_of}
+use Rattle.f77_program.specs.Program.{line_of}
 use Rattle.f77_legal.specs.NameTable.{IsNameTable}
 use Rattle.mothra_ops.specs.Pools.{each_once, array_reference, constant, ascending, executable_nodes}
 use Rattle.mothra_ops.proofs.PoolLines.{pools_are}

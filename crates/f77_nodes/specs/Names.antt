@@ -1,0 +1,60 @@
+-- The limit on the names of a statement: each has six characters at most.
+use Rattle.std.specs.Prelude.{List, Bool, true, ◌&&◌, Option, Some, None}
+use Rattle.std.specs.List.{list_all}
+use Rattle.f77_tree.specs.Name.{is_short}
+use Rattle.f77_tree.specs.Tree.{Tree, Trees, DeclFields, GroupFields, Statement}
+
+abbrev mutual
+  pub short_names : Tree → Bool
+  short_names (Tree.Number n) = true
+  short_names (Tree.Truth b) = true
+  short_names (Tree.Reference name items) = is_short name && all_short_names items
+  short_names (Tree.Call f items) = all_short_names items
+  short_names (Tree.Signed sign t) = short_names t
+  short_names (Tree.Not t) = short_names t
+  short_names (Tree.Binary op a b) = short_names a && short_names b
+  short_names (Tree.ZeroPush t) = short_names t
+
+  pub all_short_names : Trees → Bool
+  all_short_names Trees.None = true
+  all_short_names (Trees.Then t ts) = short_names t && all_short_names ts
+
+-- what holds of a tree, where there is one
+abbrev pub of_step : (Tree → Bool) → Option Tree → Bool
+of_step p None = true
+of_step p (Some t) = p t
+
+-- The limits: names of six characters at most, bounds that INTEGER has, and a node for each name.
+abbrev pub decl_name : DeclFields → Bool
+decl_name d = is_short d.name
+
+abbrev pub declaration_names : List DeclFields → Bool
+declaration_names ds = list_all decl_name ds
+
+-- The limits: names of six characters at most, numbers that INTEGER has, and a node for each name and each value.
+abbrev pub group_names : GroupFields → Bool
+group_names g = list_all is_short g.names
+
+abbrev pub data_names : List GroupFields → Bool
+data_names gs = list_all group_names gs
+
+abbrev pub statement_names : Statement → Bool
+statement_names (Statement.Subroutine name names) = is_short name && list_all is_short names
+statement_names (Statement.Declare kind ds) = declaration_names ds
+statement_names (Statement.Dimension ds) = declaration_names ds
+statement_names (Statement.Preset gs) = data_names gs
+statement_names (Statement.Assign name items t) = is_short name && (all_short_names items && short_names t)
+statement_names (Statement.Goto label) = true
+statement_names (Statement.ComputedGoto labels t) = short_names t
+statement_names (Statement.ArithIf t l m n) = short_names t
+statement_names (Statement.LogicalIf t s) = short_names t && statement_names s
+statement_names (Statement.BlockIf t) = short_names t
+statement_names (Statement.ElseIf t) = short_names t
+statement_names Statement.Else = true
+statement_names Statement.EndIf = true
+statement_names (Statement.Loop label name a b c) = is_short name && (short_names a && (short_names b && of_step short_names c))
+statement_names Statement.Continue = true
+statement_names Statement.Return = true
+statement_names Statement.Stop = true
+statement_names Statement.Trap = true
+statement_names Statement.End = true

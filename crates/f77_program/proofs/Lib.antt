@@ -1,0 +1,14 @@
+pub mod JoinedForms
+pub mod DeclarationForms
+pub mod DataForms
+pub mod Back
+pub mod StatementBack
+pub mod Forming
+pub mod StatementForming
+pub mod Plain
+pub mod StatementPlain
+pub mod Order
+pub mod Texts
+pub mod Patches
+pub mod Lines
+pub mod Told

@@ -1,0 +1,195 @@
+-- What reading leaves of the canonical text of a statement.
+use Rattle.std.proofs.Common.{◌≡◌, ℕ, List, [], ◌∷◌, ◌++◌, true, refl, ap, sym, ◌∙◌, subst, append_assoc}
+use Rattle.std.specs.Prelude.{◌&&◌, not, codes, Option, Some, None}
+use Rattle.std.specs.List.{list_all}
+use Rattle.std.specs.Fmt.{decimal}
+use Rattle.f77_source.specs.Line.{is_blank}
+use Rattle.f77_source.specs.Law.{squeezed}
+use Rattle.f77_source.specs.Write.{is_printable, piece}
+use Rattle.f77_tree.specs.Tree.{Tree, Trees, Statement}
+use Rattle.f77_tree.specs.Joined.{has_items, separated}
+use Rattle.f77_tree.specs.StatementGrammar.{SpellsStatement, IsFormed, IsUnmutated}
+use Rattle.f77_tree.specs.Grammar.{is_letter, is_word, is_name}
+use Rattle.f77_nodes.proofs.Constants.{told_by_part}
+use Rattle.f77_program.specs.Canonical.{text_of, list_text, names_text, step_text, statement_text}
+use Rattle.f77_program.specs.Formed.{formed, all_formed, step_formed, is_action, statement_formed}
+use Rattle.f77_tree.proofs.Tests.{and_true, not_true}
+use Rattle.f77_program.proofs.StatementForming.{is_formed}
+use Rattle.f77_nodes.specs.Limits.{statement_constants}
+use Rattle.f77_program.proofs.StatementBack.{bare_text, back_statement}
+use Rattle.f77_program.proofs.Plain.{is_plain, IsPlain, both, plain_letter, plain_name, plain_decimal, plain_text, plain_list, not_blank, squeezed_plain, printable_plain, behind_plain, printable_both}
+use Rattle.f77_tree.specs.StatementGrammar.{kind_keyword}
+use Rattle.f77_program.specs.Declaration.{declarations_text, declaration_formed}
+use Rattle.f77_tree.specs.Declaration.{all_bounded}
+use Rattle.f77_program.specs.Data.{groups_text}
+use Rattle.f77_tree.specs.declared.tree.Kind.{Kind}
+use Rattle.f77_tree.specs.declared.tree.Kind.TheVariants.{Integer, Logical}
+use Rattle.f77_program.proofs.JoinedForms.{plain_separated}
+use Rattle.f77_program.proofs.DeclarationForms.{any_size, any_sizes, plain_declaration}
+use Rattle.f77_program.proofs.DataForms.{plain_data}
+
+plain_names : (c : ℕ) (names : List (List ℕ)) → is_plain c ≡ true → list_all is_name names ≡ true → IsPlain (names_text c names)
+plain_names c [] h f = refl
+plain_names c (n ∷ names) h f =
+    let (first, others) = and_true (is_name n) (list_all is_name names) f in
+    rw h (both n (names_text 44 names) (plain_name n first) (plain_names 44 names refl others))
+
+-- behind the keyword SUBROUTINE
+abbrev pub behind : List ℕ → List (List ℕ) → List ℕ
+behind name [] = name
+behind name (n ∷ names) = name ++ (names_text 40 (n ∷ names) ++ 41 ∷ [])
+
+pub plain_behind : (name : List ℕ) (names : List (List ℕ)) → is_name name ≡ true → list_all is_name names ≡ true → IsPlain (behind name names)
+plain_behind name [] h f = plain_name name h
+plain_behind name (n ∷ names) h f =
+    both name (names_text 40 (n ∷ names) ++ 41 ∷ []) (plain_name name h) (both (names_text 40 (n ∷ names)) (41 ∷ []) (plain_names 40 (n ∷ names) refl f) refl)
+
+pub plain_assign : (name : List ℕ) (items : Trees) (t : Tree) → statement_formed (Statement.Assign name items t) ≡ true
+    → IsPlain (statement_text (Statement.Assign name items t))
+plain_assign name items t f =
+    let (is, rest) = and_true (is_name name) (all_formed items && formed t) f in
+    let (all, value) = and_true (all_formed items) (formed t) rest in
+    both (name ++ list_text items) (61 ∷ text_of t) (both name (list_text items) (plain_name name is) (plain_list items all)) (plain_text t value)
+
+-- behind the keyword of a computed GO TO
+abbrev selection : List ℕ → Tree → List ℕ
+selection labels t = separated decimal (codes "(") labels ++ (codes ")," ++ text_of t)
+
+plain_selection : (labels : List ℕ) (t : Tree) → statement_formed (Statement.ComputedGoto labels t) ≡ true → IsPlain (selection labels t)
+plain_selection labels t f =
+    both (separated decimal (codes "(") labels) (codes ")," ++ text_of t)
+    (plain_separated any_size decimal (λ n h. plain_decimal n) (codes "(") refl labels (any_sizes labels))
+    (plain_text t (and_true (has_items labels) (formed t) f).1)
+
+plain_labels : (l m n : ℕ) → IsPlain (decimal l ++ (44 ∷ (decimal m ++ (44 ∷ decimal n))))
+plain_labels l m n =
+    both (decimal l) (44 ∷ (decimal m ++ (44 ∷ decimal n))) (plain_decimal l) (both (decimal m) (44 ∷ decimal n) (plain_decimal m) (plain_decimal n))
+
+plain_step : (c : Option Tree) → step_formed c ≡ true → IsPlain (step_text c)
+plain_step None f = refl
+plain_step (Some t) f = plain_text t f
+
+-- the DO variable and the parameters
+plain_range : (name : List ℕ) (a b : Tree) (c : Option Tree) → (is_name name && (formed a && (formed b && step_formed c))) ≡ true
+    → IsPlain (name ++ (61 ∷ (text_of a ++ (44 ∷ (text_of b ++ step_text c)))))
+plain_range name a b c f =
+    let (is, rest) = and_true (is_name name) (formed a && (formed b && step_formed c)) f in
+    let (first, others) = and_true (formed a) (formed b && step_formed c) rest in
+    let (second, third) = and_true (formed b) (step_formed c) others in
+    both name (61 ∷ (text_of a ++ (44 ∷ (text_of b ++ step_text c)))) (plain_name name is)
+    (both (text_of a) (44 ∷ (text_of b ++ step_text c)) (plain_text a first) (both (text_of b) (step_text c) (plain_text b second) (plain_step c third)))
+
+-- type statements
+squeezed_kind : (kind : Kind) (text : List ℕ) → IsPlain text → squeezed (kind_keyword kind ++ (32 ∷ text)) ≡ kind_keyword kind ++ text
+squeezed_kind Integer text h = ap (λ z. codes "INTEGER" ++ z) (squeezed_plain text h)
+squeezed_kind Logical text h = ap (λ z. codes "LOGICAL" ++ z) (squeezed_plain text h)
+
+printable_kind : (kind : Kind) (text : List ℕ) → IsPlain text → list_all is_printable (kind_keyword kind ++ (32 ∷ text)) ≡ true
+printable_kind Integer text h = printable_plain text h
+printable_kind Logical text h = printable_plain text h
+
+kind_starts : (kind : Kind) (text : List ℕ) → not (list_all is_blank (piece (kind_keyword kind ++ (32 ∷ text)) 0)) ≡ true
+kind_starts Integer text = refl
+kind_starts Logical text = refl
+
+-- a statement's text without its blanks
+pub squeezed_statement : (s : Statement) → statement_formed s ≡ true → squeezed (statement_text s) ≡ bare_text s
+squeezed_statement (Statement.Subroutine name []) f =
+    ap (λ z. codes "SUBROUTINE" ++ z) (squeezed_plain name (plain_name name (and_true (is_name name) true f).0))
+squeezed_statement (Statement.Subroutine name (n ∷ names)) f =
+    let (is, all) = and_true (is_name name) (list_all is_name (n ∷ names)) f in
+    ap (λ z. codes "SUBROUTINE" ++ z) (squeezed_plain (behind name (n ∷ names)) (plain_behind name (n ∷ names) is all))
+squeezed_statement (Statement.Declare kind ds) f = squeezed_kind kind (declarations_text ds) (plain_declaration ds f)
+squeezed_statement (Statement.Dimension ds) f =
+    ap (λ z. codes "DIMENSION" ++ z) (squeezed_plain (declarations_text ds) (plain_declaration ds (and_true (declaration_formed ds) (all_bounded ds) f).0))
+squeezed_statement (Statement.Preset gs) f = ap (λ z. codes "DATA" ++ z) (squeezed_plain (groups_text gs) (plain_data gs f))
+squeezed_statement (Statement.Assign name items t) f = squeezed_plain (statement_text (Statement.Assign name items t)) (plain_assign name items t f)
+squeezed_statement (Statement.Goto label) f = ap (λ z. codes "GOTO" ++ z) (squeezed_plain (decimal label) (plain_decimal label))
+squeezed_statement (Statement.ComputedGoto labels t) f = ap (λ z. codes "GOTO" ++ z) (squeezed_plain (selection labels t) (plain_selection labels t f))
+squeezed_statement (Statement.ArithIf t l m n) f =
+    ap (λ z. codes "IF(" ++ z) (behind_plain (text_of t) (codes ") " ++ (decimal l ++ (44 ∷ (decimal m ++ (44 ∷ decimal n))))) _ (plain_text t f)
+    (ap (λ z. 41 ∷ z) (squeezed_plain (decimal l ++ (44 ∷ (decimal m ++ (44 ∷ decimal n)))) (plain_labels l m n))))
+squeezed_statement (Statement.LogicalIf t s) f =
+    let (test, rest) = and_true (formed t) (is_action s && statement_formed s) f in
+    let (is, inner) = and_true (is_action s) (statement_formed s) rest in
+    ap (λ z. codes "IF(" ++ z) (behind_plain (text_of t) (codes ") " ++ statement_text s) _ (plain_text t test) (ap (λ z. 41 ∷ z) (squeezed_statement s inner)))
+squeezed_statement (Statement.BlockIf t) f = ap (λ z. codes "IF(" ++ z) (behind_plain (text_of t) (codes ") THEN") (codes ")THEN") (plain_text t f) refl)
+squeezed_statement (Statement.ElseIf t) f = ap (λ z. codes "ELSEIF(" ++ z) (behind_plain (text_of t) (codes ") THEN") (codes ")THEN") (plain_text t f) refl)
+squeezed_statement Statement.Else f = refl
+squeezed_statement Statement.EndIf f = refl
+squeezed_statement (Statement.Loop label name a b c) f =
+    ap (λ z. codes "DO" ++ z) (behind_plain (decimal label) (32 ∷ (name ++ (61 ∷ (text_of a ++ (44 ∷ (text_of b ++ step_text c)))))) _ (plain_decimal label)
+    (squeezed_plain (name ++ (61 ∷ (text_of a ++ (44 ∷ (text_of b ++ step_text c))))) (plain_range name a b c f)))
+squeezed_statement Statement.Continue f = refl
+squeezed_statement Statement.Return f = refl
+squeezed_statement Statement.Stop f = refl
+squeezed_statement Statement.Trap f = refl
+squeezed_statement Statement.End f = refl
+
+pub printable_statement : (s : Statement) → statement_formed s ≡ true → list_all is_printable (statement_text s) ≡ true
+printable_statement (Statement.Subroutine name []) f = printable_plain name (plain_name name (and_true (is_name name) true f).0)
+printable_statement (Statement.Subroutine name (n ∷ names)) f =
+    let (is, all) = and_true (is_name name) (list_all is_name (n ∷ names)) f in
+    printable_plain (behind name (n ∷ names)) (plain_behind name (n ∷ names) is all)
+printable_statement (Statement.Declare kind ds) f = printable_kind kind (declarations_text ds) (plain_declaration ds f)
+printable_statement (Statement.Dimension ds) f = printable_plain (declarations_text ds) (plain_declaration ds (and_true (declaration_formed ds) (all_bounded ds) f).0)
+printable_statement (Statement.Preset gs) f = printable_plain (groups_text gs) (plain_data gs f)
+printable_statement (Statement.Assign name items t) f = printable_plain (statement_text (Statement.Assign name items t)) (plain_assign name items t f)
+printable_statement (Statement.Goto label) f = printable_plain (decimal label) (plain_decimal label)
+printable_statement (Statement.ComputedGoto labels t) f = printable_plain (selection labels t) (plain_selection labels t f)
+printable_statement (Statement.ArithIf t l m n) f =
+    printable_both (text_of t) (codes ") " ++ (decimal l ++ (44 ∷ (decimal m ++ (44 ∷ decimal n))))) (printable_plain (text_of t) (plain_text t f))
+    (printable_plain (decimal l ++ (44 ∷ (decimal m ++ (44 ∷ decimal n)))) (plain_labels l m n))
+printable_statement (Statement.LogicalIf t s) f =
+    let (test, rest) = and_true (formed t) (is_action s && statement_formed s) f in
+    let (is, inner) = and_true (is_action s) (statement_formed s) rest in
+    printable_both (text_of t) (codes ") " ++ statement_text s) (printable_plain (text_of t) (plain_text t test)) (printable_statement s inner)
+printable_statement (Statement.BlockIf t) f = printable_both (text_of t) (codes ") THEN") (printable_plain (text_of t) (plain_text t f)) refl
+printable_statement (Statement.ElseIf t) f = printable_both (text_of t) (codes ") THEN") (printable_plain (text_of t) (plain_text t f)) refl
+printable_statement Statement.Else f = refl
+printable_statement Statement.EndIf f = refl
+printable_statement (Statement.Loop label name a b c) f =
+    printable_both (decimal label) (32 ∷ (name ++ (61 ∷ (text_of a ++ (44 ∷ (text_of b ++ step_text c)))))) (printable_plain (decimal label) (plain_decimal label))
+    (printable_plain (name ++ (61 ∷ (text_of a ++ (44 ∷ (text_of b ++ step_text c))))) (plain_range name a b c f))
+printable_statement Statement.Continue f = refl
+printable_statement Statement.Return f = refl
+printable_statement Statement.Stop f = refl
+printable_statement Statement.Trap f = refl
+printable_statement Statement.End f = refl
+
+-- the first piece of a text is not blank where its first character is not
+starts : (c : ℕ) (text : List ℕ) → not (is_blank c) ≡ true → not (list_all is_blank (piece (c ∷ text) 0)) ≡ true
+starts c text h = rw (not_true (is_blank c) h) refl
+
+starts_named : (name rest : List ℕ) → is_name name ≡ true → not (list_all is_blank (piece (name ++ rest) 0)) ≡ true
+starts_named [] rest h = cc
+starts_named (c ∷ text) rest h = starts c (text ++ rest) (not_blank c (plain_letter c (and_true (is_letter c) (list_all is_word text) h).0))
+
+pub statement_starts : (s : Statement) → statement_formed s ≡ true → not (list_all is_blank (piece (statement_text s) 0)) ≡ true
+statement_starts (Statement.Subroutine name []) f = refl
+statement_starts (Statement.Subroutine name (n ∷ names)) f = refl
+statement_starts (Statement.Declare kind ds) f = kind_starts kind (declarations_text ds)
+statement_starts (Statement.Dimension ds) f = refl
+statement_starts (Statement.Preset gs) f = refl
+statement_starts (Statement.Assign name items t) f =
+    let (is, rest) = and_true (is_name name) (all_formed items && formed t) f in
+    rw (append_assoc name (list_text items) (61 ∷ text_of t)) (starts_named name (list_text items ++ (61 ∷ text_of t)) is)
+statement_starts (Statement.Goto label) f = refl
+statement_starts (Statement.ComputedGoto labels t) f = refl
+statement_starts (Statement.ArithIf t l m n) f = refl
+statement_starts (Statement.LogicalIf t s) f = refl
+statement_starts (Statement.BlockIf t) f = refl
+statement_starts (Statement.ElseIf t) f = refl
+statement_starts Statement.Else f = refl
+statement_starts Statement.EndIf f = refl
+statement_starts (Statement.Loop label name a b c) f = refl
+statement_starts Statement.Continue f = refl
+statement_starts Statement.Return f = refl
+statement_starts Statement.Stop f = refl
+statement_starts Statement.Trap f = refl
+statement_starts Statement.End f = refl
+
+pub reads_back : (s : Statement) → IsFormed s → IsUnmutated s → statement_constants s ≡ true → SpellsStatement (squeezed (statement_text s)) s
+reads_back s f u k =
+    let formed = is_formed s f in
+    subst (λ z. SpellsStatement z s) (sym (squeezed_statement s formed)) (back_statement s u formed (sym (told_by_part s) ∙ k))

@@ -1,0 +1,13 @@
+use Rattle.std.proofs.Common.{◌≡◌, drop}
+use Rattle.std.specs.Prelude.{map}
+use Rattle.std.specs.List.{list_all}
+use Rattle.f77_tree.specs.Declaration.{decl_of}
+use Rattle.f77_program.specs.Declaration.{is_decl}
+use Rattle.f77_nodes.specs.Names.{decl_name}
+use Rattle.f77_program.proofs.declaration.known.Given as goal
+
+-- what holds of all rests on the other items
+abbrev pub invariant-loop-item : goal.invariant-loop-item
+invariant-loop-item l =
+    (list_all is_decl (map decl_of l.items) ≡ list_all is_decl (map decl_of (drop l.item-index l.items)))
+    × (list_all decl_name (map decl_of l.items) ≡ list_all decl_name (map decl_of (drop l.item-index l.items)))

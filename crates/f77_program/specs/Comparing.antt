@@ -1,0 +1,12 @@
+-- Which lines are the same: those with the same label, statement and number.
+use Rattle.std.specs.Prelude.{◌==◌, nat_eq, List, Bool, ◌&&◌}
+use Rattle.std.specs.Cmp.Lexicographic.{pointwise}
+use Rattle.std.specs.Option.{option_eq}
+use Rattle.f77_tree.specs.Comparing.{same_statement}
+use Rattle.f77_program.specs.Program.{LineFields}
+
+abbrev pub same_line : LineFields → LineFields → Bool
+same_line l m = option_eq nat_eq l.label m.label && (same_statement l.stmt m.stmt && l.line == m.line)
+
+abbrev pub same_lines : List LineFields → List LineFields → Bool
+same_lines = pointwise same_line

@@ -1,0 +1,10 @@
+pub mod Group
+pub mod Declaration
+pub mod Data
+pub mod Formed
+pub mod Canonical
+pub mod Program
+pub mod Comparing
+pub mod SameLines
+pub mod Patching
+pub mod Printing

@@ -1,0 +1,49 @@
+-- A program printed in fixed form.
+use Rattle.std.specs.Prelude.{◌≡◌, ℕ, nat_lt, if◌then◌else◌, List, map, Option, Some, None}
+use Rattle.std.specs.List.{filter_map}
+use Rattle.f77_source.specs.Card.{CardFields}
+use Rattle.f77_source.specs.Write.{written, is_bad_label, continuation_count}
+use Rattle.f77_source.specs.declared.fault.FormFault.{FormFault}
+use Rattle.f77_source.specs.declared.fault.FormFault.TheVariants.{Memory as FormMemory, TooLarge, NotAscii, Tab, BadLabel}
+use Rattle.f77_source.specs.declared.fault.FormFault.TheVariants.{LooseContinuation, TooManyContinuations}
+use Rattle.f77_tree.specs.Tree.{Statement}
+use Rattle.f77_program.specs.Canonical.{statement_text}
+use Rattle.f77_program.specs.Program.{LineFields}
+use Rattle.f77_program.specs.declared.fault.SyntaxFault.{SyntaxFault}
+use Rattle.f77_program.specs.declared.fault.SyntaxFault.TheVariants.{Memory, BadConstant, TooLong}
+
+-- the card with the canonical text of the line's statement
+abbrev pub card_of : LineFields → CardFields
+card_of line = record { label = line.label; text = statement_text line.stmt; line = line.line }
+
+-- the fixed-form lines of a program
+abbrev pub printed : List LineFields → List ℕ
+printed program = written (map card_of program)
+
+-- what keeps a line from being printed: its label, or a statement that needs over 20 lines
+unfoldable pub print_fault : LineFields → Option SyntaxFault
+print_fault line =
+    if is_bad_label line.label then Some (BadConstant line.line)
+    else (if nat_lt 19 (continuation_count (statement_text line.stmt)) then Some (TooLong line.line)
+    else None)
+
+-- what keeps the lines from being printed, the first line's fault first
+abbrev pub print_faults : List LineFields → List SyntaxFault
+print_faults program = filter_map print_fault program
+
+-- What is told of a card that cannot be written. Nothing is told of a fault that no card with a printable text has.
+abbrev pub told : FormFault → Option SyntaxFault
+told (BadLabel line) = Some (BadConstant line)
+told (TooManyContinuations line) = Some (TooLong line)
+told FormMemory = Some Memory
+told TooLarge = None
+told (NotAscii line) = None
+told (Tab line) = None
+told (LooseContinuation line) = None
+
+abbrev pub unnumbered : LineFields → Option ℕ × Statement
+unnumbered line = (line.label, line.stmt)
+
+-- equal apart from line numbers
+abbrev pub AreAlike : List LineFields → List LineFields → Type 0
+AreAlike program other = map unnumbered program ≡ map unnumbered other

@@ -1,0 +1,125 @@
+//! Initial values: whether some text spells them, and how they are written.
+
+ghost use Rattle.std.specs.Prelude.{◌≡◌, ◌++◌, [], true, map, codes, OnOk, string_bytes};
+ghost use Rattle.std.specs.List.{list_all};
+ghost use Rattle.f77_tree.specs.Data.{data_group_of};
+ghost use Rattle.f77_tree.specs.Grammar as grammar;
+ghost use Rattle.f77_tree.specs.Joined.{separated, some_all};
+ghost use Rattle.f77_tree.specs.Name.{is_short};
+ghost use Rattle.f77_nodes.specs.Names as limits;
+ghost use Rattle.f77_program.specs.Data as initial;
+ghost use Rattle.f77_program.specs.Data.{name_text};
+
+use f77_tree::{Constant, DataGroup, Name, Value, known_names};
+use std::alloc::AllocError;
+
+#[tactic(auto, using(crate::proofs::JoinedForms::some_here, crate::proofs::JoinedForms::none_here))]
+fn are_names(names: &[Name]) -> bool
+    ensures formed { result ≡ some_all grammar.is_name names.now }
+    ensures short { list_all is_short names.now ≡ true }
+{
+    known_names(names);
+    !names.is_empty()
+}
+
+#[tactic(auto, using(crate::proofs::DataForms::some_values))]
+fn are_values(values: &[Value]) -> bool
+    ensures { result ≡ some_all initial.any_value values.now }
+{
+    !values.is_empty()
+}
+
+fn is_group(group: &DataGroup) -> bool
+    ensures formed { result ≡ initial.is_group (data_group_of group.now) }
+    ensures short { limits.group_names (data_group_of group.now) ≡ true }
+{
+    are_names(&group.names) && are_values(&group.values)
+}
+
+fn are_groups(groups: &[DataGroup]) -> bool
+    ensures formed { result ≡ list_all initial.is_group (map data_group_of groups.now) }
+    ensures short { result ≡ true → limits.data_names (map data_group_of groups.now) ≡ true }
+{
+    for group in groups {
+        if !is_group(group) {
+            return false;
+        }
+    }
+    true
+}
+
+/// Whether some text spells the groups, names, repeats and constants of any length and size allowed.
+#[tactic(auto, using(crate::proofs::JoinedForms::some_seen, crate::proofs::JoinedForms::none_seen))]
+pub(crate) fn data_formed(groups: &[DataGroup]) -> bool
+    ensures formed { result ≡ initial.data_formed (map data_group_of groups.now) }
+    ensures short { result ≡ true → limits.data_names (map data_group_of groups.now) ≡ true }
+{
+    !groups.is_empty() && are_groups(groups)
+}
+
+fn print_constant(out: &mut String, constant: Constant) -> Result<(), AllocError>
+    ensures { OnOk result (string_bytes out.new ≡ string_bytes out.old ++ initial.constant_text constant) }
+{
+    match constant {
+        Constant::Number(number) => write!(out, "{number}"),
+        Constant::Truth(true) => out.push_str(".TRUE."),
+        Constant::Truth(false) => out.push_str(".FALSE."),
+    }
+}
+
+/// Writes a value, its repeat where that is not 1.
+fn print_value(out: &mut String, value: &Value) -> Result<(), AllocError>
+    ensures { OnOk result (string_bytes out.new ≡ string_bytes out.old ++ initial.value_text value.now) }
+{
+    if value.times == 1 {
+        return print_constant(out, value.constant);
+    }
+    write!(out, "{}*", value.times)?;
+    print_constant(out, value.constant)
+}
+
+fn print_names(out: &mut String, names: &[Name]) -> Result<(), AllocError>
+    ensures { OnOk result (string_bytes out.new ≡ string_bytes out.old ++ separated name_text [] names.now) }
+{
+    let mut before = "";
+    for name in names {
+        out.push_str(before)?;
+        out.push_str(name.as_str())?;
+        before = ",";
+    }
+    Ok(())
+}
+
+/// Writes values, a slash before the first and a comma before each other.
+fn print_values(out: &mut String, values: &[Value]) -> Result<(), AllocError>
+    ensures { OnOk result (string_bytes out.new ≡ string_bytes out.old ++ separated initial.value_text (codes "/") values.now) }
+{
+    let mut before = "/";
+    for value in values {
+        out.push_str(before)?;
+        print_value(out, value)?;
+        before = ",";
+    }
+    Ok(())
+}
+
+fn print_group(out: &mut String, group: &DataGroup) -> Result<(), AllocError>
+    ensures { OnOk result (string_bytes out.new ≡ string_bytes out.old ++ initial.group_text (data_group_of group.now)) }
+{
+    print_names(out, &group.names)?;
+    print_values(out, &group.values)?;
+    out.push_str("/")
+}
+
+/// Writes names with their values, joined by commas, without blanks.
+pub(crate) fn print_groups(out: &mut String, groups: &[DataGroup]) -> Result<(), AllocError>
+    ensures { OnOk result (string_bytes out.new ≡ string_bytes out.old ++ initial.groups_text (map data_group_of groups.now)) }
+{
+    let mut before = "";
+    for group in groups {
+        out.push_str(before)?;
+        print_group(out, group)?;
+        before = ",";
+    }
+    Ok(())
+}

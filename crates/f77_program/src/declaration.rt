@@ -1,0 +1,69 @@
+//! Declared names: whether some text spells them, and how they are written.
+
+ghost use Rattle.std.specs.Prelude.{◌≡◌, ◌++◌, true, map, codes, OnOk, string_bytes};
+ghost use Rattle.std.specs.List.{list_all};
+ghost use Rattle.std.specs.Fmt.{decimal};
+ghost use Rattle.f77_tree.specs.Declaration.{decl_of};
+ghost use Rattle.f77_tree.specs.Joined.{separated};
+ghost use Rattle.f77_nodes.specs.Names as limits;
+ghost use Rattle.f77_program.specs.Declaration as declared;
+
+use f77_tree::Decl;
+use std::alloc::AllocError;
+
+/// What the type says of the name of each item, told of all of them.
+fn known(items: &[Decl])
+    ensures named { list_all declared.is_decl (map decl_of items.now) ≡ true }
+    ensures short { limits.declaration_names (map decl_of items.now) ≡ true }
+{
+    for item in items {
+        let _ = item.name.as_str();
+    }
+}
+
+/// Whether some text spells the declared names, names and bounds of any length and size allowed.
+#[tactic(auto, using(crate::proofs::JoinedForms::some_seen, crate::proofs::JoinedForms::none_seen))]
+pub(crate) fn declaration_formed(items: &[Decl]) -> bool
+    ensures formed { result ≡ declared.declaration_formed (map decl_of items.now) }
+    ensures short { limits.declaration_names (map decl_of items.now) ≡ true }
+{
+    known(items);
+    !items.is_empty()
+}
+
+/// Writes bounds, a parenthesis before the first and a comma before each other.
+fn print_bounds(out: &mut String, bounds: &[u32]) -> Result<(), AllocError>
+    ensures { OnOk result (string_bytes out.new ≡ string_bytes out.old ++ separated decimal (codes "(") bounds.now) }
+{
+    let mut before = "(";
+    for bound in bounds {
+        out.push_str(before)?;
+        write!(out, "{bound}")?;
+        before = ",";
+    }
+    Ok(())
+}
+
+fn print_declaration(out: &mut String, item: &Decl) -> Result<(), AllocError>
+    ensures { OnOk result (string_bytes out.new ≡ string_bytes out.old ++ declared.decl_text (decl_of item.now)) }
+{
+    out.push_str(item.name.as_str())?;
+    if item.bounds.is_empty() {
+        return Ok(());
+    }
+    print_bounds(out, &item.bounds)?;
+    out.push_str(")")
+}
+
+/// Writes declared names with their bounds, joined by commas, without blanks.
+pub(crate) fn print_declarations(out: &mut String, items: &[Decl]) -> Result<(), AllocError>
+    ensures { OnOk result (string_bytes out.new ≡ string_bytes out.old ++ declared.declarations_text (map decl_of items.now)) }
+{
+    let mut before = "";
+    for item in items {
+        out.push_str(before)?;
+        print_declaration(out, item)?;
+        before = ",";
+    }
+    Ok(())
+}

@@ -1,0 +1,148 @@
+//! Statements that some text spells.
+
+ghost use Rattle.std.specs.Prelude.{◌≡◌, ◌&&◌, not, true, false, map, option_map};
+ghost use Rattle.std.specs.List.{list_all};
+ghost use Rattle.f77_tree.specs.Grammar as grammar;
+ghost use Rattle.f77_tree.specs.StatementGrammar.{IsFormed};
+ghost use Rattle.f77_program.specs.Formed as forms;
+ghost use Rattle.f77_tree.specs.Name.{is_short};
+ghost use Rattle.f77_nodes.specs.Names.{short_names, all_short_names, of_step, statement_names};
+ghost use Rattle.f77_tree.specs.View.{tree_of, trees};
+ghost use Rattle.f77_tree.specs.StatementView.{statement_of};
+
+use crate::data::data_formed;
+use crate::declaration::declaration_formed;
+use f77_tree::{Expr, Form, Intrinsic, Name, Stmt, all_bounded, known_names};
+
+#[tactic(auto, using(crate::proofs::Forming::some_items))]
+fn is_some_list(items: &[Expr]) -> bool
+    ensures { result ≡ forms.is_some_list (trees (map tree_of items.now)) }
+{
+    !items.is_empty()
+}
+
+/// Whether a name with this list behind it is a call in an expression.
+#[tactic(auto, using(crate::proofs::Forming::called, crate::proofs::Forming::not_called))]
+fn is_call(name: &[u8], items: &[Expr]) -> bool
+    ensures { result ≡ grammar.is_call name.now (trees (map tree_of items.now)) }
+{
+    is_some_list(items) && Intrinsic::named(name).is_some()
+}
+
+#[tactic(auto, unfolding(crate::specs::Formed::is_reference))]
+fn is_reference(name: &Name, items: &[Expr]) -> bool
+    ensures reference { result ≡ forms.is_reference name.now (trees (map tree_of items.now)) }
+    ensures short { is_short name.now ≡ true }
+{
+    !is_call(name.as_str().as_bytes(), items)
+}
+
+#[cycle(formed)]
+fn formed(expr: &Expr) -> bool
+    ensures formed { result ≡ forms.formed (tree_of expr.now) }
+    ensures short { result ≡ true → short_names (tree_of expr.now) ≡ true }
+{
+    match expr {
+        Expr::Number(_) | Expr::Truth(_) => true,
+        Expr::Reference(place) => is_reference(&place.name, &place.subscripts)
+            && all_formed(&place.subscripts),
+        Expr::Call(_, arguments) => is_some_list(arguments) && all_formed(arguments),
+        Expr::Signed(_, inner) | Expr::Not(inner) | Expr::ZeroPush(inner) => formed(inner),
+        Expr::Binary(_, left, right) => formed(left) && formed(right),
+    }
+}
+
+#[cycle(formed)]
+fn all_formed(items: &[Expr]) -> bool
+    ensures formed { result ≡ forms.all_formed (trees (map tree_of items.now)) }
+    ensures short { result ≡ true → all_short_names (trees (map tree_of items.now)) ≡ true }
+{
+    for item in items {
+        if !formed(item) {
+            return false;
+        }
+    }
+    true
+}
+
+fn step_formed(step: &Option<Expr>) -> bool
+    ensures formed { result ≡ forms.step_formed (option_map tree_of step.now) }
+    ensures short { result ≡ true → of_step short_names (option_map tree_of step.now) ≡ true }
+{
+    match step {
+        None => true,
+        Some(step) => formed(step),
+    }
+}
+
+fn statement_formed(stmt: &Stmt) -> bool
+    ensures formed { result ≡ forms.statement_formed (statement_of stmt.now) }
+    ensures short { result ≡ true → statement_names (statement_of stmt.now) ≡ true }
+{
+    match stmt {
+        Stmt::Subroutine { name, arguments } => {
+            let _ = name.as_str();
+            known_names(arguments);
+            true
+        }
+        Stmt::Declare { items, .. } => declaration_formed(items),
+        Stmt::Dimension { items } => declaration_formed(items) && all_bounded(items),
+        Stmt::Preset { groups } => data_formed(groups),
+        Stmt::Assign { target, value } => {
+            let _ = target.name.as_str();
+            all_formed(&target.subscripts) && formed(value)
+        }
+        Stmt::ComputedGoto { labels, value } => !labels.is_empty() && formed(value),
+        Stmt::ArithIf { value, .. } => formed(value),
+        Stmt::LogicalIf {
+            condition,
+            statement,
+        } => formed(condition) && is_action(statement) && statement_formed(statement),
+        Stmt::BlockIf { condition } | Stmt::ElseIf { condition } => formed(condition),
+        Stmt::Loop {
+            variable,
+            first,
+            last,
+            step,
+            ..
+        } => {
+            let _ = variable.as_str();
+            formed(first) && formed(last) && step_formed(step)
+        }
+        Stmt::Goto { .. }
+        | Stmt::Else
+        | Stmt::EndIf
+        | Stmt::Continue
+        | Stmt::Return
+        | Stmt::Stop
+        | Stmt::Trap
+        | Stmt::End => true,
+    }
+}
+
+/// Whether it may stand in a logical IF (11.5): it is no declaration, no DO, and no block IF or logical IF, nor END.
+pub fn is_action(stmt: &Stmt) -> bool
+    ensures { result ≡ forms.is_action (statement_of stmt.now) }
+{
+    matches!(
+        stmt.form(),
+        Form::Assign
+            | Form::Goto
+            | Form::ComputedGoto
+            | Form::ArithIf
+            | Form::Continue
+            | Form::Return
+            | Form::Stop
+            | Form::Trap
+    )
+}
+
+/// Whether some text spells the statement, names and constants of any length and size allowed.
+#[tactic(auto, using(crate::proofs::StatementForming::formed_spelled, crate::proofs::StatementForming::not_formed))]
+pub fn is_formed(stmt: &Stmt) -> bool
+    ensures formed { result ≡ true → IsFormed (statement_of stmt.now) }
+    ensures short { result ≡ true → statement_names (statement_of stmt.now) ≡ true }
+    ensures unformed { result ≡ false → ¬ (IsFormed (statement_of stmt.now)) }
+{
+    statement_formed(stmt)
+}

@@ -1,0 +1,71 @@
+//! The groups of statements, and where each may stand.
+
+ghost use Rattle.std.specs.Prelude.{◌≡◌, ◌≢◌, true, false, Some};
+ghost use Rattle.f77_program.specs.Group as groups;
+ghost use Rattle.f77_program.specs.Group.{group_of, may_stand};
+ghost use Rattle.f77_tree.specs.StatementView.{statement_of};
+ghost use Rattle.f77_program.specs.declared.group.Group.TheVariants as Group;
+
+use f77_tree::{Form, Stmt};
+
+/// The part of a subroutine that a statement belongs to, in the order of a subroutine (ANSI X3.9-1978, 3.5).
+#[derive(Clone, Copy, Debug, PartialEq, Eq)]
+pub enum Group {
+    /// SUBROUTINE.
+    Subroutine,
+    /// INTEGER, LOGICAL and DIMENSION.
+    Declaration,
+    /// DATA.
+    Data,
+    /// What is executed.
+    Executable,
+    /// END.
+    End,
+}
+
+/// The group that the statement belongs to.
+pub fn group_of(stmt: &Stmt) -> Group
+    ensures { result ≡ group_of (statement_of stmt.now) }
+{
+    match stmt.form() {
+        Form::Subroutine => Group::Subroutine,
+        Form::Declare | Form::Dimension => Group::Declaration,
+        Form::Preset => Group::Data,
+        Form::End => Group::End,
+        _ => Group::Executable,
+    }
+}
+
+impl Group {
+    /// Its rank in a subroutine, from 0.
+    fn rank(self) -> u8
+        ensures { result ≡ groups.rank self }
+    {
+        match self {
+            Group::Subroutine => 0,
+            Group::Declaration => 1,
+            Group::Data => 2,
+            Group::Executable => 3,
+            Group::End => 4,
+        }
+    }
+
+    /// Whether a statement of this group may stand behind one of that group, or first where there is none.
+    pub fn may_stand(self, before: Option<Group>) -> bool
+        ensures { result ≡ may_stand before self }
+    {
+        let rank = self.rank();
+        match before {
+            None => rank == 0,
+            Some(before) => 0 < rank && before.rank() <= rank && before.rank() < 4,
+        }
+    }
+}
+
+/// Whether END was the last.
+pub fn is_end(before: Option<Group>) -> bool
+    ensures yes { result ≡ true → before ≡ Some Group.End }
+    ensures no { result ≡ false → before ≢ Some Group.End }
+{
+    matches!(before, Some(Group::End))
+}

@@ -1,0 +1,12 @@
+//! What holds of equality itself.
+
+ghost use Rattle.std.specs.Prelude.{◌≡◌, ◌↔◌, true, List};
+ghost use Rattle.f77_program.specs.Comparing.{same_line, same_lines};
+ghost use Rattle.f77_program.specs.Program.{LineFields};
+
+/// Programs and their lines are equal by `==` exactly where they are one.
+#[tactic(auto, using(crate::specs::SameLines::line_decides, crate::specs::SameLines::lines_decide))]
+pub fn equal_programs_are_one()
+    ensures lines { (l m : LineFields) → (same_line l m ≡ true) ↔ (l ≡ m) }
+    ensures programs { (ls ms : List LineFields) → (same_lines ls ms ≡ true) ↔ (ls ≡ ms) }
+{}

@@ -1,0 +1,49 @@
+//! Programs with one statement changed.
+
+ghost use Rattle.std.specs.Prelude.{◌≡◌, true, false, map, IfOk};
+ghost use Rattle.f77_program.specs.Program.{line_of};
+ghost use Rattle.f77_program.specs.Patching.{Fits, patched};
+ghost use Rattle.f77_tree.specs.StatementView.{statement_of};
+
+use crate::formed::is_formed;
+use crate::group::group_of;
+use crate::program::{Line, Program};
+use f77_tree::{Shared, Stmt};
+use std::alloc::AllocError;
+
+/// The line with this statement in the place of its own.
+fn with_stmt(line: &Line, stmt: &Stmt) -> Result<Line, AllocError>
+    ensures { IfOk result (λ changed. line_of changed ≡ record (line_of line.now) { stmt = statement_of stmt.now }) }
+{
+    Ok(Line {
+        label: line.label,
+        stmt: stmt.clone()?,
+        line: line.line,
+    })
+}
+
+impl Program {
+    /// Whether the statement may stand in the place of the one of this number, which is 1 for SUBROUTINE: it is of the same
+    /// group, and some text spells it. It takes no memory.
+    pub fn fits(&self, number: usize, stmt: &Stmt) -> bool
+        ensures yes { result ≡ true → Fits (map line_of self.now) number (statement_of stmt.now) }
+        ensures no { result ≡ false → ¬ (Fits (map line_of self.now) number (statement_of stmt.now)) }
+    {
+        match self.line(number) {
+            Some(line) => group_of(stmt) == group_of(&line.stmt) && is_formed(stmt),
+            None => false,
+        }
+    }
+
+    /// The program with this statement in the place of the one of this number.
+    pub fn with_statement(&self, number: usize, stmt: &Stmt) -> Result<Program, AllocError>
+        requires { Fits (map line_of self.now) number (statement_of stmt.now) }
+        ensures { IfOk result (λ program. map line_of program ≡ patched (map line_of self.now) number (statement_of stmt.now)) }
+    {
+        let _formed = is_formed(stmt);
+        let mut lines = self.lines().to_vec(self.allocator())?;
+        let changed = with_stmt(&lines[number - 1], stmt)?;
+        lines[number - 1] = Shared::new(self.allocator(), changed)?;
+        Ok(Program::from_lines(lines))
+    }
+}

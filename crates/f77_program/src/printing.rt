@@ -1,0 +1,62 @@
+//! Programs printed in fixed form.
+
+ghost use Rattle.std.specs.Prelude.{◌≡◌, ◌⊎◌, [], Some, IsSome, IfOk, IfErr, map, string_bytes};
+ghost use Rattle.std.specs.List.{slice_get};
+ghost use Rattle.f77_program.specs.Program.{line_of};
+ghost use Rattle.f77_program.specs.Printing as printing;
+ghost use Rattle.f77_program.specs.Printing.{printed, print_faults, told};
+
+use crate::canonical::print_stmt;
+use crate::fault::SyntaxFault;
+use crate::program::{Line, Program};
+use f77_source::{Card, FormFault, write_form};
+use f77_tree::Shared;
+use std::alloc::Global;
+
+/// What is told of a card that cannot be written. Canonical texts are printable, so that no other refusal comes.
+fn told(fault: FormFault) -> SyntaxFault
+    requires { IsSome (told fault) }
+    ensures { told fault ≡ Some result }
+{
+    match fault {
+        FormFault::BadLabel(line) => SyntaxFault::BadConstant(line),
+        FormFault::TooManyContinuations(line) => SyntaxFault::TooLong(line),
+        FormFault::Memory => SyntaxFault::Memory,
+        _ => unreachable!(),
+    }
+}
+
+fn card_of(alloc: Global, line: &Line) -> Result<Card, SyntaxFault>
+    ensures card { IfOk result (λ card. card ≡ printing.card_of (line_of line.now)) }
+    ensures refused { IfErr result (λ fault. fault ≡ SyntaxFault.Memory) }
+{
+    let text = print_stmt(alloc, &line.stmt)?;
+    Ok(Card::new(line.label, text, line.line))
+}
+
+fn cards_of(alloc: Global, lines: &[Shared<Line>]) -> Result<Vec<Card>, SyntaxFault>
+    ensures cards { IfOk result (λ cards. cards.items ≡ map printing.card_of (map line_of lines.now)) }
+    ensures refused { IfErr result (λ fault. fault ≡ SyntaxFault.Memory) }
+{
+    let mut cards = Vec::new(alloc);
+    for line in lines {
+        cards.push(card_of(alloc, line)?)?;
+    }
+    Ok(cards)
+}
+
+/// The program in fixed form: each line with its label and the canonical text of its statement, ended by LF (ANSI
+/// X3.9-1978, 3.2).
+///
+/// Of several faults the first line's is told: its label (1 to 99999) before the length of its statement (20 lines).
+pub fn print(alloc: Global, program: &Program) -> Result<String, SyntaxFault>
+    ensures text { IfOk result (λ text. string_bytes text ≡ printed (map line_of program.now)) }
+    ensures accepted { IfOk result (λ _. print_faults (map line_of program.now) ≡ []) }
+    ensures refused { IfErr result (λ fault. (slice_get (print_faults (map line_of program.now)) 0 ≡ Some fault) ⊎ (fault ≡ SyntaxFault.Memory)) }
+{
+    let cards = cards_of(alloc, program.lines())?;
+    match write_form(alloc, &cards) {
+        Ok(text) => Ok(text),
+        Err(fault) => Err(told(fault)),
+    }
+}

@@ -1,0 +1,16 @@
+-- A text has no more characters than bytes.
+use Rattle.std.proofs.Common.{arith, ◌≤◌, ◌+◌, ◌-◌, ◌*◌, ℕ, zero, suc, List, [], ◌∷◌, length}
+use Rattle.std.specs.Str.{chars, chars_after, continuation_len, lead_bits}
+use Rattle.f77_syntax.specs.TextLimits.{character_count}
+
+-- behind the first byte of a character, which is one
+after_few : (bytes : List ℕ) (n c : ℕ) → length (chars_after n c bytes) ≤ length bytes + 1
+after_few [] zero c = omega arith
+after_few [] (suc n) c = omega arith
+after_few (b ∷ bytes) zero c = omega (arith, after_few bytes (continuation_len b) (lead_bits b))
+after_few (b ∷ bytes) (suc n) c = omega (arith, after_few bytes n (c * 64 + (b - 128)))
+
+pub characters_few : (text : List ℕ) → character_count text ≤ length text
+unfolding chars
+characters_few [] = omega arith
+characters_few (b ∷ bytes) = omega (arith, after_few bytes (continuation_len b) (lead_bits b))

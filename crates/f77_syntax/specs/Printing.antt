@@ -1,0 +1,28 @@
+-- What is read of a program that was printed.
+use Rattle.std.specs.Prelude.{◌≡◌, ◌≤◌, ℕ, true, List, None}
+use Rattle.f77_source.specs.Card.{CardFields}
+use Rattle.f77_source.specs.Law.{squeezed}
+use Rattle.f77_source.specs.Read.{AreCards, lines}
+use Rattle.f77_tree.specs.StatementGrammar.{IsUnmutated}
+use Rattle.f77_tree.specs.Tree.{Statement}
+use Rattle.f77_nodes.specs.Limits.{most_nodes, statement_constants, statement_nodes}
+use Rattle.f77_program.specs.Canonical.{statement_text}
+use Rattle.f77_program.specs.Printing.{AreAlike}
+use Rattle.f77_program.specs.Program.{LineFields}
+use Rattle.f77_syntax.specs.Parsing.{AreLines}
+use Rattle.f77_syntax.specs.TextLimits.{IsTooDeep}
+
+-- a statement of an unmutated program, and its limits, those on names and on the length of its text aside
+pub record KeepsLimits (s : Statement) : Type 0 where
+  pub unmutated : IsUnmutated s
+  pub flat : ¬ (IsTooDeep (squeezed (statement_text s)))
+  pub constants : statement_constants s ≡ true
+  pub nodes : statement_nodes s ≤ most_nodes
+
+-- the source is read as a program that is alike
+pub record ReadsBack (source : List ℕ) (program : List LineFields) : Type 0 where
+  pub cards : List CardFields
+  pub are_cards : AreCards 1 (lines source) cards
+  pub found : List LineFields
+  pub are_lines : AreLines None cards found
+  pub alike : AreAlike found program

@@ -1,9 +1,0 @@
-use Rattle.std.proofs.Common.{◌≡◌, drop}
-use Rattle.std.specs.Prelude.{map}
-use Rattle.std.specs.List.{list_all}
-use Rattle.f77_tree.specs.Data.{data_group_of, group_constants}
-use Rattle.f77_tree.proofs.data.data_constants.Given as goal
-
--- the answer rests on the other groups
-abbrev pub invariant-loop-group : goal.invariant-loop-group
-invariant-loop-group l = list_all group_constants (map data_group_of l.groups) ≡ list_all group_constants (map data_group_of (drop l.group-index l.groups))

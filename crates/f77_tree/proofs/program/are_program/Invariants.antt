@@ -1,5 +1,0 @@
-use Rattle.f77_tree.proofs.Order.{Rests}
-use Rattle.f77_tree.proofs.program.are_program.Given as goal
-
-abbrev pub invariant-loop-line : goal.invariant-loop-line
-invariant-loop-line l = Rests l.lines l.line-index l.last

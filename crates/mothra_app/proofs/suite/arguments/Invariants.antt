@@ -1,8 +1,0 @@
-use Rattle.std.proofs.Common.{◌≡◌, ◌++◌, drop, option_map}
-use Rattle.serde_json.specs.View.{items_view}
-use Rattle.mothra_app.specs.Suite.{argument, each}
-use Rattle.mothra_app.proofs.suite.arguments.Given as goal
-
-abbrev pub invariant-loop-value : goal.invariant-loop-value
-invariant-loop-value l =
-    option_map (λ xs. l.arguments.items ++ xs) (each argument (items_view (drop l.value-index l.values))) ≡ each argument (items_view l.values)

@@ -1,0 +1,49 @@
+-- What each value of a list is, from one of them on.
+use Rattle.std.proofs.Common.{◌≡◌, ◌∙◌, ap, refl, sym, ℕ, suc, ◌+◌, ◌<◌, ◌≤◌, List, [], ◌∷◌, ◌++◌, length, drop, get_or, drop-cons, add-one, append_assoc, append-nil, Option, Some, None, option_map}
+use Rattle.std.proofs.lemmas.List.{drop_all}
+use Rattle.serde_json.specs.Data.{Data}
+use Rattle.serde_json.specs.View.{view, items_view}
+use Rattle.serde_json.specs.declared.value.Value.{Value}
+use Rattle.mothra_job.specs.Suite.{each}
+
+-- what each of the values is, behind these
+abbrev behind : {A : Type 0} → List A → (Data → Option A) → List Value → Option (List A)
+behind before read values = option_map (λ xs. before ++ xs) (each read (items_view values))
+
+joined : {A : Type 0} (before : List A) (x : A) (rest : Option (List A))
+    → option_map (λ xs. (before ++ (x ∷ [])) ++ xs) rest ≡ option_map (λ xs. before ++ xs) (option_map (λ xs. x ∷ xs) rest)
+joined before x None = refl
+joined before x (Some xs) = ap Some (append_assoc before (x ∷ []) xs)
+
+first : {A : Type 0} (read : Data → Option A) (before : List A) (x : A) (value : Value) (rest : List Value) → read (view value) ≡ Some x
+    → behind (before ++ (x ∷ [])) read rest ≡ behind before read (value ∷ rest)
+first read before x value rest is = rw is (joined before x (each read (items_view rest)))
+
+none : {A : Type 0} (read : Data → Option A) (before : List A) (value : Value) (rest : List Value) → read (view value) ≡ None
+    → None ≡ behind before read (value ∷ rest)
+none read before value rest is = rw is refl
+
+split : (values : List Value) (i : ℕ) (value : Value) → i < length values → value ≡ get_or values i value
+    → drop i values ≡ value ∷ drop (i + 1) values
+split values i value within at = rw add-one (drop-cons values i value within ∙ ap (λ v. v ∷ drop (suc i) values) (sym at))
+
+-- one value more is read
+pub each_more : {A : Type 0} (read : Data → Option A) (values : List Value) (i : ℕ) (value : Value) (before : List A) (x : A) {all : Option (List A)}
+    → i < length values → value ≡ get_or values i value → read (view value) ≡ Some x
+    → option_map (λ xs. before ++ xs) (each read (items_view (drop i values))) ≡ all
+    → option_map (λ xs. (before ++ (x ∷ [])) ++ xs) (each read (items_view (drop (i + 1) values))) ≡ all
+each_more read values i value before x within at is so_far =
+    first read before x value (drop (i + 1) values) is ∙ ap (behind before read) (sym (split values i value within at)) ∙ so_far
+
+-- a value that is none of them
+pub each_stopped : {A : Type 0} (read : Data → Option A) (values : List Value) (i : ℕ) (value : Value) (before : List A) {all : Option (List A)}
+    → i < length values → value ≡ get_or values i value → read (view value) ≡ None
+    → option_map (λ xs. before ++ xs) (each read (items_view (drop i values))) ≡ all → None ≡ all
+each_stopped read values i value before within at is so_far =
+    none read before value (drop (i + 1) values) is ∙ ap (behind before read) (sym (split values i value within at)) ∙ so_far
+
+-- all values are read
+pub each_ended : {A : Type 0} (read : Data → Option A) (values : List Value) (i : ℕ) (before : List A) {all : Option (List A)}
+    → length values ≤ i → option_map (λ xs. before ++ xs) (each read (items_view (drop i values))) ≡ all → Some before ≡ all
+each_ended read values i before over so_far =
+    ap Some (sym (append-nil before)) ∙ ap (behind before read) (sym (drop_all i values over)) ∙ so_far

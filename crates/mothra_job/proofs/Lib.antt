@@ -1,0 +1,4 @@
+pub mod EachValue
+pub mod Suites
+pub mod Entries
+pub mod FewTests

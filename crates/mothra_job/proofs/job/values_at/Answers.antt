@@ -1,0 +1,20 @@
+use Rattle.std.proofs.Common.{rules, ◌≡◌, ◌∙◌, ap, sym, subst, List, Option, Some, map, option_map}
+use Rattle.serde_json.specs.Data.{Data}
+use Rattle.serde_json.specs.Find.{as_array, get}
+use Rattle.serde_json.specs.View.{view, items_view}
+use Rattle.serde_json.specs.declared.value.Value.{Value}
+use Rattle.mothra_job.specs.Job.{listed, values_in}
+use Rattle.mothra_job.proofs.Suites.{listed_items}
+use Rattle.mothra_job.proofs.job.values_at.Goals as goal
+
+found : (slice items : List Value) (list : Option Data) (value : Data) → slice ≡ items → Some value ≡ list → Some (items_view items) ≡ as_array value
+    → Some (map view slice) ≡ values_in list
+found slice items list value same at is =
+    subst (λ o. Some (map view slice) ≡ values_in o) at
+    (ap (λ vs. Some (map view vs)) same ∙ ap Some (sym (listed_items (map view items))) ∙ ap (option_map listed) is)
+
+pub returns-in_ok-as_array-in-Some : goal.returns-in_ok-as_array-in-Some
+returns-in_ok-as_array-in-Some c =
+    let at : Some (view c.in-Some.list.now) ≡ get c.args.key.now (view c.args.value.now) = search rules in
+    let is : Some (items_view c.in_ok-as_array-in-Some.field-0.now.items) ≡ as_array (view c.in-Some.list.now) = search rules in
+    found c.as_slice.result.now c.in_ok-as_array-in-Some.field-0.now.items _ (view c.in-Some.list.now) c.as_slice.ensures.value at is

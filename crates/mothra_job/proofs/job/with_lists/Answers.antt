@@ -1,0 +1,56 @@
+use Rattle.std.proofs.Common.{◌≡◌, ◌⊎◌, ◌∙◌, ◌++◌, inl, inr, sym, ap, ap₂, refl, List, [], ◌∷◌, ℕ, Some, Result, Ok, Err, map}
+use Rattle.serde_json.specs.Data.{Data}
+use Rattle.serde_json.specs.View.{view}
+use Rattle.f77_run.specs.declared.argument.Arg.{Arg}
+use Rattle.mothra_job.specs.Equivalent.{entries_of, entry_faults}
+use Rattle.mothra_job.specs.FirstFault.{first_or}
+use Rattle.mothra_job.specs.Job.{JobFields, JobRead, job_with, list_faults}
+use Rattle.mothra_job.specs.Suite.{suite_faults, tests_of}
+use Rattle.mothra_job.specs.declared.job.JobFault.{JobFault}
+use Rattle.mothra_job.specs.declared.job.JobFault.TheVariants.{Memory}
+use Rattle.mothra_job.proofs.job.with_lists.Goals as goal
+
+abbrev Tests : Type 0
+Tests = Result (List (List Arg)) JobFault
+
+-- no fault, and this value
+without_fault : (fs : List JobFault) (x y : List (List Arg)) → Ok y ≡ first_or fs x → (fs ≡ []) × (x ≡ y)
+without_fault [] x y e = let same : x ≡ y = cc in (refl, same)
+without_fault (f ∷ fs) x y e = cc
+
+-- the first of some faults is the first of more
+first_of_more : (fs more : List JobFault) (f : JobFault) (x : List (List Arg)) (z : JobFields) → Err f ≡ first_or fs x
+    → Err f ≡ first_or (fs ++ more) z
+first_of_more [] more f x z e = cc
+first_of_more (g ∷ gs) more f x z e = let same : f ≡ g = cc in ap Err same
+
+module _ (source : List ℕ) (tests declared : List Data) (r : Tests) (answer : JobRead) where
+  abbrev IsAnswer : Type 0
+  IsAnswer = (answer ≡ first_or (list_faults tests declared) (job_with (Some source) (Some tests) (Some declared))) ⊎ (answer ≡ Err Memory)
+
+  of_tests : (suite : List (List Arg)) → r ≡ Ok suite → (r ≡ first_or (suite_faults tests) (tests_of tests)) ⊎ (r ≡ Err Memory)
+      → (answer ≡ first_or (entry_faults 1 declared) (record { source = source; suite = suite; equivalent = entries_of declared })) ⊎ (answer ≡ Err Memory)
+      → IsAnswer
+  of_tests suite is (inr memory) told = let none : Ok suite ≡ Err Memory = sym is ∙ memory in cc
+  of_tests suite is (inl good) (inr memory) = inr memory
+  of_tests suite is (inl good) (inl same) =
+      let parts = without_fault (suite_faults tests) (tests_of tests) suite (sym is ∙ good) in
+      inl
+      (same
+      ∙ ap₂ (λ fs s. first_or (fs ++ entry_faults 1 declared) (record { source = source; suite = s; equivalent = entries_of declared }))
+      (sym parts.0) (sym parts.1))
+
+  of_fault : (fault : JobFault) → r ≡ Err fault → answer ≡ Err fault → (r ≡ first_or (suite_faults tests) (tests_of tests)) ⊎ (r ≡ Err Memory)
+      → IsAnswer
+  of_fault fault is gives (inl bad) = inl (gives ∙ first_of_more (suite_faults tests) (entry_faults 1 declared) fault (tests_of tests) _ (sym is ∙ bad))
+  of_fault fault is gives (inr memory) = let same : fault ≡ Memory = cc in inr (gives ∙ ap Err same)
+
+pub returns-in-Ok : goal.returns-in-Ok
+returns-in-Ok c =
+    of_tests c.args.source.now (map view c.args.values.now) (map view c.args.entries.now) c.suite.result c.with_suite.result
+    c.in-Ok.suite c.in-Ok.is c.suite.ensures c.with_suite.ensures
+
+pub returns-in-Err : goal.returns-in-Err
+returns-in-Err c =
+    of_fault c.args.source.now (map view c.args.values.now) (map view c.args.entries.now) c.suite.result _
+    c.in-Err.fault c.in-Err.is refl c.suite.ensures

@@ -1,0 +1,15 @@
+use Rattle.std.proofs.Common.{◌≡◌, ◌∙◌, ◌==◌, refl, sym, ℤ, length, false, true≢false, List, [], ◌∷◌, Some}
+use Rattle.serde_json.specs.View.{items_view}
+use Rattle.serde_json.specs.declared.value.Value.{Value}
+use Rattle.f77_run.specs.declared.argument.Arg.TheVariants.{Ints}
+use Rattle.mothra_job.specs.Suite.{each, elements, integer}
+use Rattle.mothra_job.proofs.suite.elements.Goals as goal
+
+all_numbers : (values : List Value) (zs : List ℤ) → (length values == 0) ≡ false → each integer (items_view values) ≡ Some zs
+    → Some (Ints zs) ≡ elements (items_view values)
+all_numbers [] zs some are = absurd (true≢false some)
+all_numbers (value ∷ values) zs some are = rw are refl
+
+pub returns-in-Some : goal.returns-in-Some
+returns-in-Some c =
+    all_numbers c.args.values.now c.in-Some.numbers (sym c.is_empty.ensures ∙ c.if-is_empty.false) (sym c.in_ok-numbers.ensures ∙ c.in-Some.is)

@@ -1,0 +1,8 @@
+use Rattle.std.proofs.Common.{◌≡◌, ◌++◌, drop, option_map}
+use Rattle.serde_json.specs.View.{items_view}
+use Rattle.mothra_job.specs.Suite.{integer, each}
+use Rattle.mothra_job.proofs.suite.integers.Given as goal
+
+abbrev pub invariant-loop-value : goal.invariant-loop-value
+invariant-loop-value l =
+    option_map (λ zs. l.numbers.items ++ zs) (each integer (items_view (drop l.value-index l.values))) ≡ each integer (items_view l.values)

@@ -1,0 +1,9 @@
+use Rattle.std.proofs.Common.{◌≡◌, ◌++◌, drop, option_map}
+use Rattle.serde_json.specs.Find.{as_bool}
+use Rattle.serde_json.specs.View.{items_view}
+use Rattle.mothra_job.specs.Suite.{each}
+use Rattle.mothra_job.proofs.suite.truths.Given as goal
+
+abbrev pub invariant-loop-value : goal.invariant-loop-value
+invariant-loop-value l =
+    option_map (λ bs. l.truths.items ++ bs) (each as_bool (items_view (drop l.value-index l.values))) ≡ each as_bool (items_view l.values)

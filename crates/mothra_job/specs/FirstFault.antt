@@ -1,0 +1,13 @@
+-- What is told of several faults: the first of them.
+use Rattle.std.specs.Prelude.{List, [], ◌∷◌, Option, Some, None, Result, Ok, Err}
+use Rattle.mothra_job.specs.declared.job.JobFault.{JobFault}
+
+-- the fault of what is not there
+abbrev pub absent : {A : Type 0} → JobFault → Option A → List JobFault
+absent fault None = fault ∷ []
+absent fault (Some x) = []
+
+-- the first fault, or this value where there is none
+abbrev pub first_or : {A : Type 0} → List JobFault → A → Result A JobFault
+first_or [] value = Ok value
+first_or (fault ∷ others) value = Err fault

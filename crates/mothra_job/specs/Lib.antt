@@ -1,0 +1,4 @@
+pub mod FirstFault
+pub mod Suite
+pub mod Equivalent
+pub mod Job

@@ -1,0 +1,66 @@
+//! The mutants that a job declares equivalent.
+
+ghost use Rattle.std.specs.Prelude.{◌≡◌, ◌≤◌, ◌⊎◌, ℕ, Err, IfSome, Some, map};
+ghost use Rattle.std.specs.Fmt.{decimal};
+ghost use Rattle.serde_json.specs.View.{view as value_of};
+ghost use Rattle.mothra_job.specs.Equivalent as definition;
+ghost use Rattle.mothra_job.specs.Equivalent.{Names, entries_of, entry_faults};
+ghost use Rattle.mothra_job.specs.FirstFault.{first_or};
+ghost use Rattle.mothra_job.specs.declared.job.JobFault.TheVariants.{Memory};
+
+use crate::job::JobFault;
+use f77_run::Values;
+use mothra_codes::{Op, Ticket};
+use serde_json::Value;
+use std::alloc::Global;
+
+// As many mutants as the list of an operator may have.
+const MOST_MUTANTS: u32 = 1_048_575;
+
+/// The number of a mutant that the digits write, without a sign or a leading zero.
+fn number(digits: &str) -> Option<u32>
+    ensures known { (n : ℕ) → 1 ≤ n → n ≤ 1048575 → digits.now ≡ decimal n → result ≡ Some n }
+    ensures only { IfSome result (λ n. (digits.now ≡ decimal n) × (1 ≤ n) × (n ≤ 1048575)) }
+{
+    if digits.starts_with('+') || digits.starts_with('0') {
+        return None;
+    }
+    let number: u32 = digits.parse().ok()?;
+    if number > MOST_MUTANTS {
+        return None;
+    }
+    Some(number)
+}
+
+/// The mutant that a text names.
+fn named(text: &str) -> Option<Ticket>
+    ensures known { (t : Ticket) → Names text.now t → result ≡ Some t }
+    ensures only { IfSome result (Names text.now) }
+{
+    let (code, digits) = text.split_once(' ')?;
+    let op = Op::of(code)?;
+    let number = number(digits)?;
+    Some(Ticket { op, number })
+}
+
+/// The mutant that an entry names.
+fn entry(value: &Value) -> Option<Ticket>
+    ensures { result ≡ definition.entry (value_of value.now) }
+{
+    named(value.as_str()?)
+}
+
+/// The mutants that the values name, or J5 at the first that names none.
+pub(crate) fn equivalent(alloc: Global, values: &[Value]) -> Result<Values<Ticket>, JobFault>
+    ensures { let entries = map value_of values.now in
+        (result ≡ first_or (entry_faults 1 entries) (entries_of entries)) ⊎ (result ≡ Err Memory) }
+{
+    let mut tickets = Vec::new(alloc);
+    for (index, value) in values.iter().enumerate() {
+        match entry(value) {
+            Some(ticket) => tickets.push(ticket)?,
+            None => return Err(JobFault::Equivalent(index + 1)),
+        }
+    }
+    Ok(Values::new(tickets))
+}

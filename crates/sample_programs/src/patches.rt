@@ -1,0 +1,107 @@
+//! Changes of one statement of a checked program. A change is a number and a statement.
+
+use crate::sources::program;
+use crate::verdicts::verdict_of;
+use f77_check::{CheckFault, Checked, check};
+use f77_syntax::{Program, Stmt};
+use std::alloc::Global;
+use std::test::Fail;
+
+/// A program that holds the statement of this text.
+pub fn holder(rt: &impl AllocGlobal, text: &str) -> Result<Program, Fail> {
+    if text == "END" {
+        return program(rt, "SUBROUTINE Z; END");
+    }
+    let statements = if text.starts_with("SUBROUTINE") {
+        format!(in rt.alloc(); "{text}; END")?
+    } else {
+        format!(in rt.alloc(); "SUBROUTINE Z; {text}; END")?
+    };
+    program(rt, statements.as_str())
+}
+
+/// The statement of this text in the program that holds it.
+pub fn held<'a>(holder: &'a Program, text: &str) -> Result<&'a Stmt, Fail> {
+    let number = if text.starts_with("SUBROUTINE") { 1 } else { 2 };
+    match holder.line(number) {
+        Some(line) => Ok(&line.stmt),
+        None => Err(Fail::new("no statement")),
+    }
+}
+
+/// The number and the text of a change.
+pub fn number_and_text(change: &str) -> Result<(usize, &str), Fail> {
+    match change.split_once(' ') {
+        Some((number, text)) => Ok((number.parse()?, text)),
+        None => Err(Fail::new("a change is a number and a statement")),
+    }
+}
+
+/// What `patched` answers, None where the statement does not fit.
+pub fn patched(old: &Checked, number: usize, stmt: &Stmt) -> Option<Result<Checked, CheckFault>> {
+    if !old.fits(number, stmt) {
+        return None;
+    }
+    Some(old.patched(number, stmt))
+}
+
+/// What `patch_fault` answers, None where the statement does not fit.
+pub fn patch_fault(old: &Checked, number: usize, stmt: &Stmt) -> Option<Option<CheckFault>> {
+    if !old.fits(number, stmt) {
+        return None;
+    }
+    Some(old.patch_fault(number, stmt))
+}
+
+/// The fault that `patched` answers, None where the statement does not fit.
+pub fn patched_fault(old: &Checked, number: usize, stmt: &Stmt) -> Option<Option<CheckFault>> {
+    if !old.fits(number, stmt) {
+        return None;
+    }
+    Some(old.patched(number, stmt).err())
+}
+
+fn fault_of(alloc: Global, program: &Program) -> Option<CheckFault> {
+    check(alloc, program).err()
+}
+
+/// The fault that the check of the whole changed program answers, None where the statement does not fit.
+pub fn whole_fault(
+    rt: &impl AllocGlobal,
+    old: &Checked,
+    number: usize,
+    stmt: &Stmt,
+) -> Result<Option<Option<CheckFault>>, Fail> {
+    if !old.fits(number, stmt) {
+        return Ok(None);
+    }
+    let new = old.program().with_statement(number, stmt)?;
+    Ok(Some(fault_of(rt.alloc(), &new)))
+}
+
+/// What `patched` answers to a change.
+pub fn answer(
+    rt: &impl AllocGlobal,
+    old: &Checked,
+    change: &str,
+) -> Result<Option<Result<Checked, CheckFault>>, Fail> {
+    let (number, text) = number_and_text(change)?;
+    let holder = holder(rt, text)?;
+    Ok(patched(old, number, held(&holder, text)?))
+}
+
+/// The program with a change that is legal.
+pub fn changed(rt: &impl AllocGlobal, old: &Checked, change: &str) -> Result<Checked, Fail> {
+    match answer(rt, old, change)? {
+        Some(new) => Ok(new?),
+        None => Err(Fail::new("the statement does not fit")),
+    }
+}
+
+/// The verdict on the program with a change.
+pub fn verdict_on(rt: &impl AllocGlobal, old: &Checked, change: &str) -> Result<String, Fail> {
+    match answer(rt, old, change)? {
+        Some(answer) => verdict_of(rt, &answer),
+        None => Ok(String::from_str(rt.alloc(), "does not fit")?),
+    }
+}
