@@ -1,0 +1,1 @@
+"""Classes: the suites of many for the same programs, run side by side, with a table and a page."""

@@ -1,0 +1,138 @@
+"""The folder of a class: which jobs it asks for, where their results are kept, and which of these are still missing.
+
+A result is kept as three files in FOLDER/out/jobs: NAME.json, the job; NAME.report, what `mothra run` wrote of it; and
+NAME.key, the digest of the job and the words of that run. Each is written to another name and then renamed, the key
+last; so where the key is that of the job of now, the result is whole and of that job.
+"""
+
+import hashlib
+import os
+from collections.abc import Sequence
+from pathlib import Path
+from typing import NamedTuple
+
+from mutants.jobs.making import job_text
+
+
+class Task(NamedTuple):
+    """A job of the class: its name, the program's file, and its text, or why there is none."""
+
+    name: str
+    program: Path | None
+    text: bytes | None
+    refusal: str | None
+
+    @property
+    def program_name(self) -> str:
+        return self.program.stem if self.program else ""
+
+
+TABLES = (".json", ".csv")
+# What came for a reason that is not the job's own, and may be another one the next time.
+PASSING = "J1 F1 S1 C1 N1 O1 B1 B2".split()
+
+
+def name_of(path: Path) -> str:
+    """The name of a table of tests: without .json or .csv, and without .suite before it."""
+    return path.stem.removesuffix(".suite")
+
+
+def programs_in(folder: Path) -> list[Path]:
+    return sorted(path for path in folder.iterdir() if path.suffix.lower() == ".f" and path.is_file())
+
+
+def tables_in(folder: Path) -> dict[str, Path]:
+    """The tables of tests, by name."""
+    tables: dict[str, Path] = {}
+    for path in sorted(folder.iterdir()):
+        if path.suffix.lower() not in TABLES or not path.is_file() or path.stem.endswith("equivalent"):
+            continue
+        if name_of(path) in tables:
+            raise ValueError(f"{folder}: {tables[name_of(path)].name} and {path.name} are tables of one name")
+        tables[name_of(path)] = path
+    return tables
+
+
+def program_of(name: str, programs: Sequence[Path]) -> Path | None:
+    """The program of a table: the only one, or the one whose name the table has, or has before a hyphen."""
+    if len(programs) == 1:
+        return programs[0]
+    fitting = [path for path in programs if name == path.stem or name.startswith(f"{path.stem}-")]
+    return max(fitting, key=lambda path: len(path.stem)) if fitting else None
+
+
+def declared_for(program: Path, programs: Sequence[Path]) -> Path | None:
+    """The file of the mutants of a program that are declared equivalent, or None."""
+    own = program.with_name(f"{program.stem}.equivalent.json")
+    common = program.with_name("equivalent.json")
+    return own if own.exists() else common if len(programs) == 1 and common.exists() else None
+
+
+def task_of(name: str, program: Path | None, table: Path, programs: Sequence[Path]) -> Task:
+    try:
+        if program is None:
+            raise ValueError(f"{table}: there is no program of this name")
+        return Task(name, program, job_text(program, table, declared_for(program, programs)).encode(), None)
+    except ValueError as fault:
+        return Task(name, program, None, " ".join(str(fault).split()).replace(f"{table.parent}/", ""))
+
+
+def tasks_in(folder: Path) -> list[Task]:
+    """The jobs that a folder asks for, by name: one for each table, and for each program without one of its own."""
+    if not folder.is_dir():
+        raise ValueError(f"{folder}: there is no such folder")
+    programs, tables = programs_in(folder), tables_in(folder)
+    if not programs:
+        raise ValueError(f"{folder}: there is no program, a file that ends in .f")
+    common = tables.pop("suite", None) if len(programs) > 1 else None
+    wanted: dict[str, tuple[Path | None, Path]] = {}
+    wanted |= {name: (program_of(name, programs), table) for name, table in tables.items()}
+    having = {program for program, _ in wanted.values()}
+    wanted |= {path.stem: (path, common) for path in programs if common and path not in having}
+    if not wanted:
+        raise ValueError(f"{folder}: there is no table of tests, a file that ends in .json or .csv")
+    return [task_of(name, *wanted[name], programs) for name in sorted(wanted)]
+
+
+def written(path: Path, data: bytes) -> None:
+    """Writes a file under another name and then renames it, so that it is there as a whole or not at all."""
+    part = path.with_name(path.name + ".part")
+    part.write_bytes(data)
+    os.replace(part, path)
+
+
+class Results:
+    """The results of a class, in the folder of its jobs."""
+
+    def __init__(self, folder: Path, words: list[str]) -> None:
+        self.folder, self.words = folder, words
+        folder.mkdir(parents=True, exist_ok=True)
+
+    def path(self, name: str, ending: str) -> Path:
+        return self.folder / (name + ending)
+
+    def key(self, task: Task) -> str:
+        return hashlib.sha256(" ".join(self.words).encode() + b"\0" + (task.text or b"")).hexdigest()
+
+    def text(self, task: Task) -> str | None:
+        """What `mothra run` wrote of a job; None where that is not there, or was of another job."""
+        try:
+            if self.path(task.name, ".key").read_text() == self.key(task):
+                return self.path(task.name, ".report").read_bytes().decode("utf-8", "replace")
+        except OSError:
+            pass
+        return None
+
+    def keep(self, task: Task, text: str) -> None:
+        """Keeps a result."""
+        self.path(task.name, ".key").unlink(missing_ok=True)
+        written(self.path(task.name, ".json"), task.text or b"")
+        written(self.path(task.name, ".report"), text.encode())
+        written(self.path(task.name, ".key"), self.key(task).encode())
+
+    def is_missing(self, task: Task) -> bool:
+        """Whether a job has still to be run: there is no result, or what came may not come again."""
+        if task.text is None:
+            return False
+        text = self.text(task)
+        return text is None or not text.startswith(("REPORT ", "FAULT ")) or text.split()[1] in PASSING

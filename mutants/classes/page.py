@@ -1,0 +1,182 @@
+"""The page of a class: for each program the scores, the survivors in common, and the tests that matter most."""
+
+from collections.abc import Mapping, Sequence
+from typing import NamedTuple
+from urllib.parse import quote
+
+from mutants.classes.results import (
+    Class,
+    ClassTest,
+    Reported,
+    Result,
+    class_count,
+    class_of,
+    only_here,
+    reported_of,
+    survivors_in_common,
+)
+from mutants.pages.frame import Cell, bar, joined_words, page, plural, remark_part, table, text
+from mutants.pages.program import program_part
+from mutants.pages.report import by_line, counts_by_line, score_part
+from mutants.pages.suite import least_set_text, values_of
+from mutants.texts.lines import Mutant
+from mutants.texts.reports import Count, score_of, summed, with_status
+
+
+class View(NamedTuple):
+    """What is shown of a program: its source, its printed statements by line, and its mutants."""
+
+    source: str
+    statements: dict[int, str]
+    listed: list[Mutant]
+
+
+# So many tests that kill most are shown, and so many names of those who have a test.
+MOST, NAMED = 12, 3
+
+NUMBERS = ["Tests", "Killed", "Equi&shy;valent", "Sur&shy;vive", "Only here", "Score"]
+HEAD: list[Cell] = [("", "Name"), *[("n", word) for word in NUMBERS], ("bar", "")]
+
+
+def names_text(names: list[str]) -> str:
+    rest = [f"{len(names) - NAMED} more"] if len(names) > NAMED else []
+    return text(joined_words(names[:NAMED] + rest))
+
+
+def linked(name: str) -> str:
+    return f'<a href="jobs/{quote(name)}.html">{text(name)}</a>'
+
+
+def score_row(result: Reported, only: Mapping[str, int]) -> list[Cell]:
+    count = summed(result.report.counts.values())
+    said = f"{count.killed} of {count.total}"
+    return [
+        ("", linked(result.name)),
+        ("n", result.report.tests),
+        ("n", count.killed),
+        ("n", count.equivalent),
+        ("n", count.total - count.killed - count.equivalent),
+        ("n", only[result.name]),
+        ("n", f"<b>{score_of(count)}</b>"),
+        ("bar", bar(count.killed, count.total - count.equivalent, said)),
+    ]
+
+
+def by_score(results: Sequence[Reported]) -> list[Reported]:
+    """The results with the highest score first."""
+
+    def order(result: Reported) -> tuple[float, str]:
+        count = summed(result.report.counts.values())
+        wanted = count.total - count.equivalent
+        return -count.killed / wanted if wanted else 0, result.name
+
+    return sorted(results, key=order)
+
+
+def scores_part(results: Sequence[Reported]) -> str:
+    only = only_here(results)
+    told = "<p><b>Only here</b>: how many mutants this suite kills that no other suite of the class kills.</p>\n"
+    return table(HEAD, [score_row(result, only) for result in by_score(results)]) + told
+
+
+def refused_part(results: Sequence[Result]) -> str:
+    if not results:
+        return ""
+    rows: list[list[Cell]] = [[("", text(result.name)), ("", f"<code>{text(result.refusal)}</code>")] for result in results]
+    told = "<p><code>mutants explain</code> with the job in <code>out/jobs</code> says what a fault means.</p>\n"
+    return f"<h3>Without a report</h3>\n{table([('', 'Name'), ('', 'Why')], rows)}{told}"
+
+
+def test_row(test: ClassTest) -> list[Cell]:
+    return [
+        ("", f"<code>{text(values_of(test.values))}</code>"),
+        ("", names_text(test.names)),
+        ("n", test.kills),
+        ("n", test.alone or "none"),
+    ]
+
+
+TESTS_HEAD: list[Cell] = [("", "Values"), ("", "Of"), ("n", "Kills"), ("n", "It alone")]
+
+
+def best_tests_part(whole: Class) -> str:
+    order = sorted(range(len(whole.tests)), key=lambda place: (-whole.tests[place].kills, place))
+    rows: list[list[Cell]] = [
+        [*test_row(whole.tests[place]), ("", "yes" if place in whole.least else "")] for place in order[:MOST]
+    ]
+    told = f"<p>Of {plural(len(whole.tests), 'different test')} of the class, those that kill the most.</p>\n"
+    return told + table([*TESTS_HEAD, ("", "In the smallest set")], rows)
+
+
+def least_part(whole: Class) -> str:
+    killed = sum(mask != 0 for mask in whole.killers)
+    told = f"<p>{text(least_set_text(whole.least, whole.is_least, killed, 'class'))}.</p>\n"
+    return told + (table(TESTS_HEAD, [test_row(whole.tests[place]) for place in whole.least]) if whole.least else "")
+
+
+def listing_part(whole: Class, results: Sequence[Reported], known: View | None) -> str:
+    """The program with the survivors that all suites have in common."""
+    common = survivors_in_common(whole, results)
+    if known is None:
+        return f"<p>{plural(len(common), 'mutant')} survive in all suites.</p>\n"
+    rows = [
+        row._replace(status="K" if mask else "E" if row.status in "EW" else "S")
+        for row, mask in zip(whole.rows, whole.killers)
+    ]
+    told = f"<p>{plural(len(common), 'mutant')} that no suite of the class kills. The counts are of all suites.</p>\n"
+    source, statements, listed = known
+    counts = counts_by_line(listed, rows)
+    declared = by_line(with_status(listed, rows, "E"))
+    return told + program_part(source, statements, counts, by_line(common), declared)
+
+
+def overview(programs: Mapping[str, Sequence[Result]], classes: Mapping[str, Class | None]) -> str:
+    """A row for each program, with a link to what is said of it below; nothing where there is one."""
+    if len(programs) < 2:
+        return ""
+    rows: list[list[Cell]] = []
+    for place, (name, results) in enumerate(programs.items(), 1):
+        whole = classes[name]
+        count = class_count(whole) if whole else Count(0, 0, 0)
+        rows.append([
+            ("", f'<a href="#program-{place}">{text(name or "-")}</a>'),
+            ("n", len(results)),
+            ("n", count.killed),
+            ("n", count.total - count.equivalent),
+            ("n", f"<b>{score_of(count)}</b>"),
+            ("bar", bar(count.killed, count.total - count.equivalent, f"{count.killed} of {count.total}")),
+        ])
+    head: list[Cell] = [("", "Program"), *[("n", word) for word in ("Jobs", "Killed", "Of", "Score")], ("bar", "")]
+    return table(head, rows)
+
+
+def program_section(place: int, name: str, results: Sequence[Result], whole: Class | None, known: View | None) -> str:
+    """What is said of one program: its heading, and the parts."""
+    reported = reported_of(results)
+    refused = refused_part([result for result in results if result.report is None])
+    head = f'<h2 id="program-{place}">{text(name or "Without a program")}</h2>\n'
+    if whole is None:
+        return head + refused
+    parts = [
+        (f"Together: {plural(len(reported), 'suite')}", score_part(class_count(whole))),
+        ("Scores", scores_part(reported) + refused),
+        ("Survivors in common", listing_part(whole, reported, known)),
+        ("Tests that kill most", best_tests_part(whole)),
+        ("The smallest set of tests", least_part(whole)),
+    ]
+    return head + "".join(f"<h3>{title}</h3>\n{inner}" for title, inner in parts)
+
+
+def course_page(title: str, results: Sequence[Result], known: Mapping[str, View], remark: str = "") -> str:
+    """The page of a class: results in order, and what is shown of each program that is known."""
+    names = dict.fromkeys(result.program for result in results)
+    programs = {name: [result for result in results if result.program == name] for name in names}
+    reported = {name: reported_of(ours) for name, ours in programs.items()}
+    classes = {name: class_of(ours) if ours else None for name, ours in reported.items()}
+    done = len(reported_of(results))
+    head = f"<h1>{text(title)}: what the suites kill</h1>\n<p>{plural(len(results), 'job')}, {done} with a report.</p>\n"
+    sections = [
+        program_section(place, name, ours, classes[name], known.get(name))
+        for place, (name, ours) in enumerate(programs.items(), 1)
+    ]
+    return page(title, head + remark_part(remark) + overview(programs, classes) + "".join(sections))

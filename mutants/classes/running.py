@@ -1,0 +1,120 @@
+"""The jobs of a class, run side by side by GNU parallel.
+
+Each job is one line of the standard input of one `parallel --pipe`, which hands it to one `mothra run`: so no file has
+to be brought to another machine, and none is left there. What comes of a job is written as a whole when it has ended,
+between a line with its place and a line with its exit status.
+"""
+
+import shlex
+import subprocess
+import tempfile
+import threading
+from collections.abc import Callable, Iterable, Iterator, Sequence
+from typing import IO
+
+from mutants.program.calling import failure_of
+
+BEGIN, END = "JOB ", "STATUS "
+# More than a job may have, so that one job is one block.
+BLOCK = "2M"
+
+
+def find_parallel() -> None:
+    """Raises ValueError where GNU parallel is not there; another program of its name is not it."""
+    try:
+        told = subprocess.run(["parallel", "--version"], capture_output=True, text=True, errors="replace")
+    except OSError:
+        raise ValueError("GNU parallel is not found: it runs the jobs side by side") from None
+    if not told.stdout.startswith("GNU parallel"):
+        raise ValueError("the program parallel is not GNU parallel")
+
+
+def on_one_line(job: bytes) -> bytes:
+    """A job without ends of lines: JSON has none in its texts, and between them they mean nothing."""
+    return job.replace(b"\r", b" ").replace(b"\n", b" ") + b"\n"
+
+
+def command_of(program: str, words: Sequence[str]) -> str:
+    """What is run for each job, for any shell: {#} is its place."""
+    run = shlex.join([program, "run", *words])
+    inner = f"echo {BEGIN}{{#}}; {run}; status=$?; echo; echo {END}$status"
+    return f"sh -c {shlex.quote(inner)}"
+
+
+def parallel_words(program: str, words: Sequence[str], jobs: int | None, logins: Iterable[str]) -> list[str]:
+    found = ["parallel", "--pipe", "-N1", "--block", BLOCK]
+    found += ["--jobs", str(jobs)] if jobs else []
+    for login in logins:
+        found += ["--sshlogin", login]
+    return [*found, command_of(program, words)]
+
+
+def answers_in(lines: Iterable[str]) -> Iterator[tuple[int, str, int]]:
+    """The place, the text and the status of each job, as they come."""
+    place: int | None = None
+    kept: list[str] = []
+    for line in lines:
+        if line.startswith(BEGIN):
+            place, kept = int(line.removeprefix(BEGIN)) - 1, []
+        elif line.startswith(END) and place is not None:
+            # In front of the status stands an end of line that the program did not write.
+            text = "".join(kept)
+            yield place, text.removesuffix("\n"), int(line.removeprefix(END))
+            place = None
+        else:
+            kept.append(line)
+
+
+def text_of_answer(text: str, status: int) -> str:
+    """What is kept of a job: the report, or the line that says why there is none."""
+    return text if status == 0 and text.startswith("REPORT ") else failure_of(text, status) + "\n"
+
+
+def feed(pipe: IO[bytes], jobs: Iterable[bytes]) -> None:
+    """Hands the jobs over. Where parallel has ended before, no more is wanted."""
+    try:
+        with pipe:
+            for job in jobs:
+                pipe.write(on_one_line(job))
+    except BrokenPipeError:
+        pass
+
+
+def stop(running: "subprocess.Popen[bytes]") -> None:
+    """Ends parallel and its jobs, where they still run: asked once it would wait for these."""
+    for _ in range(2):
+        running.terminate()
+    running.wait()
+
+
+def collect(running: "subprocess.Popen[bytes]", jobs: Sequence[bytes], keep: Callable[[int, str], None]) -> None:
+    """Hands the jobs to parallel, and keeps what comes of each."""
+    assert running.stdin and running.stdout
+    source, target = running.stdin, running.stdout
+    feeder = threading.Thread(target=feed, args=(source, jobs), daemon=True)
+    feeder.start()
+    try:
+        lines = (line.decode("utf-8", "replace") for line in target)
+        for place, text, status in answers_in(lines):
+            keep(place, text_of_answer(text, status))
+    finally:
+        stop(running)
+        feeder.join()
+
+
+def run_all(
+    program: str,
+    words: Sequence[str],
+    jobs: Sequence[bytes],
+    count: int | None,
+    logins: Iterable[str],
+    keep: Callable[[int, str], None],
+) -> str:
+    """Runs the jobs; `keep` is called with the place and the text of each as it ends. The last line of the errors."""
+    call, pipe = parallel_words(program, words, count, logins), subprocess.PIPE
+    with tempfile.TemporaryFile() as errors:
+        with subprocess.Popen(call, stdin=pipe, stdout=pipe, stderr=errors) as running:
+            collect(running, jobs, keep)
+        errors.seek(0)
+        told = errors.read().decode("utf-8", "replace").strip().splitlines()
+    return told[-1] if told else ""

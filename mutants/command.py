@@ -1,0 +1,64 @@
+"""The command mutants: its words, and the subcommand that they name.
+
+    mutants [--help] [--version] SUBCOMMAND ..
+
+From a program in FORTRAN 77 and its tests to what the tests kill, with the proved program mothra.
+"""
+
+import argparse
+import sys
+from collections.abc import Callable, Sequence
+
+from mutants import __version__, statuses
+from mutants.ending import run_tool
+from mutants.subcommands.registry import SUBCOMMANDS, Subcommand
+from mutants.words import add_version, text_of_help
+
+NAME = "mutants"
+RAW = argparse.RawDescriptionHelpFormatter
+
+
+def add_subcommand(add: Callable[..., argparse.ArgumentParser], command: Subcommand, is_asked: bool) -> None:
+    """The parser of a subcommand; that of one which is not asked for has its name alone."""
+    if not is_asked:
+        add(command.name, help=command.line)
+        return
+    module = command.module()
+    parser = add(
+        command.name, help=command.line, description=text_of_help(module.__doc__), epilog=statuses.told(), formatter_class=RAW
+    )
+    add_version(parser)
+    module.add_words(parser)
+    parser.set_defaults(run=module.run, name=f"{NAME} {command.name}")
+
+
+def asked_name(words: Sequence[str]) -> str | None:
+    """The first word that is no option: the name of the subcommand, where there is one of it."""
+    return next((word for word in words if not word.startswith("-")), None)
+
+
+def parser_for(words: Sequence[str]) -> argparse.ArgumentParser:
+    """The parser of the command, for these words."""
+    usage, told = f"{NAME} [--help] [--version] SUBCOMMAND ..", text_of_help(__doc__).rpartition("\n\n")[2]
+    parser = argparse.ArgumentParser(prog=NAME, usage=usage, description=told, epilog=statuses.told(), formatter_class=RAW)
+    add_version(parser)
+    kind = parser.add_subparsers(metavar="SUBCOMMAND", required=True, prog=NAME)
+    asked = asked_name(words)
+    for command in SUBCOMMANDS:
+        add_subcommand(kind.add_parser, command, command.name == asked)
+    return parser
+
+
+def main(words: Sequence[str] | None = None) -> int:
+    """Does what the words say, and gives the exit status."""
+    given_words = sys.argv[1:] if words is None else list(words)
+    # A fault is told by the name of the subcommand, and words that are refused by the parser.
+    named = asked_name(given_words)
+    name = f"{NAME} {named}" if named else NAME
+
+    def do() -> int:
+        given = parser_for(given_words).parse_args(given_words)
+        status: int = given.run(given, given.name)
+        return status
+
+    return run_tool(name, do)

@@ -1,0 +1,54 @@
+"""How a command or a tool ends: its exit status, and one line where something is wrong."""
+
+import io
+import os
+import sys
+from collections.abc import Callable
+
+from mutants.program.calling import Fault
+from mutants.program.finding import NoProgram
+from mutants.statuses import FAULT, INTERRUPTED
+
+
+def one_line(fault: BaseException) -> str:
+    """What a fault says, in one line."""
+    if isinstance(fault, OSError) and fault.strerror:
+        return f"{fault.filename}: {fault.strerror}" if fault.filename else fault.strerror
+    return " ".join(str(fault).split()) or type(fault).__name__
+
+
+def takes_any_text() -> None:
+    """A character that the terminal does not take is shown as a question mark."""
+    for stream in (sys.stdout, sys.stderr):
+        if isinstance(stream, io.TextIOWrapper):
+            stream.reconfigure(errors="replace")
+
+
+def status_of(main: Callable[[], int]) -> int:
+    """The status of what is done, with all of its output written. Help and refused words end by an exit of their own."""
+    try:
+        status = main()
+    except SystemExit as end:
+        status = end.code if isinstance(end.code, int) else 0 if end.code is None else FAULT
+    sys.stdout.flush()
+    return status
+
+
+def run_tool(name: str, main: Callable[[], int]) -> int:
+    """Does it, and gives its exit status. A fault is told on standard error; Ctrl-C and a closed pipe end it without more."""
+    takes_any_text()
+    try:
+        return status_of(main)
+    except KeyboardInterrupt:
+        sys.stderr.write("\n")
+        return INTERRUPTED
+    except BrokenPipeError:
+        # Else Python would write what it keeps back once more, and tell that this failed.
+        os.dup2(os.open(os.devnull, os.O_WRONLY), sys.stdout.fileno())
+        return FAULT
+    except NoProgram as fault:
+        sys.stderr.write(f"{name}: {fault}\n")
+        return FAULT
+    except (OSError, ValueError, RecursionError, MemoryError) as fault:
+        sys.stderr.write(f"{name}: {one_line(fault)}\n")
+        return fault.status if isinstance(fault, Fault) else FAULT

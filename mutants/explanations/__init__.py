@@ -1,0 +1,1 @@
+"""What each fault means, and where in a job it is."""

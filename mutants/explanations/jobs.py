@@ -1,0 +1,202 @@
+"""What a fault says of the job itself: of its JSON, its suite, its declared mutants, or of a run of its program."""
+
+import json
+import re
+from collections.abc import Mapping
+from typing import Any
+
+from mutants.fortran.unit import Dummy, read_head, read_unit
+from mutants.jobs.making import is_value
+from mutants.operators import NAMES
+from mutants.pages.frame import plural
+from mutants.program.calling import Fault, answer
+from mutants.texts.cards import cards_of
+
+# So many characters of a value are shown.
+LONGEST = 100
+OUTCOMES = {
+    "OVERFLOW": "a value left the range of INTEGER, -2147483648 to 2147483647",
+    "DIVIDEBYZERO": "a number was divided by 0, or MOD had the second argument 0",
+    "ZEROPOWER": "0 was raised to a power that is 0 or negative",
+    "BADSUBSCRIPT": "a subscript was below 1 or above its bound",
+    "ZEROSTEP": "the step of a DO was 0",
+    "UNDEFINED": "a variable or an array element was read before it had a value",
+    "STEPLIMIT": "it had not come to its end when the limit on steps was reached; a loop may have no end",
+}
+
+
+def short(value: object) -> str:
+    told = json.dumps(value)
+    return told if len(told) <= LONGEST else told[: LONGEST - 3] + " .."
+
+
+def object_of(text: bytes) -> dict[str, Any]:
+    """The object that a job is; here its members may be anything."""
+    try:
+        job = json.loads(text)
+    except ValueError:
+        raise ValueError("the job is no JSON text: the fault is of another job") from None
+    if not isinstance(job, dict):
+        raise ValueError("the job is no JSON object: the fault is of another job")
+    return job
+
+
+def items_of(job: Mapping[str, Any], key: str) -> list[Any]:
+    found = job.get(key, [])
+    if not isinstance(found, list):
+        raise ValueError(f"the key {key} of the job has no list: the fault is of another job")
+    return found
+
+
+def item_of(job: Mapping[str, Any], key: str, number: int) -> Any:
+    """An item of a list of the job, by its number from 1."""
+    found = items_of(job, key)
+    if not 0 < number <= len(found):
+        raise ValueError(f"the job has no item {number} in {key}: the fault is of another job")
+    return found[number - 1]
+
+
+def test_of(job: Mapping[str, Any], number: int) -> list[Any]:
+    """A test of the job that is a list."""
+    test = item_of(job, "suite", number)
+    if not isinstance(test, list):
+        raise ValueError(f"test {number} of the job is no list: the fault is of another job")
+    return test
+
+
+def json_notes(text: bytes) -> list[str]:
+    """Where a text is no JSON."""
+    try:
+        job = json.loads(text.decode("utf-8"))
+    except UnicodeDecodeError as fault:
+        return [f"Byte {fault.start + 1} is not one of a text in UTF-8."]
+    except json.JSONDecodeError as fault:
+        line = fault.doc.split("\n")[fault.lineno - 1]
+        at = max(fault.colno - 40, 0)
+        shown = "".join(c if c.isprintable() else "?" for c in line[at : at + 80])
+        where = f"Line {fault.lineno}, column {fault.colno} of the job: {fault.msg}."
+        return [where, f"  {shown}", f"  {' ' * (fault.colno - 1 - at)}^"]
+    except (RecursionError, ValueError):
+        return ["Lists nest too deep, or a number is too long."]
+    return [] if isinstance(job, dict) else [f"At the top stands {short(job)}."]
+
+
+def key_notes(job: Mapping[str, Any], key: str) -> list[str]:
+    if key not in ("source", "suite", "equivalent"):
+        return [f"The key {short(key)} is unknown."]
+    if key not in job:
+        return [f"There is no key {key}."]
+    return [f"The value of {key} is {short(job[key])}."]
+
+
+def value_notes(test: object, number: int) -> list[str]:
+    """The first value of a test that is none."""
+    if not isinstance(test, list):
+        return [f"Test {number} is {short(test)}."]
+    wrong = [(place, value) for place, value in enumerate(test, 1) if not is_value(value)]
+    notes = [f"Test {number} is {short(test)}."]
+    return notes + [f"Value {place} is {short(value)}." for place, value in wrong[:1]]
+
+
+def dummies_of(source: str) -> list[tuple[str, Dummy]]:
+    """The names of the dummy arguments, and of each its kind and its number of elements."""
+    cards = cards_of(source)
+    _, names = read_head(cards[0].text if cards else "")
+    return list(zip(names, read_unit(source)[1]))
+
+
+def wanted(name: str, kind: str, elements: int | None) -> str:
+    size = "" if elements is None else f", an array of {plural(elements, 'element')}"
+    return f"{name} ({kind.upper()}{size})"
+
+
+def fits(value: object, kind: str, elements: int | None) -> bool:
+    """Whether a value is one of a dummy argument."""
+    if elements is None:
+        return isinstance(value, bool) == (kind == "logical") and not isinstance(value, list)
+    return isinstance(value, list) and len(value) == elements and all(fits(item, kind, None) for item in value)
+
+
+def shape_notes(job: Mapping[str, Any], test: list[Any], number: int | None = None) -> list[str]:
+    """How a test and the dummy arguments differ."""
+    dummies = dummies_of(str(job.get("source")))
+    notes = [f"{f'Test {number}' if number else 'The test'} is {short(test)}."]
+    told = ", ".join(wanted(name, *dummy) for name, dummy in dummies) or "none"
+    notes.append(f"It has {plural(len(test), 'value')}; the dummy arguments are {len(dummies)}: {told}.")
+    if len(test) == len(dummies):
+        wrong = [place for place, (value, (_, dummy)) in enumerate(zip(test, dummies)) if not fits(value, *dummy)]
+        for place in wrong[:1]:
+            name, dummy = dummies[place]
+            notes.append(f"Value {place + 1} is {short(test[place])}, for {wanted(name, *dummy)}.")
+    return notes
+
+
+def outcome_notes(program: str | None, text: bytes, job: Mapping[str, Any], number: int, words: list[str]) -> list[str]:
+    """What the program does on a test, where there is a program that can be asked."""
+    test = item_of(job, "suite", number)
+    notes = [f"Test {number} is {short(test)}."]
+    steps = words[words.index("--steps") + 1 : words.index("--steps") + 2] if "--steps" in words else []
+    if program is None:
+        return notes
+    try:
+        told = answer(program, ["exec", "--test", str(number), *(["--steps", *steps] if steps else [])], text).strip()
+    except Fault:
+        return notes
+    return notes + ([f"The run ends as {told}: {OUTCOMES[told]}."] if told in OUTCOMES else [])
+
+
+def entry_notes(program: str | None, text: bytes, job: Mapping[str, Any], number: int) -> list[str]:
+    """What is wrong with a declared entry."""
+    entry = item_of(job, "equivalent", number)
+    notes = [f"Entry {number} is {short(entry)}."]
+    found = re.fullmatch(r"([A-Z]{3}) (\d+)", entry) if isinstance(entry, str) else None
+    earlier = job["equivalent"].index(entry) + 1
+    if earlier < number:
+        return notes + [f"Entry {earlier} is the same."]
+    if found and found[1] not in NAMES:
+        return notes + [f"There is no operator {found[1]}."]
+    if found and program:
+        try:
+            total = answer(program, ["list", "--ops", found[1]], text).split("\n")[0]
+        except Fault:
+            return notes
+        notes.append(f"{found[1]} has {plural(int(total.split(' ')[1]), 'mutant')} of this program.")
+    return notes
+
+
+def notes_on(code: str, kind: str, detail: str, text: bytes, program: str | None, words: list[str]) -> list[str]:
+    """What is said of the job for this fault. `text` is the bytes of the job; the program may be None."""
+    if code == "J2":
+        return json_notes(text)
+    if code == "J7":
+        return [f"The job has {len(text):,} bytes."]
+    if kind not in ("key", "test", "value", "entry", "operator", "mutant") and code not in ("J6", "N2"):
+        return []
+    job = object_of(text)
+    if code == "J6":
+        return [f"There are {len(items_of(job, 'suite'))}."]
+    if kind == "key":
+        return key_notes(job, detail)
+    if kind == "operator":
+        return [f"{detail} is {NAMES[detail]}."] if detail in NAMES else []
+    if code == "J8":
+        return [f"The suite has {plural(len(items_of(job, 'suite')), 'test')}."]
+    return notes_by_number(code, kind, detail, text, job, program, words)
+
+
+def notes_by_number(
+    code: str, kind: str, detail: str, text: bytes, job: Mapping[str, Any], program: str | None, words: list[str]
+) -> list[str]:
+    """The notes on a test, a value of a test or an entry, told by its number."""
+    if kind == "entry":
+        return entry_notes(program, text, job, int(detail))
+    if code == "J4":
+        return value_notes(item_of(job, "suite", int(detail)), int(detail))
+    if code == "B3":
+        return shape_notes(job, test_of(job, int(detail)), int(detail))
+    if code == "B4":
+        return outcome_notes(program, text, job, int(detail), words)
+    if code in ("N2", "N3") and "--test" in words[:-1]:
+        number = int(words[words.index("--test") + 1])
+        return shape_notes(job, test_of(job, number), number)
+    return []

@@ -1,0 +1,1 @@
+"""What the gate tries beside the proofs: theorems by name, wrong bodies, stored examples."""

@@ -1,0 +1,120 @@
+"""The contracts and the definitions of a crate, as its texts have them.
+
+Nothing is proved or compiled: a call is what begins with `fn`, a clause what stands behind `requires` or `ensures` in
+its contract, and a definition what a file of specs/ has at the beginning of a line.
+"""
+
+import re
+from collections.abc import Iterator, Sequence
+from pathlib import Path
+
+# The text of each clause by its name.
+Clauses = dict[str, str]
+
+# What begins a block of methods or a type, a method in it or a function, and a fact of a type.
+OWNER = re.compile(r"(?:pub(?:\(crate\))? )?(?:impl|trait|struct|enum)\b.*")
+CALL = re.compile(r"( *)(pub )?(?:pub\(crate\) )?(?:const )?fn (\w+)")
+CLAUSE = re.compile(r"^ *(requires|ensures)\*? *(\w*) *\{", re.M)
+FACT = re.compile(r"^ *ghost (\w+)(?::| =) \{", re.M)
+DEFINITION = r"^(?: *(?:(?:abbrev|unfoldable) pub|pub (?:record|data)) |pub ){}(?![\w'-])"
+# The name of a clause that has none, since its call has no other.
+ALONE = {"ensures": "its clause", "requires": "its condition"}
+
+
+def crates_of(root: Path) -> set[str]:
+    """The names of the crates of the repository."""
+    lines = [line.partition("#")[0] for line in (root / "crates.txt").read_text(encoding="utf-8").split("\n")]
+    return {line.split()[0].rstrip(":") for line in lines if line.strip()}
+
+
+def owner_of(line: str) -> str:
+    """The type that a block of methods, a trait or a type is of: the last name of its head, without its arguments."""
+    head = re.sub(r"^(?:pub(?:\(crate\))? )?(?:impl\b *)?", "", line)
+    while "<" in head:
+        shorter = re.sub(r"<[^<>]*>", "", head.replace("->", ""))
+        if shorter == head:
+            break
+        head = shorter
+    head = re.split(r"\bwhere\b|[{(;:]", head)[0]
+    return head.split()[-1] if head.split() else ""
+
+
+def block_at(text: str, at: int) -> str:
+    """What stands between the brace at a place of the text and its partner."""
+    depth = 0
+    for place in range(at, len(text)):
+        depth += {"{": 1, "}": -1}.get(text[place], 0)
+        if depth == 0:
+            return text[at + 1 : place]
+    return text[at + 1 :]
+
+
+def clauses_of(contract: str, pattern: re.Pattern[str] = CLAUSE) -> Clauses:
+    """The clauses of a contract: the text of each by its name. Those of one name are one text."""
+    found: Clauses = {}
+    for head in pattern.finditer(contract):
+        name = head[head.lastindex or 0] or ALONE[head[1]]
+        found[name] = found.get(name, "") + block_at(contract, head.end() - 1)
+    return found
+
+
+def contract_at(lines: Sequence[str], number: int, indent: str) -> str:
+    """The lines of a call from its head to its body, or to its end where it has none."""
+    for last in range(number, len(lines)):
+        line = lines[last]
+        is_clause = re.match(r" *(?:requires|ensures)\b", line)
+        if line.startswith(indent + "{") or line.endswith(";") or line.endswith(("{", "{}")) and not is_clause:
+            break
+    return "\n".join(lines[number : last + 1])
+
+
+def type_at(lines: Sequence[str], number: int) -> str:
+    """The lines of a type or a block of methods up to the brace that ends it."""
+    for last in range(number, len(lines)):
+        if lines[last].startswith("}") or lines[last].endswith((";", "{}")) and not lines[last].startswith(" "):
+            break
+    return "\n".join(lines[number : last + 1])
+
+
+def calls_in(text: str, module: str) -> Iterator[tuple[str, bool, Clauses]]:
+    """The calls and types of a file: each one's name, `f`, `law::f` or `Type::f`; whether it is public; its clauses."""
+    lines, head = text.split("\n"), ""
+    for number, line in enumerate(lines):
+        if OWNER.match(line):
+            head = line
+            yield owner_of(head), True, clauses_of(type_at(lines, number), FACT)
+        elif line.startswith("}"):
+            head = ""
+        call = CALL.match(line)
+        if call:
+            clauses = clauses_of(contract_at(lines, number, call[1]))
+            is_method = bool(call[1] and head)
+            # The calls of a trait are as public as the trait.
+            is_public = bool(call[2]) or is_method and re.search(r"\btrait\b|\bfor\b", head) is not None
+            owner = owner_of(head) if is_method else "law" if module == "law" else ""
+            yield f"{owner}::{call[3]}" if owner else call[3], is_public, clauses
+
+
+def contracts_of(folder: Path) -> dict[str, Clauses]:
+    """The calls and types of a crate: by its name, each clause by its name. Public ones hide others of their name."""
+    found: dict[str, Clauses] = {}
+    public: set[str] = set()
+    for path in sorted(Path(folder, "src").rglob("*.rt")):
+        for name, is_public, clauses in calls_in(path.read_text(encoding="utf-8"), path.stem):
+            if is_public and name not in public:
+                public.add(name)
+                found[name] = {}
+            if is_public or name not in public:
+                found.setdefault(name, {}).update(clauses)
+    return found
+
+
+def definition_in(text: str, name: str) -> str | None:
+    """The definition of this name in a file of specs/, up to the next empty line; None where there is none."""
+    head = re.search(DEFINITION.format(re.escape(name)), text, re.M)
+    return text[head.start() :].partition("\n\n")[0] if head else None
+
+
+def cites(text: str, name: str) -> bool:
+    """Whether a clause or a definition has the name."""
+    return re.search(rf"(?<![\w'-]){re.escape(name)}(?![\w'-])", text) is not None

@@ -1,0 +1,101 @@
+"""Try the examples: the stored jobs and reports, and what the README and the guide show of them.
+
+    tools/examples MOTHRA
+
+A suite examples/NAME.suite.json is of the program examples/NAME.f, or of that whose name stands before a hyphen. Four
+things are compared:
+
+- examples/NAME.json with the job that `mutants job` makes of program and suite, and of the mutants that
+  examples/NAME.equivalent.json declares, where that is there;
+- examples/NAME.report with what `MOTHRA run` writes for that job, with no option;
+- the texts of programs, suites and reports in the test of the examples with the files;
+- what README.md and docs/GUIDE.md show behind each line `$ COMMAND` of a block ```console with what the command writes,
+  run from the top of the repository with MOTHRA as `mothra`. A line `...` stands for any lines. tools/against-gfortran
+  is not run.
+
+There is one line for each thing that is not the same. The last line counts both, and the exit status is 1 where there
+is one. It tests what the tests of the crates can not, since those read no files.
+"""
+
+import argparse
+import re
+import subprocess
+import tempfile
+from collections.abc import Iterator, Sequence
+from os import environ
+from pathlib import Path
+
+from mutants.jobs.making import job_text
+from mutants.program.roots import ROOT
+from mutants.statuses import FAULT, SUCCESS
+from mutants.words import whole_path
+
+TEST = ROOT / "crates" / "mothra_tests" / "src" / "example_reports.rt"
+PAGES = ["README.md", "docs/GUIDE.md"]
+IN_TEST = "triangle.f triangle.suite.json triangle-more.suite.json euclid.f euclid.suite.json euclid.report".split()
+SECONDS = 120
+
+
+def written(words: Sequence[str], given: bytes | None = None, env: dict[str, str] | None = None) -> str:
+    """What a command writes, to both of its outputs."""
+    ended = subprocess.run(
+        words, cwd=ROOT, input=given, env=env, stdout=subprocess.PIPE, stderr=subprocess.STDOUT, timeout=SECONDS
+    )
+    return ended.stdout.decode(errors="replace")
+
+
+def compare_files(mothra: str) -> Iterator[tuple[str, bool]]:
+    """Each stored job and report: its name, and whether it is the same."""
+    for suite in sorted(ROOT.glob("examples/*.suite.json")):
+        name = suite.name.removesuffix(".suite.json")
+        program, job = suite.with_name(f"{name.split('-')[0]}.f"), suite.with_name(f"{name}.json")
+        report = suite.with_name(f"{name}.report")
+        names = suite.with_name(f"{name}.equivalent.json")
+        made = job_text(program, suite, names if names.exists() else None)
+        yield f"examples/{job.name}", made == job.read_text()
+        yield f"examples/{report.name}", written([mothra, "run"], job.read_bytes()) == report.read_text()
+
+
+def compare_test() -> Iterator[tuple[str, bool]]:
+    text = TEST.read_text()
+    for name in IN_TEST:
+        yield f"examples/{name} in {TEST.name}", (ROOT / "examples" / name).read_text().rstrip("\n") in text
+
+
+def shown(page: str) -> Iterator[tuple[str, str]]:
+    """The commands that a page shows, each with the text behind it."""
+    for block in re.findall(r"^```console\n(.*?)^```", (ROOT / page).read_text(), re.M | re.S):
+        for part in re.split(r"^\$ ", block, flags=re.M)[1:]:
+            command, _, text = part.partition("\n")
+            yield command, text
+
+
+def is_shown(text: str, told: str) -> bool:
+    """Whether the text told is the one shown, where a line `...` stands for any lines."""
+    pieces = [re.escape(piece) for piece in re.split(r"^\.\.\.\n", text, flags=re.M)]
+    return re.fullmatch("(.*\n)*".join(pieces), told) is not None
+
+
+def compare_pages(mothra: str) -> Iterator[tuple[str, bool]]:
+    with tempfile.TemporaryDirectory() as folder:
+        Path(folder, "mothra").symlink_to(Path(mothra).resolve())
+        path = {**environ, "PATH": f"{folder}:{environ['PATH']}"}
+        for page, (command, text) in ((page, pair) for page in PAGES for pair in shown(page)):
+            if not command.startswith("tools/against-gfortran"):
+                yield f"{page}: {command}", is_shown(text, written(["sh", "-c", command], env=path))
+
+
+def add_words(parser: argparse.ArgumentParser) -> None:
+    parser.add_argument("mothra", metavar="MOTHRA", type=whole_path)
+
+
+def run(given: argparse.Namespace, name: str) -> int:
+    same = differ = 0
+    for compare in (compare_files(given.mothra), compare_test(), compare_pages(given.mothra)):
+        for what, is_same in compare:
+            same += is_same
+            differ += not is_same
+            if not is_same:
+                print(f"not the same: {what}")
+    print(f"{same} the same, {differ} not")
+    return FAULT if differ else SUCCESS

@@ -1,0 +1,1 @@
+"""Jobs made of a program and a table of its tests."""

@@ -1,0 +1,98 @@
+"""The program on a page: each line of the source with its marks, and under it the survivors with what they change."""
+
+import re
+from collections.abc import Iterable, Mapping, Sequence
+from itertools import groupby
+
+from mutants.operators import NAMES
+from mutants.pages.differences import pieces
+from mutants.pages.frame import bar, plural, text
+from mutants.texts.cards import cards_of, is_comment, source_lines
+from mutants.texts.lines import Mutant
+from mutants.texts.reports import Count
+
+# So many survivors of an operator on one line are shown unfolded.
+UNFOLDED = 12
+MARKS = {"=": "{}", "-": "<del>{}</del>", "+": "<ins>{}</ins>"}
+
+
+def letters(statement: str) -> str:
+    return re.sub("[^A-Z]", "", statement)
+
+
+def statements_by_line(source: str, printed: Sequence[str]) -> dict[int, str]:
+    """The printed text of each statement, by the number of its initial line."""
+    cards = cards_of(source)
+    # Printing changes blanks, parentheses, commas and numbers, and no letter.
+    if [letters(card.text) for card in cards] != [letters(told) for told in printed]:
+        raise ValueError("the printed program and the source of the job have not the same statements")
+    return {card.line: told for card, told in zip(cards, printed)}
+
+
+def difference(old: str, new: str) -> str:
+    """The two statements as one text in which what is gone and what is new are marked."""
+    return "".join(MARKS[mark].format(text(piece)) for mark, piece in pieces(old, new))
+
+
+def survivor_item(mutant: Mutant, statement: str) -> str:
+    name = f'<abbr title="{text(NAMES.get(mutant.op, mutant.op))}">{text(mutant.op)}</abbr> {mutant.place}'
+    return f"<li><b>{name}</b><code>{difference(statement, mutant.text)}</code></li>\n"
+
+
+def items(mutants: Iterable[Mutant], statement: str) -> str:
+    return "<ul>\n" + "".join(survivor_item(mutant, statement) for mutant in mutants) + "</ul>\n"
+
+
+def survivors_part(survivors: Iterable[Mutant], statement: str) -> str:
+    """The survivors of a line; where an operator has many they are folded."""
+    parts = []
+    for op, alike in groupby(survivors, key=lambda mutant: mutant.op):
+        group = list(alike)
+        shown = items(group, statement)
+        summary = f"<summary><b>{text(op)}</b> {text(NAMES.get(op, ''))}: {len(group)} survivors</summary>"
+        parts.append(shown if len(group) <= UNFOLDED else f"<details>{summary}{shown}</details>\n")
+    return f'<div class="mutants">{"".join(parts)}</div>\n'
+
+
+def declared_part(declared: Sequence[Mutant], statement: str) -> str:
+    """The mutants of a line that are declared equivalent and survived, folded."""
+    summary = f"<summary>{len(declared)} declared equivalent</summary>"
+    return f'<div class="mutants declared"><details>{summary}{items(declared, statement)}</details></div>\n'
+
+
+def marks_of(count: Count, survived: int) -> str:
+    """The marks of a line: a bar, how many mutants are killed, and how many survive."""
+    said = f"{count.killed} of {plural(count.total, 'mutant')} killed"
+    told = f"{count.killed} of {count.total}"
+    if survived:
+        last = f'<span class="live">{survived} survive{"s" if survived == 1 else ""}</span>'
+    else:
+        last = f"<span>{count.equivalent} equivalent</span>" if count.equivalent else "<span>all killed</span>"
+    return f'<span class="marks"><span>{bar(count.killed, count.total, said)}</span><span>{told}</span>{last}</span>'
+
+
+def line_part(number: int, line: str, count: Count | None, survived: int, has_link: bool) -> str:
+    """A line of the source. On a page with one program it can be linked to."""
+    marks = marks_of(count, survived) if count else '<span class="marks"></span>'
+    kind = "line remark" if is_comment(line) else "line"
+    link = f' id="line-{number}"' if has_link and count else ""
+    told = f'<span class="number">{number}</span><span class="source">{text(line) or " "}</span>{marks}'
+    return f'<div class="{kind}"{link}>{told}</div>\n'
+
+
+def program_part(
+    source: str,
+    statements: Mapping[int, str],
+    counts: Mapping[int, Count],
+    survivors: Mapping[int, Sequence[Mutant]],
+    declared: Mapping[int, Sequence[Mutant]],
+    has_links: bool = False,
+) -> str:
+    """The whole program: counts of mutants, survivors and declared mutants are by line number."""
+    parts = []
+    for number, line in enumerate(source_lines(source), 1):
+        found, others = survivors.get(number, []), declared.get(number, [])
+        parts.append(line_part(number, line, counts.get(number), len(found), has_links))
+        parts += [survivors_part(found, statements[number])] if found else []
+        parts += [declared_part(others, statements[number])] if others else []
+    return '<div class="program">\n' + "".join(parts) + "</div>\n"

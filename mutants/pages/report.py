@@ -1,0 +1,132 @@
+"""The page of one job: its score, its program with the survivors, its operators, its tests and its kill matrix."""
+
+from collections import Counter, defaultdict
+from collections.abc import Iterable, Mapping, Sequence
+
+from mutants.operators import NAMES
+from mutants.pages.frame import Cell, bar, joined_words, page, plural, remark_part, table, text
+from mutants.pages.matrix import matrix_part
+from mutants.pages.program import program_part, statements_by_line
+from mutants.pages.suite import tests_part
+from mutants.texts.jobs import Job
+from mutants.texts.lines import Mutant
+from mutants.texts.reports import Count, Report, Row, assert_same_mutants, score_of, summed, with_status
+
+
+def counts_by_line(listed: Sequence[Mutant], rows: Iterable[Row]) -> dict[int, Count]:
+    """How many mutants each line has, how many are killed, and how many are declared and survived."""
+    found = Counter((mutant.line, row.status) for mutant, row in zip(listed, rows))
+    lines = dict.fromkeys(mutant.line for mutant in listed)
+    return {
+        line: Count(sum(found[line, s] for s in "KSEW"), found[line, "K"] + found[line, "W"], found[line, "E"])
+        for line in lines
+    }
+
+
+def by_line(mutants: Iterable[Mutant]) -> dict[int, list[Mutant]]:
+    found: dict[int, list[Mutant]] = defaultdict(list)
+    for mutant in mutants:
+        found[mutant.line].append(mutant)
+    return found
+
+
+def score_part(count: Count) -> str:
+    """The score in large figures, and what it is made of."""
+    score, wanted = score_of(count), count.total - count.equivalent
+    said = f"{count.killed} of {plural(wanted, 'mutant')} killed"
+    rest = f", not counting {count.equivalent} declared equivalent" if count.equivalent else ""
+    figures = "no score" if score == "NONE" else f"{score} %"
+    return f'<div class="score"><b>{figures}</b>{bar(count.killed, wanted, said)}<span>{said}{rest}</span></div>\n'
+
+
+def facts_of(report: Report) -> str:
+    told = f"{plural(report.tests, 'test')}; runs of at most {report.steps} steps"
+    if report.every > 1:
+        told += f"; of each operator's list the mutants 1, {report.every + 1}, {2 * report.every + 1} and on"
+    return f'<p class="soft">{told}.</p>\n'
+
+
+def first_look(survivors: Sequence[Mutant]) -> str:
+    """Where the survivors are, in one sentence."""
+    if not survivors:
+        return "<p>No mutant survives that is not declared equivalent.</p>\n"
+    lines = Counter(mutant.line for mutant in survivors)
+    line, most = lines.most_common(1)[0]
+    told = f"{plural(len(survivors), 'survivor')} on {plural(len(lines), 'line')}"
+    told += f'; the most, {most}, on <a href="#line-{line}">line {line}</a>' if len(lines) > 1 else ""
+    asked = "Each asks: on what values does the changed line do something else? Such values are a test that is missing;"
+    asked += " where there are none, the mutant is equivalent."
+    return f"<p>{told}. {asked}</p>\n"
+
+
+def wrong_part(rows: Iterable[Row]) -> str:
+    """The declared mutants that a test kills all the same."""
+    wrong = [f"{row.op} {row.place}" for row in rows if row.status == "W"]
+    if not wrong:
+        return ""
+    names = joined_words(wrong)
+    which = "it" if len(wrong) == 1 else "each of them"
+    return f'<p class="warn"><b>Wrongly declared equivalent:</b> {text(names)}. A test kills {which}.</p>\n'
+
+
+def operator_row(op: str, count: Count) -> list[Cell]:
+    said = f"{count.killed} of {count.total}"
+    return [
+        ("", f'<b>{text(op)}</b> <span class="name">{text(NAMES.get(op, ""))}</span>'),
+        ("n", count.total),
+        ("n", count.killed),
+        ("n", count.equivalent),
+        ("n", count.total - count.killed - count.equivalent),
+        ("n", score_of(count)),
+        ("bar", bar(count.killed, count.total - count.equivalent, said)),
+    ]
+
+
+def operators_part(counts: Mapping[str, Count]) -> str:
+    """The table of the operators that have mutants, and the names of those that have none."""
+    words = ["Operator", "Mutants", "Killed", "Equi&shy;valent", "Sur&shy;vive", "Score", ""]
+    head: list[Cell] = [("n" if 0 < at < 6 else "bar" if at == 6 else "", word) for at, word in enumerate(words)]
+    rows = [operator_row(op, count) for op, count in counts.items() if count.total]
+    total = [("", "All"), *operator_row("All", summed(counts.values()))[1:]]
+    without = [f"{op} ({NAMES.get(op, '')})" for op, count in counts.items() if not count.total]
+    rest = f'<p class="soft">Without a mutant in this program: {text(joined_words(without))}.</p>\n' if without else ""
+    return table(head, rows, total) + rest
+
+
+def sections(parts: Sequence[tuple[str, str, str]]) -> tuple[str, str]:
+    """Sections with links to them: of each its name, its title and its HTML."""
+    links = "".join(f'<a href="#{name}">{title}</a> ' for name, title, _ in parts)
+    bodies = "".join(f'<h2 id="{name}">{title}</h2>\n{inner}' for name, title, inner in parts)
+    return f"<nav>{links}</nav>\n", bodies
+
+
+def report_page(
+    job: Job, printed: Sequence[str], listed: Sequence[Mutant], report: Report, remark: str = ""
+) -> str:
+    """The page of a job, of its printed program, its list of mutants and its report."""
+    assert_same_mutants(listed, report)
+    if len(job.suite) != report.tests:
+        raise ValueError("the report and the job have not the same number of tests")
+    statements = statements_by_line(job.source, printed)
+    if not {mutant.line for mutant in listed} <= set(statements):
+        raise ValueError("the list has mutants of lines that are none of the job")
+    counts, survivors = counts_by_line(listed, report.rows), report.survivors
+    declared = by_line(with_status(listed, report.rows, "E"))
+    listing = program_part(job.source, statements, counts, by_line(survivors), declared, has_links=True)
+    links, bodies = sections([
+        ("program", "The program", program_key() + listing),
+        ("operators", "The operators", operators_part(report.counts)),
+        ("tests", "The tests", tests_part(job.suite, report.rows)),
+        ("matrix", "The kill matrix", matrix_part(report.rows, report.tests)),
+    ])
+    head = f"<h1>{text(report.unit)}: which mutants the tests kill</h1>\n" + remark_part(remark)
+    head += score_part(summed(report.counts.values())) + facts_of(report) + wrong_part(report.rows)
+    return page(f"{report.unit}: kills and survivors", head + first_look(survivors) + links + bodies)
+
+
+def program_key() -> str:
+    return (
+        "<p>Before each statement: how many of its mutants are killed, and how many survive. A survivor is named by its"
+        " operator and its number there; <del>what the mutant takes away</del> is struck out, and"
+        " <ins>what it puts there</ins> is underlined.</p>\n"
+    )

@@ -1,0 +1,1 @@
+"""The program mothra: where it is found, and how it is called."""

@@ -1,0 +1,59 @@
+"""Calls of the program mothra."""
+
+import subprocess
+from collections.abc import Callable, Sequence
+from pathlib import Path
+from typing import TypeVar
+
+from mutants.statuses import FAULT, SUCCESS, WORDS
+
+Text = TypeVar("Text", str, bytes)
+Read = TypeVar("Read")
+
+
+class Fault(ValueError):
+    """What mothra wrote in place of an answer: its line, and its exit status."""
+
+    def __init__(self, command: str, line: str, status: int = FAULT) -> None:
+        super().__init__(f"mothra {command}: {line}")
+        self.line, self.status = line, status if status == WORDS else FAULT
+
+
+def call(program: str, words: Sequence[str], job: bytes) -> tuple[str, int]:
+    """What the program writes for these words and the bytes of a job, and its exit status."""
+    try:
+        ended = subprocess.run([program, *words], input=job, capture_output=True)
+    except OSError as fault:
+        raise ValueError(f"{program} cannot be run: {fault.strerror}") from None
+    return ended.stdout.decode("utf-8", "replace"), ended.returncode
+
+
+def answer(program: str, words: Sequence[str], job: bytes) -> str:
+    """The text that the program answers; a fault, refused words and a failure are a Fault with one line."""
+    text, status = call(program, words, job)
+    if status == SUCCESS:
+        return text
+    raise Fault(words[0], failure_of(text, status), status)
+
+
+def failure_of(text: str, status: int) -> str:
+    """One line on what was written with a status other than 0."""
+    lines = [line for line in text.splitlines() if line.strip()]
+    if lines:
+        return lines[0].strip()
+    if status == FAULT:
+        return "no memory, or a failed read or write: it wrote nothing"
+    return f"status {status}, and nothing was written"
+
+
+def text_of(path: str | Path) -> str:
+    """A text that was stored, ends of lines as they are."""
+    return Path(path).read_bytes().decode("utf-8", "replace")
+
+
+def read_as(name: str | Path, read: Callable[[Text], Read], text: Text) -> Read:
+    """What is read of a text; a fault names where the text is from."""
+    try:
+        return read(text)
+    except ValueError as fault:
+        raise ValueError(f"{name}: {fault}") from None

@@ -1,0 +1,23 @@
+"""The exit statuses of the command and of the tools, each named once."""
+
+SUCCESS = 0
+FAULT = 1
+WORDS = 2
+BELOW = 3
+UNEXPECTED = 4
+INTERRUPTED = 130
+
+MEANINGS = {
+    SUCCESS: "done, or help was asked for",
+    FAULT: "a fault: of the job, of a file, or of the program; or a pipe that nobody reads any more",
+    WORDS: "words that are refused",
+    BELOW: "the score is below --fail-under",
+    UNEXPECTED: "an outcome of the program is another than the expected one",
+    INTERRUPTED: "interrupted by Ctrl-C",
+}
+
+
+def told() -> str:
+    """The statuses with their meanings, a line each, for the help."""
+    lines = [f"  {status:>3}  {meaning}" for status, meaning in MEANINGS.items()]
+    return "\n".join(["exit statuses:", *lines])

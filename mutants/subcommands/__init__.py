@@ -1,0 +1,1 @@
+"""The subcommands of the command `mutants`, a module each."""

@@ -1,0 +1,167 @@
+"""Run the suites of a class, and make a table and a page of what they kill.
+
+    mutants course [--mothra MOTHRA] [--jobs N] [--sshlogin LOGIN].. [--ops A,B] [--every Q] [--steps N] FOLDER
+
+The folder has programs in fixed form, NAME.f, and tables of tests as mutants job takes them, NAME.json or NAME.csv (or
+NAME.suite.json). With one program each table is a suite of it: a file for each student. With several a table is of the
+program whose name it has, or has before a hyphen (sort-anna.csv is of sort.f); a table named suite is of each program
+without a table of its own. NAME.equivalent.json, or equivalent.json with one program, lists mutants that are declared
+equivalent.
+
+Each table becomes a job. The jobs are run side by side by GNU parallel, N at once (else one for each processor), each
+with one thread; --sshlogin is handed to parallel, and MOTHRA is then the name of the program on all the machines. Jobs
+whose result is there are not run again: so a second call goes on where the first was cut, and does what has changed.
+How many are done is told on standard error.
+
+Written are, in FOLDER/out: jobs/NAME.json and .report (the job, and what mothra run wrote of it), jobs/NAME.html (its
+page), course.html (the page of the class), and course.csv with these columns: name (of the table), program, unit,
+tests, mutants, killed, equivalent (declared, and not killed), survived, score (in percent, rounded down, or NONE),
+only_here (mutants that no other suite of the program kills), wrong (declared, but killed), fault (its code; - where
+there was no job or no answer) and told (the line of the fault). A job without a report is a row with its fault, and
+the exit status is 0 all the same; it is 1 where jobs have no answer, which the next call asks for again.
+"""
+
+import argparse
+import csv
+import io
+import sys
+from pathlib import Path
+
+from mutants.classes.folder import Results, Task, tasks_in, written
+from mutants.classes.page import View, course_page
+from mutants.classes.results import COLUMNS, Result, csv_row, only_here, reported_of
+from mutants.classes.running import find_parallel, run_all
+from mutants.pages.program import statements_by_line
+from mutants.pages.report import report_page
+from mutants.program.asking import asked_list, asked_print
+from mutants.program.calling import Fault
+from mutants.program.finding import add_mothra_option, find_program
+from mutants.program.unproved import remark_on
+from mutants.progress import Progress
+from mutants.statuses import FAULT, SUCCESS
+from mutants.texts.jobs import read_job
+from mutants.texts.lines import Mutant
+from mutants.texts.reports import read_report
+from mutants.words import add_mothra_options, asked_words, number_from_1
+
+# So much of what parallel says of a failure is told.
+LONGEST = 200
+NO_ANSWER = "no answer"
+# What the program says of the source of a job: its printed text and its mutants.
+Known = tuple[list[str], list[Mutant]]
+
+
+def add_words(parser: argparse.ArgumentParser) -> None:
+    parser.add_argument("folder", metavar="FOLDER", type=Path, help="the programs and the tables of tests")
+    add_mothra_option(parser)
+    parser.add_argument("--jobs", metavar="N", type=number_from_1, help="how many jobs at once, on each machine")
+    told = "a machine, as parallel takes it; may be given again"
+    parser.add_argument("--sshlogin", metavar="LOGIN", action="append", default=[], help=told)
+    add_mothra_options(parser, "ops", "every", "steps")
+
+
+def run_missing(given: argparse.Namespace, program: str, tasks: list[Task], results: Results, name: str) -> None:
+    """Runs the jobs that have no result yet."""
+    missing = [task for task in tasks if results.is_missing(task)]
+    if not missing:
+        return
+    find_parallel()
+    progress, done = Progress(name), [len(tasks) - len(missing)]
+    progress.tell(f"{done[0]} of {len(tasks)}")
+
+    def keep(place: int, text: str) -> None:
+        results.keep(missing[place], text)
+        done[0] += 1
+        progress.tell(f"{done[0]} of {len(tasks)}")
+
+    # With other machines the word is one that each of them knows.
+    word = given.mothra if given.sshlogin and given.mothra else program
+    words, texts = [*results.words, "--workers", "1"], [task.text for task in missing if task.text is not None]
+    try:
+        told = run_all(word, words, texts, given.jobs, given.sshlogin, keep)
+    finally:
+        progress.end()
+    if done[0] < len(tasks):
+        sys.stderr.write(f"{name}: {len(tasks) - done[0]} jobs have no answer{': ' if told else ''}{told[:LONGEST]}\n")
+
+
+def result_of(task: Task, results: Results) -> Result:
+    text = None if task.text is None else results.text(task)
+    suite = read_job(task.text).suite if task.text else []
+    program = task.program_name
+    if text is None:
+        return Result(task.name, program, suite, None, task.refusal or NO_ANSWER)
+    if not text.startswith("REPORT "):
+        return Result(task.name, program, suite, None, text.splitlines()[0] if text.strip() else NO_ANSWER)
+    return Result(task.name, program, suite, read_report(text))
+
+
+def known_of(program: str, text: bytes, words: list[str]) -> Known | None:
+    """What the program says of the source of a job: its printed text and its list; None where it has a fault."""
+    try:
+        return asked_print(program, text), asked_list(program, words, text)[1]
+    except Fault as fault:
+        if not fault.line.startswith("FAULT "):
+            raise
+        return None
+
+
+def known_programs(given: argparse.Namespace, program: str, tasks: list[Task]) -> dict[str, Known]:
+    """Of each program of the folder that has no fault: its printed text and its mutants."""
+    words = asked_words(given, "ops", "every")
+    first: dict[str, bytes] = {}
+    for task in tasks:
+        if task.text is not None:
+            first.setdefault(task.program_name, task.text)
+    found = {name: known_of(program, text, words) for name, text in first.items()}
+    return {name: known for name, known in found.items() if known}
+
+
+def view_of(text: bytes, known: Known) -> View:
+    """What the page of the class shows of a program."""
+    source = read_job(text).source
+    return View(source, statements_by_line(source, known[0]), known[1])
+
+
+def write_pages(
+    out: Path, program: str, tasks: list[Task], found: list[Result], known: dict[str, Known], results: Results
+) -> None:
+    """The page of each job that has a report, and that of the class, whose title is the name of its folder."""
+    views = {}
+    for task, result in zip(tasks, found):
+        if task.text is None or task.program_name not in known:
+            continue
+        views[task.program_name] = view_of(task.text, known[task.program_name])
+        if result.report is not None:
+            told = report_page(read_job(task.text), *known[task.program_name], result.report, remark_on(program))
+            written(results.path(task.name, ".html"), told.encode())
+    written(out / "course.html", course_page(out.resolve().parent.name, found, views, remark_on(program)).encode())
+
+
+def write_table(out: Path, found: list[Result]) -> None:
+    """The table of the class, a row for each job."""
+    kept = io.StringIO()
+    table = csv.writer(kept, lineterminator="\n")
+    table.writerow(COLUMNS)
+    for name in dict.fromkeys(result.program for result in found):
+        ours = [result for result in found if result.program == name]
+        reported = reported_of(ours)
+        only = only_here(reported) if reported else {}
+        table.writerows(csv_row(result, only) for result in ours)
+    written(out / "course.csv", kept.getvalue().encode())
+
+
+def run(given: argparse.Namespace, name: str) -> int:
+    program = find_program(given.mothra)
+    tasks = tasks_in(given.folder)
+    known = known_programs(given, program, tasks)
+    out = given.folder / "out"
+    results = Results(out / "jobs", asked_words(given, "ops", "every", "steps"))
+    run_missing(given, program, tasks, results, name)
+    found = [result_of(task, results) for task in tasks]
+    write_table(out, found)
+    write_pages(out, program, tasks, found, known, results)
+    done = sum(result.report is not None for result in found)
+    print(f"{done} of {len(found)} with a report: {out / 'course.html'}")
+    print(remark_on(program), end="\n" if remark_on(program) else "")
+    return FAULT if any(result.refusal == NO_ANSWER for result in found) else SUCCESS

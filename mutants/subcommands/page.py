@@ -1,0 +1,61 @@
+"""Make one HTML file of what mothra says of a job: the program with its survivors, the kill matrix, the score.
+
+    mutants page [--mothra MOTHRA] [--ops A,B] [--every Q] [--steps N] [--workers N] JOB > page.html
+    mutants page --print FILE --list FILE --report FILE JOB > page.html
+
+The program is asked for `print`, `list` and `run` with the job. Any of the three texts can be given as a file instead,
+as the program wrote it; with all of them the program is not needed. The page is one file with no script, and nothing
+in it is loaded from elsewhere.
+
+`run` is asked for a few operators at a time, so that a line on standard error can say how far it is; the reports are
+joined. A text that is no such text, is cut short or is not of this job is refused with one line, and the exit status is 1.
+"""
+
+import argparse
+import sys
+from collections.abc import Sequence
+from pathlib import Path
+
+from mutants.pages.report import report_page
+from mutants.program.asking import asked_report
+from mutants.program.calling import answer, read_as, text_of
+from mutants.program.finding import add_mothra_option, find_program
+from mutants.program.unproved import remark_on
+from mutants.statuses import SUCCESS
+from mutants.texts.jobs import read_job
+from mutants.texts.lists import read_list
+from mutants.texts.prints import read_print
+from mutants.texts.reports import read_report
+from mutants.words import add_mothra_options, asked_words
+
+
+def add_words(parser: argparse.ArgumentParser) -> None:
+    parser.add_argument("job", metavar="JOB", type=Path, help="the job, a file")
+    add_mothra_option(parser)
+    add_mothra_options(parser, "ops", "every", "steps", "workers")
+    for option, command in (("print", "print"), ("list", "list"), ("report", "run")):
+        parser.add_argument(f"--{option}", metavar="FILE", help=f"what mothra {command} wrote, in place of asking it")
+
+
+def text_from(path: str | None, program: str, words: Sequence[str], job: bytes) -> tuple[str, str]:
+    """A text that is given as a file, or that the program is asked for; and the name that a fault tells."""
+    return (path, text_of(path)) if path else (f"mothra {words[0]}", answer(program, words, job))
+
+
+def run(given: argparse.Namespace, name: str) -> int:
+    command, text = name, given.job.read_bytes()
+    job = read_as(given.job, read_job, text)
+    needed = [given.print, given.list, given.report]
+    program = find_program(given.mothra) if None in needed else ""
+    chosen = asked_words(given, "ops", "every")
+    name, told = text_from(given.print, program, ["print"], text)
+    printed = read_as(name, read_print, told)
+    name, told = text_from(given.list, program, ["list", *chosen], text)
+    totals, listed = read_as(name, read_list, told)
+    if given.report:
+        report = read_as(given.report, read_report, text_of(given.report))
+    else:
+        report = asked_report(program, asked_words(given, "every", "steps", "workers"), totals, text, command)
+    # A page is UTF-8 whatever the terminal takes.
+    sys.stdout.buffer.write(report_page(job, printed, listed, report, remark_on(program)).encode())
+    return SUCCESS

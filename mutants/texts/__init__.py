@@ -1,0 +1,1 @@
+"""Texts that are read and written: sources, jobs, printed programs, lists and reports."""

@@ -1,0 +1,68 @@
+"""The statements of a source in fixed form, each with the places of its characters in the source."""
+
+from typing import NamedTuple
+
+# The line and the column of a character, both from 1.
+Place = tuple[int, int]
+
+
+class Card(NamedTuple):
+    """A statement: the number of its initial line, its label ("" where it has none), its text, upper case and no
+    blanks, and for each character of the text its place."""
+
+    line: int
+    label: str
+    text: str
+    places: tuple[Place, ...]
+
+
+LETTERS = str.maketrans("abcdefghijklmnopqrstuvwxyz", "ABCDEFGHIJKLMNOPQRSTUVWXYZ")
+
+
+def source_lines(source: str) -> list[str]:
+    """The lines of a source: cut at LF, without the CR right before it; nothing behind the last LF is no line."""
+    lines = source.split("\n")
+    if not lines[-1]:
+        lines.pop()
+    return [line.removesuffix("\r") for line in lines]
+
+
+def is_comment(line: str) -> bool:
+    return line[:1] in ("C", "c", "*") or not line[:72].strip(" ")
+
+
+def is_continuation(line: str) -> bool:
+    return not is_comment(line) and line[5:6] not in ("", " ", "0")
+
+
+def statement_field(number: int, line: str) -> tuple[str, tuple[Place, ...]]:
+    """The characters of columns 7 to 72 that are no blanks, and the place of each."""
+    kept = [(character, (number, column)) for column, character in enumerate(line[6:72], 7) if character != " "]
+    return "".join(character for character, _ in kept), tuple(place for _, place in kept)
+
+
+def cards_of(source: str) -> list[Card]:
+    """The statements of a source in fixed form. A continuation line with nothing to continue is left out."""
+    cards: list[Card] = []
+    for number, line in enumerate(source_lines(source.translate(LETTERS)), 1):
+        if is_comment(line):
+            continue
+        text, places = statement_field(number, line)
+        if not is_continuation(line):
+            cards.append(Card(number, line[:5].replace(" ", ""), text, places))
+        elif cards:
+            last = cards[-1]
+            cards[-1] = last._replace(text=last.text + text, places=last.places + places)
+    return cards
+
+
+def action_at(text: str) -> int:
+    """Where the statement in a logical IF begins, and 0 of another statement."""
+    if not text.startswith("IF("):
+        return 0
+    depth = 0
+    for at, character in enumerate(text):
+        depth += {"(": 1, ")": -1}.get(character, 0)
+        if depth == 0 and character == ")":
+            return 0 if text[at + 1 : at + 2] in ("", "=") else at + 1
+    return 0

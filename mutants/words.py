@@ -1,0 +1,44 @@
+"""The words of a call: parsers that all have --help and --version."""
+
+import argparse
+from pathlib import Path
+
+from mutants import __version__
+
+
+def text_of_help(told: str | None) -> str:
+    return (told or "").strip()
+
+
+def add_version(parser: argparse.ArgumentParser) -> None:
+    parser.add_argument("--version", action="version", version=f"mutants {__version__}", help="show the version and exit")
+
+
+def number_from_1(word: str) -> int:
+    """A number from 1, as an option takes it."""
+    if not (word.isascii() and word.isdecimal()) or int(word) == 0:
+        raise argparse.ArgumentTypeError(f"{word} is no number from 1")
+    return int(word)
+
+
+def whole_path(word: str) -> str:
+    """The path of a program that a word names, from the root: it may be called in another folder."""
+    return str(Path(word).resolve())
+
+
+def add_mothra_options(parser: argparse.ArgumentParser, *names: str) -> None:
+    """Those options of mothra that are handed over as they are."""
+    for option, value, told in (
+        ("ops", "A,B", "the operators, as mothra run takes them"),
+        ("every", "Q", "of each list the mutants 1, Q+1, 2Q+1 and on"),
+        ("steps", "N", "the limit on steps"),
+        ("workers", "N", "how many threads run mutants"),
+    ):
+        if option in names:
+            parser.add_argument(f"--{option}", metavar=value, help=told)
+
+
+def asked_words(given: argparse.Namespace, *names: str) -> list[str]:
+    """The words for mothra of those options that were given."""
+    pairs = [(name, getattr(given, name)) for name in names]
+    return [word for name, value in pairs if value is not None for word in (f"--{name}", str(value))]

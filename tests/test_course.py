@@ -1,0 +1,221 @@
+"""The course: jobs of a folder, their results kept and taken up again, the table and the page."""
+
+import csv
+import json
+import os
+import shutil
+import subprocess
+import tempfile
+import unittest
+from pathlib import Path
+
+import running
+from mutants.classes.results import COLUMNS
+from mutants.classes.running import answers_in, text_of_answer
+from running import LEAST, STAND_IN, TESTS, has, refuses, run
+
+GREAT = LEAST.replace("LEAST", "GREAT").replace(".LT.", ".GT.")
+SUITES = {
+    "anna.json": "[[1, 2, 0], [2, 1, 0]]",
+    "bert.csv": "3,3,0\n1,2,0\n",
+    "carl.json": "[[1, 2]]",
+    "dora.json": "[[1,",
+    "emil.suite.json": "[[5, 4, 9], [2, 1, 0]]",
+}
+
+
+def has_parallel():
+    told = shutil.which("parallel") and subprocess.run(["parallel", "--version"], capture_output=True).stdout
+    return bool(told and told.startswith(b"GNU parallel"))
+
+
+class Class(unittest.TestCase):
+    """A class in a folder of its own, run by the stand-in for parallel."""
+
+    def setUp(self):
+        room = tempfile.TemporaryDirectory()
+        self.addCleanup(room.cleanup)
+        self.folder = Path(room.name, "class <1>")
+        self.folder.mkdir()
+
+    def put(self, files):
+        for name, text in files.items():
+            (self.folder / name).write_text(text)
+
+    def course(self, *words):
+        return run("course", "--mothra", STAND_IN, *words, self.folder, path=TESTS / "bin")
+
+    def table(self):
+        with open(self.folder / "out" / "course.csv", newline="") as file:
+            return {row["name"]: row for row in csv.DictReader(file)}
+
+    def page(self):
+        return (self.folder / "out" / "course.html").read_text()
+
+
+class OneProgram(Class):
+    """Each test begins with a copy of a class that was run once."""
+
+    @classmethod
+    def setUpClass(cls):
+        cls.room = tempfile.TemporaryDirectory()
+        cls.addClassCleanup(cls.room.cleanup)
+        first = cls("course")
+        first.folder = cls.done = Path(cls.room.name, "class <1>")
+        first.folder.mkdir()
+        first.put({"least.f": LEAST, **SUITES})
+        cls.ended = first.course("--jobs", "2")
+
+    def setUp(self):
+        super().setUp()
+        shutil.copytree(self.done, self.folder, dirs_exist_ok=True)
+
+    def test_table_and_page(self):
+        status, out, errors = self.ended
+        self.assertEqual(status, 0)
+        self.assertIn("3 of 5 with a report", out)
+        self.assertEqual(errors.splitlines()[0], "mutants course: 1 of 5")
+        self.assertEqual(errors.splitlines()[-1], "mutants course: 5 of 5")
+        rows = self.table()
+        self.assertEqual(list(rows["anna"]), COLUMNS)
+        self.assertEqual([rows[name]["score"] for name in ("anna", "bert", "emil")], ["93.75", "50.00", "75.00"])
+        self.assertEqual((rows["carl"]["fault"], rows["carl"]["told"]), ("B3", "FAULT B3 1"))
+        self.assertEqual(rows["dora"]["fault"], "-")
+        self.assertIn("dora.json", rows["dora"]["told"])
+        self.assert_page_says()
+
+    def assert_page_says(self):
+        page = self.page()
+        has(self, page, "<h1>class &lt;1&gt;: what the suites kill</h1>")
+        has(self, page, "IF (J<del>.LT.</del><ins>.LE.</ins>I) K=J")
+        has(self, page, "The smallest set that kills all 15 that the class kills has 2 tests.")
+        has(self, page, "<td><code>[2, 1, 0]</code></td><td>anna and emil</td>")
+        has(self, page, '<a href="jobs/emil.html">emil</a>')
+        self.assertLess(page.index("anna.html"), page.index("emil.html"))
+        self.assertLess(page.index("emil.html"), page.index("bert.html"))
+
+    def test_a_second_call_runs_nothing_and_a_changed_suite_alone(self):
+        before = self.page()
+        self.assertEqual(self.course()[2], "")
+        self.assertEqual(self.page(), before)
+        self.put({"bert.csv": "1,2,0\n"})
+        self.assertEqual(self.course()[2].splitlines(), ["mutants course: 4 of 5", "mutants course: 5 of 5"])
+        self.assertEqual(self.table()["bert"]["tests"], "1")
+        self.assertEqual(self.course("--ops", "ROR")[2].splitlines()[0], "mutants course: 1 of 5")
+
+    def test_a_result_without_its_key_is_made_again(self):
+        report = self.folder / "out" / "jobs" / "anna.report"
+        whole = report.read_bytes()
+        (self.folder / "out" / "jobs" / "anna.key").unlink()
+        report.write_bytes(whole[:50])
+        self.assertEqual(self.course()[2].splitlines()[0], "mutants course: 4 of 5")
+        self.assertEqual(report.read_bytes(), whole)
+
+    def test_want_of_memory_is_tried_again(self):
+        (self.folder / "out" / "jobs" / "anna.report").write_text("FAULT B1\n")
+        self.assertEqual(self.course()[2].splitlines()[0], "mutants course: 4 of 5")
+        self.assertEqual(self.table()["anna"]["score"], "93.75")
+
+    def test_declared_mutants(self):
+        self.put({"equivalent.json": '["ROR 1"]'})
+        self.course()
+        row = self.table()["anna"]
+        self.assertEqual((row["equivalent"], row["score"]), ("1", "100.00"))
+        has(self, self.page(), "0 mutants that no suite of the class kills")
+        self.put({"equivalent.json": "[1]"})
+        self.course()
+        self.assertIn("no list of names", self.table()["anna"]["told"])
+
+
+class Cut(Class):
+    def test_goes_on_where_it_was_cut(self):
+        self.put({"least.f": LEAST, **{f"s{n}.csv": f"{n},2,0\n" for n in range(3)}})
+        os.environ["FAKE_PARALLEL_LIMIT"] = "1"
+        self.addCleanup(os.environ.pop, "FAKE_PARALLEL_LIMIT")
+        status, _, errors = self.course()
+        self.assertEqual((status, errors.splitlines()[-1]), (1, "mutants course: 2 jobs have no answer: parallel: cut"))
+        self.assertEqual([row["told"] for row in self.table().values()], ["", "no answer", "no answer"])
+        os.environ["FAKE_PARALLEL_LIMIT"] = "9"
+        status, _, errors = self.course()
+        self.assertEqual((status, errors.splitlines()), (0, [f"mutants course: {done} of 3" for done in (1, 2, 3)]))
+        self.assertEqual([row["told"] for row in self.table().values()], ["", "", ""])
+
+
+class ManyPrograms(Class):
+    def test_each_table_is_of_its_program(self):
+        suite = SUITES["anna.json"]
+        self.put({"least.f": LEAST, "great.f": GREAT, "great-anna.json": suite, "great.json": "[]"})
+        self.put({"suite.csv": "2,1,0\n"})
+        self.put({"other-bert.json": suite, "wrong.f": "      END\n"})
+        self.assertEqual(self.course()[0], 0)
+        rows = self.table()
+        programs = [rows[name]["program"] for name in ("great", "great-anna", "least")]
+        self.assertEqual(programs, ["great", "great", "least"])
+        self.assertEqual((rows["great"]["tests"], rows["least"]["tests"]), ("0", "1"))
+        self.assertEqual(rows["wrong"]["fault"], "S2")
+        self.assertIn("there is no program of this name", rows["other-bert"]["told"])
+        has(self, self.page(), '<a href="#program-1">great</a>', '<h2 id="program-1">great</h2>', "Without a program")
+
+
+class Refusals(Class):
+    def test_bad_input_is_one_line(self):
+        refuses(self, self.course(), "there is no program")
+        self.put({"least.f": LEAST})
+        refuses(self, self.course(), "there is no table of tests")
+        self.put({"a.json": "[]", "a.csv": ""})
+        refuses(self, self.course(), "a.csv and a.json are tables of one name")
+        (self.folder / "a.csv").unlink()
+        refuses(self, self.course("--ops", "XYZ"), "BAD OPERATOR LIST")
+        self.folder = self.folder / "none"
+        refuses(self, self.course(), "no such folder")
+        self.assertEqual(run("course", "--help")[0], 0)
+        self.assertEqual(run("course", "--jobs", "0", self.folder)[0], 2)
+
+    def test_without_gnu_parallel(self):
+        self.put({"least.f": LEAST, "a.json": "[]"})
+        other = self.folder / "bin"
+        other.mkdir()
+        (other / "parallel").write_text("#!/bin/sh\necho parallel of another kind\n")
+        (other / "parallel").chmod(0o755)
+        refuses(self, run("course", "--mothra", STAND_IN, self.folder, path=other), "not GNU parallel")
+
+
+class Answers(unittest.TestCase):
+    def test_an_answer_counts_when_it_is_whole(self):
+        text = "JOB 2\nREPORT 2\nEND\n\nSTATUS 0\nJOB 1\nFAULT B3 1\n\nSTATUS 1\nJOB 3\nREP"
+        found = list(answers_in(text.splitlines(keepends=True)))
+        self.assertEqual(found, [(1, "REPORT 2\nEND\n", 0), (0, "FAULT B3 1\n", 1)])
+
+    def test_what_is_kept_without_a_report(self):
+        for text, status, wanted in (
+            ("FAULT B3 1\n", 1, "FAULT B3 1\n"),
+            ("", 127, "status 127, and nothing was written\n"),
+            ("REPORT 2\nEND\n", 0, "REPORT 2\nEND\n"),
+        ):
+            self.assertEqual(text_of_answer(text, status), wanted)
+
+
+@running.needs(has_parallel(), "GNU parallel (Debian's package parallel)")
+class WithParallel(Class):
+    def test_the_jobs_of_a_class(self):
+        self.put({"least.f": LEAST, **SUITES, **{f"s{n}.csv": f"{n},2,0\n" for n in range(12)}})
+        status, out, errors = run("course", "--mothra", STAND_IN, "--jobs", "3", self.folder)
+        self.assertEqual((status, errors.splitlines()[-1]), (0, "mutants course: 17 of 17"))
+        self.assertEqual(self.table()["anna"]["score"], "93.75")
+        self.assertEqual(self.table()["carl"]["fault"], "B3")
+
+    def test_other_machines(self):
+        self.put({"least.f": LEAST, **SUITES})
+        other = self.folder.parent / "other"
+        other.mkdir()
+        os.environ["FAKE_SSH_FOLDER"] = str(other)
+        self.addCleanup(os.environ.pop, "FAKE_SSH_FOLDER")
+        logins = [word for name in ("one", "two") for word in ("--sshlogin", f"{TESTS / 'bin' / 'ssh'} {name}")]
+        status, out, errors = run("course", "--mothra", STAND_IN, "--jobs", "1", *logins, self.folder)
+        self.assertEqual((status, errors.splitlines()[-1]), (0, "mutants course: 5 of 5"))
+        self.assertEqual([row["score"] for row in self.table().values()], ["93.75", "50.00", "", "", "75.00"])
+        self.assertEqual(list(other.iterdir()), [])
+
+
+if __name__ == "__main__":
+    unittest.main()

@@ -1,0 +1,237 @@
+"""The explanations: every code of the program has one, and the marks stand where the fault is."""
+
+import json
+import re
+import tempfile
+import unittest
+from pathlib import Path
+
+import running
+from mutants.explanations.jobs import notes_on
+from mutants.explanations.marks import places, shown
+from mutants.explanations.meanings import MEANINGS
+from mutants.explanations.told import explained
+from mutants.explanations.words import words_say
+from running import STAND_IN, refuses, run
+
+FRONT, SUM, LAST = "      SUBROUTINE ADD(I,J,K)", "      K=I+J", "      END"
+CODE = r"[A-Z]\d+"
+DETAILS = ["", "line", "label", "name", "key", "test", "value", "entry", "operator", "mutant"]
+
+
+def page(name):
+    return (running.ROOT / name).read_text()
+
+
+def codes_of_pages():
+    """All codes that the pages and the sources have."""
+    found = set(re.findall(rf"^\| ({CODE})\b", page("docs/PROFILE.md"), re.M))
+    for cell in re.findall(rf"^\| ({CODE}(?:, {CODE})*) \|", page("README.md"), re.M):
+        found |= set(cell.split(", "))
+    found |= set(re.findall(rf"\b({CODE})(?: is|,) (?:want of|told|memory|a read|a write)", page("docs/PROFILE.md")))
+    found |= set(re.findall(rf'"({CODE})"', page("crates/mothra_app/src/line.rt")))
+    found |= set(re.findall(rf'error\("({CODE}): ', page("crates/mothra_exchange/src/fault.rt")))
+    return found
+
+
+def example_of(cell):
+    """The program of an example of the README: what stands as the second line of ADD, or as several lines there."""
+    lines = re.findall(r"`([^`]*)`", cell)
+    return "\n".join([FRONT, *(line if line[:1] in " \t" else statement(line) for line in lines), LAST]) + "\n"
+
+
+def statement(text):
+    label = re.match(r"(\d+) (.*)", text)
+    return f"{label[1]:>5} {label[2]}" if label else f"      {text}"
+
+
+def examples():
+    """The rows of the table of faults in the README whose examples are lines of a program."""
+    for row in re.findall(r"^\| ([FSC]\d+) \| [^|]+ \| ([^|]+) \| `(FAULT [^`]*)` \|$", page("README.md"), re.M):
+        if re.fullmatch(r"(`[^`]*`(, )?)+", row[1].strip()):
+            yield row
+
+
+class Codes(unittest.TestCase):
+    def test_each_code_of_the_program_has_a_meaning(self):
+        codes = codes_of_pages()
+        self.assertGreater(len(codes), 50)
+        self.assertEqual(codes, set(MEANINGS))
+
+    def test_each_meaning_is_whole(self):
+        for code, meaning in MEANINGS.items():
+            with self.subTest(code):
+                for sentence in (meaning.says, meaning.rule, meaning.advice):
+                    self.assertRegex(sentence, r"^[A-Z].*\.$|^--.*\.$")
+                self.assertRegex(meaning.sections, r"^$|^(\d+(\.\d+)+(, | to )?)+$")
+                self.assertIn(meaning.detail, DETAILS)
+                if code[0] in "FSC" and meaning.detail:
+                    self.assertTrue(meaning.sections or "limit of this program" in meaning.rule)
+
+    def test_the_details_are_those_of_the_lines(self):
+        for code, detail in re.findall(rf"`FAULT ({CODE})((?: \S+)*)`", page("README.md")):
+            with self.subTest(code):
+                self.assertEqual(bool(detail), bool(MEANINGS[code].detail))
+
+
+class Marks(unittest.TestCase):
+    def test_the_examples_of_the_readme_have_marks(self):
+        rows = list(examples())
+        self.assertGreater(len(rows), 15)
+        for code, cell, line in rows:
+            with self.subTest(line):
+                source, detail = example_of(cell), line.split(" ")[2:]
+                marks, _ = places(code, MEANINGS[code].detail, "".join(detail), source)
+                self.assertTrue(marks or code == "C14")
+                under = shown(source, marks)
+                self.assertEqual(sum("^" in text for text in under), len({mark.line for mark in marks}))
+
+    def marks(self, fault, *lines):
+        source = "\n".join([FRONT, *lines, LAST, ""])
+        code, _, detail = fault.partition(" ")
+        marks, notes = places(code, MEANINGS[code].detail, detail, source)
+        text = source.split("\n")
+        return [text[mark.line - 1][mark.first - 1 : mark.last] for mark in marks], notes
+
+    def test_the_marked_text(self):
+        for fault, lines, wanted in (
+            ("F3 2", ["      K=\u00e9"], ["\u00e9"]),
+            ("F4 2", ["\tK=I"], ["\t"]),
+            ("F5 2", ["  X 0 K=I+J"], ["  X 0"]),
+            ("F6 2", ["     &K=1"], ["&"]),
+            ("S2 2", ["      CALL SUB(K)"], ["CALL SUB(K)"]),
+            ("S3 2", ["      K = ABC DEFG + 1"], ["ABC DEFG"]),
+            ("S3 2", ["      INTEGER ABCDEFG"], ["ABCDEFG"]),
+            ("S3 2", ["      IF (K.EQ.1) ABCDEFG=1"], ["ABCDEFG"]),
+            ("S4 2", ["      K=M(2147483648)"], ["2147483648"]),
+            ("S4 2", ["      GO TO 0"], ["0"]),
+            ("S5 2", ["      K=" + "(" * 41 + "I"], ["("]),
+            ("C2 X", ["      IF (I.GT.X) X=1"], ["X"]),
+            ("C2 E", ["      IF (I.EQ.1) E=1"], ["E"]),
+            ("C3 L", ["      INTEGER L", "      DIMENSION L(2)", SUM], ["L", "L"]),
+            ("C6 10", ["   10 K=I", "   10 K=J"], ["   10", "   10"]),
+            ("C7 2", ["      GO TO (10,20),I", "   10 K=I"], ["20"]),
+            ("C7 2", ["      IF (I-J) 10,10,30", "   10 K=I"], ["30"]),
+            ("C9 2", ["      IF (I.EQ.1) GO TO 10", "      DO 10 L=1,3", "   10 K=L"], ["10", "   10"]),
+            ("C10 2", ["      DO 10,L=1,3", "   10 RETURN"], ["10", "   10"]),
+            ("C12 3", ["      DO 10 L=1,3", "   10 L=2"], ["DO 10 L=1,3", "L=2"]),
+            ("C4 2", ["      K=", "     &  .TRUE."], ["K=", ".TRUE."]),
+        ):
+            with self.subTest(fault + lines[0] if lines else fault):
+                self.assertEqual(self.marks(fault, *lines)[0], wanted)
+
+    def test_what_stands_behind_column_72_is_told(self):
+        line = "      K=I" + " " * 63 + "+J"
+        self.assertIn("Of line 2 all behind column 72 is not read: +J", self.marks("C4 2", line)[1])
+
+    def test_labels_are_told(self):
+        notes = self.marks("C7 2", "      GO TO 5", "   10 K=I", "   20 K=I")[1]
+        self.assertEqual(notes, ["Labels stand on the statements: 10 and 20."])
+
+    def test_marks_stand_under_the_text(self):
+        source = "\n".join([FRONT, "      X=I", LAST])
+        marks, _ = places("C2", "name", "X", source)
+        self.assertEqual(shown(source, marks), ["     2 |       X=I", "       |       ^"])
+
+
+class Notes(unittest.TestCase):
+    def notes(self, fault, words=(), **job):
+        code, _, detail = fault.partition(" ")
+        text = json.dumps({"source": f"{FRONT}\n{SUM}\n{LAST}\n", **job}).encode()
+        return " ".join(notes_on(code, MEANINGS[code].detail, detail, text, None, list(words)))
+
+    def test_the_suite(self):
+        self.assertIn("Value 2 is 1.5.", self.notes("J4 1", suite=[[1, 1.5, 0]]))
+        notes = self.notes("B3 2", suite=[[1, 2, 3], [2, 3]])
+        self.assertIn("It has 2 values; the dummy arguments are 3: I (INTEGER)", notes)
+        self.assertIn("Value 2 is true, for J (INTEGER).", self.notes("B3 1", suite=[[2, True, 0]]))
+        self.assertIn("Value 1 is [1]", self.notes("N3 1", ["exec", "--test", "1"], suite=[[[1], 2, 0]]))
+        self.assertIn("The suite has 1 test.", self.notes("J8 2", suite=[[1, 2, 3]]))
+        self.assertIn("Test 1 is [1, 2, 3].", self.notes("B4 1", suite=[[1, 2, 3]]))
+
+    def test_keys_and_entries(self):
+        self.assertIn('The key "x" is unknown.', self.notes("J3 x", x=1))
+        self.assertIn("The value of suite is 7.", self.notes("J3 suite", suite=7))
+        self.assertIn('Entry 1 is "ABS 01".', self.notes("J5 1", equivalent=["ABS 01"]))
+        self.assertIn("Entry 1 is the same.", self.notes("B6 2", equivalent=["ABS 1", "ABS 1"]))
+        self.assertIn("no operator XYZ", self.notes("B5 1", equivalent=["XYZ 1"]))
+
+    def test_json(self):
+        told = notes_on("J2", "", "", b'{"source": "",\n "suite" [1]}', None, [])
+        self.assertTrue(told[0].startswith("Line 2, column 10 of the job"))
+        self.assertEqual(told[2].index("^") - 2, 9)
+        self.assertIn("UTF-8", notes_on("J2", "", "", b"\xff", None, [])[0])
+
+
+class Words(unittest.TestCase):
+    def test_the_option_that_is_wrong(self):
+        for words, told in (
+            ("run --ops ABS,rOR", "Is ROR meant?"),
+            ("run --ops", "--ops has no value"),
+            ("run --steps 0", "a number from 1 to 1000000"),
+            ("run --workers=33", "a number from 1 to 32"),
+            ("list --steps 5", "'--steps' is no option of this command"),
+            ("run --worker 5", "Is --workers meant?"),
+            ("run --every x", "which is no number"),
+            ("run --every 1 --every 1", "--every stands twice"),
+            ("exec", "--test is missing"),
+            ("runs", "'runs' is no command"),
+        ):
+            with self.subTest(words):
+                self.assertIn(told, words_say(words.split(" ")) or "")
+        for words in ("run", "run --ops ABS,ROR --every +2 --steps 0010 --workers 32", "exec --test 1", "print"):
+            self.assertIsNone(words_say(words.split(" ")))
+
+
+class Tool(unittest.TestCase):
+    def explain(self, job, *words, given=b""):
+        with tempfile.TemporaryDirectory() as folder:
+            path = Path(folder, "job.json")
+            path.write_bytes(job if isinstance(job, bytes) else json.dumps(job).encode())
+            return run("explain", "--mothra", STAND_IN, path, *words, given=given)
+
+    job = {"source": f"{FRONT}\n      K=.TRUE.\n{LAST}\n", "suite": [[1, 2, 3]]}
+
+    def test_a_line_that_was_given(self):
+        wanted = self.explain(self.job, "FAULT", "C4", "2")
+        self.assertEqual(wanted[0], 0)
+        self.assertTrue(wanted[1].startswith("FAULT C4 2\nINTEGER and LOGICAL do not agree"))
+        self.assertIn("     2 |       K=.TRUE.\n       |       ^^^^^^^^\n", wanted[1])
+        self.assertIn("ANSI X3.9-1978", wanted[1])
+        self.assertEqual(self.explain(self.job, "FAULT C4 2"), wanted)
+        self.assertEqual(self.explain(self.job, "-", given=b"FAULT C4 2\n"), wanted)
+
+    def test_the_program_is_run(self):
+        job = {"source": running.LEAST, "suite": [[1, 2]]}
+        self.assertIn("Test 1 is [1, 2].", self.explain(job)[1])
+        self.assertIn("Is ROR meant?", self.explain(job, "run", "--ops", "RO")[1])
+        self.assertEqual(self.explain({"source": running.LEAST}), (0, "There is no fault.\n", ""))
+
+    def test_every_code_is_explained_or_refused_in_one_line(self):
+        details = {"": "", "name": " X", "key": " x", "operator": " ABS", "mutant": " ABS 1"}
+        for code, meaning in MEANINGS.items():
+            line = f"FAULT {code}{details.get(meaning.detail, ' 1')}"
+            with self.subTest(line):
+                try:
+                    told = explained(line, json.dumps(self.job).encode(), None, [])
+                except ValueError as fault:
+                    self.assertIn("the fault is of another job", str(fault))
+                else:
+                    self.assertTrue(told.startswith(f"{line}\n"))
+                    self.assertIn("What to do: ", told)
+
+    def test_bad_input_is_one_line(self):
+        refuses(self, self.explain(self.job, "FAULT", "Z9"), "no line of a fault")
+        refuses(self, self.explain(self.job, "FAULT", "C4"), "no number of a line")
+        refuses(self, self.explain(self.job, "FAULT", "C4", "99"), "another job")
+        refuses(self, self.explain(b"[]", "FAULT", "J4", "1"), "another job")
+        refuses(self, self.explain(b"{", "FAULT", "C4", "2"), "JSON")
+        refuses(self, self.explain({"source": 1, "suite": 5}, "FAULT", "B3", "1"), "another job")
+        refuses(self, self.explain(self.job, "-", given=b"what\n"), "no line of a fault")
+        refuses(self, run("explain", "there-is-none"), "there-is-none: No such file")
+        refuses(self, run("explain", "--mothra", "there-is-none", running.example("euclid", ".json")), "no program")
+        self.assertEqual(run("explain", "--help")[0], 0)
+
+
+if __name__ == "__main__":
+    unittest.main()
