@@ -10,7 +10,9 @@ import tempfile
 import time
 import traceback
 import unittest
+from collections.abc import Callable, Iterable
 from pathlib import Path
+from typing import IO, NoReturn, TypeVar
 
 TESTS = Path(__file__).resolve().parent
 ROOT = TESTS.parent
@@ -24,6 +26,8 @@ sys.path.insert(0, str(ROOT))
 
 from mutants.subcommands.registry import SUBCOMMANDS  # noqa: E402
 
+# Of what was run: its exit status, its output and its errors.
+Ended = tuple[int, str, str]
 NAMES = [command.name for command in SUBCOMMANDS]
 
 LEAST = """\
@@ -35,13 +39,13 @@ C     K BECOMES THE LESSER OF I AND J.
 """
 
 
-def words_of(tool, words):
+def words_of(tool: str, words: Iterable[object]) -> list[str]:
     """The whole call of a subcommand of mutants, or of a tool."""
     front = [str(MUTANTS), tool] if tool in NAMES else [str(TOOLS / tool)] if tool else [str(MUTANTS)]
     return [*front, *map(str, words)]
 
 
-def run(tool, *words, given=b"", path=None):
+def run(tool: str, *words: object, given: bytes = b"", path: Path | None = None) -> Ended:
     """What comes of a tool: its exit status, its output and its errors. `path` is a folder before those of the path.
 
     It is run in a copy of this process, which has read the modules of the tools already: so it begins at once.
@@ -60,7 +64,7 @@ def run(tool, *words, given=b"", path=None):
         return os.waitstatus_to_exitcode(status), out.read().decode(), errors.read().decode()
 
 
-def become(tool, words, path, files):
+def become(tool: str, words: Iterable[object], path: Path | None, files: Iterable[IO[bytes]]) -> NoReturn:
     """Is the tool, and nothing more: with these words, standard files and path."""
     status = 99
     try:
@@ -74,7 +78,7 @@ def become(tool, words, path, files):
     except SystemExit as end:
         if isinstance(end.code, str):
             sys.stderr.write(end.code + "\n")
-        status = 1 if isinstance(end.code, str) else end.code or 0
+        status = 1 if isinstance(end.code, str) else int(end.code or 0)
     except BaseException:
         traceback.print_exc()
     finally:
@@ -83,34 +87,36 @@ def become(tool, words, path, files):
         os._exit(status)
 
 
-SKIPPED = []
+SKIPPED: list[str] = []
+Case = TypeVar("Case", bound=type[unittest.TestCase])
 
 
-def needs(is_there, what):
+def needs(is_there: object, what: str) -> Callable[[Case], Case]:
     """Tests that need something which may not be there: they are skipped, and the last line of all tests says so."""
     if is_there:
         return lambda case: case
     SKIPPED.append(what)
-    return unittest.skip(f"{what} is not installed")
+    skipped: Callable[[Case], Case] = unittest.skip(f"{what} is not installed")
+    return skipped
 
 
 @atexit.register
-def tell_skipped():
+def tell_skipped() -> None:
     for what in SKIPPED:
         sys.stderr.write(f"Skipped: the tests that need {what}, which is not installed.\n")
 
 
-def example(name, ending):
+def example(name: str, ending: str) -> Path:
     return ROOT / "examples" / (name + ending)
 
 
-def has(case, page, *texts):
+def has(case: unittest.TestCase, page: str, *texts: str) -> None:
     """Asserts that a page has these texts; it is too long to be shown where it has not."""
     for text in texts:
         case.assertTrue(text in page, f"not on the page: {text}")
 
 
-def refuses(case, ended, *told):
+def refuses(case: unittest.TestCase, ended: Ended, *told: str) -> None:
     """Asserts that a tool ended with one line of error that has these words, and wrote nothing."""
     status, out, errors = ended
     case.assertNotEqual(status, 0, errors)
@@ -120,24 +126,31 @@ def refuses(case, ended, *told):
         case.assertIn(word, errors)
 
 
-def call_stand_in(command, job):
+def call_stand_in(command: str, job: bytes) -> bytes:
     return subprocess.run([str(STAND_IN), command], input=job, capture_output=True).stdout
 
 
-def with_closed_pipe(tool, *words):
+def with_closed_pipe(tool: str, *words: object) -> str:
     """The errors of a tool whose output nobody reads."""
-    how = {"stdin": subprocess.DEVNULL, "stdout": subprocess.PIPE, "stderr": subprocess.PIPE}
-    with subprocess.Popen(words_of(tool, words), **how) as running:
+    null, pipe = subprocess.DEVNULL, subprocess.PIPE
+    with subprocess.Popen(words_of(tool, words), stdin=null, stdout=pipe, stderr=pipe) as running:
+        assert running.stdout and running.stderr
         running.stdout.close()
         return running.stderr.read().decode()
 
 
-def interrupted(folder, tool, *words):
+def interrupted(folder: str, tool: str, *words: object) -> tuple[int, str]:
     """The status and the errors of a tool that gets Ctrl-C when its program has made the file `begun` in the folder."""
-    how = {"cwd": folder, "stdout": subprocess.PIPE, "stderr": subprocess.PIPE, "start_new_session": True}
-    # What a shell begins in the background ignores Ctrl-C, and so do its children: these tests may be such.
-    how["preexec_fn"] = lambda: signal.signal(signal.SIGINT, signal.SIG_DFL)
-    with subprocess.Popen(words_of(tool, words), **how) as running:
+
+    def take_ctrl_c() -> None:
+        # What a shell begins in the background ignores Ctrl-C, and so do its children: these tests may be such.
+        signal.signal(signal.SIGINT, signal.SIG_DFL)
+
+    call, pipe = words_of(tool, words), subprocess.PIPE
+    with subprocess.Popen(
+        call, cwd=folder, stdout=pipe, stderr=pipe, start_new_session=True, preexec_fn=take_ctrl_c
+    ) as running:
+        assert running.stderr
         until = time.monotonic() + 20
         while not Path(folder, "begun").exists() and time.monotonic() < until:
             time.sleep(0.02)

@@ -7,6 +7,7 @@ import shutil
 import subprocess
 import tempfile
 import unittest
+from collections.abc import Mapping
 from pathlib import Path
 
 import running
@@ -24,7 +25,7 @@ SUITES = {
 }
 
 
-def has_parallel():
+def has_parallel() -> bool:
     told = shutil.which("parallel") and subprocess.run(["parallel", "--version"], capture_output=True).stdout
     return bool(told and told.startswith(b"GNU parallel"))
 
@@ -32,32 +33,36 @@ def has_parallel():
 class Class(unittest.TestCase):
     """A class in a folder of its own, run by the stand-in for parallel."""
 
-    def setUp(self):
+    def setUp(self) -> None:
         room = tempfile.TemporaryDirectory()
         self.addCleanup(room.cleanup)
         self.folder = Path(room.name, "class <1>")
         self.folder.mkdir()
 
-    def put(self, files):
+    def put(self, files: Mapping[str, str]) -> None:
         for name, text in files.items():
             (self.folder / name).write_text(text)
 
-    def course(self, *words):
+    def course(self, *words: object) -> running.Ended:
         return run("course", "--mothra", STAND_IN, *words, self.folder, path=TESTS / "bin")
 
-    def table(self):
+    def table(self) -> dict[str, dict[str, str]]:
         with open(self.folder / "out" / "course.csv", newline="") as file:
             return {row["name"]: row for row in csv.DictReader(file)}
 
-    def page(self):
+    def page(self) -> str:
         return (self.folder / "out" / "course.html").read_text()
 
 
 class OneProgram(Class):
     """Each test begins with a copy of a class that was run once."""
 
+    room: tempfile.TemporaryDirectory[str]
+    done: Path
+    ended: running.Ended
+
     @classmethod
-    def setUpClass(cls):
+    def setUpClass(cls) -> None:
         cls.room = tempfile.TemporaryDirectory()
         cls.addClassCleanup(cls.room.cleanup)
         first = cls("course")
@@ -66,11 +71,11 @@ class OneProgram(Class):
         first.put({"least.f": LEAST, **SUITES})
         cls.ended = first.course("--jobs", "2")
 
-    def setUp(self):
+    def setUp(self) -> None:
         super().setUp()
         shutil.copytree(self.done, self.folder, dirs_exist_ok=True)
 
-    def test_table_and_page(self):
+    def test_table_and_page(self) -> None:
         status, out, errors = self.ended
         self.assertEqual(status, 0)
         self.assertIn("3 of 5 with a report", out)
@@ -84,7 +89,7 @@ class OneProgram(Class):
         self.assertIn("dora.json", rows["dora"]["told"])
         self.assert_page_says()
 
-    def assert_page_says(self):
+    def assert_page_says(self) -> None:
         page = self.page()
         has(self, page, "<h1>class &lt;1&gt;: what the suites kill</h1>")
         has(self, page, "IF (J<del>.LT.</del><ins>.LE.</ins>I) K=J")
@@ -94,7 +99,7 @@ class OneProgram(Class):
         self.assertLess(page.index("anna.html"), page.index("emil.html"))
         self.assertLess(page.index("emil.html"), page.index("bert.html"))
 
-    def test_a_second_call_runs_nothing_and_a_changed_suite_alone(self):
+    def test_a_second_call_runs_nothing_and_a_changed_suite_alone(self) -> None:
         before = self.page()
         self.assertEqual(self.course()[2], "")
         self.assertEqual(self.page(), before)
@@ -103,7 +108,7 @@ class OneProgram(Class):
         self.assertEqual(self.table()["bert"]["tests"], "1")
         self.assertEqual(self.course("--ops", "ROR")[2].splitlines()[0], "mutants course: 1 of 5")
 
-    def test_a_result_without_its_key_is_made_again(self):
+    def test_a_result_without_its_key_is_made_again(self) -> None:
         report = self.folder / "out" / "jobs" / "anna.report"
         whole = report.read_bytes()
         (self.folder / "out" / "jobs" / "anna.key").unlink()
@@ -111,12 +116,12 @@ class OneProgram(Class):
         self.assertEqual(self.course()[2].splitlines()[0], "mutants course: 4 of 5")
         self.assertEqual(report.read_bytes(), whole)
 
-    def test_want_of_memory_is_tried_again(self):
+    def test_want_of_memory_is_tried_again(self) -> None:
         (self.folder / "out" / "jobs" / "anna.report").write_text("FAULT B1\n")
         self.assertEqual(self.course()[2].splitlines()[0], "mutants course: 4 of 5")
         self.assertEqual(self.table()["anna"]["score"], "93.75")
 
-    def test_declared_mutants(self):
+    def test_declared_mutants(self) -> None:
         self.put({"equivalent.json": '["ROR 1"]'})
         self.course()
         row = self.table()["anna"]
@@ -128,7 +133,7 @@ class OneProgram(Class):
 
 
 class Cut(Class):
-    def test_goes_on_where_it_was_cut(self):
+    def test_goes_on_where_it_was_cut(self) -> None:
         self.put({"least.f": LEAST, **{f"s{n}.csv": f"{n},2,0\n" for n in range(3)}})
         os.environ["FAKE_PARALLEL_LIMIT"] = "1"
         self.addCleanup(os.environ.pop, "FAKE_PARALLEL_LIMIT")
@@ -142,7 +147,7 @@ class Cut(Class):
 
 
 class ManyPrograms(Class):
-    def test_each_table_is_of_its_program(self):
+    def test_each_table_is_of_its_program(self) -> None:
         suite = SUITES["anna.json"]
         self.put({"least.f": LEAST, "great.f": GREAT, "great-anna.json": suite, "great.json": "[]"})
         self.put({"suite.csv": "2,1,0\n"})
@@ -158,7 +163,7 @@ class ManyPrograms(Class):
 
 
 class Refusals(Class):
-    def test_bad_input_is_one_line(self):
+    def test_bad_input_is_one_line(self) -> None:
         refuses(self, self.course(), "there is no program")
         self.put({"least.f": LEAST})
         refuses(self, self.course(), "there is no table of tests")
@@ -171,7 +176,7 @@ class Refusals(Class):
         self.assertEqual(run("course", "--help")[0], 0)
         self.assertEqual(run("course", "--jobs", "0", self.folder)[0], 2)
 
-    def test_without_gnu_parallel(self):
+    def test_without_gnu_parallel(self) -> None:
         self.put({"least.f": LEAST, "a.json": "[]"})
         other = self.folder / "bin"
         other.mkdir()
@@ -181,12 +186,12 @@ class Refusals(Class):
 
 
 class Answers(unittest.TestCase):
-    def test_an_answer_counts_when_it_is_whole(self):
+    def test_an_answer_counts_when_it_is_whole(self) -> None:
         text = "JOB 2\nREPORT 2\nEND\n\nSTATUS 0\nJOB 1\nFAULT B3 1\n\nSTATUS 1\nJOB 3\nREP"
         found = list(answers_in(text.splitlines(keepends=True)))
         self.assertEqual(found, [(1, "REPORT 2\nEND\n", 0), (0, "FAULT B3 1\n", 1)])
 
-    def test_what_is_kept_without_a_report(self):
+    def test_what_is_kept_without_a_report(self) -> None:
         for text, status, wanted in (
             ("FAULT B3 1\n", 1, "FAULT B3 1\n"),
             ("", 127, "status 127, and nothing was written\n"),
@@ -197,14 +202,14 @@ class Answers(unittest.TestCase):
 
 @running.needs(has_parallel(), "GNU parallel (Debian's package parallel)")
 class WithParallel(Class):
-    def test_the_jobs_of_a_class(self):
+    def test_the_jobs_of_a_class(self) -> None:
         self.put({"least.f": LEAST, **SUITES, **{f"s{n}.csv": f"{n},2,0\n" for n in range(12)}})
         status, out, errors = run("course", "--mothra", STAND_IN, "--jobs", "3", self.folder)
         self.assertEqual((status, errors.splitlines()[-1]), (0, "mutants course: 17 of 17"))
         self.assertEqual(self.table()["anna"]["score"], "93.75")
         self.assertEqual(self.table()["carl"]["fault"], "B3")
 
-    def test_other_machines(self):
+    def test_other_machines(self) -> None:
         self.put({"least.f": LEAST, **SUITES})
         other = self.folder.parent / "other"
         other.mkdir()

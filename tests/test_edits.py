@@ -4,12 +4,13 @@ import io
 import os
 import tempfile
 import unittest
+from argparse import Namespace
 from contextlib import redirect_stdout
 from pathlib import Path
+from typing import ContextManager
 from unittest import mock
 
 import running  # noqa: F401
-from argparse import Namespace
 from mutants.gate import edits
 from mutants.statuses import FAULT, SUCCESS
 
@@ -63,9 +64,12 @@ class Repository(unittest.TestCase):
         rt.write_text(RT)
         rt.chmod(0o755)
         path = {"PATH": f"{rt.parent}:{os.environ['PATH']}"}
-        for patch in (mock.patch.object(edits, "ROOT", self.root), mock.patch.dict(os.environ, path)):
-            patch.start()
-            self.addCleanup(patch.stop)
+        self.enter(mock.patch.object(edits, "ROOT", self.root))
+        self.enter(mock.patch.dict(os.environ, path))
+
+    def enter(self, patch: ContextManager[object]) -> None:
+        patch.__enter__()
+        self.addCleanup(patch.__exit__, None, None, None)
 
     def put(self, name: str, text: str, folder: str = "more-edits") -> Path:
         path = self.crate / folder / f"{name}.edit"
@@ -111,19 +115,21 @@ class Reading(Repository):
         one = self.put("a", edit_text("x + 1", "x"))
         other = self.put("b", edit_text("x + x", "x"))
         same = self.put("c", edit_text("    x + 1", "    1"))
-        self.assertEqual([list(group.values()) for group in edits.in_groups([one, other, same], self.crate)], [[one, other], [same]])
+        groups = edits.in_groups([one, other, same], self.crate)
+        self.assertEqual([list(group.values()) for group in groups], [[one, other], [same]])
 
 
 class Judging(unittest.TestCase):
     def test_tells_what_a_check_says(self) -> None:
         goal = "note: src/a.rt:1:1: it is not proved that this holds; the rest"
+        gone = "proofs/a.antt:1:1: error: `x`:"
         for status, lines, wanted in (
             (0, ["logic=proved"], (False, "NOT REFUSED")),
             (1, [goal, "logic=not-proved"], (True, "refused: src/a.rt:1:1: it is not proved that this holds")),
             (1, ["src/a.rt:1:1: error: expected the end", "logic=not-proved"], (False, "BAD EDIT: the edited text can")),
             (2, ["error: no room", "logic=none"], (False, "BAD EDIT: no goal was tried: error: no room")),
             (1, ["Run the lower steps again", "logic=not-proved"], (False, "BAD EDIT: what earlier checks")),
-            (1, ["proofs/a.antt:1:1: error: `x`: is not in scope", "logic=not-proved"], (True, "refused: only because a proof")),
+            (1, [f"{gone} is not in scope", "logic=not-proved"], (True, "refused: only because a proof")),
         ):
             with self.subTest(lines[0]):
                 is_refused, told = edits.judge(status, lines, ["src/a.rt"])

@@ -4,6 +4,7 @@ import json
 import re
 import tempfile
 import unittest
+from collections.abc import Iterator, Sequence
 from pathlib import Path
 
 import running
@@ -19,11 +20,11 @@ CODE = r"[A-Z]\d+"
 DETAILS = ["", "line", "label", "name", "key", "test", "value", "entry", "operator", "mutant"]
 
 
-def page(name):
+def page(name: str) -> str:
     return (running.ROOT / name).read_text()
 
 
-def codes_of_pages():
+def codes_of_pages() -> set[str]:
     """All codes that the pages and the sources have."""
     found = set(re.findall(rf"^\| ({CODE})\b", page("docs/PROFILE.md"), re.M))
     for cell in re.findall(rf"^\| ({CODE}(?:, {CODE})*) \|", page("README.md"), re.M):
@@ -34,18 +35,18 @@ def codes_of_pages():
     return found
 
 
-def example_of(cell):
+def example_of(cell: str) -> str:
     """The program of an example of the README: what stands as the second line of ADD, or as several lines there."""
     lines = re.findall(r"`([^`]*)`", cell)
     return "\n".join([FRONT, *(line if line[:1] in " \t" else statement(line) for line in lines), LAST]) + "\n"
 
 
-def statement(text):
+def statement(text: str) -> str:
     label = re.match(r"(\d+) (.*)", text)
     return f"{label[1]:>5} {label[2]}" if label else f"      {text}"
 
 
-def examples():
+def examples() -> Iterator[tuple[str, str, str]]:
     """The rows of the table of faults in the README whose examples are lines of a program."""
     for row in re.findall(r"^\| ([FSC]\d+) \| [^|]+ \| ([^|]+) \| `(FAULT [^`]*)` \|$", page("README.md"), re.M):
         if re.fullmatch(r"(`[^`]*`(, )?)+", row[1].strip()):
@@ -53,12 +54,12 @@ def examples():
 
 
 class Codes(unittest.TestCase):
-    def test_each_code_of_the_program_has_a_meaning(self):
+    def test_each_code_of_the_program_has_a_meaning(self) -> None:
         codes = codes_of_pages()
         self.assertGreater(len(codes), 50)
         self.assertEqual(codes, set(MEANINGS))
 
-    def test_each_meaning_is_whole(self):
+    def test_each_meaning_is_whole(self) -> None:
         for code, meaning in MEANINGS.items():
             with self.subTest(code):
                 for sentence in (meaning.says, meaning.rule, meaning.advice):
@@ -68,14 +69,14 @@ class Codes(unittest.TestCase):
                 if code[0] in "FSC" and meaning.detail:
                     self.assertTrue(meaning.sections or "limit of this program" in meaning.rule)
 
-    def test_the_details_are_those_of_the_lines(self):
+    def test_the_details_are_those_of_the_lines(self) -> None:
         for code, detail in re.findall(rf"`FAULT ({CODE})((?: \S+)*)`", page("README.md")):
             with self.subTest(code):
                 self.assertEqual(bool(detail), bool(MEANINGS[code].detail))
 
 
 class Marks(unittest.TestCase):
-    def test_the_examples_of_the_readme_have_marks(self):
+    def test_the_examples_of_the_readme_have_marks(self) -> None:
         rows = list(examples())
         self.assertGreater(len(rows), 15)
         for code, cell, line in rows:
@@ -86,14 +87,14 @@ class Marks(unittest.TestCase):
                 under = shown(source, marks)
                 self.assertEqual(sum("^" in text for text in under), len({mark.line for mark in marks}))
 
-    def marks(self, fault, *lines):
+    def marks(self, fault: str, *lines: str) -> tuple[list[str], list[str]]:
         source = "\n".join([FRONT, *lines, LAST, ""])
         code, _, detail = fault.partition(" ")
         marks, notes = places(code, MEANINGS[code].detail, detail, source)
         text = source.split("\n")
         return [text[mark.line - 1][mark.first - 1 : mark.last] for mark in marks], notes
 
-    def test_the_marked_text(self):
+    def test_the_marked_text(self) -> None:
         for fault, lines, wanted in (
             ("F3 2", ["      K=\u00e9"], ["\u00e9"]),
             ("F4 2", ["\tK=I"], ["\t"]),
@@ -120,27 +121,27 @@ class Marks(unittest.TestCase):
             with self.subTest(fault + lines[0] if lines else fault):
                 self.assertEqual(self.marks(fault, *lines)[0], wanted)
 
-    def test_what_stands_behind_column_72_is_told(self):
+    def test_what_stands_behind_column_72_is_told(self) -> None:
         line = "      K=I" + " " * 63 + "+J"
         self.assertIn("Of line 2 all behind column 72 is not read: +J", self.marks("C4 2", line)[1])
 
-    def test_labels_are_told(self):
+    def test_labels_are_told(self) -> None:
         notes = self.marks("C7 2", "      GO TO 5", "   10 K=I", "   20 K=I")[1]
         self.assertEqual(notes, ["Labels stand on the statements: 10 and 20."])
 
-    def test_marks_stand_under_the_text(self):
+    def test_marks_stand_under_the_text(self) -> None:
         source = "\n".join([FRONT, "      X=I", LAST])
         marks, _ = places("C2", "name", "X", source)
         self.assertEqual(shown(source, marks), ["     2 |       X=I", "       |       ^"])
 
 
 class Notes(unittest.TestCase):
-    def notes(self, fault, words=(), **job):
+    def notes(self, fault: str, words: Sequence[str] = (), **job: object) -> str:
         code, _, detail = fault.partition(" ")
         text = json.dumps({"source": f"{FRONT}\n{SUM}\n{LAST}\n", **job}).encode()
         return " ".join(notes_on(code, MEANINGS[code].detail, detail, text, None, list(words)))
 
-    def test_the_suite(self):
+    def test_the_suite(self) -> None:
         self.assertIn("Value 2 is 1.5.", self.notes("J4 1", suite=[[1, 1.5, 0]]))
         notes = self.notes("B3 2", suite=[[1, 2, 3], [2, 3]])
         self.assertIn("It has 2 values; the dummy arguments are 3: I (INTEGER)", notes)
@@ -149,14 +150,14 @@ class Notes(unittest.TestCase):
         self.assertIn("The suite has 1 test.", self.notes("J8 2", suite=[[1, 2, 3]]))
         self.assertIn("Test 1 is [1, 2, 3].", self.notes("B4 1", suite=[[1, 2, 3]]))
 
-    def test_keys_and_entries(self):
+    def test_keys_and_entries(self) -> None:
         self.assertIn('The key "x" is unknown.', self.notes("J3 x", x=1))
         self.assertIn("The value of suite is 7.", self.notes("J3 suite", suite=7))
         self.assertIn('Entry 1 is "ABS 01".', self.notes("J5 1", equivalent=["ABS 01"]))
         self.assertIn("Entry 1 is the same.", self.notes("B6 2", equivalent=["ABS 1", "ABS 1"]))
         self.assertIn("no operator XYZ", self.notes("B5 1", equivalent=["XYZ 1"]))
 
-    def test_json(self):
+    def test_json(self) -> None:
         told = notes_on("J2", "", "", b'{"source": "",\n "suite" [1]}', None, [])
         self.assertTrue(told[0].startswith("Line 2, column 10 of the job"))
         self.assertEqual(told[2].index("^") - 2, 9)
@@ -164,7 +165,7 @@ class Notes(unittest.TestCase):
 
 
 class Words(unittest.TestCase):
-    def test_the_option_that_is_wrong(self):
+    def test_the_option_that_is_wrong(self) -> None:
         for words, told in (
             ("run --ops ABS,rOR", "Is ROR meant?"),
             ("run --ops", "--ops has no value"),
@@ -184,7 +185,7 @@ class Words(unittest.TestCase):
 
 
 class Tool(unittest.TestCase):
-    def explain(self, job, *words, given=b""):
+    def explain(self, job: object, *words: str, given: bytes = b"") -> running.Ended:
         with tempfile.TemporaryDirectory() as folder:
             path = Path(folder, "job.json")
             path.write_bytes(job if isinstance(job, bytes) else json.dumps(job).encode())
@@ -192,7 +193,7 @@ class Tool(unittest.TestCase):
 
     job = {"source": f"{FRONT}\n      K=.TRUE.\n{LAST}\n", "suite": [[1, 2, 3]]}
 
-    def test_a_line_that_was_given(self):
+    def test_a_line_that_was_given(self) -> None:
         wanted = self.explain(self.job, "FAULT", "C4", "2")
         self.assertEqual(wanted[0], 0)
         self.assertTrue(wanted[1].startswith("FAULT C4 2\nINTEGER and LOGICAL do not agree"))
@@ -201,13 +202,13 @@ class Tool(unittest.TestCase):
         self.assertEqual(self.explain(self.job, "FAULT C4 2"), wanted)
         self.assertEqual(self.explain(self.job, "-", given=b"FAULT C4 2\n"), wanted)
 
-    def test_the_program_is_run(self):
+    def test_the_program_is_run(self) -> None:
         job = {"source": running.LEAST, "suite": [[1, 2]]}
         self.assertIn("Test 1 is [1, 2].", self.explain(job)[1])
         self.assertIn("Is ROR meant?", self.explain(job, "run", "--ops", "RO")[1])
         self.assertEqual(self.explain({"source": running.LEAST}), (0, "There is no fault.\n", ""))
 
-    def test_every_code_is_explained_or_refused_in_one_line(self):
+    def test_every_code_is_explained_or_refused_in_one_line(self) -> None:
         details = {"": "", "name": " X", "key": " x", "operator": " ABS", "mutant": " ABS 1"}
         for code, meaning in MEANINGS.items():
             line = f"FAULT {code}{details.get(meaning.detail, ' 1')}"
@@ -220,7 +221,7 @@ class Tool(unittest.TestCase):
                     self.assertTrue(told.startswith(f"{line}\n"))
                     self.assertIn("What to do: ", told)
 
-    def test_bad_input_is_one_line(self):
+    def test_bad_input_is_one_line(self) -> None:
         refuses(self, self.explain(self.job, "FAULT", "Z9"), "no line of a fault")
         refuses(self, self.explain(self.job, "FAULT", "C4"), "no number of a line")
         refuses(self, self.explain(self.job, "FAULT", "C4", "99"), "another job")

@@ -5,6 +5,7 @@ import shutil
 import tempfile
 import unittest
 from collections import Counter
+from functools import partial
 from pathlib import Path
 
 import running
@@ -73,7 +74,7 @@ class Mutants(unittest.TestCase):
             (one, other, "0", "RETURNED 1", "differ"),
         ]  # fmt: skip
         for original, outcome, bit, word, wanted in asked:
-            self.assertEqual(judged(original, outcome, bit, lambda word=word: word), wanted)
+            self.assertEqual(judged(original, outcome, bit, partial(str, word)), wanted)
 
 
 @running.needs(shutil.which("gfortran"), "gfortran (Debian's package gfortran)")

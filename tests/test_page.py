@@ -4,6 +4,7 @@ import json
 import re
 import tempfile
 import unittest
+from collections.abc import Iterable
 from functools import lru_cache
 from html.parser import HTMLParser
 from pathlib import Path
@@ -21,33 +22,36 @@ EMPTY = {"meta", "rect", "path", "br"}
 class Tags(HTMLParser):
     """Whether each element that is opened is closed in its place, the attributes, and the text."""
 
-    def __init__(self, page):
+    def __init__(self, page: str) -> None:
         super().__init__()
-        self.open, self.found, self.texts, self.wrong = [], [], [], []
+        self.open: list[str] = []
+        self.found: list[tuple[str, dict[str, str]]] = []
+        self.texts: list[str] = []
+        self.wrong: list[str] = []
         self.feed(page)
 
-    def handle_starttag(self, tag, attributes):
-        self.found.append((tag, dict(attributes)))
+    def handle_starttag(self, tag: str, attributes: list[tuple[str, str | None]]) -> None:
+        self.found.append((tag, {name: value or "" for name, value in attributes}))
         if tag not in EMPTY:
             self.open.append(tag)
 
-    def handle_endtag(self, tag):
+    def handle_endtag(self, tag: str) -> None:
         if not self.open or self.open.pop() != tag:
             self.wrong.append(tag)
 
-    def handle_startendtag(self, tag, attributes):
-        self.found.append((tag, dict(attributes)))
+    def handle_startendtag(self, tag: str, attributes: list[tuple[str, str | None]]) -> None:
+        self.found.append((tag, {name: value or "" for name, value in attributes}))
 
-    def handle_data(self, data):
+    def handle_data(self, data: str) -> None:
         self.texts.append(data)
 
 
-def job_of(source=LEAST, suite=((1, 2, 0), (2, 1, 0)), **more):
+def job_of(source: str = LEAST, suite: Iterable[object] = ((1, 2, 0), (2, 1, 0)), **more: object) -> bytes:
     return json.dumps({"source": source, "suite": list(suite), **more}).encode()
 
 
 @lru_cache
-def page_of(job, *words):
+def page_of(job: bytes, *words: str) -> running.Ended:
     """What comes of the page of a job, with the stand-in as the program; asked once for each job."""
     with tempfile.TemporaryDirectory() as folder:
         path = Path(folder, "job.json")
@@ -55,12 +59,12 @@ def page_of(job, *words):
         return run("page", "--mothra", STAND_IN, *words, path)
 
 
-def plain(page):
+def plain(page: str) -> str:
     return re.sub(r"<[^>]+>", "", page)
 
 
 class Pages(unittest.TestCase):
-    def test_shows_the_survivors_under_their_line(self):
+    def test_shows_the_survivors_under_their_line(self) -> None:
         status, page, errors = page_of(job_of())
         self.assertEqual((status, errors), (0, ""))
         has(self, page, "15 of 16 mutants killed")
@@ -73,12 +77,12 @@ class Pages(unittest.TestCase):
         self.assertRegex(plain(page), r"4\s+IF \(J\.LT\.I\) K=J12 of 131 survives")
         self.assertRegex(plain(page), r"3\s+K=I3 of 3all killed")
 
-    def test_the_tests_and_what_they_add(self):
+    def test_the_tests_and_what_they_add(self) -> None:
         page = plain(page_of(job_of(suite=[[1, 2, 0], [2, 1, 0], [3, 3, 0]]))[1])
         has(self, page, "Test 3 kills nothing that others do not: it may be left out.")
         has(self, page, "The smallest set that kills all 15 that the suite kills has 2 tests: 1 and 2.")
 
-    def test_an_equivalent_mutant_is_counted_and_a_wrong_one_is_told(self):
+    def test_an_equivalent_mutant_is_counted_and_a_wrong_one_is_told(self) -> None:
         page = page_of(job_of(equivalent=["ROR 1", "SDL 2"]))[1]
         has(self, page, "100.00 %")
         has(self, page, "15 of 15 mutants killed, not counting 1 declared equivalent")
@@ -87,8 +91,9 @@ class Pages(unittest.TestCase):
         has(self, page, "<summary>1 declared equivalent</summary>")
         has(self, page, "IF (J<del>.LT.</del><ins>.LE.</ins>I) K=J")
 
-    def test_a_page_is_one_sound_file(self):
-        for suite in ([], [[n, 3, 0] for n in range(60)]):
+    def test_a_page_is_one_sound_file(self) -> None:
+        suites: list[list[object]] = [[], [[n, 3, 0] for n in range(60)]]
+        for suite in suites:
             page = page_of(job_of(suite=suite))[1]
             tags = Tags(page)
             self.assertEqual((tags.open, tags.wrong), ([], []))
@@ -102,14 +107,14 @@ class Pages(unittest.TestCase):
             self.assertTrue(all(value.startswith("#") for value in loaded), loaded)
             self.assertNotRegex(page, r"url\(|@import|https?:|\bon\w+=")
 
-    def test_what_the_job_says_is_only_text(self):
+    def test_what_the_job_says_is_only_text(self) -> None:
         evil = 'C <script>alert("1")</script> & \x01\u202e\n' + LEAST
         status, page, errors = page_of(job_of(source=evil))
         self.assertEqual((status, errors), (0, ""))
         has(self, page, "C &lt;script&gt;alert(&quot;1&quot;)&lt;/script&gt; &amp; \ufffd\ufffd")
         self.assertNotIn("<script", page)
 
-    def test_saved_texts_need_no_program(self):
+    def test_saved_texts_need_no_program(self) -> None:
         with tempfile.TemporaryDirectory() as folder:
             job = Path(folder, "job.json")
             job.write_bytes(job_of())
@@ -133,7 +138,7 @@ class Pages(unittest.TestCase):
 
 
 class Refusals(unittest.TestCase):
-    def test_bad_input_is_one_line(self):
+    def test_bad_input_is_one_line(self) -> None:
         refuses(self, page_of(b"{"), "no text in JSON")
         refuses(self, page_of(b"[]"), "no job")
         refuses(self, page_of(job_of(source="      SUBROUTINE OTHER\n      END\n")), "FAULT S2 1")
@@ -145,11 +150,11 @@ class Refusals(unittest.TestCase):
         refuses(self, run("page", "--mothra", "false", EUCLID), "mothra print")
         refuses(self, run("page", "--mothra", "true", EUCLID), "cut short")
 
-    def test_help_and_words(self):
+    def test_help_and_words(self) -> None:
         self.assertEqual(run("page", "--help")[0], 0)
         self.assertEqual(run("page")[0], 2)
 
-    def test_ctrl_c_ends_it_without_more(self):
+    def test_ctrl_c_ends_it_without_more(self) -> None:
         with tempfile.TemporaryDirectory() as folder:
             slow = Path(folder, "slow")
             slow.write_text("#!/bin/sh\ntouch begun\nexec sleep 20\n")
@@ -157,7 +162,7 @@ class Refusals(unittest.TestCase):
             ended = running.interrupted(folder, "page", "--mothra", slow, EUCLID)
             self.assertEqual(ended, (130, "\n"))
 
-    def test_a_closed_pipe_ends_it_without_more(self):
+    def test_a_closed_pipe_ends_it_without_more(self) -> None:
         with tempfile.TemporaryDirectory() as folder:
             path = Path(folder, "job.json")
             path.write_bytes(job_of(suite=[[n, 3, 0] for n in range(200)]))
@@ -165,7 +170,7 @@ class Refusals(unittest.TestCase):
 
 
 class Matrices(unittest.TestCase):
-    def test_the_examples(self):
+    def test_the_examples(self) -> None:
         for name in running.EXAMPLES:
             report = read_report(running.example(name, ".report").read_text())
             part = matrix_part(report.rows, report.tests)
@@ -179,7 +184,7 @@ class Matrices(unittest.TestCase):
             kills = sum(row.bits.count("1") for row in report.rows)
             self.assertEqual(sum(map(int, re.findall(r"h(\d+)", paths))), 4 * kills)
 
-    def test_the_totals_of_the_tests(self):
+    def test_the_totals_of_the_tests(self) -> None:
         report = read_report(running.example("triangle", ".report").read_text())
         self.assertEqual(sum(kills_of(report.rows, 10)), sum(row.bits.count("1") for row in report.rows))
         self.assertEqual(kills_of(report.rows, 10)[0], sum(row.bits[0] == "1" for row in report.rows))
@@ -188,7 +193,7 @@ class Matrices(unittest.TestCase):
         self.assertEqual(needless_text([1, 0, 2, 0])[:41], "Tests 2 and 4 kill nothing that others do")
         self.assertEqual(needless_text([0] * 21)[:36], "21 of the tests kill nothing that ot")
 
-    def test_a_large_matrix_is_thinned_and_says_so(self):
+    def test_a_large_matrix_is_thinned_and_says_so(self) -> None:
         rows = [Row("ABS", n, n, "K", "1" * 100) for n in range(1, 10_001)]
         shown, every = thinned(rows, 100)
         self.assertLessEqual(len(shown) * 100, MOST)

@@ -4,6 +4,7 @@ import itertools
 import random
 import re
 import unittest
+from collections.abc import Iterable
 
 import running
 from mutants.pages.cover import smallest_set
@@ -14,7 +15,7 @@ from mutants.texts.reports import read_report
 
 
 class Differences(unittest.TestCase):
-    def test_marks_the_changed_words(self):
+    def test_marks_the_changed_words(self) -> None:
         for old, new, wanted in (
             ("IF (I.EQ.J) RETURN", "IF (I.GE.J) RETURN", "IF (I[-.EQ.-][+.GE.+]J) RETURN"),
             ("K=I-J", "K=IABS(I)-J", "K=[+IABS(+]I[+)+]-J"),
@@ -28,7 +29,7 @@ class Differences(unittest.TestCase):
             with self.subTest(new):
                 self.assertEqual("".join(marks[mark].format(text) for mark, text in pieces(old, new)), wanted)
 
-    def test_the_pieces_are_the_two_texts(self):
+    def test_the_pieces_are_the_two_texts(self) -> None:
         for name in running.EXAMPLES:
             survivors = read_report(running.example(name, ".report").read_text()).survivors
             for one, other in itertools.pairwise(survivors):
@@ -37,13 +38,13 @@ class Differences(unittest.TestCase):
                 self.assertEqual("".join(text for mark, text in found if mark != "-"), other.text)
 
 
-def is_cover(rows, tests):
+def is_cover(rows: Iterable[int], tests: Iterable[int]) -> bool:
     mask = sum(1 << test for test in tests)
     return all(row & mask for row in rows if row)
 
 
 class SmallestSets(unittest.TestCase):
-    def test_no_smaller_set_is_there(self):
+    def test_no_smaller_set_is_there(self) -> None:
         random.seed(1978)
         for _ in range(150):
             count = random.randint(1, 7)
@@ -53,14 +54,14 @@ class SmallestSets(unittest.TestCase):
             smaller = itertools.combinations(range(count), max(len(found) - 1, 0))
             self.assertFalse(found and any(is_cover(rows, tests) for tests in smaller), rows)
 
-    def test_the_greedy_set_is_told_where_the_search_is_given_up(self):
+    def test_the_greedy_set_is_told_where_the_search_is_given_up(self) -> None:
         random.seed(1962)
         rows = [random.getrandbits(40) & random.getrandbits(40) & random.getrandbits(40) for _ in range(150)]
         found, is_least = smallest_set(rows, branches=3)
         self.assertFalse(is_least)
         self.assertTrue(is_cover(rows, found))
 
-    def test_the_examples(self):
+    def test_the_examples(self) -> None:
         for name, wanted in (("sort", [0, 4, 7, 8, 9]), ("euclid", [0, 5, 6]), ("closure", [2, 3])):
             report = read_report(running.example(name, ".report").read_text())
             rows = [int(row.bits[::-1], 2) for row in report.rows]
@@ -70,14 +71,14 @@ class SmallestSets(unittest.TestCase):
 
 
 class Cards(unittest.TestCase):
-    def test_a_character_of_a_statement_has_its_place(self):
+    def test_a_character_of_a_statement_has_its_place(self) -> None:
         card = cards_of("c x\n   10 k = i\n     &  +j" + " " * 62 + "x\n")[0]
         self.assertEqual(card[:3], (2, "10", "K=I+J"))
         self.assertEqual(card.places, ((2, 7), (2, 9), (2, 11), (3, 9), (3, 10)))
 
 
 class Names(unittest.TestCase):
-    def test_the_operators_are_those_of_the_profile(self):
+    def test_the_operators_are_those_of_the_profile(self) -> None:
         table = (running.ROOT / "docs" / "PROFILE.md").read_text()
         rows = re.findall(r"^\| ([A-Z]{3}) \| ([^|]+) \| ([^|]+) \| ([^|]+) \| ([^|]+) \|$", table, re.M)
         self.assertEqual(NAMES, {row[0]: row[1] for row in rows})

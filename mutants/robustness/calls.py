@@ -47,7 +47,7 @@ def ended_on(
     front: int = -1,
     begin: Callable[[], None] | None = None,
 ) -> Ended:
-    """Runs a command on two open files, the first of which may be a number, and reads back what it wrote to the second, or so many bytes of that.
+    """Runs a command on two open files, and reads back what it wrote to the second, or so many bytes of that.
 
     `begin` is done in the child before the command; what it sets of signals stays.
     """
