@@ -5,6 +5,7 @@ from __future__ import annotations
 import base64
 import hashlib
 import re
+import shutil
 import zipfile
 from pathlib import Path
 
@@ -39,4 +40,6 @@ def build_wheel(wheel_directory: str, config_settings: object = None, metadata_d
     with zipfile.ZipFile(Path(wheel_directory, name), "w", zipfile.ZIP_DEFLATED) as wheel:
         for path, data in {**files, f"{INFO}/RECORD": record.encode()}.items():
             wheel.writestr(path, data)
+    # Python keeps what it has compiled of this module: nothing is to be left in the tree.
+    shutil.rmtree(Path(__file__).with_name("__pycache__"), ignore_errors=True)
     return name
