@@ -1,5 +1,5 @@
 -- How an exchange begins and ends.
-use Rattle.std.proofs.Common.{◌≡◌, ◌⊎◌, ℕ, zero, suc, ◌<◌, List, [], ◌∷◌, length, map, get_or, refl, sym, ap, ◌∙◌, subst, ⊎_elim, arith, inl}
+use Rattle.std.proofs.Common.{◌≡◌, ◌⊎◌, ℕ, zero, suc, ◌<◌, ◌≤◌, List, [], ◌∷◌, length, map, get_or, refl, sym, ap, ◌∙◌, subst, ⊎_elim, arith, inl}
 use Rattle.std.specs.Prelude.{slice_index}
 use Rattle.std.proofs.lemmas.Bool.Decides.{nat_tests}
 use mathlib.Core.Option.{some, some-ne-none, some-injective}
@@ -9,7 +9,7 @@ use Rattle.mothra_exchange.specs.declared.word.Word.{Word}
 use Rattle.mothra_exchange.specs.declared.view.Look.{Look}
 use Rattle.mothra_exchange.specs.declared.view.View.{View}
 use Rattle.mothra_codes.specs.Op.{index}
-use Rattle.mothra_exchange.specs.Word.{pack, AtMost, opening_word, Fits}
+use Rattle.mothra_exchange.specs.Word.{largest_count, pack, AtMost, opening_word, Fits}
 use Rattle.mothra_codes.specs.Ticket.{times, once_up_to}
 use Rattle.mothra_exchange.specs.View.{times_closed, total, first_look, whole_view, spent_view}
 use Rattle.mothra_exchange.specs.Rule.{Knows, IsLive, IsSound, Holds}
@@ -42,13 +42,13 @@ begins C counts words e is small = record {
   length_is = ap (λ (l : List ℕ). length l) e ∙ is;
   ops = λ o.
       let n = slice_index counts (index o) in
-      let lt : n < 1048576 = small (index o) (index_below o) in
+      let few : n ≤ largest_count = small (index o) (index_below o) in
       let w = opening_word n in (
         w,
         (ap (λ (l : List ℕ). slice_index l (index o)) e ∙ omega arith),
         record {
           count = refl;
-          bounds = record { handed = omega arith; offered = omega arith; waiting = omega arith; count = lt };
+          bounds = record { handed = omega arith; offered = omega arith; waiting = omega arith; count = few };
           taken = λ k. let z = once_up_to-none k in omega arith;
           offered = λ k. let z = once_up_to-none k in omega arith;
           closings = λ k. refl;

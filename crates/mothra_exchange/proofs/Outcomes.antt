@@ -1,45 +1,54 @@
--- What a call may say, from what its exchange told.
-use Rattle.std.proofs.Common.{◌≡◌, ◌≢◌, ℕ, ◌+◌, Bool, false, cond, refl, sym, ap, ◌∙◌, subst, ⊎_elim, ne_eqb}
+-- What an exchange left, from what it told.
+use Rattle.std.proofs.Common.{◌≡◌, ◌≢◌, ℕ, length, sym, ap, ◌∙◌, subst, ⊎_elim, length-set}
 use mathlib.Core.Option.{none}
 use Rattle.atomic_table.specs.Table.{Me, step}
 use Rattle.mothra_codes.specs.declared.op.Op.{Op}
 use Rattle.mothra_exchange.specs.declared.word.Word.{Word}
 use Rattle.mothra_exchange.specs.declared.view.View.{View}
-use Rattle.mothra_exchange.specs.declared.answer.Take.TheVariants.{Busy, Taken}
-use Rattle.mothra_exchange.specs.declared.answer.Close.TheVariants.{Already, Busy as CloseBusy, Done}
-use Rattle.mothra_codes.specs.Op.{index}
+use Rattle.mothra_codes.specs.Op.{index, op_at}
+use Rattle.mothra_codes.proofs.Operators.{op_at-index}
 use Rattle.mothra_exchange.specs.Word.{pack, AtMost}
-use Rattle.mothra_codes.specs.Ticket.{ticket}
 use Rattle.mothra_exchange.specs.View.{look_at, view_after_finding}
-use Rattle.mothra_exchange.specs.Rule.{Loses, Takes, Closes}
-use Rattle.mothra_exchange.specs.Answer.{take_answer}
-use Rattle.mothra_exchange.specs.Calls.{TakeLeaves, CloseLeaves, LostTo}
+use Rattle.mothra_exchange.specs.Exchange.{Change, IsNew, view_after, Exchanges}
+use Rattle.mothra_exchange.specs.Calls.{LostTo}
+use Rattle.mothra_exchange.proofs.Exchanges.{change_apart}
 
--- what a lost exchange leaves
-pub lost : {S : Type 0} (op : Op) (i slots first second found : ℕ) (me new : Me S View) (w : Word) → i ≡ index op → (look_at me.0 (index op)).loaded ≡ w → first ≡ pack w
-    → Loses (step slots i first second none) me found new → LostTo me.0 op w new.0
-lost {S} op i slots first second found me new w here loaded is t =
-    let x = t.0 in (
+-- in either case
+pub stays : {S : Type 0} (c : Change) (i slots first second found : ℕ) (me new : Me S View) → Exchanges c (step slots i first second none) me found new
+    → (new.1 ≡ me.1) × (new.0.part ≡ me.0.part) × (length new.0.looks ≡ length me.0.looks)
+stays {S} c i slots first second found me new told = ⊎_elim
+    (λ t. let a = change_apart c (op_at i) me.0 (look_at me.0 i).loaded in (
+      ap (λ (m : Me S View). m.1) t.2,
+      ap (λ (m : Me S View). m.0.part) t.2 ∙ a.part,
+      ap (λ (m : Me S View). length m.0.looks) t.2 ∙ a.looks,
+    ))
+    (λ t. (
+      ap (λ (m : Me S View). m.1) t.5,
+      ap (λ (m : Me S View). m.0.part) t.5,
+      ap (λ (m : Me S View). length m.0.looks) t.5 ∙ length-set me.0.looks i _,
+    ))
+    told
+
+-- it won where it found what it expected
+pub won : {S : Type 0} (c : Change) (op : Op) (i slots first second found : ℕ) (me new : Me S View) (w : Word) → i ≡ index op → (look_at me.0 (index op)).loaded ≡ w
+    → found ≡ first → Exchanges c (step slots i first second none) me found new → IsNew c me.0 op w × (new.0 ≡ view_after c me.0 op w)
+won {S} c op i slots first second found me new w here loaded hit told = ⊎_elim
+    (λ t. subst (λ (y : Op × Word). IsNew c me.0 y.0 y.1 × (new.0 ≡ view_after c me.0 y.0 y.1))
+    (λ k. ((ap op_at here ∙ op_at-index op) k, (ap (λ (j : ℕ). (look_at me.0 j).loaded) here ∙ loaded) k))
+    (t.1, ap (λ (m : Me S View). m.0) t.2))
+    (λ t. absurd (t.2 hit))
+    told
+
+-- and else it was lost
+pub lost : {S : Type 0} (c : Change) (op : Op) (i slots first second found : ℕ) (me new : Me S View) (w : Word) → i ≡ index op → (look_at me.0 (index op)).loaded ≡ w
+    → first ≡ pack w → found ≢ first → Exchanges c (step slots i first second none) me found new → LostTo me.0 op w new.0
+lost {S} c op i slots first second found me new w here loaded is miss told = ⊎_elim
+    (λ t. absurd (miss t.0))
+    (λ t. let x = t.0 in (
       x,
       subst (λ (y : Word). AtMost y x) (ap (λ (j : ℕ). (look_at me.0 j).loaded) here ∙ loaded) t.4,
       (λ e. t.2 (t.1 ∙ ap pack e ∙ sym is)),
       ap (λ (m : Me S View). m.0) t.5
           ∙ (λ k. view_after_finding me.0 (here k) x),
-    )
-
-pub answers_taken : (op : Op) (w : Word) → w.handed ≢ w.offered → take_answer op w ≡ Taken (ticket op (w.handed + 1))
-answers_taken op w ne = rw (ne_eqb w.handed w.offered ne) refl
-
-pub take_loses : {S : Type 0} (op : Op) (i slots first second found : ℕ) (me new : Me S View) (w : Word) → i ≡ index op → (look_at me.0 (index op)).loaded ≡ w → w.handed ≢ w.offered → first ≡ pack w
-    → found ≢ first → Takes (step slots i first second none) me found new → TakeLeaves me.0 op w Busy new.0
-take_loses {S} op i slots first second found me new w here loaded room is miss t = ⊎_elim
-    (λ win. absurd (miss win.0))
-    (λ m. ((ticket op (w.handed + 1), answers_taken op w room), lost op i slots first second found me new w here loaded is m))
-    t
-
-pub close_loses : {S : Type 0} (op : Op) (i slots first second found : ℕ) (me new : Me S View) (w : Word) → i ≡ index op → (look_at me.0 (index op)).loaded ≡ w → w.closed ≡ false → first ≡ pack w
-    → found ≢ first → Closes (step slots i first second none) me found new → CloseLeaves me.0 op w CloseBusy new.0
-close_loses {S} op i slots first second found me new w here loaded is_open is miss told = ⊎_elim
-    (λ win. absurd (miss win.0))
-    (λ m. (ap (λ (b : Bool). cond b Already Done) is_open, lost op i slots first second found me new w here loaded is m))
+    ))
     told

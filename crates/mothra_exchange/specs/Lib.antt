@@ -1,5 +1,6 @@
 pub mod Answer
 pub mod Calls
+pub mod Exchange
 pub mod Fault
 pub mod Gate
 pub mod Law

@@ -1,16 +1,16 @@
 -- What holds between any two steps, and what each step tells.
-use Rattle.std.specs.Prelude.{◌≡◌, ◌⊎◌, ℕ, ◌+◌, ◌<◌, ◌≤◌, List, length, slice_index_or, slice_index}
+use Rattle.std.specs.Prelude.{◌≡◌, ◌⊎◌, ℕ, ◌<◌, ◌≤◌, List, length, slice_index_or, slice_index}
 use mathlib.Core.Option.{some}
 use lib.ListN.{get_elem?}
 use Rattle.atomic_table.specs.Table.{State, Step, Me}
 use Rattle.mothra_codes.specs.declared.op.Op.{Op}
-use Rattle.mothra_codes.specs.Op.{index, op_at}
+use Rattle.mothra_codes.specs.Op.{index}
 use Rattle.mothra_exchange.specs.declared.word.Word.{Word}
 use Rattle.mothra_exchange.specs.declared.view.View.{View}
-use Rattle.mothra_exchange.specs.Word.{pack, Fits, AtMost, InBounds}
+use Rattle.mothra_exchange.specs.Word.{pack, AtMost, InBounds}
 use Rattle.mothra_codes.specs.Ticket.{times, once_up_to}
 use Rattle.mothra_exchange.specs.View.{times_closed, once_if_closed, total, first_look, look_at, whole_part, spent_view, settled_view}
-use Rattle.mothra_exchange.specs.View.{view_after_load, view_after_finding, view_after_take, view_after_offer, view_after_close}
+use Rattle.mothra_exchange.specs.View.{view_after_load}
 
 -- the last words that a view has seen of the operator at the place i are at most w
 abbrev pub Knows : ℕ → View → Word → Type 0
@@ -53,30 +53,6 @@ pub record Loads (C : ℕ) (v : View) (i : ℕ) (w : Word) : Type 0 where
 abbrev pub Looks : {S : Type 0} → ℕ → Step S → Me S View → ℕ → Me S View → Type 0
 Looks C s me found new = (w : Word) × (found ≡ pack w) × Loads C me.0 s.word w × (new ≡ (view_after_load me.0 s.word w, me.1))
 
--- an exchange that found another word than it expected has changed nothing
-abbrev pub Loses : {S : Type 0} → Step S → Me S View → ℕ → Me S View → Type 0
-Loses s me found new =
-    (w : Word) × (found ≡ pack w) × (¬ (found ≡ s.first)) × Fits w × AtMost (look_at me.0 s.word).loaded w
-    × (new ≡ (view_after_finding me.0 s.word w, me.1))
-
-abbrev pub Takes : {S : Type 0} → Step S → Me S View → ℕ → Me S View → Type 0
-Takes s me found new =
-    ((found ≡ s.first) × (times s.word ((look_at me.0 s.word).loaded.handed + 1) me.0.taken ≡ 0)
-    × (new ≡ (view_after_take me.0 (op_at s.word) (look_at me.0 s.word).loaded, me.1)))
-    ⊎ Loses s me found new
-
-abbrev pub Offers : {S : Type 0} → Step S → Me S View → ℕ → Me S View → Type 0
-Offers s me found new =
-    ((found ≡ s.first) × (times s.word ((look_at me.0 s.word).loaded.offered + 1) me.0.offered ≡ 0)
-    × (new ≡ (view_after_offer me.0 (op_at s.word) (look_at me.0 s.word).loaded, me.1)))
-    ⊎ Loses s me found new
-
-abbrev pub Closes : {S : Type 0} → Step S → Me S View → ℕ → Me S View → Type 0
-Closes s me found new =
-    ((found ≡ s.first) × ((k : ℕ) → times_closed s.word k me.0.closings ≡ 0)
-    × (new ≡ (view_after_close me.0 (op_at s.word) (look_at me.0 s.word).loaded, me.1)))
-    ⊎ Loses s me found new
-
 -- of the operator at the place i, whose word is w: the view and the two that were merged into it had seen no more, and no
 -- ticket or closing stands twice
 pub record AgreesAt (C : ℕ) (i : ℕ) (v : View) (w : Word) : Type 0 where
@@ -90,6 +66,5 @@ abbrev pub Agrees : ℕ → View → Type 0
 Agrees C v = (op : Op) → (w : Word) × AgreesAt C (index op) v w
 
 -- the load that ends a merge
-
 abbrev pub Settles : {S : Type 0} → ℕ → Step S → Me S View → ℕ → Me S View → Type 0
 Settles C s me found new = Agrees C me.0 × (new ≡ (settled_view me.0, me.1))

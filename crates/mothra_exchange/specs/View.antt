@@ -6,7 +6,7 @@ use Rattle.mothra_exchange.specs.declared.word.Word.{Word}
 use Rattle.mothra_exchange.specs.declared.view.Look.{Look}
 use Rattle.mothra_exchange.specs.declared.view.Closing.{Closing}
 use Rattle.mothra_exchange.specs.declared.view.View.{View}
-use Rattle.mothra_exchange.specs.Word.{opening_word, word_after_offer, word_after_take, word_after_close, greater_word}
+use Rattle.mothra_exchange.specs.Word.{field, opening_word, word_after_offer, word_after_take, word_after_close, greater_word}
 use Rattle.mothra_codes.specs.Ticket.{one_if, ticket}
 
 abbrev pub closing : Op → ℕ → Closing
@@ -39,7 +39,7 @@ look_at v i = slice_index_or v.looks i (first_look 0)
 
 -- all shares of an exchange
 abbrev pub whole_part : ℕ
-whole_part = 1048576
+whole_part = field
 
 -- the first pass of an exchange
 abbrev pub whole_view : List ℕ → View

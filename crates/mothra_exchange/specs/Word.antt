@@ -1,24 +1,32 @@
--- One operator's numbers n, o, h and c, and the word n + 2^20 o + 2^40 h + 2^60 c that packs them.
-use Rattle.std.specs.Prelude.{◌≡◌, ℕ, ◌+◌, ◌*◌, ◌<◌, ◌≤◌, Bool, true, false, ◌||◌, max}
+-- One operator's numbers n, o, h and c, and the word that packs them.
+use Rattle.std.specs.Prelude.{◌≡◌, ℕ, ◌+◌, ◌*◌, ◌^◌, ◌≤◌, Bool, true, false, ◌||◌, max}
 use Rattle.mothra_exchange.specs.declared.word.Word.{Word}
+
+-- the largest count of an operator: 2^20 - 1
+abbrev pub largest_count : ℕ
+largest_count = 1048575
+
+-- how many numbers a field of the word can hold
+abbrev pub field : ℕ
+field = largest_count + 1
 
 abbrev pub bit : Bool → ℕ
 bit true = 1
 bit false = 0
 
 abbrev pub pack : Word → ℕ
-pack w = w.count + 1048576 * w.offered + 1099511627776 * w.handed + 1152921504606846976 * bit w.closed
+pack w = w.count + field * w.offered + field ^ 2 * w.handed + field ^ 3 * bit w.closed
 
--- each number is below 2^20, so that none runs into the next
+-- each number is at most the largest count, so that none runs into the next
 abbrev pub Fits : Word → Type 0
-Fits w = (w.count < 1048576) × (w.offered < 1048576) × (w.handed < 1048576)
+Fits w = (w.count ≤ largest_count) × (w.offered ≤ largest_count) × (w.handed ≤ largest_count)
 
 -- the numbers that a legal log can have whose bound is C
 pub record InBounds (C : ℕ) (w : Word) : Type 0 where
   pub handed : w.handed ≤ w.offered
   pub offered : w.offered ≤ w.count
   pub waiting : w.offered ≤ w.handed + C
-  pub count : w.count < 1048576
+  pub count : w.count ≤ largest_count
 
 -- field by field, and where a is closed no more was offered
 pub record AtMost (a b : Word) : Type 0 where

@@ -8,7 +8,8 @@ ghost use Rattle.mothra_exchange.specs.Calls.{HasLoaded, OfferDid, TakeDid, Clos
 ghost use Rattle.mothra_exchange.specs.Table.{view_of, IsPassOf};
 
 use crate::answer::{Close, Offer, Take};
-use crate::rule::{ClosePlay, LoadPlay, OfferPlay, TakePlay};
+use crate::exchange::{AClose, ATake, AnOffer};
+use crate::rule::LoadPlay;
 use crate::table::{Pass, TableExchange};
 use crate::word::Word;
 use mothra_codes::{Op, Ticket};
@@ -74,12 +75,11 @@ impl<const C: u32> TableExchange<C> {
             offered: word.offered + 1,
             ..word
         };
-        let old = word.pack();
-        let found = self
-            .table
-            .shared
-            .compare_exchange::<OfferPlay>(&mut pass.seat, ticket.op.index(), old, next.pack());
-        if found == old { answer } else { Offer::Busy }
+        if self.exchange::<AnOffer>(pass, ticket.op, word, next) {
+            answer
+        } else {
+            Offer::Busy
+        }
     }
 
     // The second half of a take.
@@ -97,12 +97,11 @@ impl<const C: u32> TableExchange<C> {
             handed: word.handed + 1,
             ..word
         };
-        let old = word.pack();
-        let found = self
-            .table
-            .shared
-            .compare_exchange::<TakePlay>(&mut pass.seat, op.index(), old, next.pack());
-        if found == old { answer } else { Take::Busy }
+        if self.exchange::<ATake>(pass, op, word, next) {
+            answer
+        } else {
+            Take::Busy
+        }
     }
 
     // The second half of a close.
@@ -120,11 +119,10 @@ impl<const C: u32> TableExchange<C> {
             closed: true,
             ..word
         };
-        let old = word.pack();
-        let found = self
-            .table
-            .shared
-            .compare_exchange::<ClosePlay>(&mut pass.seat, op.index(), old, next.pack());
-        if found == old { answer } else { Close::Busy }
+        if self.exchange::<AClose>(pass, op, word, next) {
+            answer
+        } else {
+            Close::Busy
+        }
     }
 }

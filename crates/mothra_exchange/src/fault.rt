@@ -3,11 +3,9 @@
 ghost use Rattle.std.specs.Prelude.{IfNone, IfSome};
 ghost use Rattle.mothra_exchange.specs.Fault.{AllCountsFit, IsFaultOf};
 
+use crate::word::LARGEST_COUNT;
 use mothra_codes::Op;
 use thiserror::Error;
-
-/// The largest count that a packed word holds.
-pub(crate) const MAX_COUNT: u32 = 1_048_575;
 
 /// Why an exchange could not be made.
 #[derive(Clone, Copy, PartialEq, Eq, Debug, Drop, Error)]
@@ -16,7 +14,7 @@ pub enum ExchangeFault {
     #[error("X1: no memory for the exchange")]
     Memory,
     /// X2: this operator's count is above 1,048,575, and no earlier one's is.
-    #[error("X2: operator {} has more than 1048575 mutants", .0.code())]
+    #[error("X2: operator {} has more than {} mutants", .0.code(), LARGEST_COUNT)]
     CountTooLarge(Op),
 }
 
@@ -26,7 +24,7 @@ pub(crate) fn first_too_large(counts: &[u32; 22]) -> Option<Op>
     ensures first { IfSome result (λ op. IsFaultOf counts.now (ExchangeFault.CountTooLarge op)) }
 {
     for i in 0..22 {
-        if counts[i] > MAX_COUNT {
+        if counts[i] > LARGEST_COUNT {
             return Some(Op::ALL[i]);
         }
     }

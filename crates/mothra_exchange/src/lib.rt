@@ -8,6 +8,7 @@
 
 mod answer;
 mod calls;
+mod exchange;
 mod fault;
 mod gate;
 pub mod law;

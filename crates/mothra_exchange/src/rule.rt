@@ -23,30 +23,6 @@ impl<const C: u32> Play<(), View> for LoadPlay<C> {
     ghost then = { Looks C };
 }
 
-pub(crate) struct OfferPlay;
-
-impl Play<(), View> for OfferPlay {
-    ghost use Rattle.mothra_exchange.specs.Rule.{Offers};
-
-    ghost then = { Offers };
-}
-
-pub(crate) struct TakePlay;
-
-impl Play<(), View> for TakePlay {
-    ghost use Rattle.mothra_exchange.specs.Rule.{Takes};
-
-    ghost then = { Takes };
-}
-
-pub(crate) struct ClosePlay;
-
-impl Play<(), View> for ClosePlay {
-    ghost use Rattle.mothra_exchange.specs.Rule.{Closes};
-
-    ghost then = { Closes };
-}
-
 pub(crate) struct SettlePlay<const C: u32>;
 
 impl<const C: u32> Play<(), View> for SettlePlay<C> {

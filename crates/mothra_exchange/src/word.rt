@@ -18,13 +18,17 @@ pub struct Word {
     pub closed: bool,
 }
 
-const OFFERED: u64 = 1 << 20;
+/// The largest count of an operator.
+pub(crate) const LARGEST_COUNT: u32 = 1_048_575;
 
-const HANDED: u64 = 1 << 40;
+// How many numbers a field of the packed word can hold, and where the fields begin.
+const FIELD: u64 = LARGEST_COUNT as u64 + 1;
 
-const CLOSED: u64 = 1 << 60;
+const OFFERED: u64 = FIELD;
 
-const LIMIT: u64 = 1 << 20;
+const HANDED: u64 = FIELD * FIELD;
+
+const CLOSED: u64 = FIELD * FIELD * FIELD;
 
 impl Word {
     /// The word of an operator with this count in a new exchange.
@@ -55,9 +59,9 @@ impl Word {
         ensures { (w : Word) → Fits w → bits ≡ pack w → result ≡ w }
     {
         Word {
-            count: (bits % LIMIT) as u32,
-            offered: (bits / OFFERED % LIMIT) as u32,
-            handed: (bits / HANDED % LIMIT) as u32,
+            count: (bits % FIELD) as u32,
+            offered: (bits / OFFERED % FIELD) as u32,
+            handed: (bits / HANDED % FIELD) as u32,
             closed: bits / CLOSED == 1,
         }
     }

@@ -1,7 +1,7 @@
-use Rattle.std.proofs.Common.{◌≡◌, ◌*◌, ◌≤◌, map, take}
-use Rattle.mothra_exchange.specs.Word.{opening_word}
+use Rattle.std.proofs.Common.{◌≡◌, ◌+◌, ◌*◌, ◌≤◌, map, take}
+use Rattle.mothra_exchange.specs.Word.{largest_count, opening_word}
 use Rattle.mothra_exchange.specs.State.{room}
 use Rattle.mothra_exchange.proofs.state.room_of.Given as goal
 
 abbrev pub invariant-loop-i : goal.invariant-loop-i
-invariant-loop-i l = (l.total ≡ room (map opening_word (take l.i l.counts))) × (l.total ≤ l.i * 2097153)
+invariant-loop-i l = (l.total ≡ room (map opening_word (take l.i l.counts))) × (l.total ≤ l.i * (2 * largest_count + 1))
