@@ -18,7 +18,7 @@ use Rattle.f77_legal.specs.Kinds.{same_kind}
 use Rattle.f77_legal.specs.Names.{Symbol}
 use Rattle.mothra_ops.specs.InPlaces.{variable_of}
 use Rattle.mothra_ops.specs.Pools.{PoolFields, fields_of, reference_of, scalar}
-use Rattle.mothra_ops.specs.Replacements.{is_element, is_scalar, is_constant, is_comparable, comparable, drawn, kind_in, others}
+use Rattle.mothra_ops.specs.Replacements.{is_element, is_constant, is_comparable, comparable, drawn, kind_in, others}
 use Rattle.mothra_ops.specs.declared.pools.Pools.{Pools}
 
 pub other_scalar : (name own : Symbol) (items : Trees) → (not (bytes_eq name own) || is_element (Tree.Reference own items)) ≡ not (same_tree (scalar name) (Tree.Reference own items))
@@ -42,10 +42,6 @@ pub comparable_scalar : (pools : PoolFields) (name : Symbol) (items : Trees) →
     → [] ≡ comparable pools (Tree.Reference name items)
 comparable_scalar pools name Trees.None h = refl
 comparable_scalar pools name (Trees.Then t ts) h = absurd (true≢false h)
-
-pub scalar_or_element : (name : Symbol) (items : Trees) → not (is_element (Tree.Reference name items)) ≡ is_scalar (Tree.Reference name items)
-scalar_or_element name Trees.None = refl
-scalar_or_element name (Trees.Then t ts) = refl
 
 at_site : (t : Tree) → is_constant t ≡ true → (list : List Tree) → (if is_constant t then list else []) ≡ list
 at_site t h list = rw h refl

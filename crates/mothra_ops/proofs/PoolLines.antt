@@ -1,14 +1,12 @@
 -- The pools of a program: labels in their places, and what a table of names tells.
-use Rattle.std.proofs.Common.{◌≡◌, ◌<◌, ◌≤◌, ◌∷◌, [], ℕ, List, Bool, true, false, not, length, map, filter, get_or, nat_lt, refl, sym, ap, ◌∙◌, suc, zero, arith}
+use Rattle.std.proofs.Common.{◌≡◌, ◌<◌, ◌≤◌, ◌∷◌, [], ℕ, List, true, false, not, length, map, filter, get_or, nat_lt, refl, sym, ap, ◌∙◌, suc, zero, arith}
 use Rattle.std.specs.Prelude.{is_some}
-use Rattle.std.specs.Bool.{beq}
 use Rattle.std.specs.List.{insert, filter_map}
 use Rattle.std.specs.Map.{keys_of}
 use Rattle.std.proofs.lemmas.Bool.Decides.{nat_tests}
 use Rattle.std.proofs.lemmas.Map.Made.{keys_of-map_values}
 use Rattle.indexmap.specs.IndexMap.{keys}
 use Rattle.f77_tree.specs.Comparing.{same_tree}
-use Rattle.f77_nodes.specs.Node.{NodeOf}
 use Rattle.f77_program.specs.Program.{LineFields}
 use Rattle.f77_tree.specs.Tree.{Tree}
 use Rattle.f77_tree.specs.declared.tree.Kind.{Kind}
@@ -44,15 +42,6 @@ keys_are : (names : Names) (program : List LineFields) → IsNameTable names pro
 keys_are names program is =
     sym (keys_of-map_values fields_of names.facts.entries) ∙ (ap keys_of is ∙ keys_rows (facts_of (mentions program)) (symbols program))
 
--- a test against a constant
-is_false : (b : Bool) → beq b false ≡ not b
-is_false true = refl
-is_false false = refl
-
-is_true : (b : Bool) → beq b true ≡ b
-is_true true = refl
-is_true false = refl
-
 abbrev drawn_from : (Symbol → Kind) → (Symbol → List ℕ) → List Symbol → List Symbol → List Tree → List Tree → List ℕ → PoolFields
 drawn_from kinds bounds scalars arrays references constants ordered = record {
   kinds = kinds;
@@ -66,30 +55,25 @@ drawn_from kinds bounds scalars arrays references constants ordered = record {
 
 -- what the table of a program's names tells
 module _ (names : Names) (program : List LineFields) (is : IsNameTable names program) where
-  scalars_are : filter (λ name. beq (is_some (some_items (bounds_at names name))) false) (keys names.facts) ≡ filter (λ name. not (is_array program name)) (symbols program)
-  scalars_are =
-      (λ i. filter (λ name. is_false (is_some (some_items (bounds_at names name))) i) (keys names.facts))
-      ∙ (λ i. filter (λ name. not (is_some (some_items (same_bounds names program is i name)))) (keys_are names program is i))
+  pub scalars_are : filter (λ name. not (is_some (some_items (bounds_at names name)))) (keys names.facts) ≡ filter (λ name. not (is_array program name)) (symbols program)
+  scalars_are = λ i. filter (λ name. not (is_some (some_items (same_bounds names program is i name)))) (keys_are names program is i)
 
-  arrays_are : filter (λ name. beq (is_some (some_items (bounds_at names name))) true) (keys names.facts) ≡ filter (is_array program) (symbols program)
-  arrays_are =
-      (λ i. filter (λ name. is_true (is_some (some_items (bounds_at names name))) i) (keys names.facts))
-      ∙ (λ i. filter (λ name. is_some (some_items (same_bounds names program is i name))) (keys_are names program is i))
+  pub arrays_are : filter (λ name. is_some (some_items (bounds_at names name))) (keys names.facts) ≡ filter (is_array program) (symbols program)
+  arrays_are = λ i. filter (λ name. is_some (some_items (same_bounds names program is i name))) (keys_are names program is i)
 
-  pub pools_are : (nodes : List NodeOf) (own : List ℕ) (scalars arrays : List Symbol) (references constants : List Tree) (ordered : List ℕ)
-      → nodes ≡ executable_nodes program → own ≡ labels program
-      → scalars ≡ filter (λ name. beq (is_some (some_items (bounds_at names name))) false) (keys names.facts)
-      → arrays ≡ filter (λ name. beq (is_some (some_items (bounds_at names name))) true) (keys names.facts)
-      → references ≡ each_once same_tree (filter_map array_reference nodes)
-      → constants ≡ each_once same_tree (filter_map constant nodes)
-      → ordered ≡ ascending own
+  pub pools_are : (scalars arrays : List Symbol) (references constants : List Tree) (ordered : List ℕ)
+      → scalars ≡ filter (λ name. not (is_array program name)) (symbols program)
+      → arrays ≡ filter (is_array program) (symbols program)
+      → references ≡ each_once same_tree (filter_map array_reference (executable_nodes program))
+      → constants ≡ each_once same_tree (filter_map constant (executable_nodes program))
+      → ordered ≡ ascending (labels program)
       → drawn_from (kind_at names) (bounds_at names) scalars arrays references constants ordered ≡ pools_of program
-  pools_are nodes own scalars arrays references constants ordered visited labelled without with_bounds referred constant_is sorted = λ i. record {
+  pools_are scalars arrays references constants ordered without with_bounds referred constant_is sorted = λ i. record {
     kinds = same_kinds names program is i;
     bounds = same_bounds names program is i;
-    scalars = map scalar ((without ∙ scalars_are) i);
-    arrays = (with_bounds ∙ arrays_are) i;
-    references = (referred ∙ ap (λ ns. each_once same_tree (filter_map array_reference ns)) visited) i;
-    constants = (constant_is ∙ ap (λ ns. each_once same_tree (filter_map constant ns)) visited) i;
-    labels = (sorted ∙ ap ascending labelled) i;
+    scalars = map scalar (without i);
+    arrays = with_bounds i;
+    references = referred i;
+    constants = constant_is i;
+    labels = sorted i;
   }

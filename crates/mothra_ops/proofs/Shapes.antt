@@ -1,12 +1,11 @@
 -- A mutant takes the arguments of its program: what an edit changes says nothing of the dummy arguments.
-use Rattle.std.proofs.Common.{◌≡◌, ◌∙◌, ◌-◌, ◌≤◌, ◌&&◌, arith, ℕ, zero, suc, List, [], ◌∷◌, ◌++◌, Bool, true, false, true≢false, cond, not, Option, Some, None, refl, sym, ap, subst, map, filter}
+use Rattle.std.proofs.Common.{◌≡◌, ◌∙◌, ◌-◌, ℕ, zero, suc, List, [], ◌∷◌, ◌++◌, Bool, true, false, true≢false, cond, Option, Some, None, refl, sym, ap, subst, map, filter}
 use Rattle.std.specs.Prelude.{is_some, option_map, slice_get, if◌then◌else◌}
 use Rattle.std.specs.List.{filter_map}
 use Rattle.std.specs.Option.{IfSome, option_and_then}
 use Rattle.std.specs.Str.{bytes_eq}
 use Rattle.std.proofs.lemmas.List.Elements.{filter-append, filter_map-append}
 use Rattle.std.proofs.lemmas.Option.{none-some, same_Some, option_and_then_some}
-use Rattle.f77_tree.specs.Form.{form_of}
 use Rattle.f77_program.specs.Group.{group_of}
 use Rattle.f77_nodes.specs.Node.{NodeOf, names_of}
 use Rattle.f77_program.specs.Program.{LineFields}

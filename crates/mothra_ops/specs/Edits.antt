@@ -42,6 +42,11 @@ pub record IsMember (op : Op) (program : List LineFields) (edit : Edit) : Type 0
   pub makes : made (pools_of program) program edit ≡ Some statement
   pub mutant : IsMutant program edit.statement statement
 
+-- what an edit makes, where it is one of its operator's, and nothing where it is none
+abbrev pub IsMadeBy : List LineFields → Edit → Option Statement → Type 0
+IsMadeBy program edit None = ¬ (IsMember edit.op program edit)
+IsMadeBy program edit (Some statement) = (member : IsMember edit.op program edit) × (member.statement ≡ statement)
+
 -- the order of statement, position and rank
 abbrev pub Below : ℕ → ℕ → ℕ → Edit → Type 0
 Below statement position rank edit =

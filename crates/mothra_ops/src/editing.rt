@@ -1,12 +1,12 @@
 //! The list of an operator's edits, and the program that an edit makes.
 
-ghost use Rattle.std.specs.Prelude.{◌≡◌, ◌↔◌, ◌<◌, ◌≤◌, ◌+◌, ◌^◌, ◌⊎◌, map, OnOk, IfOk, IfErr, IsTrue};
+ghost use Rattle.std.specs.Prelude.{◌≡◌, ◌↔◌, ◌<◌, ◌≤◌, ◌+◌, ◌^◌, ◌⊎◌, map, option_map, OnOk, IfOk, IfErr, IsTrue};
 ghost use Rattle.f77_program.specs.Program.{line_of};
 ghost use Rattle.f77_program.specs.Patching.{patched};
 ghost use Rattle.f77_tree.specs.StatementView.{statement_of};
 ghost use Rattle.f77_sites.specs.New.{new_of};
 ghost use Rattle.f77_sites.specs.Sites.{changed};
-ghost use Rattle.mothra_ops.specs.Edits.{IsCountedList, IsList, IsMember, IsMutant, IsNoList};
+ghost use Rattle.mothra_ops.specs.Edits.{IsCountedList, IsList, IsMadeBy, IsMember, IsMutant, IsNoList};
 ghost use Rattle.mothra_ops.specs.Listing.{HasCome};
 ghost use Rattle.mothra_ops.specs.Original.{Has, IsOriginal, IsSiteOf, lines_of};
 ghost use Rattle.mothra_ops.specs.declared.fault.OpsFault.TheVariants.{Memory, NotASite};
@@ -14,12 +14,12 @@ ghost use Rattle.mothra_ops.specs.declared.fault.OpsFault.TheVariants.{Memory, N
 use crate::edit::Edit;
 use crate::fault::OpsFault;
 use crate::listing::Listing;
-use crate::original::Original;
+use crate::original::{Original, put};
 use crate::replacing::gives;
 use crate::site::Site;
 use f77_check::Checked;
 use f77_nodes::nodes;
-use f77_sites::{New, with_node};
+use f77_sites::New;
 use f77_tree::Stmt;
 use mothra_codes::Op;
 use std::alloc::Global;
@@ -32,7 +32,7 @@ impl Original<'_> {
             ↔ IsMutant (lines_of self.now) site.entry.number (changed (statement_of site.entry.stmt.now) site.entry.position (new_of new.now))) }
         ensures memory { IfErr result (λ fault. fault ≡ Memory) }
     {
-        let made = with_node(alloc, site.stmt, site.position, new.as_node())?;
+        let made = put(alloc, site.stmt, site.position, new)?;
         self.is_mutant(site.number, &made)
     }
 
@@ -149,6 +149,15 @@ pub fn edits(alloc: Global, checked: &Checked, op: Op, every: u32) -> Result<Vec
     Ok(listing.edits)
 }
 
+/// The statement that an edit makes, where it is one of its operator's.
+fn made_by(alloc: Global, checked: &Checked, edit: &Edit) -> Result<Option<Stmt>, OpsFault>
+    ensures made { IfOk result (λ made. IsMadeBy (map line_of checked.now.program) edit.now (option_map statement_of made)) }
+    ensures memory { IfErr result (λ fault. fault ≡ Memory) }
+{
+    let original = Original::of(alloc, checked)?;
+    original.mutant_made(alloc, edit)
+}
+
 /// The program that an edit of the whole list makes, checked. Every other edit is refused.
 pub fn apply(alloc: Global, checked: &Checked, edit: &Edit) -> Result<Checked, OpsFault>
     ensures program { let program = map line_of checked.now.program in IfOk result
@@ -156,13 +165,9 @@ pub fn apply(alloc: Global, checked: &Checked, edit: &Edit) -> Result<Checked, O
     ensures refused { IfErr result
         (λ fault. (fault ≡ Memory) ⊎ ((fault ≡ NotASite) × ¬ (IsMember edit.now.op (map line_of checked.now.program) edit.now))) }
 {
-    let original = Original::of(alloc, checked)?;
-    let Some(made) = original.statement_made(alloc, edit)? else {
+    let Some(made) = made_by(alloc, checked, edit)? else {
         return Err(OpsFault::NotASite);
     };
-    if !original.is_mutant(edit.statement, &made)? {
-        return Err(OpsFault::NotASite);
-    }
     match checked.patched(edit.statement, &made) {
         Ok(mutant) => Ok(mutant),
         Err(_) => Err(OpsFault::Memory),

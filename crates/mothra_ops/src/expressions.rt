@@ -225,6 +225,14 @@ pub(crate) fn absolute(alloc: Global, expr: &Expr) -> Result<Vec<Expr>, OpsFault
     Ok(list)
 }
 
+/// The operator between a copy of the expression and 1.
+fn with_one(alloc: Global, operator: Operator, expr: &Expr) -> Result<Expr, OpsFault>
+    ensures made { IfOk result (λ made. tree_of made ≡ Tree.Binary operator (tree_of expr.now) (Tree.Number 1)) }
+    ensures memory { IfErr result (λ fault. fault ≡ Memory) }
+{
+    between(alloc, operator, expr, &Expr::Number(1))
+}
+
 /// The negative, one more and one less; `.NOT.` before a LOGICAL expression.
 pub(crate) fn with_unary(alloc: Global, kind: Kind, expr: &Expr) -> Result<Vec<Expr>, OpsFault>
     ensures list { IfOk result (λ list. map tree_of list.items ≡ model.with_unary kind (tree_of expr.now)) }
@@ -234,8 +242,8 @@ pub(crate) fn with_unary(alloc: Global, kind: Kind, expr: &Expr) -> Result<Vec<E
     match kind {
         Kind::Integer => {
             list.push(negated(alloc, expr.clone()?)?)?;
-            list.push(between(alloc, Operator::Add, expr, &Expr::Number(1))?)?;
-            list.push(between(alloc, Operator::Subtract, expr, &Expr::Number(1))?)?;
+            list.push(with_one(alloc, Operator::Add, expr)?)?;
+            list.push(with_one(alloc, Operator::Subtract, expr)?)?;
         }
         Kind::Logical => list.push(Expr::Not(Box::new(alloc, expr.clone()?)?))?,
     }

@@ -7,7 +7,7 @@ ghost use Rattle.f77_legal.specs.Kinds.{same_kind};
 ghost use Rattle.f77_tree.specs.declared.tree.Kind.TheVariants.{Integer};
 ghost use Rattle.mothra_ops.specs.Pools.{fields_of};
 ghost use Rattle.mothra_ops.specs.Replacements as model;
-ghost use Rattle.mothra_ops.specs.Replacements.{drawn, others};
+ghost use Rattle.mothra_ops.specs.Replacements.{drawn};
 ghost use Rattle.mothra_ops.specs.declared.fault.OpsFault.TheVariants.{Memory};
 
 use crate::expressions::{
@@ -40,19 +40,48 @@ fn is_scalar(expr: &Expr) -> bool
     }
 }
 
-/// The other constants at a site, none elsewhere.
-fn drawn_constants(
+/// The constants in the place of an array element.
+fn constants_for_element(
     alloc: Global,
     pools: &Pools<'_>,
     expr: &Expr,
-    is_site: bool,
 ) -> Result<Vec<Expr>, OpsFault>
     ensures list { IfOk result (λ list. map tree_of list.items
-        ≡ (if is_site then others (fields_of pools.now).kinds (fields_of pools.now).constants (tree_of expr.now) else [])) }
+        ≡ drawn model.is_element (fields_of pools.now).kinds (fields_of pools.now).constants (tree_of expr.now)) }
     ensures memory { IfErr result (λ fault. fault ≡ Memory) }
 {
-    if is_site {
-        Ok(other_constants(alloc, pools, expr)?)
+    if is_array_element(expr) {
+        other_constants(alloc, pools, expr)
+    } else {
+        Ok(Vec::new(alloc))
+    }
+}
+
+/// The constants in the place of a scalar.
+fn constants_for_scalar(
+    alloc: Global,
+    pools: &Pools<'_>,
+    expr: &Expr,
+) -> Result<Vec<Expr>, OpsFault>
+    ensures list { IfOk result (λ list. map tree_of list.items
+        ≡ drawn model.is_scalar (fields_of pools.now).kinds (fields_of pools.now).constants (tree_of expr.now)) }
+    ensures memory { IfErr result (λ fault. fault ≡ Memory) }
+{
+    if is_scalar(expr) {
+        other_constants(alloc, pools, expr)
+    } else {
+        Ok(Vec::new(alloc))
+    }
+}
+
+/// The other constants in the place of a constant.
+fn constants_for(alloc: Global, pools: &Pools<'_>, expr: &Expr) -> Result<Vec<Expr>, OpsFault>
+    ensures list { IfOk result (λ list. map tree_of list.items
+        ≡ drawn model.is_constant (fields_of pools.now).kinds (fields_of pools.now).constants (tree_of expr.now)) }
+    ensures memory { IfErr result (λ fault. fault ≡ Memory) }
+{
+    if is_constant(expr) {
+        other_constants(alloc, pools, expr)
     } else {
         Ok(Vec::new(alloc))
     }
@@ -67,7 +96,7 @@ fn references_for(alloc: Global, pools: &Pools<'_>, expr: &Expr) -> Result<Vec<E
 {
     if is_constant(expr) {
         let list = references_of_kind(alloc, pools, kind_in(&pools.names, expr))?;
-        Ok(expressions(alloc, list)?)
+        expressions(alloc, list)
     } else {
         Ok(Vec::new(alloc))
     }
@@ -82,7 +111,7 @@ fn scalars_for(alloc: Global, pools: &Pools<'_>, expr: &Expr) -> Result<Vec<Expr
 {
     if is_constant(expr) {
         let list = scalars_of_kind(alloc, pools, kind_in(&pools.names, expr))?;
-        Ok(expressions(alloc, list)?)
+        expressions(alloc, list)
     } else {
         Ok(Vec::new(alloc))
     }
@@ -98,7 +127,7 @@ fn absolutes(alloc: Global, pools: &Pools<'_>, expr: &Expr) -> Result<Vec<Expr>,
         return Ok(Vec::new(alloc));
     }
     if Kind::Integer == kind_in(&pools.names, expr) {
-        Ok(absolute(alloc, expr)?)
+        absolute(alloc, expr)
     } else {
         Ok(Vec::new(alloc))
     }
@@ -113,7 +142,7 @@ fn unaries(alloc: Global, pools: &Pools<'_>, expr: &Expr) -> Result<Vec<Expr>, O
     if is_constant(expr) {
         Ok(Vec::new(alloc))
     } else {
-        Ok(with_unary(alloc, kind_in(&pools.names, expr), expr)?)
+        with_unary(alloc, kind_in(&pools.names, expr), expr)
     }
 }
 
@@ -129,20 +158,17 @@ pub(crate) fn in_expression(
     ensures memory { IfErr result (λ fault. fault ≡ Memory) }
 {
     match op {
-        Op::Aar | Op::Asr | Op::Cnr | Op::Sar | Op::Svr => {
-            Ok(in_place_of(alloc, op, pools, expr)?)
-        }
-        Op::Abs => Ok(absolutes(alloc, pools, expr)?),
-        Op::Acr => Ok(references_for(alloc, pools, expr)?),
-        Op::Aor => Ok(arithmetic(alloc, expr)?),
-        Op::Car => Ok(drawn_constants(alloc, pools, expr, is_array_element(expr))?),
-        Op::Crp => Ok(altered(alloc, expr)?),
-        Op::Csr => Ok(drawn_constants(alloc, pools, expr, is_scalar(expr))?),
-        Op::Lcr => Ok(logical(alloc, expr)?),
-        Op::Ror => Ok(relational(alloc, expr)?),
-        Op::Scr => Ok(scalars_for(alloc, pools, expr)?),
-        Op::Src => Ok(drawn_constants(alloc, pools, expr, is_constant(expr))?),
-        Op::Uoi => Ok(unaries(alloc, pools, expr)?),
-        Op::Der | Op::Dsa | Op::Glr | Op::Rsr | Op::San | Op::Sdl => Ok(Vec::new(alloc)),
+        Op::Abs => absolutes(alloc, pools, expr),
+        Op::Acr => references_for(alloc, pools, expr),
+        Op::Aor => arithmetic(alloc, expr),
+        Op::Car => constants_for_element(alloc, pools, expr),
+        Op::Crp => altered(alloc, expr),
+        Op::Csr => constants_for_scalar(alloc, pools, expr),
+        Op::Lcr => logical(alloc, expr),
+        Op::Ror => relational(alloc, expr),
+        Op::Scr => scalars_for(alloc, pools, expr),
+        Op::Src => constants_for(alloc, pools, expr),
+        Op::Uoi => unaries(alloc, pools, expr),
+        _ => in_place_of(alloc, op, pools, expr),
     }
 }

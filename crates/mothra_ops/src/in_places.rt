@@ -1,79 +1,59 @@
 //! What operators put in the place of a reference: in an expression, where an assignment assigns, or as a DO variable.
 
-ghost use Rattle.std.specs.Prelude.{◌≡◌, [], map, if◌then◌else◌, IfOk, IfErr};
+ghost use Rattle.std.specs.Prelude.{◌≡◌, true, false, map, IfOk, IfErr};
 ghost use Rattle.f77_nodes.specs.Node.{NodeOf};
 ghost use Rattle.f77_tree.specs.View.{trees, tree_of, place_of};
 ghost use Rattle.f77_sites.specs.New.{new_of};
 ghost use Rattle.mothra_ops.specs.Pools.{fields_of, reference_of};
 ghost use Rattle.mothra_ops.specs.Replacements as model;
-ghost use Rattle.mothra_ops.specs.Replacements.{in_place, others};
+ghost use Rattle.mothra_ops.specs.Replacements.{in_place};
 ghost use Rattle.mothra_ops.specs.declared.fault.OpsFault.TheVariants.{Memory};
 
 use crate::fault::OpsFault;
 use crate::news::{expressions, in_targets, in_variables};
-use crate::places::{comparable, is_element, other_references, other_scalars, scalar};
+use crate::places::{is_element, other_references, other_scalars, scalar, with_subscripts};
 use crate::pools::Pools;
 use f77_sites::New;
 use f77_tree::{Expr, Name, Ref};
 use mothra_codes::Op;
 use std::alloc::Global;
 
-/// The other array references at a site, none elsewhere.
-fn drawn_references(
-    alloc: Global,
-    pools: &Pools<'_>,
-    own: &Ref,
-    is_site: bool,
-) -> Result<Vec<Ref>, OpsFault>
-    ensures list { IfOk result (λ list. map reference_of list.items
-        ≡ (if is_site then others (fields_of pools.now).kinds (fields_of pools.now).references (reference_of own.now) else [])) }
-    ensures memory { IfErr result (λ fault. fault ≡ Memory) }
-{
-    if is_site {
-        Ok(other_references(alloc, pools, own)?)
-    } else {
-        Ok(Vec::new(alloc))
-    }
-}
-
-/// The other scalars at a site, none elsewhere.
-fn drawn_scalars(
-    alloc: Global,
-    pools: &Pools<'_>,
-    own: &Ref,
-    is_site: bool,
-) -> Result<Vec<Ref>, OpsFault>
-    ensures list { IfOk result (λ list. map reference_of list.items
-        ≡ (if is_site then others (fields_of pools.now).kinds (fields_of pools.now).scalars (reference_of own.now) else [])) }
-    ensures memory { IfErr result (λ fault. fault ≡ Memory) }
-{
-    if is_site {
-        Ok(other_scalars(alloc, pools, own)?)
-    } else {
-        Ok(Vec::new(alloc))
-    }
-}
-
-/// Whether the reference is a scalar.
-#[tactic(auto, using(crate::proofs::Elements::scalar_or_element))]
-fn is_scalar(reference: &Ref) -> bool
-    ensures { result ≡ model.is_scalar (reference_of reference.now) }
-{
-    !is_element(reference)
-}
-
-/// What an operator that puts references in the place of others puts in the place of this one.
-fn in_place(alloc: Global, op: Op, pools: &Pools<'_>, own: &Ref) -> Result<Vec<Ref>, OpsFault>
+/// What an operator that puts references in the place of others puts in the place of an array element.
+fn in_element(alloc: Global, op: Op, pools: &Pools<'_>, own: &Ref) -> Result<Vec<Ref>, OpsFault>
+    requires { model.is_element (reference_of own.now) ≡ true }
     ensures list { IfOk result (λ list. map reference_of list.items ≡ in_place op (fields_of pools.now) (reference_of own.now)) }
     ensures memory { IfErr result (λ fault. fault ≡ Memory) }
 {
     match op {
-        Op::Aar => Ok(drawn_references(alloc, pools, own, is_element(own))?),
-        Op::Asr => Ok(drawn_references(alloc, pools, own, is_scalar(own))?),
-        Op::Cnr => Ok(comparable(alloc, pools, own)?),
-        Op::Sar => Ok(drawn_scalars(alloc, pools, own, is_element(own))?),
-        Op::Svr => Ok(drawn_scalars(alloc, pools, own, is_scalar(own))?),
+        Op::Aar => other_references(alloc, pools, own),
+        Op::Cnr => with_subscripts(alloc, pools, own),
+        Op::Sar => other_scalars(alloc, pools, own),
         _ => Ok(Vec::new(alloc)),
+    }
+}
+
+/// The same in the place of a scalar.
+fn in_scalar(alloc: Global, op: Op, pools: &Pools<'_>, own: &Ref) -> Result<Vec<Ref>, OpsFault>
+    requires { model.is_element (reference_of own.now) ≡ false }
+    ensures list { IfOk result (λ list. map reference_of list.items ≡ in_place op (fields_of pools.now) (reference_of own.now)) }
+    ensures memory { IfErr result (λ fault. fault ≡ Memory) }
+{
+    match op {
+        Op::Asr => other_references(alloc, pools, own),
+        Op::Svr => other_scalars(alloc, pools, own),
+        _ => Ok(Vec::new(alloc)),
+    }
+}
+
+/// The same in the place of any reference.
+fn in_place(alloc: Global, op: Op, pools: &Pools<'_>, own: &Ref) -> Result<Vec<Ref>, OpsFault>
+    ensures list { IfOk result (λ list. map reference_of list.items ≡ in_place op (fields_of pools.now) (reference_of own.now)) }
+    ensures memory { IfErr result (λ fault. fault ≡ Memory) }
+{
+    if is_element(own) {
+        in_element(alloc, op, pools, own)
+    } else {
+        in_scalar(alloc, op, pools, own)
     }
 }
 
@@ -89,7 +69,7 @@ pub(crate) fn in_place_of(
     ensures memory { IfErr result (λ fault. fault ≡ Memory) }
 {
     match expr {
-        Expr::Reference(own) => Ok(expressions(alloc, in_place(alloc, op, pools, own)?)?),
+        Expr::Reference(own) => expressions(alloc, in_place(alloc, op, pools, own)?),
         _ => Ok(Vec::new(alloc)),
     }
 }
@@ -107,7 +87,7 @@ pub(crate) fn in_target(
     ensures memory { IfErr result (λ fault. fault ≡ Memory) }
 {
     let list = in_place(alloc, op, pools, own)?;
-    Ok(in_targets(alloc, list)?)
+    in_targets(alloc, list)
 }
 
 /// What the operator puts in the place of a DO variable.
@@ -124,7 +104,7 @@ pub(crate) fn in_variable(
     match op {
         Op::Svr => {
             let list = other_scalars(alloc, pools, &scalar(alloc, name))?;
-            Ok(in_variables(alloc, list)?)
+            in_variables(alloc, list)
         }
         _ => Ok(Vec::new(alloc)),
     }

@@ -151,10 +151,11 @@ impl<'a> Mutants<'a> {
         ensures text { OnOk result (string_bytes text.new ≡ string_bytes text.old ++ mutant_text self.now op number) }
         ensures memory { IfErr result (λ fault. fault ≡ Memory) }
     {
-        match self.mutant(*text.allocator(), op, number)? {
-            Some(mutant) => self.push_mutant(text, op, number, &mutant),
-            None => Ok(()),
-        }
+        let alloc = *text.allocator();
+        let Some(mutant) = self.mutant(alloc, op, number)? else {
+            return Ok(());
+        };
+        self.push_mutant(text, op, number, &mutant)
     }
 }
 

@@ -1,8 +1,10 @@
 //! The program that mutants are made of.
 
-ghost use Rattle.std.specs.Prelude.{◌≡◌, ◌↔◌, map, option_map, IfOk, IfErr, IsTrue};
+ghost use Rattle.std.specs.Prelude.{◌≡◌, ◌↔◌, ◌<◌, ◌+◌, ◌^◌, map, option_map, IfOk, IfErr, IsTrue};
 ghost use Rattle.f77_tree.specs.StatementView.{statement_of};
-ghost use Rattle.mothra_ops.specs.Edits.{IsMutant, made};
+ghost use Rattle.f77_sites.specs.New.{new_of};
+ghost use Rattle.f77_sites.specs.Sites.{changed};
+ghost use Rattle.mothra_ops.specs.Edits.{IsMadeBy, IsMutant, made};
 ghost use Rattle.mothra_ops.specs.Original.{IsOriginal, lines_of};
 ghost use Rattle.mothra_ops.specs.Pools.{fields_of};
 ghost use Rattle.mothra_ops.specs.declared.fault.OpsFault.TheVariants.{Memory};
@@ -13,9 +15,18 @@ use crate::pools::Pools;
 use crate::replacing::gives;
 use f77_check::{CheckFault, Checked};
 use f77_nodes::nodes;
-use f77_sites::with_node;
+use f77_sites::{New, with_node};
 use f77_tree::Stmt;
 use std::alloc::Global;
+
+/// The statement with the new node at this position.
+pub(crate) fn put(alloc: Global, stmt: &Stmt, position: usize, new: &New) -> Result<Stmt, OpsFault>
+    requires { position + 1 < 2 ^ 64 }
+    ensures made { IfOk result (λ made. statement_of made ≡ changed (statement_of stmt.now) position (new_of new.now)) }
+    ensures memory { IfErr result (λ fault. fault ≡ Memory) }
+{
+    Ok(with_node(alloc, stmt, position, new.as_node())?)
+}
 
 /// A checked program, with what the operators draw from it.
 #[derive(Drop)]
@@ -72,7 +83,22 @@ impl<'a> Original<'a> {
         if edit.rank == 0 || edit.rank > news.len() {
             return Ok(None);
         }
-        let new = news[edit.rank - 1].as_node();
-        Ok(Some(with_node(alloc, &line.stmt, edit.position, new)?))
+        let new = &news[edit.rank - 1];
+        Ok(Some(put(alloc, &line.stmt, edit.position, new)?))
+    }
+
+    /// The statement that the edit makes, where that makes a mutant.
+    pub(crate) fn mutant_made(&self, alloc: Global, edit: &Edit) -> Result<Option<Stmt>, OpsFault>
+        ensures made { IfOk result (λ made. IsOriginal self.now → IsMadeBy (lines_of self.now) edit.now (option_map statement_of made)) }
+        ensures memory { IfErr result (λ fault. fault ≡ Memory) }
+    {
+        let Some(made) = self.statement_made(alloc, edit)? else {
+            return Ok(None);
+        };
+        if self.is_mutant(edit.statement, &made)? {
+            Ok(Some(made))
+        } else {
+            Ok(None)
+        }
     }
 }

@@ -37,6 +37,12 @@ pub(crate) fn scalar(alloc: Global, name: &Name) -> Ref
     }
 }
 
+fn is_reference_of_kind(pools: &Pools<'_>, reference: &Ref, kind: Kind) -> bool
+    ensures { result ≡ same_kind (model.kind_in (fields_of pools.now).kinds (reference_of reference.now)) kind }
+{
+    pools.names.kind(&reference.name) == kind
+}
+
 /// The array references of this kind.
 #[tactic(auto, using(crate::proofs::Filters::passed))]
 pub(crate) fn references_of_kind(
@@ -50,7 +56,7 @@ pub(crate) fn references_of_kind(
 {
     let mut list = Vec::new(alloc);
     for reference in &pools.references {
-        if pools.names.kind(&reference.name) == kind {
+        if is_reference_of_kind(pools, reference, kind) {
             list.push((*reference).clone()?)?;
         }
     }
@@ -193,7 +199,11 @@ fn renamed(name: &Name, own: &Ref) -> Result<Ref, OpsFault>
 }
 
 /// The reference to each array that may stand in the place of this one, with the same subscripts.
-fn with_subscripts(alloc: Global, pools: &Pools<'_>, own: &Ref) -> Result<Vec<Ref>, OpsFault>
+pub(crate) fn with_subscripts(
+    alloc: Global,
+    pools: &Pools<'_>,
+    own: &Ref,
+) -> Result<Vec<Ref>, OpsFault>
     ensures list { IfOk result (λ list. map reference_of list.items
         ≡ map (λ other. Tree.Reference other (trees (place_of own.now).1))
         (filter (model.is_comparable (fields_of pools.now) (place_of own.now).0) (fields_of pools.now).arrays)) }
@@ -206,17 +216,4 @@ fn with_subscripts(alloc: Global, pools: &Pools<'_>, own: &Ref) -> Result<Vec<Re
         }
     }
     Ok(list)
-}
-
-/// The reference to each other array that may stand in the place of this one; none where it is a scalar.
-#[tactic(auto, using(crate::proofs::Elements::comparable_element, crate::proofs::Elements::comparable_scalar))]
-pub(crate) fn comparable(alloc: Global, pools: &Pools<'_>, own: &Ref) -> Result<Vec<Ref>, OpsFault>
-    ensures list { IfOk result (λ list. map reference_of list.items ≡ model.comparable (fields_of pools.now) (reference_of own.now)) }
-    ensures memory { IfErr result (λ fault. fault ≡ Memory) }
-{
-    if is_element(own) {
-        with_subscripts(alloc, pools, own)
-    } else {
-        Ok(Vec::new(alloc))
-    }
 }

@@ -49,6 +49,22 @@ impl Model for Plan {
     ghost invariant = { λ plan. IsPlan (fields_of plan.checked plan.every plan.lists.items) };
 }
 
+/// The lists of these operators in their order, each thinned.
+fn lists(alloc: Global, checked: &Checked, ops: &[Op], every: u32) -> Result<Vec<Listing>, OpsFault>
+    requires { 1 ≤ every }
+    ensures asked { IfOk result (λ lists. (op : Op) → IsTrue (asked (fields_of checked.now every lists.items) op) ↔ Contains ops.now op) }
+    ensures lists { IfOk result (λ lists. IsPlan (fields_of checked.now every lists.items)) }
+    ensures refused { IfErr result (λ fault. IsNoPlan ops.now (map line_of checked.now.program) every fault) }
+{
+    let mut lists = Vec::new(alloc);
+    for op in Op::ALL {
+        if ops.contains(&op) {
+            lists.push(listing(alloc, checked, op, every)?)?;
+        }
+    }
+    Ok(lists)
+}
+
 impl Plan {
     /// The plan of a program for these operators; their order and repeats do not matter.
     ///
@@ -61,12 +77,7 @@ impl Plan {
         ensures lists { IfOk result (λ plan. IsPlan plan) }
         ensures refused { IfErr result (λ fault. IsNoPlan ops.now (map line_of checked.program) every fault) }
     {
-        let mut lists = Vec::new(alloc);
-        for op in Op::ALL {
-            if ops.contains(&op) {
-                lists.push(listing(alloc, &checked, op, every)?)?;
-            }
-        }
+        let lists = lists(alloc, &checked, ops, every)?;
         Ok(Plan {
             checked,
             every,

@@ -1,7 +1,6 @@
 //! What the operators draw from.
 
-ghost use Rattle.std.specs.Prelude.{◌≡◌, ◌≤◌, is_some, map, filter, length, IfOk, IfErr, OnOk, option_map};
-ghost use Rattle.std.specs.Bool.{beq};
+ghost use Rattle.std.specs.Prelude.{◌≡◌, ◌≤◌, not, is_some, map, filter, length, IfOk, IfErr, OnOk, option_map};
 ghost use Rattle.std.specs.List.{filter_map, insert};
 ghost use Rattle.indexmap.specs.IndexMap.{keys};
 ghost use Rattle.f77_tree.specs.Comparing.{same_tree};
@@ -9,8 +8,10 @@ ghost use Rattle.f77_nodes.specs.Node.{node_of};
 ghost use Rattle.f77_program.specs.Program.{line_of};
 ghost use Rattle.f77_tree.specs.StatementView.{statement_of};
 ghost use Rattle.f77_tree.specs.View.{tree_of};
-ghost use Rattle.f77_legal.specs.Names.{some_items};
-ghost use Rattle.f77_legal.specs.NameTable.{bounds_at};
+ghost use Rattle.f77_legal.specs.Labels as labelled;
+ghost use Rattle.f77_legal.specs.Legal.{is_array};
+ghost use Rattle.f77_legal.specs.Names.{some_items, symbols};
+ghost use Rattle.f77_legal.specs.NameTable.{IsNameTable, bounds_at};
 ghost use Rattle.mothra_ops.specs.Pools as model;
 ghost use Rattle.mothra_ops.specs.Pools.{each_once, placed, ascending, array_reference, constant, pools_of, fields_of, reference_of};
 ghost use Rattle.mothra_ops.specs.declared.fault.OpsFault.TheVariants.{Memory};
@@ -65,26 +66,31 @@ fn executable_nodes<'a>(alloc: Global, lines: &'a [Shared<Line>]) -> Result<Vec<
     Ok(list)
 }
 
-/// Whether the name has bounds, where these are wanted, or has none.
-fn is_wanted(names: &Names, name: &Name, wanted: bool) -> bool
-    ensures { result ≡ beq (is_some (some_items (bounds_at names.now name.now))) wanted }
+/// Whether the name is that of an array.
+fn has_bounds(names: &Names, name: &Name) -> bool
+    ensures { result ≡ is_some (some_items (bounds_at names.now name.now)) }
 {
-    names.bounds(name).is_empty() != wanted
+    !names.bounds(name).is_empty()
 }
 
-/// The names of the table that have bounds, or those that have none, in order.
-fn with_bounds(alloc: Global, names: &Names, wanted: bool) -> Result<Vec<Name>, OpsFault>
-    ensures names { IfOk result (λ list. list.items
-        ≡ filter (λ name. beq (is_some (some_items (bounds_at names.now name))) wanted) (keys names.now.facts)) }
+/// The names of a table in its order: those without bounds, and those with bounds.
+fn scalars_and_arrays(alloc: Global, names: &Names) -> Result<(Vec<Name>, Vec<Name>), OpsFault>
+    ensures scalars { IfOk result (λ lists. lists.0.items
+        ≡ filter (λ name. not (is_some (some_items (bounds_at names.now name)))) (keys names.now.facts)) }
+    ensures arrays { IfOk result (λ lists. lists.1.items
+        ≡ filter (λ name. is_some (some_items (bounds_at names.now name))) (keys names.now.facts)) }
     ensures memory { IfErr result (λ fault. fault ≡ Memory) }
 {
-    let mut list = Vec::new(alloc);
+    let mut scalars = Vec::new(alloc);
+    let mut arrays = Vec::new(alloc);
     for name in names.facts.keys() {
-        if is_wanted(names, name, wanted) {
-            list.push(*name)?;
+        if has_bounds(names, name) {
+            arrays.push(*name)?;
+        } else {
+            scalars.push(*name)?;
         }
     }
-    Ok(list)
+    Ok((scalars, arrays))
 }
 
 /// The array references among the nodes, each once, where it comes first.
@@ -179,6 +185,48 @@ fn ascending(alloc: Global, labels: &[u32]) -> Result<Vec<u32>, OpsFault>
     Ok(list)
 }
 
+/// The table of the names of these lines, and its names without bounds and those with bounds, each in its order.
+fn names(alloc: Global, lines: &[Shared<Line>]) -> Result<(Names, Vec<Name>, Vec<Name>), OpsFault>
+    ensures table { IfOk result (λ names. IsNameTable names.0 (map line_of lines.now)) }
+    ensures scalars { IfOk result (λ names. names.1.items ≡ filter (λ name. not (is_array (map line_of lines.now) name)) (symbols (map line_of lines.now))) }
+    ensures arrays { IfOk result (λ names. names.2.items ≡ filter (is_array (map line_of lines.now)) (symbols (map line_of lines.now))) }
+    ensures memory { IfErr result (λ fault. fault ≡ Memory) }
+{
+    let Ok(names) = Names::of(alloc, lines) else {
+        return Err(OpsFault::Memory);
+    };
+    let (scalars, arrays) = scalars_and_arrays(alloc, &names)?;
+    Ok((names, scalars, arrays))
+}
+
+/// The array references and the constants of the executable statements, each once, where it comes first.
+fn references_and_constants<'a>(
+    alloc: Global,
+    lines: &'a [Shared<Line>],
+) -> Result<(Vec<&'a Ref>, Vec<&'a Expr>), OpsFault>
+    ensures references { IfOk result (λ lists. map (λ reference. reference_of reference.now) lists.0.items
+        ≡ each_once same_tree (filter_map array_reference (model.executable_nodes (map line_of lines.now)))) }
+    ensures constants { IfOk result (λ lists. map (λ expr. tree_of expr.now) lists.1.items
+        ≡ each_once same_tree (filter_map constant (model.executable_nodes (map line_of lines.now)))) }
+    ensures memory { IfErr result (λ fault. fault ≡ Memory) }
+{
+    let nodes = executable_nodes(alloc, lines)?;
+    let references = references(alloc, &nodes)?;
+    let constants = constants(alloc, &nodes)?;
+    Ok((references, constants))
+}
+
+/// The labels that stand on statements, ascending.
+fn labels(alloc: Global, checked: &Checked) -> Result<Vec<u32>, OpsFault>
+    ensures labels { IfOk result (λ list. list.items ≡ ascending (labelled.labels (map line_of checked.now.program))) }
+    ensures memory { IfErr result (λ fault. fault ≡ Memory) }
+{
+    let Ok(labels) = checked.labels() else {
+        return Err(OpsFault::Memory);
+    };
+    ascending(alloc, &labels)
+}
+
 impl<'a> Pools<'a> {
     /// What the operators draw from in a checked program.
     pub(crate) fn of(alloc: Global, checked: &'a Checked) -> Result<Pools<'a>, OpsFault>
@@ -186,20 +234,16 @@ impl<'a> Pools<'a> {
         ensures memory { IfErr result (λ fault. fault ≡ Memory) }
     {
         let lines = checked.program().lines();
-        let Ok(names) = Names::of(alloc, lines) else {
-            return Err(OpsFault::Memory);
-        };
-        let nodes = executable_nodes(alloc, lines)?;
-        let Ok(labels) = checked.labels() else {
-            return Err(OpsFault::Memory);
-        };
+        let labels = labels(alloc, checked)?;
+        let (references, constants) = references_and_constants(alloc, lines)?;
+        let (names, scalars, arrays) = names(alloc, lines)?;
         Ok(Pools {
-            scalars: with_bounds(alloc, &names, false)?,
-            arrays: with_bounds(alloc, &names, true)?,
             names,
-            references: references(alloc, &nodes)?,
-            constants: constants(alloc, &nodes)?,
-            labels: ascending(alloc, &labels)?,
+            scalars,
+            arrays,
+            references,
+            constants,
+            labels,
         })
     }
 }

@@ -1,6 +1,6 @@
 //! What each operator puts in the place of a node.
 
-ghost use Rattle.std.specs.Prelude.{◌≡◌, ◌&&◌, ◌∷◌, [], not, map, if◌then◌else◌, IfOk, IfErr};
+ghost use Rattle.std.specs.Prelude.{◌≡◌, ◌∷◌, [], not, map, if◌then◌else◌, IfOk, IfErr};
 ghost use Rattle.f77_tree.specs.Comparing.{same_statement};
 ghost use Rattle.f77_nodes.specs.Node.{NodeOf, node_of};
 ghost use Rattle.f77_tree.specs.StatementView.{statement_of};
@@ -47,17 +47,17 @@ fn stands_in(op: Op, stmt: &Stmt) -> bool
     }
 }
 
-/// The new statement at a site where another one stands.
-fn exchanged(alloc: Global, is_site: bool, new: Stmt, stmt: &Stmt) -> Result<Vec<New>, OpsFault>
+/// The new statement, where another one stands.
+fn exchanged(alloc: Global, new: Stmt, stmt: &Stmt) -> Result<Vec<New>, OpsFault>
     ensures list { IfOk result (λ list. map new_of list.items
-        ≡ (if is_site && not (same_statement (statement_of new) (statement_of stmt.now)) then NodeOf.Itself (statement_of new) ∷ [] else [])) }
+        ≡ (if not (same_statement (statement_of new) (statement_of stmt.now)) then NodeOf.Itself (statement_of new) ∷ [] else [])) }
     ensures memory { IfErr result (λ fault. fault ≡ Memory) }
 {
-    let mut list = Vec::new(alloc);
-    if is_site && new != *stmt {
-        list.push(New::Statement(new))?;
+    if new == *stmt {
+        Ok(Vec::new(alloc))
+    } else {
+        Ok(vec![in alloc; New::Statement(new)]?)
     }
-    Ok(list)
 }
 
 /// What the operator puts in the place of a statement.
@@ -68,9 +68,9 @@ fn in_statement(alloc: Global, op: Op, stmt: &Stmt) -> Result<Vec<New>, OpsFault
 {
     let form = stmt.form();
     match op {
-        Op::Rsr => Ok(exchanged(alloc, acts_or_continues(form), Stmt::Return, stmt)?),
-        Op::San => Ok(exchanged(alloc, acts_or_continues(form), Stmt::Trap, stmt)?),
-        Op::Sdl => Ok(exchanged(alloc, acts(form), Stmt::Continue, stmt)?),
+        Op::Rsr if acts_or_continues(form) => exchanged(alloc, Stmt::Return, stmt),
+        Op::San if acts_or_continues(form) => exchanged(alloc, Stmt::Trap, stmt),
+        Op::Sdl if acts(form) => exchanged(alloc, Stmt::Continue, stmt),
         _ => Ok(Vec::new(alloc)),
     }
 }
@@ -83,7 +83,7 @@ fn in_label(alloc: Global, op: Op, pools: &Pools<'_>, label: u32) -> Result<Vec<
     match op {
         Op::Der | Op::Glr => {
             let list = other_labels(alloc, &pools.labels, label)?;
-            Ok(in_labels(alloc, list)?)
+            in_labels(alloc, list)
         }
         _ => Ok(Vec::new(alloc)),
     }
@@ -97,7 +97,7 @@ fn in_value(alloc: Global, op: Op, value: &Value) -> Result<Vec<New>, OpsFault>
     match op {
         Op::Dsa => {
             let list = next_constants(alloc, value.constant)?;
-            Ok(in_values(alloc, value.times, list)?)
+            in_values(alloc, value.times, list)
         }
         _ => Ok(Vec::new(alloc)),
     }
@@ -110,16 +110,16 @@ fn at_node(alloc: Global, op: Op, pools: &Pools<'_>, node: Node<'_>) -> Result<V
     ensures memory { IfErr result (λ fault. fault ≡ Memory) }
 {
     match node {
-        Node::Statement(stmt) => Ok(in_statement(alloc, op, stmt)?),
-        Node::Target(own) => Ok(in_target(alloc, op, pools, own)?),
+        Node::Statement(stmt) => in_statement(alloc, op, stmt),
+        Node::Target(own) => in_target(alloc, op, pools, own),
         Node::Expression(expr) => {
             let list = in_expression(alloc, op, pools, expr)?;
-            Ok(in_parts(alloc, list)?)
+            in_parts(alloc, list)
         }
-        Node::Name(name) => Ok(in_variable(alloc, op, pools, name)?),
+        Node::Name(name) => in_variable(alloc, op, pools, name),
         Node::Declared(_) => Ok(Vec::new(alloc)),
-        Node::Label(label) => Ok(in_label(alloc, op, pools, label)?),
-        Node::Value(value) => Ok(in_value(alloc, op, value)?),
+        Node::Label(label) => in_label(alloc, op, pools, label),
+        Node::Value(value) => in_value(alloc, op, value),
     }
 }
 
@@ -136,7 +136,7 @@ pub(crate) fn gives(
     ensures memory { IfErr result (λ fault. fault ≡ Memory) }
 {
     if stands_in(op, stmt) {
-        Ok(at_node(alloc, op, pools, node)?)
+        at_node(alloc, op, pools, node)
     } else {
         Ok(Vec::new(alloc))
     }

@@ -9,7 +9,6 @@ use Rattle.f77_tree.specs.StatementView.{statement_of}
 use Rattle.f77_nodes.specs.declared.node.Node.{Node}
 use Rattle.f77_program.specs.declared.program.Line.{Line}
 use Rattle.f77_sites.specs.New.{new_of}
-use Rattle.f77_sites.specs.Sites.{changed}
 use Rattle.mothra_ops.specs.Edits.{numbered}
 use Rattle.mothra_ops.specs.Pools.{fields_of}
 use Rattle.mothra_ops.proofs.Made.{past, item_numbered, no_node, no_new, the_new}
@@ -61,7 +60,7 @@ returns-clause-made c =
     ∙ ap (option_map node_of) (slice_get_read c.deref.result.now _ edit.position node refl c.in-Some-get.ensures.lookup.3.0 c.in-Some-get.ensures.lookup.1) in
     let low : 1 ≤ edit.rank = omega (arith, c.if-edit-eq0.false) in
     let high : edit.rank ≤ length c.in_ok-news.news.items = omega (arith, c.len.ensures, c.if-edit-len.false) in
-    let new = c.index.result.now in
-    ap Some (c.in_ok-with_node.ensures ∙ ap (changed (statement_of line.stmt) edit.position) c.as_node-new.ensures)
+    let new = c.index-new.result.now in
+    ap Some c.in_ok-put.ensures.made
     ∙ sym (the_new (fields_of c.args.self.now.pools) lines edit line at (node_of node) node_at (new_of new)
-    (ap (λ (ns : List NodeOf). numbered ns edit.rank) (sym c.in_ok-news.ensures.list) ∙ item_numbered c.in_ok-news.news.items edit.rank new low high c.index.ensures))
+    (ap (λ (ns : List NodeOf). numbered ns edit.rank) (sym c.in_ok-news.ensures.list) ∙ item_numbered c.in_ok-news.news.items edit.rank new low high c.index-new.ensures))

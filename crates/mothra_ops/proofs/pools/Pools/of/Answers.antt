@@ -1,22 +1,21 @@
-use Rattle.std.proofs.Common.{◌≡◌, map, subst, ap, ◌∙◌}
+use Rattle.std.proofs.Common.{◌≡◌, map, subst, ap, filter, not, ◌∙◌}
 use Rattle.std.specs.List.{filter_map}
 use Rattle.f77_tree.specs.Comparing.{same_tree}
-use Rattle.f77_nodes.specs.Node.{node_of}
 use Rattle.f77_program.specs.Program.{line_of}
+use Rattle.f77_legal.specs.Legal.{is_array}
+use Rattle.f77_legal.specs.Names.{symbols}
 use Rattle.f77_legal.specs.NameTable.{IsNameTable}
-use Rattle.mothra_ops.specs.Pools.{each_once, array_reference, constant, ascending, executable_nodes}
+use Rattle.mothra_ops.specs.Pools.{each_once, array_reference, constant, executable_nodes}
 use Rattle.mothra_ops.proofs.PoolLines.{pools_are}
 use Rattle.mothra_ops.proofs.pools.Pools.of.Goals as goal
 
 pub returns-clause-pools : goal.returns-clause-pools
 returns-clause-pools c =
     let own : c.lines-lines.result.now ≡ c.args.checked.now.program = c.lines-lines.ensures.lines ∙ c.program.ensures.program in
-    pools_are c.in-Ok.names (map line_of c.args.checked.now.program) (subst (λ lines. IsNameTable c.in-Ok.names (map line_of lines)) own c.in-Ok.ensures.table)
-    (map node_of c.in_ok-nodes.nodes.items) c.in-Ok-labels.labels.items _ _ _ _ _
-    (c.in_ok-nodes.ensures.nodes ∙ ap (λ lines. executable_nodes (map line_of lines)) own)
-    c.in-Ok-labels.ensures.labels
-    c.in_ok-with_bounds.ensures.names
-    c.in_ok-with_bounds-2.ensures.names
-    (c.in_ok-references.ensures.references ∙ ap (λ nodes. each_once same_tree (filter_map array_reference (map node_of nodes))) c.deref.ensures.value)
-    (c.in_ok-constants.ensures.constants ∙ ap (λ nodes. each_once same_tree (filter_map constant (map node_of nodes))) c.deref-2.ensures.value)
-    (c.in_ok-ascending.ensures.labels ∙ ap ascending c.deref-3.ensures.value)
+    let table = subst (λ lines. IsNameTable c.in_ok-names.names (map line_of lines)) own c.in_ok-names.ensures.table in
+    pools_are c.in_ok-names.names (map line_of c.args.checked.now.program) table _ _ _ _ _
+    (c.in_ok-names.ensures.scalars ∙ ap (λ lines. filter (λ name. not (is_array (map line_of lines) name)) (symbols (map line_of lines))) own)
+    (c.in_ok-names.ensures.arrays ∙ ap (λ lines. filter (is_array (map line_of lines)) (symbols (map line_of lines))) own)
+    (c.in_ok-references.ensures.references ∙ ap (λ lines. each_once same_tree (filter_map array_reference (executable_nodes (map line_of lines)))) own)
+    (c.in_ok-references.ensures.constants ∙ ap (λ lines. each_once same_tree (filter_map constant (executable_nodes (map line_of lines)))) own)
+    c.in_ok-labels.ensures.labels

@@ -9,21 +9,21 @@ use Rattle.mothra_ops.specs.Plan.{IsNoPlan}
 use Rattle.mothra_codes.specs.declared.op.Op.{Op}
 use Rattle.mothra_codes.proofs.Operators.{index-op_at}
 use Rattle.mothra_ops.proofs.Plans.{HasLists, no_lists, one_more_listed, none_more, one_op, no_plan, is_asked, was_asked, is_plan}
-use Rattle.mothra_ops.proofs.plan.Plan.new.Goals as goal
-use Rattle.mothra_ops.proofs.plan.Plan.new.Goals.{then-contains+in_ok-listing+in_ok-push, else-contains}
+use Rattle.mothra_ops.proofs.plan.lists.Goals as goal
+use Rattle.mothra_ops.proofs.plan.lists.Goals.{then-contains+in_ok-listing+in_ok-push, else-contains}
 
 same_answer : (a b : Op) → ghosts.eq a b ≡ nat_eq (index a) (index b)
 same_answer a b = grind (arith)
 
 pub loop-op-init : goal.loop-op-init
-loop-op-init c = subst (HasLists c.args.ops.now (map line_of c.args.checked.program) c.args.every 0) (sym c.new-lists.ensures.items) (no_lists c.args.ops.now (map line_of c.args.checked.program) c.args.every)
+loop-op-init c = subst (HasLists c.args.ops.now (map line_of c.args.checked.now.program) c.args.every 0) (sym c.new-lists.ensures.items) (no_lists c.args.ops.now (map line_of c.args.checked.now.program) c.args.every)
 
 pub returns-in_err-listing-clause-refused : goal.returns-in_err-listing-clause-refused
 returns-in_err-listing-clause-refused c =
     let decided = Decides-contains c.args.ops.now (op_at c.loop-op.op-index) c.contains.result
     (contains_decides ghosts.eq (λ a b. one_op a b (ghosts.eq a b) (same_answer a b)) c.args.ops.now (op_at c.loop-op.op-index) c.contains.result c.contains.ensures.cases) in
-    let told : IsNoPlan c.args.ops.now (map line_of c.args.checked.program) c.args.every c.in_err-listing.field-0.0 =
-    no_plan c.args.ops.now (map line_of c.args.checked.program) c.args.every c.loop-op.op-index c.loop-op.lists.items (op_at c.loop-op.op-index) c.in_err-listing.field-0.0
+    let told : IsNoPlan c.args.ops.now (map line_of c.args.checked.now.program) c.args.every c.in_err-listing.field-0.0 =
+    no_plan c.args.ops.now (map line_of c.args.checked.now.program) c.args.every c.loop-op.op-index c.loop-op.lists.items (op_at c.loop-op.op-index) c.in_err-listing.field-0.0
     (index-op_at c.loop-op.op-index c.loop-op-test.true) c.loop-op.invariant (decided.0 c.if-contains.true) (search rules) in
     search rules
 
@@ -33,36 +33,30 @@ loop-op-preserved c = elim c.if-contains.branch [
       let decided = Decides-contains c.args.ops.now (op_at c.loop-op.op-index) c.contains.result
       (contains_decides ghosts.eq (λ a b. one_op a b (ghosts.eq a b) (same_answer a b)) c.args.ops.now (op_at c.loop-op.op-index) c.contains.result c.contains.ensures.cases) in
       let own : w.in_ok-listing.field-0.op ≡ op_at c.loop-op.op-index = search rules in
-      let counted : IsCountedList (op_at c.loop-op.op-index) (map line_of c.args.checked.program) c.args.every w.in_ok-listing.field-0.edits.items w.in_ok-listing.field-0.whole = search rules in
+      let counted : IsCountedList (op_at c.loop-op.op-index) (map line_of c.args.checked.now.program) c.args.every w.in_ok-listing.field-0.edits.items w.in_ok-listing.field-0.whole = search rules in
       let items : c.if-contains.lists.items ≡ c.loop-op.lists.items ++ w.in_ok-listing.field-0 ∷ [] = search rules in
-      subst (HasLists c.args.ops.now (map line_of c.args.checked.program) c.args.every (c.loop-op.op-index + 1)) (sym items)
-      (one_more_listed c.args.ops.now (map line_of c.args.checked.program) c.args.every c.loop-op.op-index c.loop-op.lists.items w.in_ok-listing.field-0 (op_at c.loop-op.op-index)
+      subst (HasLists c.args.ops.now (map line_of c.args.checked.now.program) c.args.every (c.loop-op.op-index + 1)) (sym items)
+      (one_more_listed c.args.ops.now (map line_of c.args.checked.now.program) c.args.every c.loop-op.op-index c.loop-op.lists.items w.in_ok-listing.field-0 (op_at c.loop-op.op-index)
       (index-op_at c.loop-op.op-index c.loop-op-test.true) own c.loop-op.invariant (decided.0 w.if-contains.true) counted)
   | else-contains w ↦
       let decided = Decides-contains c.args.ops.now (op_at c.loop-op.op-index) c.contains.result
       (contains_decides ghosts.eq (λ a b. one_op a b (ghosts.eq a b) (same_answer a b)) c.args.ops.now (op_at c.loop-op.op-index) c.contains.result c.contains.ensures.cases) in
       let items : c.if-contains.lists.items ≡ c.loop-op.lists.items = search rules in
-      subst (HasLists c.args.ops.now (map line_of c.args.checked.program) c.args.every (c.loop-op.op-index + 1)) (sym items)
-      (none_more c.args.ops.now (map line_of c.args.checked.program) c.args.every c.loop-op.op-index c.loop-op.lists.items (op_at c.loop-op.op-index)
+      subst (HasLists c.args.ops.now (map line_of c.args.checked.now.program) c.args.every (c.loop-op.op-index + 1)) (sym items)
+      (none_more c.args.ops.now (map line_of c.args.checked.now.program) c.args.every c.loop-op.op-index c.loop-op.lists.items (op_at c.loop-op.op-index)
       (index-op_at c.loop-op.op-index c.loop-op-test.true) (not_from_Decides c.contains.result decided w.if-contains.false) c.loop-op.invariant)
 ]
-
-pub invariant_of-result : goal.invariant_of-result
-invariant_of-result c =
-    let end : c.loop-op.op-index ≡ 22 = omega (arith, c.loop-op-test.false, c.loop-op.auto.op-index-end) in
-    is_plan c.args.ops.now c.args.checked c.args.every c.loop-op.lists.items c.requires
-    (subst (λ (k : ℕ). HasLists c.args.ops.now (map line_of c.args.checked.program) c.args.every k c.loop-op.lists.items) end c.loop-op.invariant)
 
 pub returns-clause-lists : goal.returns-clause-lists
 returns-clause-lists c =
     let end : c.loop-op.op-index ≡ 22 = omega (arith, c.loop-op-test.false, c.loop-op.auto.op-index-end) in
-    is_plan c.args.ops.now c.args.checked c.args.every c.loop-op.lists.items c.requires
-    (subst (λ (k : ℕ). HasLists c.args.ops.now (map line_of c.args.checked.program) c.args.every k c.loop-op.lists.items) end c.loop-op.invariant)
+    is_plan c.args.ops.now c.args.checked.now c.args.every c.loop-op.lists.items c.requires
+    (subst (λ (k : ℕ). HasLists c.args.ops.now (map line_of c.args.checked.now.program) c.args.every k c.loop-op.lists.items) end c.loop-op.invariant)
 
 pub returns-clause-asked : goal.returns-clause-asked
 returns-clause-asked c op =
     let end : c.loop-op.op-index ≡ 22 = omega (arith, c.loop-op-test.false, c.loop-op.auto.op-index-end) in
-    let has = subst (λ (k : ℕ). HasLists c.args.ops.now (map line_of c.args.checked.program) c.args.every k c.loop-op.lists.items) end c.loop-op.invariant in (
-      was_asked c.args.ops.now (map line_of c.args.checked.program) c.args.every c.loop-op.lists.items has op,
-      is_asked c.args.ops.now (map line_of c.args.checked.program) c.args.every c.loop-op.lists.items has op,
+    let has = subst (λ (k : ℕ). HasLists c.args.ops.now (map line_of c.args.checked.now.program) c.args.every k c.loop-op.lists.items) end c.loop-op.invariant in (
+      was_asked c.args.ops.now (map line_of c.args.checked.now.program) c.args.every c.loop-op.lists.items has op,
+      is_asked c.args.ops.now (map line_of c.args.checked.now.program) c.args.every c.loop-op.lists.items has op,
     )

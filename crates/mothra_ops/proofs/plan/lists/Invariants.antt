@@ -1,7 +1,7 @@
 use Rattle.std.specs.Prelude.{map}
 use Rattle.f77_program.specs.Program.{line_of}
 use Rattle.mothra_ops.proofs.Plans.{HasLists}
-use Rattle.mothra_ops.proofs.plan.Plan.new.Given as goal
+use Rattle.mothra_ops.proofs.plan.lists.Given as goal
 
 abbrev pub invariant-loop-op : goal.invariant-loop-op
 invariant-loop-op l = HasLists l.fn.ops (map line_of l.fn.checked.program) l.fn.every l.op-index l.lists.items

@@ -1,0 +1,11 @@
+use Rattle.std.proofs.Common.{map, ◌++◌, ◌∷◌, [], ap, sym, ◌∙◌}
+use Rattle.std.proofs.lemmas.List.{map-append}
+use Rattle.f77_tree.specs.View.{tree_of}
+use Rattle.mothra_ops.specs.Pools.{reference_of}
+use Rattle.mothra_ops.proofs.Elements.{as_expression}
+use Rattle.mothra_ops.proofs.news.expressions.Goals as goal
+
+pub loop-reference-preserved : goal.loop-reference-preserved
+loop-reference-preserved c =
+    ap (map tree_of) c.in_ok-push.ensures.items ∙ (map-append tree_of c.loop-reference.made.items _
+    ∙ ((λ k. c.loop-reference.invariant k ++ as_expression c.in-Some.reference k ∷ []) ∙ sym (map-append reference_of c.loop-reference.yielded (c.in-Some.reference ∷ []))))
