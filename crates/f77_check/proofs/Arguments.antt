@@ -5,7 +5,7 @@ use Rattle.std.specs.List.{list_any, sum}
 use Rattle.std.specs.Str.{bytes_eq}
 use Rattle.std.proofs.lemmas.Bool.Decides.{nat_tests}
 use Rattle.f77_program.specs.Program.{LineFields}
-use Rattle.f77_tree.specs.Tree.{Statement}
+use Rattle.f77_tree.specs.Statement.{Statement}
 use Rattle.f77_legal.specs.declared.names.Names.{Names}
 use Rattle.f77_check.specs.Checked.{shape_of, shapes}
 use Rattle.f77_legal.specs.Legal.{IsLegal, is_array, is_too_large, name_faults, clause_faults, expression_clauses, control_clauses, label_faults, data_faults, size_faults}

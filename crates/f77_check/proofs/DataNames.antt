@@ -9,7 +9,8 @@ use Rattle.indexmap.specs.IndexMap.{keys}
 use Rattle.f77_tree.specs.Data.{data_group_of}
 use Rattle.f77_nodes.specs.Node.{NodeOf, group_nodes, names_of}
 use Rattle.f77_program.specs.Program.{LineFields}
-use Rattle.f77_tree.specs.Tree.{GroupFields, Statement}
+use Rattle.f77_tree.specs.Tree.{GroupFields}
+use Rattle.f77_tree.specs.Statement.{Statement}
 use Rattle.f77_tree.specs.declared.data.DataGroup.{DataGroup}
 use Rattle.f77_tree.specs.declared.data.Value.{Value}
 use Rattle.f77_legal.specs.declared.names.Names.{Names}

@@ -4,7 +4,7 @@ use Rattle.std.specs.Prelude.{position}
 use Rattle.std.specs.List.{list_any, position_or_len}
 use Rattle.f77_program.specs.Group.{group_of}
 use Rattle.f77_program.specs.Program.{LineFields, IsProgram}
-use Rattle.f77_tree.specs.Tree.{Statement}
+use Rattle.f77_tree.specs.Statement.{Statement}
 use Rattle.f77_program.specs.declared.group.Group.{Group}
 use Rattle.f77_program.specs.declared.group.Group.TheVariants.{End}
 use Rattle.f77_check.specs.Start.{is_executable}

@@ -11,7 +11,8 @@ use Rattle.std.proofs.lemmas.List.Folds.{list_all-append, list_all-map}
 use Rattle.indexmap.specs.IndexMap.{keys}
 use Rattle.f77_nodes.specs.Node.{NodeOf, parts, all_parts, tree_nodes, step_parts, nodes_of, name_of, names_of}
 use Rattle.f77_program.specs.Program.{LineFields}
-use Rattle.f77_tree.specs.Tree.{Tree, Trees, DeclFields, Statement}
+use Rattle.f77_tree.specs.Tree.{Tree, Trees, DeclFields}
+use Rattle.f77_tree.specs.Statement.{Statement}
 use Rattle.f77_legal.specs.declared.names.Names.{Names}
 use Rattle.f77_legal.specs.Dimensions.{is_shape, dimensions_fit}
 use Rattle.f77_check.specs.Kept.{is_kept, tree_kept, items_kept, step_kept, names_kept}

@@ -9,7 +9,7 @@ use Rattle.indexmap.specs.IndexMap.{keys}
 use Rattle.f77_tree.specs.declared.data.Constant.{Constant}
 use Rattle.f77_program.specs.declared.program.Line.{Line}
 use Rattle.f77_program.specs.Program.{LineFields, line_of}
-use Rattle.f77_tree.specs.StatementView.{statement_of}
+use Rattle.f77_tree.specs.Statement.{statement_of}
 use Rattle.f77_check.specs.declared.resolve.Resolver.{Resolver}
 use Rattle.f77_check.specs.Initial.{give_groups, groups_kept}
 use Rattle.f77_legal.specs.Labels.{statement_at}

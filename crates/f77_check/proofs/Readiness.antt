@@ -5,15 +5,14 @@ use Rattle.std.specs.declared.alloc.Global.{Global}
 use Rattle.std.proofs.lemmas.Bool.{and_parts}
 use Rattle.f77_program.specs.Formed.{is_action}
 use Rattle.f77_program.specs.Program.{LineFields}
-use Rattle.f77_tree.specs.StatementView.{statement_of}
-use Rattle.f77_tree.specs.Tree.{Tree, Statement}
+use Rattle.f77_tree.specs.Statement.{statement_of, Statement, jumps_of}
+use Rattle.f77_tree.specs.Tree.{Tree}
 use Rattle.f77_tree.specs.View.{tree_of}
 use Rattle.f77_tree.specs.declared.tree.Expr.{Expr}
-use Rattle.f77_tree.specs.declared.tree.Stmt.{Stmt}
-use Rattle.f77_tree.specs.declared.tree.Stmt.TheVariants as forms
-use Rattle.f77_tree.specs.declared.tree.Stmt.TheViews as boxed
+use Rattle.f77_tree.specs.declared.statement.Stmt.{Stmt}
+use Rattle.f77_tree.specs.declared.statement.Stmt.TheVariants as forms
+use Rattle.f77_tree.specs.declared.statement.Stmt.TheViews as boxed
 use Rattle.f77_tree.proofs.Views.{computed_view, logical_view}
-use Rattle.f77_legal.specs.Labels.{jumps_of}
 use Rattle.f77_check.specs.Expression.{relation_of}
 use Rattle.f77_legal.specs.Kinds.{same_kind, result_kind, is_of}
 use Rattle.f77_check.specs.Lookup.{IsReadyNumber, IsReadyCondition, IsReadyStep}

@@ -8,13 +8,13 @@ use Rattle.std.proofs.lemmas.Option.{same_Some}
 use Rattle.std.proofs.lemmas.Bool.Decides.{nat_tests}
 use Rattle.indexmap.specs.IndexMap.{keys}
 use Rattle.f77_program.specs.Program.{LineFields}
-use Rattle.f77_tree.specs.Tree.{Statement}
+use Rattle.f77_tree.specs.Statement.{Statement, jumps_of}
 use Rattle.f77_check.specs.Action.{IsAction}
 use Rattle.f77_legal.specs.Blocks.{behind}
 use Rattle.f77_legal.specs.Dimensions.{dimensions_fit}
 use Rattle.f77_legal.specs.declared.clause.Clause.TheVariants.{Kinds, Bounds}
 use Rattle.f77_legal.specs.Kinds.{kinds_agree}
-use Rattle.f77_legal.specs.Labels.{place_of, statement_at, jumps_of}
+use Rattle.f77_legal.specs.Labels.{place_of, statement_at}
 use Rattle.f77_legal.specs.Loops.{loops_ending}
 use Rattle.f77_legal.specs.Names.{Symbol, kind_of, bounds_of}
 use Rattle.f77_legal.specs.NameTable.{bounds_at}

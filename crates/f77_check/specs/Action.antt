@@ -2,7 +2,8 @@
 use Rattle.std.specs.Prelude.{◌≡◌, ⊤, ℕ, List, Option, Some, None, pos}
 use Rattle.std.specs.List.{AllZip}
 use Rattle.f77_program.specs.Program.{LineFields}
-use Rattle.f77_tree.specs.Tree.{Tree, Trees, Statement}
+use Rattle.f77_tree.specs.Tree.{Tree, Trees}
+use Rattle.f77_tree.specs.Statement.{Statement}
 use Rattle.f77_tree.specs.declared.tree.Kind.{Kind}
 use Rattle.f77_tree.specs.declared.tree.Kind.TheVariants.{Integer, Logical}
 use Rattle.f77_check.specs.declared.action.Action.{Action, Declaration, AssignNumber, AssignTruth, Goto, ComputedGoto, ArithmeticIf}

@@ -1,9 +1,10 @@
 -- Expressions and statements whose names are all in a table.
 use Rattle.std.specs.Prelude.{Bool, Option}
-use Rattle.f77_tree.specs.Tree.{Tree, Trees, Statement}
+use Rattle.f77_tree.specs.Tree.{Tree, Trees}
+use Rattle.f77_tree.specs.Statement.{Statement}
 use Rattle.f77_legal.specs.NameTable.{has_name}
 use Rattle.f77_legal.specs.Names.{Symbol}
-use Rattle.f77_legal.specs.Patches.{tree_passes, items_pass, step_passes, names_pass}
+use Rattle.f77_legal.specs.Patches.{tree_passes, items_pass, value_passes, names_pass}
 use Rattle.f77_legal.specs.declared.names.Names.{Names}
 
 -- the name is in the table
@@ -18,7 +19,7 @@ abbrev pub items_kept : Names → Trees → Bool
 items_kept names = items_pass (is_kept names)
 
 abbrev pub step_kept : Names → Option Tree → Bool
-step_kept names = step_passes (is_kept names)
+step_kept names = value_passes (is_kept names)
 
 -- every name of a statement that can be executed is
 abbrev pub names_kept : Names → Statement → Bool

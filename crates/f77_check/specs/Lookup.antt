@@ -7,10 +7,10 @@ use Rattle.f77_tree.specs.declared.tree.Kind.{Kind}
 use Rattle.f77_tree.specs.declared.tree.Kind.TheVariants.{Integer, Logical}
 use Rattle.f77_check.specs.Action.{IsStep}
 use Rattle.f77_check.specs.Boxed.{HoldsNumber, HoldsCondition}
-use Rattle.f77_legal.specs.Dimensions.{count, fits, all_fit, step_fits}
+use Rattle.f77_legal.specs.Dimensions.{count, fits, all_fit, value_fits}
 use Rattle.f77_check.specs.Expression.{IsElement, IsNumber, IsChosen, IsCondition}
 use Rattle.f77_check.specs.Kept.{is_kept, tree_kept, items_kept, step_kept}
-use Rattle.f77_legal.specs.Kinds.{is_of, are_integer, is_step}
+use Rattle.f77_legal.specs.Kinds.{is_of, are_integer, value_is}
 use Rattle.f77_legal.specs.NameTable.{kind_at, bounds_at}
 use Rattle.f77_legal.specs.Names.{Symbol}
 use Rattle.f77_check.specs.SlotTable.{IsSlotTable}
@@ -65,8 +65,8 @@ pub record IsReadyChoice (resolver : Resolver) (items : Trees) : Type 0 where
 -- the incrementation parameter of a DO, where one is written
 pub record IsReadyStep (resolver : Resolver) (step : Option Tree) : Type 0 where
   pub names : ServesNames resolver
-  pub kinds : is_step (kind_at resolver.tables.names) step ≡ true
-  pub bounds : step_fits (bounds_at resolver.tables.names) step ≡ true
+  pub kinds : value_is (kind_at resolver.tables.names) Integer step ≡ true
+  pub bounds : value_fits (bounds_at resolver.tables.names) step ≡ true
   pub kept : step_kept resolver.tables.names step ≡ true
 
 -- what is found for each of these, by the tables

@@ -3,7 +3,8 @@ use Rattle.std.specs.Prelude.{◌≡◌, ⊤, ℕ, true, List, [], ◌∷◌, So
 use Rattle.indexmap.specs.IndexMap.{keys}
 use Rattle.f77_program.specs.Formed.{is_action}
 use Rattle.f77_program.specs.Program.{LineFields, IsProgram}
-use Rattle.f77_tree.specs.Tree.{Tree, Trees, Statement}
+use Rattle.f77_tree.specs.Tree.{Tree, Trees}
+use Rattle.f77_tree.specs.Statement.{Statement}
 use Rattle.f77_check.specs.Action.{IsAction, IsAssignment}
 use Rattle.f77_legal.specs.Blocks.{branch_end}
 use Rattle.f77_legal.specs.BlockTable.{branch_end_at}

@@ -1,7 +1,7 @@
 -- The resolved form of a program: statement i with its names and labels looked up is resolved statement i. Statements are numbered from 0 here.
 use Rattle.std.specs.Prelude.{◌≡◌, ℕ, List, length, Some, slice_get}
 use Rattle.f77_program.specs.Program.{LineFields}
-use Rattle.f77_tree.specs.Tree.{Statement}
+use Rattle.f77_tree.specs.Statement.{Statement}
 use Rattle.f77_check.specs.declared.resolved.Resolved.{Resolved}
 use Rattle.f77_check.specs.Action.{IsAction}
 use Rattle.f77_legal.specs.Blocks.{behind}

@@ -3,7 +3,7 @@
 ghost use Rattle.std.specs.Prelude.{◌≡◌, ◌<◌, ◌⊎◌, ◌-◌, true, false, length, map, IfOk, IfErr, IfSome, IsNone, None, Some};
 ghost use Rattle.f77_program.specs.Program.{IsProgram, line_of};
 ghost use Rattle.f77_program.specs.Patching.{Fits, replaced, patched};
-ghost use Rattle.f77_tree.specs.StatementView.{statement_of};
+ghost use Rattle.f77_tree.specs.Statement.{statement_of};
 ghost use Rattle.f77_check.specs.Checked.{shapes};
 ghost use Rattle.f77_check.specs.Patching.{IsChangedAlone};
 ghost use Rattle.f77_check.specs.Resolved.{AreResolved};

@@ -4,12 +4,11 @@ ghost use Rattle.std.specs.Prelude.{◌≡◌, ◌<◌, true, Some, List, length
 ghost use Rattle.indexmap.specs.IndexMap.{keys};
 ghost use Rattle.f77_program.specs.Formed.{is_action};
 ghost use Rattle.f77_program.specs.Program.{LineFields, line_of};
-ghost use Rattle.f77_tree.specs.StatementView.{statement_of};
-ghost use Rattle.f77_tree.specs.Tree.{Statement};
+ghost use Rattle.f77_tree.specs.Statement.{statement_of, Statement, jumps_of};
 ghost use Rattle.f77_tree.specs.View.{place_of, tree_of, trees};
 ghost use Rattle.f77_check.specs.Action.{IsJump, AreJumps};
 ghost use Rattle.f77_legal.specs.Labels as labels;
-ghost use Rattle.f77_legal.specs.Labels.{jumps_of, statement_at};
+ghost use Rattle.f77_legal.specs.Labels.{statement_at};
 ghost use Rattle.f77_legal.specs.Loops.{terminal};
 ghost use Rattle.f77_check.specs.Ready.{CanResolve, IsReady, AreFound, HasBranch, HasEnd, Does, Assigns};
 ghost use Rattle.f77_check.specs.Resolved.{IsResolved, AreResolved};

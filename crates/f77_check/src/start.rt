@@ -5,7 +5,7 @@ ghost use Rattle.std.specs.List.{flat_map, list_all};
 ghost use Rattle.indexmap.specs.IndexMap.{keys};
 ghost use Rattle.f77_tree.specs.Data.{data_group_of};
 ghost use Rattle.f77_program.specs.Program.{line_of};
-ghost use Rattle.f77_tree.specs.StatementView.{statement_of};
+ghost use Rattle.f77_tree.specs.Statement.{statement_of};
 ghost use Rattle.f77_legal.specs.Blocks.{first_numbers};
 ghost use Rattle.f77_check.specs.Initial as given;
 ghost use Rattle.f77_check.specs.Initial.{HasSlots, slots_of, groups_kept};

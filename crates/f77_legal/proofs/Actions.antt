@@ -4,7 +4,8 @@ use Rattle.f77_program.specs.Formed.{is_action}
 use Rattle.f77_program.specs.Group.{group_of}
 use Rattle.f77_program.specs.Program.{LineFields, IsProgram}
 use Rattle.f77_tree.specs.StatementGrammar.{SpellsAction, SpellsStatement, IsFormed, in_text}
-use Rattle.f77_tree.specs.Tree.{Tree, Statement}
+use Rattle.f77_tree.specs.Tree.{Tree}
+use Rattle.f77_tree.specs.Statement.{Statement}
 use Rattle.f77_program.specs.declared.group.Group.{Group}
 use Rattle.f77_legal.specs.Labels.{statement_at}
 

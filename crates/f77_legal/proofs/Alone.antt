@@ -3,7 +3,7 @@ use Rattle.std.proofs.Common.{◌≡◌, ◌≢◌, ◌∙◌, ℕ, List, Bool, 
 use Rattle.std.specs.Prelude.{slice_get}
 use Rattle.f77_program.specs.Program.{LineFields}
 use Rattle.f77_program.specs.Patching.{replaced}
-use Rattle.f77_tree.specs.Tree.{Statement}
+use Rattle.f77_tree.specs.Statement.{Statement}
 use Rattle.f77_legal.specs.declared.clause.Clause.{Clause}
 use Rattle.f77_legal.specs.declared.clause.Clause.TheVariants.{Kinds, Bounds, NamedLabels, Targets, Terminals, Jumps, Variables}
 use Rattle.f77_legal.specs.Clause.{breaks, fault_at}

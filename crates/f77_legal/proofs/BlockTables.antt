@@ -8,7 +8,7 @@ use Rattle.std.proofs.lemmas.Bool.Decides.{nat_tests}
 use Rattle.std.proofs.lemmas.List.{get_or_past}
 use Rattle.std.proofs.lemmas.Option.{slice_get_past}
 use Rattle.f77_program.specs.Program.{LineFields}
-use Rattle.f77_tree.specs.Tree.{Statement}
+use Rattle.f77_tree.specs.Statement.{Statement}
 use Rattle.f77_legal.specs.Labels.{statement_at}
 use Rattle.f77_legal.specs.Blocks.{is_block_if, is_end_if, is_else, is_alternative, first_numbers, numbers, has_at, block_end, branch_end, is_in_block, is_closing, ends_else, begins_branch, branch_holds, breaks_block}
 use Rattle.f77_legal.specs.BlockTable.{block_end_at, else_end_at, branch_end_at, is_end_among, is_before_end, is_misplaced, IsBlockTable}

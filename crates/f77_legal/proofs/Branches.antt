@@ -9,7 +9,7 @@ use Rattle.std.proofs.lemmas.List.Filters.{length-filter_more}
 use Rattle.std.proofs.lemmas.List.Folds.{find-append}
 use Rattle.std.proofs.lemmas.Option.{get_or_from_slice_get}
 use Rattle.f77_program.specs.Program.{LineFields}
-use Rattle.f77_tree.specs.Tree.{Statement}
+use Rattle.f77_tree.specs.Statement.{Statement}
 use Rattle.f77_legal.specs.Labels.{statement_at}
 use Rattle.f77_legal.specs.Blocks.{is_block_if, is_end_if, is_alternative, first_numbers, has_at, count_between, is_level, block_end}
 

@@ -8,7 +8,7 @@ use Rattle.std.proofs.lemmas.Bool.Decides.{nat_tests}
 use Rattle.std.proofs.lemmas.Option.{slice_get_past, slice_get_within, get_or_from_slice_get, option_and_then_some, same_Some}
 use Rattle.f77_program.specs.Program.{LineFields}
 use Rattle.f77_program.specs.Patching.{replaced}
-use Rattle.f77_tree.specs.Tree.{Statement}
+use Rattle.f77_tree.specs.Statement.{Statement}
 use Rattle.f77_legal.specs.declared.clause.Clause.{Clause}
 use Rattle.f77_legal.specs.declared.clause.Clause.TheVariants.{Kinds, Bounds, NamedLabels, Targets, Terminals, Nests, Jumps, Variables}
 use Rattle.f77_legal.specs.declared.fault.CheckFault.{CheckFault}

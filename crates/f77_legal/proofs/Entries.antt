@@ -7,7 +7,7 @@ use Rattle.std.proofs.lemmas.Option.{slice_get_past}
 use Rattle.std.specs.Prelude.{if◌then◌else◌}
 use Rattle.std.specs.Option.{option_and_then, option_map_or}
 use Rattle.f77_program.specs.Program.{LineFields, line_of}
-use Rattle.f77_tree.specs.StatementView.{statement_of}
+use Rattle.f77_tree.specs.Statement.{statement_of}
 use Rattle.f77_program.specs.declared.program.Line.{Line}
 use Rattle.f77_legal.specs.Blocks.{first_numbers, begins_branch, branch_end}
 use Rattle.f77_legal.specs.Labels.{place_of, statement_at, terminal_label}

@@ -5,11 +5,12 @@ use Rattle.std.specs.List.{list_any}
 use Rattle.std.specs.Option.{option_and_then, option_map_or}
 use Rattle.std.proofs.lemmas.Bool.{and_parts, or_left, or_right, or_parts}
 use Rattle.f77_program.specs.Program.{LineFields}
-use Rattle.f77_tree.specs.Tree.{Tree, Statement}
+use Rattle.f77_tree.specs.Tree.{Tree}
+use Rattle.f77_tree.specs.Statement.{Statement, jumps_of}
 use Rattle.f77_legal.specs.declared.clause.Clause.TheVariants.{NamedLabels, Nests}
 use Rattle.f77_legal.specs.Blocks.{is_block_if, is_end_if, is_alternative, has_at, is_level, block_end, branch_end, behind, is_in_block, begins_branch}
 use Rattle.f77_legal.specs.BlockTable.{branch_end_at}
-use Rattle.f77_legal.specs.Labels.{place_of, statement_at, jumps_of, terminal_label}
+use Rattle.f77_legal.specs.Labels.{place_of, statement_at, terminal_label}
 use Rattle.f77_legal.specs.Legal.{IsLegal}
 use Rattle.f77_legal.specs.Loops.{terminal, ends_outside, breaks_range, AreNested}
 use Rattle.f77_legal.proofs.Branches.{found_is, found_some}

@@ -1,10 +1,9 @@
 -- What the frame keeps of one statement: what it is to blocks, DOs, jumps, declarations and DATA.
 use Rattle.std.proofs.Common.{◌≡◌, List, [], ◌∷◌, Bool, true, false, refl, sym, map, filter}
 use Rattle.std.proofs.Common.{true≢false}
-use Rattle.f77_tree.specs.Form.{form_of}
+use Rattle.f77_tree.specs.Statement.{form_of, Statement}
 use Rattle.f77_program.specs.Group.{group_of}
 use Rattle.f77_nodes.specs.Node.{names_of}
-use Rattle.f77_tree.specs.Tree.{Statement}
 use Rattle.f77_legal.specs.Blocks.{is_block_if, is_end_if, is_else, is_alternative}
 use Rattle.f77_legal.specs.Frames.{framed, is_framed_out}
 use Rattle.f77_legal.specs.Heading.{dummies_of}

@@ -14,7 +14,7 @@ use Rattle.indexmap.specs.IndexMap.{get, keys, insert_entry, Updates, IsUnique}
 use Rattle.indexmap.proofs.CallerLemmas.{insert_entry-new, keys-insert_entry-present}
 use Rattle.f77_program.specs.Program.{LineFields, line_of}
 use Rattle.f77_program.specs.declared.program.Line.{Line}
-use Rattle.f77_tree.specs.StatementView.{statement_of}
+use Rattle.f77_tree.specs.Statement.{statement_of}
 use Rattle.f77_legal.specs.Labels.{statement_with, labels, bears, is_double, place_of}
 use Rattle.f77_legal.specs.LabelTable.{distinct, place_in, noted, IsLabelTable}
 use Rattle.f77_legal.specs.declared.labels.Labels.{Labels}

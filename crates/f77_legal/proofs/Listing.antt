@@ -1,21 +1,22 @@
 -- The nodes of a list and of a statement put into the table in turn.
-use Rattle.std.proofs.Common.{◌≡◌, refl, ℕ, ◌+◌, ◌<◌, length, List, [], ◌∷◌, ◌++◌, ap, sym, ◌∙◌, take, get_or}
+use Rattle.std.proofs.Common.{◌≡◌, ◌≢◌, refl, subst, Option, ℕ, ◌+◌, ◌<◌, length, List, [], ◌∷◌, ◌++◌, ap, sym, ◌∙◌, take, get_or}
 use Rattle.std.specs.Prelude.{map, flat_map, Box, Vec}
 use Rattle.std.specs.declared.alloc.Global.{Global}
 use Rattle.std.proofs.lemmas.List.{append-nil, map-append, take_more}
 use Rattle.std.proofs.lemmas.List.Concat.{flat_map-append}
 use Rattle.f77_tree.specs.declared.data.DataGroup.{DataGroup}
 use Rattle.f77_tree.specs.declared.tree.Expr.{Expr}
-use Rattle.f77_tree.specs.declared.tree.Stmt.{Stmt}
-use Rattle.f77_tree.specs.declared.tree.Stmt.TheVariants.{rolls-ComputedGoto, rolls-ArithIf, rolls-LogicalIf}
-use Rattle.f77_tree.specs.declared.tree.Stmt.TheVariants as forms
-use Rattle.f77_tree.specs.declared.tree.Stmt.TheViews as boxed
-use Rattle.f77_tree.specs.declared.tree.Stmt.TheOpen.{Stmt-F}
-use Rattle.f77_tree.specs.declared.tree.Stmt.TheFolds.{fold-roll-Stmt}
+use Rattle.f77_tree.specs.declared.statement.Stmt.{Stmt, Subroutine, Declare, Dimension, Preset, Assign, ComputedGoto, ArithIf, LogicalIf', Loop}
+use Rattle.f77_tree.specs.declared.tree.Kind.{Kind}
+use Rattle.f77_tree.specs.declared.tree.Ref.{Ref}
+use Rattle.f77_tree.specs.declared.declaration.Decl.{Decl}
+use Rattle.f77_tree.specs.declared.statement.Stmt.TheVariants.{rolls-LogicalIf}
+use Rattle.f77_tree.specs.declared.statement.Stmt.TheViews as boxed
+use Rattle.f77_tree.specs.declared.statement.Stmt.TheOpen.{Stmt-F}
+use Rattle.f77_tree.specs.declared.statement.Stmt.TheFolds.{fold-roll-Stmt, fold_out-Stmt}
 use Rattle.f77_tree.specs.Data.{data_group_of}
-use Rattle.f77_nodes.specs.Node.{NodeOf, tree_nodes, group_nodes, label_nodes, nodes_of}
-use Rattle.f77_tree.specs.StatementView.{stmt_step, statement_of}
-use Rattle.f77_tree.specs.Tree.{Statement}
+use Rattle.f77_nodes.specs.Node.{NodeOf, tree_nodes, group_nodes, label_nodes, nodes_of, step_parts}
+use Rattle.f77_tree.specs.Statement.{stmt_step, statement_of, Statement, value_of}
 use Rattle.f77_tree.specs.View.{tree_of}
 use Rattle.f77_legal.specs.NameTable.{Entries, with_nodes}
 use Rattle.f77_legal.proofs.Noting.{nodes_append}
@@ -50,33 +51,15 @@ groups_more es groups i group here is =
     ∙ nodes_append es (flat_map group_nodes (map data_group_of (take i groups))) (group_nodes (data_group_of group) ++ [])
     ∙ ap (with_nodes (with_groups es (take i groups))) (append-nil (group_nodes (data_group_of group)))
 
-computed_view : (labels : Vec ℕ Global) (value : Expr) → statement_of (forms.ComputedGoto labels value) ≡ Statement.ComputedGoto labels.items (tree_of value)
-computed_view labels value = ap statement_of (sym (rolls-ComputedGoto labels value)) ∙ fold-roll-Stmt Statement stmt_step (Stmt-F.ComputedGoto labels value)
-
 -- labels bear no name
-labels_unnamed : (es : Entries) (labels : List ℕ) (nodes : List NodeOf) → with_nodes es (map NodeOf.Labelled labels ++ nodes) ≡ with_nodes es nodes
+pub labels_unnamed : (es : Entries) (labels : List ℕ) (nodes : List NodeOf) → with_nodes es (map NodeOf.Labelled labels ++ nodes) ≡ with_nodes es nodes
 labels_unnamed es [] nodes = refl
 labels_unnamed es (label ∷ labels) nodes = labels_unnamed es labels nodes
-
-arithmetic_view : (value : Expr) (l m n : ℕ) → statement_of (forms.ArithIf value l m n) ≡ Statement.ArithIf (tree_of value) l m n
-arithmetic_view value l m n = ap statement_of (sym (rolls-ArithIf value l m n)) ∙ fold-roll-Stmt Statement stmt_step (Stmt-F.ArithIf value l m n)
 
 logical_view : (condition : Expr) (a : Box Stmt Global) → statement_of (boxed.LogicalIf condition a) ≡ Statement.LogicalIf (tree_of condition) (statement_of a.value)
 logical_view condition a = ap statement_of (sym (rolls-LogicalIf condition a)) ∙ fold-roll-Stmt Statement stmt_step (Stmt-F.LogicalIf condition a)
 
 module _ (es after : Entries) (s : Stmt) where
-  pub computed_noted : (labels : Vec ℕ Global) (value : Expr) → s ≡ forms.ComputedGoto labels value → after ≡ with_nodes es (tree_nodes (tree_of value)) → after ≡ with_nodes es (nodes_of (statement_of s))
-  computed_noted labels value is noted =
-      noted
-      ∙ sym (labels_unnamed es labels.items (tree_nodes (tree_of value)))
-      ∙ ap (λ z. with_nodes es (nodes_of z)) (sym (ap statement_of is ∙ computed_view labels value))
-
-  pub arithmetic_noted : (value : Expr) (l m n : ℕ) → s ≡ forms.ArithIf value l m n → after ≡ with_nodes es (tree_nodes (tree_of value)) → after ≡ with_nodes es (nodes_of (statement_of s))
-  arithmetic_noted value l m n is noted =
-      noted
-      ∙ sym (nodes_append es (tree_nodes (tree_of value)) (label_nodes l m n))
-      ∙ ap (λ z. with_nodes es (nodes_of z)) (sym (ap statement_of is ∙ arithmetic_view value l m n))
-
   pub logical_noted : (before : Entries) (condition : Expr) (a : Box Stmt Global) (x : Stmt) → s ≡ boxed.LogicalIf condition a → x ≡ a.value
       → before ≡ with_nodes es (tree_nodes (tree_of condition)) → after ≡ with_nodes before (nodes_of (statement_of x)) → after ≡ with_nodes es (nodes_of (statement_of s))
   logical_noted before condition a x is inner first second =
@@ -84,3 +67,27 @@ module _ (es after : Entries) (s : Stmt) where
       ∙ (λ i. with_nodes (first i) (nodes_of (statement_of (inner i))))
       ∙ sym (nodes_append es (tree_nodes (tree_of condition)) (nodes_of (statement_of a.value)))
       ∙ ap (λ z. with_nodes es (nodes_of z)) (sym (ap statement_of is ∙ logical_view condition a))
+
+-- a statement of the other forms bears the names of its expression alone
+abbrev pub ValueNamed : Entries → Statement → Type 0
+ValueNamed es s = with_nodes es (nodes_of s) ≡ with_nodes es (step_parts (value_of s))
+
+pub value_named : (es : Entries) (s : Stmt) → ((name : List ℕ) (arguments : Vec (List ℕ) Global) → s ≢ Subroutine name arguments)
+    → ((kind : Kind) (items : Vec Decl Global) → s ≢ Declare kind items) → ((items : Vec Decl Global) → s ≢ Dimension items)
+    → ((groups : Vec DataGroup Global) → s ≢ Preset groups) → ((target : Ref) (value : Expr) → s ≢ Assign target value)
+    → ((condition : Expr) (inner : Box Stmt Global) → s ≢ boxed.LogicalIf condition inner)
+    → ((label : ℕ) (variable : List ℕ) (first last : Expr) (step : Option Expr) → s ≢ Loop label variable first last step)
+    → ValueNamed es (statement_of s)
+unfolding boxed.out-Stmt denote.Hole.Carrier.out
+value_named es (Subroutine name arguments) unit declared dimension preset assign logical loop = absurd (unit name arguments refl)
+value_named es (Declare kind items) unit declared dimension preset assign logical loop = absurd (declared kind items refl)
+value_named es (Dimension items) unit declared dimension preset assign logical loop = absurd (dimension items refl)
+value_named es (Preset groups) unit declared dimension preset assign logical loop = absurd (preset groups refl)
+value_named es (Assign target value) unit declared dimension preset assign logical loop = absurd (assign target value refl)
+value_named es (LogicalIf' condition pointer inner) unit declared dimension preset assign logical loop = absurd (logical condition (record { ptr = pointer.ptr; alloc = pointer.alloc; value = inner }) refl)
+value_named es (Loop label variable first last step) unit declared dimension preset assign logical loop = absurd (loop label variable first last step refl)
+value_named es (ComputedGoto labels value) unit declared dimension preset assign logical loop =
+    subst (ValueNamed es) (sym (fold_out-Stmt Statement stmt_step (ComputedGoto labels value))) (labels_unnamed es labels.items (tree_nodes (tree_of value)))
+value_named es (ArithIf value l m n) unit declared dimension preset assign logical loop =
+    subst (ValueNamed es) (sym (fold_out-Stmt Statement stmt_step (ArithIf value l m n))) (nodes_append es (tree_nodes (tree_of value)) (label_nodes l m n))
+value_named es s unit declared dimension preset assign logical loop = subst (ValueNamed es) (sym (fold_out-Stmt Statement stmt_step s)) refl

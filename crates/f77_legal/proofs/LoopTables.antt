@@ -12,7 +12,7 @@ use Rattle.std.proofs.lemmas.List.Elements.{filter-append, filter_agree}
 use Rattle.std.proofs.lemmas.List.Quantifiers.{position-Some}
 use Rattle.std.proofs.lemmas.Map.Views.{any-filter_same}
 use Rattle.f77_program.specs.Program.{LineFields}
-use Rattle.f77_tree.specs.Tree.{Statement}
+use Rattle.f77_tree.specs.Statement.{Statement}
 use Rattle.f77_legal.specs.Blocks.{first_numbers, numbers, has_at, is_end_if, is_alternative, is_level, begins_branch, branch_end, branch_holds}
 use Rattle.f77_legal.specs.Holders.{entry, in_range, in_branch, innermost, ancestors, precedes}
 use Rattle.f77_legal.specs.Labels.{statement_at, place_of, bears, terminal_label}

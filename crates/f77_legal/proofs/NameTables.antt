@@ -8,7 +8,7 @@ use Rattle.std.proofs.lemmas.List.Concat.{flat_map-append}
 use Rattle.std.proofs.lemmas.List.Sums.{fold-append}
 use Rattle.f77_program.specs.declared.program.Line.{Line}
 use Rattle.f77_program.specs.Program.{LineFields, line_of}
-use Rattle.f77_tree.specs.StatementView.{statement_of}
+use Rattle.f77_tree.specs.Statement.{statement_of}
 use Rattle.f77_legal.specs.Names.{Symbol, Mention, name_in, mentions_of, mentions, each_once}
 use Rattle.f77_legal.specs.NameTable.{FactsFields, Entries, facts_of, table, with_fact, no_facts, with_mention, with_mentions}
 use Rattle.f77_legal.proofs.Digests.{facts_hit, facts_miss, facts_none}

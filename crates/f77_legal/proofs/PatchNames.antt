@@ -17,13 +17,14 @@ use Rattle.f77_nodes.specs.Node.{NodeOf, parts, all_parts, tree_nodes, step_part
 use Rattle.f77_program.specs.Program.{LineFields}
 use Rattle.f77_program.specs.Patching.{replaced}
 use Rattle.f77_tree.specs.StatementGrammar.{IsFormed}
-use Rattle.f77_tree.specs.Tree.{Tree, Trees, Statement}
+use Rattle.f77_tree.specs.Tree.{Tree, Trees}
+use Rattle.f77_tree.specs.Statement.{Statement}
 use Rattle.f77_program.specs.declared.group.Group.TheVariants.{Executable}
 use Rattle.f77_program.proofs.StatementForming.{is_formed}
 use Rattle.f77_tree.proofs.Tests.{and_true}
 use Rattle.f77_legal.specs.declared.names.Names.{Names}
 use Rattle.f77_legal.specs.Names.{Symbol, Mention, name_in, mentions_of, mentions, symbols}
-use Rattle.f77_legal.specs.Patches.{is_among, NamesAmong, tree_passes, items_pass, step_passes, names_pass}
+use Rattle.f77_legal.specs.Patches.{is_among, NamesAmong, tree_passes, items_pass, value_passes, names_pass}
 use Rattle.f77_legal.proofs.Among.{all_once, once_all}
 
 -- each mention of the changed program is one of another line or of the statement
@@ -122,7 +123,7 @@ module _ (test : Symbol → Bool) where
     items_are Trees.None = refl
     items_are (Trees.Then t ts) = parts_append (parts t) (all_parts ts) ∙ (λ i. tree_is t i && items_are ts i)
 
-  step_is : (step : Option Tree) → nodes_pass (step_parts step) ≡ step_passes test step
+  step_is : (step : Option Tree) → nodes_pass (step_parts step) ≡ value_passes test step
   step_is None = refl
   step_is (Some t) = tree_is t
 

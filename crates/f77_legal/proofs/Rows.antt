@@ -1,7 +1,8 @@
 -- The definitions at worked rows.
 use Rattle.std.specs.Prelude.{◌≡◌, refl, ℕ, ℤ, pos, List, [], ◌∷◌, Some, None, codes}
 use Rattle.f77_program.specs.Program.{LineFields}
-use Rattle.f77_tree.specs.Tree.{Tree, Trees, DeclFields, Statement}
+use Rattle.f77_tree.specs.Tree.{Tree, Trees, DeclFields}
+use Rattle.f77_tree.specs.Statement.{Statement}
 use Rattle.f77_tree.specs.declared.data.Constant.TheVariants.{Number}
 use Rattle.f77_tree.specs.declared.data.Value.{Value}
 use Rattle.f77_tree.specs.declared.tree.Kind.TheVariants.{Integer}

@@ -6,7 +6,7 @@ use Rattle.std.specs.Option.{option_and_then, option_map_or}
 use Rattle.std.specs.Str.{bytes_eq}
 use Rattle.std.proofs.lemmas.List.{length-map, take-map, drop-map}
 use Rattle.f77_program.specs.Program.{LineFields}
-use Rattle.f77_tree.specs.Tree.{Statement}
+use Rattle.f77_tree.specs.Statement.{Statement, jumps_of}
 use Rattle.f77_legal.specs.declared.clause.Clause.{Clause}
 use Rattle.f77_legal.specs.declared.clause.Clause.TheVariants.{Kinds, Bounds, NamedLabels, Targets, Terminals, Nests, Jumps, Variables}
 use Rattle.f77_legal.specs.Blocks.{is_block_if, is_end_if, is_else, is_alternative, first_numbers, numbers, has_at, count_between, is_level, block_end, branch_end}
@@ -15,7 +15,7 @@ use Rattle.f77_legal.specs.Clause.{breaks}
 use Rattle.f77_legal.specs.Dimensions.{dimensions_fit}
 use Rattle.f77_legal.specs.Frames.{framed, framed_line, frame, HaveOneFrame}
 use Rattle.f77_legal.specs.Kinds.{kinds_agree}
-use Rattle.f77_legal.specs.Labels.{labels, bears, is_double, place_of, statement_at, statement_with, jumps_of, terminal_label, is_target}
+use Rattle.f77_legal.specs.Labels.{labels, bears, is_double, place_of, statement_at, statement_with, terminal_label, is_target}
 use Rattle.f77_legal.specs.Loops.{terminal, range_holds, left_by, loops_ending, branches, enclosing, same_numbers, ends_outside, breaks_range}
 use Rattle.f77_legal.specs.Loops.{AreNested, breaks_nesting, goes_in, set_by, variable_of, holds_with}
 use Rattle.f77_legal.specs.Names.{Symbol}

@@ -1,11 +1,11 @@
 -- Tables that answer for a program.
-use Rattle.std.proofs.Common.{◌≡◌, ◌∙◌, ℕ, List, map, ap, if◌then◌else◌, Option, None}
+use Rattle.std.proofs.Common.{◌≡◌, ◌∙◌, ℕ, List, map, ap, if◌then◌else◌, None}
 use Rattle.std.specs.Prelude.{option_map}
 use Rattle.f77_program.specs.Program.{LineFields}
 use Rattle.f77_legal.specs.Blocks.{is_block_if, is_closing, is_in_block, ends_else}
 use Rattle.f77_legal.specs.BlockTable.{block_end_at, branch_end_at, tabled, IsBlockTable}
 use Rattle.f77_legal.specs.Frames.{HaveOneFrame}
-use Rattle.f77_legal.specs.LabelTable.{distinct, place_in, IsLabelTable}
+use Rattle.f77_legal.specs.LabelTable.{distinct, IsLabelTable}
 use Rattle.f77_legal.specs.LoopTable.{IsRangeTable}
 use Rattle.f77_legal.specs.Tables.{AreTables, Serve}
 use Rattle.f77_legal.specs.declared.blocks.Blocks.{Blocks}

@@ -4,7 +4,7 @@ use Rattle.std.specs.Prelude.{ℕ, Bool, false, not, nat_lt, is_some, List, map,
 use Rattle.std.specs.List.{find, list_any}
 use Rattle.std.specs.Option.{option_map_or}
 use Rattle.f77_program.specs.Program.{LineFields}
-use Rattle.f77_tree.specs.Tree.{Statement}
+use Rattle.f77_tree.specs.Statement.{Statement}
 use Rattle.f77_legal.specs.Blocks.{is_block_if, is_end_if, is_else, is_alternative, numbers, has_at, is_level}
 use Rattle.f77_legal.specs.Blocks.{block_end, branch_end, is_in_block, is_closing, ends_else, begins_branch}
 use Rattle.f77_legal.specs.declared.blocks.Blocks.{Blocks}

@@ -1,7 +1,8 @@
 -- Bounds, subscripts and arguments (ANSI X3.9-1978, section 5 and 15.10).
 use Rattle.std.specs.Prelude.{ℕ, zero, suc, ◌==◌, ◌&&◌, Bool, true, nat_le, List, length, Option, Some, None}
 use Rattle.std.specs.List.{list_all}
-use Rattle.f77_tree.specs.Tree.{Tree, Trees, DeclFields, Statement}
+use Rattle.f77_tree.specs.Tree.{Tree, Trees, DeclFields}
+use Rattle.f77_tree.specs.Statement.{Statement, value_of}
 use Rattle.f77_tree.specs.declared.intrinsic.Intrinsic.{Intrinsic}
 use Rattle.f77_tree.specs.declared.intrinsic.Intrinsic.TheVariants.{Mod, Iabs, Min0, Max0}
 use Rattle.f77_legal.specs.Names.{Symbol}
@@ -33,9 +34,10 @@ abbrev mutual
   all_fit bounds Trees.None = true
   all_fit bounds (Trees.Then tree trees) = fits bounds tree && all_fit bounds trees
 
-abbrev pub step_fits : (Symbol → List ℕ) → Option Tree → Bool
-step_fits bounds None = true
-step_fits bounds (Some tree) = fits bounds tree
+-- the expression, where there is one, fits
+abbrev pub value_fits : (Symbol → List ℕ) → Option Tree → Bool
+value_fits bounds None = true
+value_fits bounds (Some tree) = fits bounds tree
 
 -- a declaration gives no bounds, or one or two, each at least 1
 abbrev pub is_shape : DeclFields → Bool
@@ -43,23 +45,10 @@ is_shape declaration = nat_le (length declaration.bounds) 2 && list_all (nat_le 
 
 -- the dimensions of a statement are in order; a DO variable is no array
 abbrev pub dimensions_fit : (Symbol → List ℕ) → Statement → Bool
-dimensions_fit bounds (Statement.Subroutine name names) = true
 dimensions_fit bounds (Statement.Declare kind declarations) = list_all is_shape declarations
 dimensions_fit bounds (Statement.Dimension declarations) = list_all is_shape declarations
-dimensions_fit bounds (Statement.Preset groups) = true
 dimensions_fit bounds (Statement.Assign name items tree) = (count items == length (bounds name)) && (all_fit bounds items && fits bounds tree)
-dimensions_fit bounds (Statement.Goto label) = true
-dimensions_fit bounds (Statement.ComputedGoto labels tree) = fits bounds tree
-dimensions_fit bounds (Statement.ArithIf tree first second third) = fits bounds tree
 dimensions_fit bounds (Statement.LogicalIf tree statement) = fits bounds tree && dimensions_fit bounds statement
-dimensions_fit bounds (Statement.BlockIf tree) = fits bounds tree
-dimensions_fit bounds (Statement.ElseIf tree) = fits bounds tree
-dimensions_fit bounds Statement.Else = true
-dimensions_fit bounds Statement.EndIf = true
 dimensions_fit bounds (Statement.Loop label name first last step) =
-    (length (bounds name) == 0) && (fits bounds first && (fits bounds last && step_fits bounds step))
-dimensions_fit bounds Statement.Continue = true
-dimensions_fit bounds Statement.Return = true
-dimensions_fit bounds Statement.Stop = true
-dimensions_fit bounds Statement.Trap = true
-dimensions_fit bounds Statement.End = true
+    (length (bounds name) == 0) && (fits bounds first && (fits bounds last && value_fits bounds step))
+dimensions_fit bounds statement = value_fits bounds (value_of statement)

@@ -2,7 +2,9 @@
 -- expressions, references and jumps. Declarations and DATA, labels, blocks and the ranges of DOs are told from the frame alone.
 use Rattle.std.specs.Prelude.{◌≡◌, Bool, true, false, List, map, None}
 use Rattle.f77_program.specs.Program.{LineFields}
-use Rattle.f77_tree.specs.Tree.{Tree, Statement}
+use Rattle.f77_tree.specs.Tree.{Tree}
+use Rattle.f77_tree.specs.Statement.{Statement}
+use Rattle.f77_tree.specs.Form.{acts}
 use Rattle.f77_tree.specs.declared.form.Form.{Form}
 
 -- a statement with no expression, reference or jump: an action is CONTINUE, and a DO keeps its label and its variable
@@ -11,34 +13,18 @@ framed (Statement.Subroutine name names) = Statement.Subroutine name names
 framed (Statement.Declare kind declarations) = Statement.Declare kind declarations
 framed (Statement.Dimension declarations) = Statement.Dimension declarations
 framed (Statement.Preset groups) = Statement.Preset groups
-framed (Statement.Assign name items tree) = Statement.Continue
-framed (Statement.Goto label) = Statement.Continue
-framed (Statement.ComputedGoto labels tree) = Statement.Continue
-framed (Statement.ArithIf tree first second third) = Statement.Continue
-framed (Statement.LogicalIf tree statement) = Statement.Continue
 framed (Statement.BlockIf tree) = Statement.BlockIf (Tree.Truth false)
 framed (Statement.ElseIf tree) = Statement.ElseIf (Tree.Truth false)
 framed Statement.Else = Statement.Else
 framed Statement.EndIf = Statement.EndIf
 framed (Statement.Loop label name first last step) = Statement.Loop label name (Tree.Number 0) (Tree.Number 0) None
-framed Statement.Continue = Statement.Continue
-framed Statement.Return = Statement.Continue
-framed Statement.Stop = Statement.Continue
-framed Statement.Trap = Statement.Continue
 framed Statement.End = Statement.End
+framed _ = Statement.Continue
 
--- the frame has CONTINUE in the place of a statement of this form
+-- the frame has CONTINUE in the place of a statement of this form: an action, or a logical IF
 abbrev pub is_framed_out : Form → Bool
-is_framed_out Form.Assign = true
-is_framed_out Form.Goto = true
-is_framed_out Form.ComputedGoto = true
-is_framed_out Form.ArithIf = true
 is_framed_out Form.LogicalIf = true
-is_framed_out Form.Continue = true
-is_framed_out Form.Return = true
-is_framed_out Form.Stop = true
-is_framed_out Form.Trap = true
-is_framed_out _ = false
+is_framed_out form = acts form
 
 abbrev pub framed_line : LineFields → LineFields
 framed_line line = record (line) { stmt = framed line.stmt }

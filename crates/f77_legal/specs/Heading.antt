@@ -2,7 +2,7 @@
 use Rattle.std.specs.Prelude.{List, []}
 use Rattle.std.specs.Option.{option_map_or}
 use Rattle.f77_program.specs.Program.{LineFields}
-use Rattle.f77_tree.specs.Tree.{Statement}
+use Rattle.f77_tree.specs.Statement.{Statement}
 use Rattle.f77_legal.specs.Labels.{statement_at}
 use Rattle.f77_legal.specs.Names.{Symbol}
 

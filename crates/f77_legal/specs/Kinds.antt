@@ -1,6 +1,7 @@
 -- The kinds that expressions have and statements want (ANSI X3.9-1978, sections 6, 10 and 11).
 use Rattle.std.specs.Prelude.{◌&&◌, Bool, true, false, Option, Some, None}
-use Rattle.f77_tree.specs.Tree.{Tree, Trees, Statement}
+use Rattle.f77_tree.specs.Tree.{Tree, Trees}
+use Rattle.f77_tree.specs.Statement.{Statement, value_of}
 use Rattle.f77_tree.specs.declared.operator.Operator.{Operator}
 use Rattle.f77_tree.specs.declared.operator.Operator.TheVariants.{Equivalent, NotEquivalent, Or, And, Less, LessOrEqual, Equal, NotEqual}
 use Rattle.f77_tree.specs.declared.operator.Operator.TheVariants.{GreaterOrEqual, Greater, Add, Subtract, Multiply, Divide, Power}
@@ -66,29 +67,17 @@ abbrev mutual
   are_integer kinds Trees.None = true
   are_integer kinds (Trees.Then tree trees) = is_of kinds Integer tree && are_integer kinds trees
 
-abbrev pub is_step : (Symbol → Kind) → Option Tree → Bool
-is_step kinds None = true
-is_step kinds (Some tree) = is_of kinds Integer tree
+-- the expression, where there is one, is of this kind
+abbrev pub value_is : (Symbol → Kind) → Kind → Option Tree → Bool
+value_is kinds kind None = true
+value_is kinds kind (Some tree) = is_of kinds kind tree
 
--- the kinds of a statement agree
+-- the kinds of a statement agree: a condition is LOGICAL, and what else is neither assigned nor a parameter is INTEGER
 abbrev pub kinds_agree : (Symbol → Kind) → Statement → Bool
-kinds_agree kinds (Statement.Subroutine name names) = true
-kinds_agree kinds (Statement.Declare kind declarations) = true
-kinds_agree kinds (Statement.Dimension declarations) = true
-kinds_agree kinds (Statement.Preset groups) = true
 kinds_agree kinds (Statement.Assign name items tree) = are_integer kinds items && is_of kinds (kinds name) tree
-kinds_agree kinds (Statement.Goto label) = true
-kinds_agree kinds (Statement.ComputedGoto labels tree) = is_of kinds Integer tree
-kinds_agree kinds (Statement.ArithIf tree first second third) = is_of kinds Integer tree
 kinds_agree kinds (Statement.LogicalIf tree statement) = is_of kinds Logical tree && kinds_agree kinds statement
 kinds_agree kinds (Statement.BlockIf tree) = is_of kinds Logical tree
 kinds_agree kinds (Statement.ElseIf tree) = is_of kinds Logical tree
-kinds_agree kinds Statement.Else = true
-kinds_agree kinds Statement.EndIf = true
 kinds_agree kinds (Statement.Loop label name first last step) =
-    same_kind (kinds name) Integer && (is_of kinds Integer first && (is_of kinds Integer last && is_step kinds step))
-kinds_agree kinds Statement.Continue = true
-kinds_agree kinds Statement.Return = true
-kinds_agree kinds Statement.Stop = true
-kinds_agree kinds Statement.Trap = true
-kinds_agree kinds Statement.End = true
+    same_kind (kinds name) Integer && (is_of kinds Integer first && (is_of kinds Integer last && value_is kinds Integer step))
+kinds_agree kinds statement = value_is kinds Integer (value_of statement)

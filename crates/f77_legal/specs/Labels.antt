@@ -1,10 +1,10 @@
 -- Labels: which stand on a statement, which are named, and what a statement that is named may be (ANSI X3.9-1978, 3.4 and 11.1 to 11.10).
-use Rattle.std.specs.Prelude.{◌==◌, ◌||◌, ◌∷◌}
-use Rattle.std.specs.Prelude.{ℕ, Bool, true, false, not, nat_le, List, [], length, filter, Option, Some, None, is_some, option_map, position}
+use Rattle.std.specs.Prelude.{◌==◌, ◌||◌}
+use Rattle.std.specs.Prelude.{ℕ, Bool, true, false, not, nat_le, List, length, filter, Option, Some, None, is_some, option_map, position}
 use Rattle.std.specs.List.{filter_map, list_any, slice_get}
 use Rattle.std.specs.Option.{option_and_then, option_map_or}
 use Rattle.f77_program.specs.Program.{LineFields}
-use Rattle.f77_tree.specs.Tree.{Statement}
+use Rattle.f77_tree.specs.Statement.{Statement, jumps_of}
 
 -- the labels that stand on a statement, in order
 abbrev pub labels : List LineFields → List ℕ
@@ -26,14 +26,6 @@ statement_at program i = option_map (λ line. line.stmt) (slice_get program i)
 
 abbrev pub statement_with : List LineFields → ℕ → Option Statement
 statement_with program label = option_and_then (statement_at program) (place_of program label)
-
--- the labels that control may go to from a statement
-abbrev pub jumps_of : Statement → List ℕ
-jumps_of (Statement.Goto label) = label ∷ []
-jumps_of (Statement.ComputedGoto labels tree) = labels
-jumps_of (Statement.ArithIf tree first second third) = first ∷ (second ∷ (third ∷ []))
-jumps_of (Statement.LogicalIf tree statement) = jumps_of statement
-jumps_of _ = []
 
 -- the label of the terminal statement that a DO names
 abbrev pub terminal_label : Statement → Option ℕ
@@ -61,14 +53,23 @@ abbrev pub jumps_badly : List LineFields → Statement → Bool
 jumps_badly program statement =
     list_any (λ label. option_map_or (λ target. not (is_target target)) (statement_with program label) false) (jumps_of statement)
 
--- it may be the terminal statement of a DO
+-- it may be the terminal statement of a DO: no declaration, no jump but a computed GO TO, no DO, and nothing of a block IF (11.10)
 abbrev pub is_terminal : Statement → Bool
-is_terminal (Statement.Assign name items tree) = true
-is_terminal (Statement.ComputedGoto labels tree) = true
-is_terminal (Statement.LogicalIf tree statement) = true
-is_terminal Statement.Continue = true
-is_terminal Statement.Trap = true
-is_terminal _ = false
+is_terminal (Statement.Subroutine name names) = false
+is_terminal (Statement.Declare kind declarations) = false
+is_terminal (Statement.Dimension declarations) = false
+is_terminal (Statement.Preset groups) = false
+is_terminal (Statement.Goto label) = false
+is_terminal (Statement.ArithIf tree first second third) = false
+is_terminal (Statement.BlockIf tree) = false
+is_terminal (Statement.ElseIf tree) = false
+is_terminal Statement.Else = false
+is_terminal Statement.EndIf = false
+is_terminal (Statement.Loop label name first last step) = false
+is_terminal Statement.Return = false
+is_terminal Statement.Stop = false
+is_terminal Statement.End = false
+is_terminal _ = true
 
 -- the statement is a DO that names one which may be no terminal statement
 abbrev pub ends_badly : List LineFields → Statement → Bool

@@ -5,9 +5,9 @@ use Rattle.std.specs.Option.{option_and_then, option_map_or}
 use Rattle.std.specs.Cmp.Lexicographic.{pointwise}
 use Rattle.std.specs.Str.{bytes_eq}
 use Rattle.f77_program.specs.Program.{LineFields}
-use Rattle.f77_tree.specs.Tree.{Statement}
+use Rattle.f77_tree.specs.Statement.{Statement, jumps_of}
 use Rattle.f77_legal.specs.Blocks.{numbers, branch_holds, breaks_block}
-use Rattle.f77_legal.specs.Labels.{statement_at, place_of, terminal_label, jumps_of}
+use Rattle.f77_legal.specs.Labels.{statement_at, place_of, terminal_label}
 use Rattle.f77_legal.specs.Names.{Symbol}
 
 -- the terminal statement of a DO

@@ -3,7 +3,8 @@ use Rattle.std.specs.Prelude.{◌≡◌, ◌≤◌, ◌&&◌, ℕ, Bool, true, f
 use Rattle.std.specs.List.{All, list_any, list_all, sum, slice_get}
 use Rattle.std.specs.Str.{bytes_eq}
 use Rattle.f77_program.specs.Program.{LineFields}
-use Rattle.f77_tree.specs.Tree.{Tree, Trees, Statement}
+use Rattle.f77_tree.specs.Tree.{Tree, Trees}
+use Rattle.f77_tree.specs.Statement.{Statement, value_of}
 use Rattle.f77_legal.specs.declared.clause.Clause.{Clause}
 use Rattle.f77_legal.specs.declared.clause.Clause.TheVariants.{Kinds, Bounds, NamedLabels, Targets, Jumps, Variables}
 use Rattle.f77_legal.specs.declared.fault.CheckFault.{CheckFault}
@@ -71,29 +72,15 @@ abbrev mutual
   items_pass test Trees.None = true
   items_pass test (Trees.Then tree trees) = tree_passes test tree && items_pass test trees
 
-abbrev pub step_passes : (Symbol → Bool) → Option Tree → Bool
-step_passes test None = true
-step_passes test (Some tree) = tree_passes test tree
+-- the same of an expression, where there is one
+abbrev pub value_passes : (Symbol → Bool) → Option Tree → Bool
+value_passes test None = true
+value_passes test (Some tree) = tree_passes test tree
 
 -- each name of a statement that can be executed passes the test
 abbrev pub names_pass : (Symbol → Bool) → Statement → Bool
-names_pass test (Statement.Subroutine name dummies) = true
-names_pass test (Statement.Declare kind declarations) = true
-names_pass test (Statement.Dimension declarations) = true
-names_pass test (Statement.Preset groups) = true
 names_pass test (Statement.Assign name items tree) = test name && (items_pass test items && tree_passes test tree)
-names_pass test (Statement.Goto label) = true
-names_pass test (Statement.ComputedGoto labels tree) = tree_passes test tree
-names_pass test (Statement.ArithIf tree first second third) = tree_passes test tree
 names_pass test (Statement.LogicalIf tree statement) = tree_passes test tree && names_pass test statement
-names_pass test (Statement.BlockIf tree) = tree_passes test tree
-names_pass test (Statement.ElseIf tree) = tree_passes test tree
-names_pass test Statement.Else = true
-names_pass test Statement.EndIf = true
 names_pass test (Statement.Loop label name first last step) =
-    test name && (tree_passes test first && (tree_passes test last && step_passes test step))
-names_pass test Statement.Continue = true
-names_pass test Statement.Return = true
-names_pass test Statement.Stop = true
-names_pass test Statement.Trap = true
-names_pass test Statement.End = true
+    test name && (tree_passes test first && (tree_passes test last && value_passes test step))
+names_pass test statement = value_passes test (value_of statement)

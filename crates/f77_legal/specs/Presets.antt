@@ -8,7 +8,8 @@ use Rattle.f77_tree.specs.declared.data.Constant.TheVariants.{Number, Truth}
 use Rattle.f77_tree.specs.declared.tree.Kind.{Kind}
 use Rattle.f77_tree.specs.declared.tree.Kind.TheVariants.{Integer, Logical}
 use Rattle.f77_program.specs.Program.{LineFields}
-use Rattle.f77_tree.specs.Tree.{GroupFields, Statement}
+use Rattle.f77_tree.specs.Tree.{GroupFields}
+use Rattle.f77_tree.specs.Statement.{Statement}
 use Rattle.f77_legal.specs.Kinds.{same_kind}
 use Rattle.f77_legal.specs.Names.{Symbol, mentions, dummies_given, kind_of, bounds_of}
 

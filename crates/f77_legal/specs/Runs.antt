@@ -7,7 +7,8 @@ use Rattle.std.specs.Cmp.Lexicographic.{pointwise}
 use Rattle.std.specs.Str.{bytes_eq}
 use Rattle.f77_tree.specs.declared.data.Value.{Value}
 use Rattle.f77_tree.specs.declared.tree.Kind.{Kind}
-use Rattle.f77_tree.specs.Tree.{GroupFields, Statement}
+use Rattle.f77_tree.specs.Tree.{GroupFields}
+use Rattle.f77_tree.specs.Statement.{Statement}
 use Rattle.f77_legal.specs.declared.presets.Remaining.{Remaining}
 use Rattle.f77_legal.specs.Kinds.{same_kind}
 use Rattle.f77_legal.specs.Names.{Symbol}

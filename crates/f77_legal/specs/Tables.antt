@@ -1,7 +1,7 @@
 -- What the tables are of a program.
 use Rattle.std.specs.Prelude.{◌≡◌, ℕ, List, Option, None, if◌then◌else◌}
 use Rattle.std.specs.Option.{option_and_then}
-use Rattle.f77_tree.specs.Tree.{Statement}
+use Rattle.f77_tree.specs.Statement.{Statement}
 use Rattle.f77_legal.specs.Blocks.{begins_branch, branch_end}
 use Rattle.f77_legal.specs.Labels.{place_of, terminal_label}
 use Rattle.f77_program.specs.Program.{LineFields}

@@ -4,7 +4,7 @@ ghost use Rattle.std.specs.Prelude.{◌≡◌, ◌==◌, length, map, option_map
 ghost use Rattle.std.specs.List.{list_all};
 ghost use Rattle.f77_tree.specs.Declaration.{decl_of};
 ghost use Rattle.f77_tree.specs.View.{tree_of, trees};
-ghost use Rattle.f77_tree.specs.StatementView.{statement_of};
+ghost use Rattle.f77_tree.specs.Statement.{statement_of};
 ghost use Rattle.f77_legal.specs.Dimensions as dimensions;
 ghost use Rattle.f77_legal.specs.NameTable.{bounds_at};
 
@@ -68,12 +68,12 @@ fn all_fit(names: &Names, items: &[Expr]) -> bool
     true
 }
 
-fn step_fits(names: &Names, step: &Option<Expr>) -> bool
-    ensures { result ≡ dimensions.step_fits (bounds_at names.now) (option_map tree_of step.now) }
+fn value_fits(names: &Names, value: Option<&Expr>) -> bool
+    ensures { result ≡ dimensions.value_fits (bounds_at names.now) (option_map (λ value. tree_of value.now) value.entry) }
 {
-    match step {
+    match value {
         None => true,
-        Some(step) => fits(names, step),
+        Some(value) => fits(names, value),
     }
 }
 
@@ -112,13 +112,10 @@ pub(crate) fn dimensions_fit(names: &Names, stmt: &Stmt) -> bool
                 && all_fit(names, &target.subscripts)
                 && fits(names, value)
         }
-        Stmt::ComputedGoto { value, .. } => fits(names, value),
-        Stmt::ArithIf { value, .. } => fits(names, value),
         Stmt::LogicalIf {
             condition,
             statement,
         } => fits(names, condition) && dimensions_fit(names, statement),
-        Stmt::BlockIf { condition } | Stmt::ElseIf { condition } => fits(names, condition),
         Stmt::Loop {
             variable,
             first,
@@ -129,8 +126,8 @@ pub(crate) fn dimensions_fit(names: &Names, stmt: &Stmt) -> bool
             is_variable(names, variable)
                 && fits(names, first)
                 && fits(names, last)
-                && step_fits(names, step)
+                && value_fits(names, step.as_ref())
         }
-        _ => true,
+        _ => value_fits(names, stmt.value()),
     }
 }

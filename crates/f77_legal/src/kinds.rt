@@ -2,7 +2,7 @@
 
 ghost use Rattle.std.specs.Prelude.{◌≡◌, map, option_map};
 ghost use Rattle.f77_tree.specs.View.{tree_of, trees};
-ghost use Rattle.f77_tree.specs.StatementView.{statement_of};
+ghost use Rattle.f77_tree.specs.Statement.{statement_of};
 ghost use Rattle.f77_legal.specs.Kinds as kinds;
 ghost use Rattle.f77_legal.specs.NameTable.{kind_at};
 
@@ -101,12 +101,13 @@ fn are_integer(names: &Names, items: &[Expr]) -> bool
     true
 }
 
-fn is_step(names: &Names, step: &Option<Expr>) -> bool
-    ensures { result ≡ kinds.is_step (kind_at names.now) (option_map tree_of step.now) }
+/// Whether the expression, if any, is of this kind.
+fn value_is(names: &Names, kind: Kind, value: Option<&Expr>) -> bool
+    ensures { result ≡ kinds.value_is (kind_at names.now) kind (option_map (λ value. tree_of value.now) value.entry) }
 {
-    match step {
+    match value {
         None => true,
-        Some(step) => is_of(names, Kind::Integer, step),
+        Some(value) => is_of(names, kind, value),
     }
 }
 
@@ -119,8 +120,6 @@ pub(crate) fn kinds_agree(names: &Names, stmt: &Stmt) -> bool
         Stmt::Assign { target, value } => {
             are_integer(names, &target.subscripts) && is_of(names, names.kind(&target.name), value)
         }
-        Stmt::ComputedGoto { value, .. } => is_of(names, Kind::Integer, value),
-        Stmt::ArithIf { value, .. } => is_of(names, Kind::Integer, value),
         Stmt::LogicalIf {
             condition,
             statement,
@@ -140,8 +139,8 @@ pub(crate) fn kinds_agree(names: &Names, stmt: &Stmt) -> bool
             same_kind(names.kind(variable), Kind::Integer)
                 && is_of(names, Kind::Integer, first)
                 && is_of(names, Kind::Integer, last)
-                && is_step(names, step)
+                && value_is(names, Kind::Integer, step.as_ref())
         }
-        _ => true,
+        _ => value_is(names, Kind::Integer, stmt.value()),
     }
 }

@@ -7,7 +7,7 @@ ghost use Rattle.std.specs.List.{find, list_any};
 ghost use Rattle.std.specs.Option.{option_and_then, option_map_or};
 ghost use Rattle.indexmap.specs.IndexMap.{get, IsUnique};
 ghost use Rattle.f77_program.specs.Program.{LineFields, line_of};
-ghost use Rattle.f77_tree.specs.StatementView.{statement_of};
+ghost use Rattle.f77_tree.specs.Statement.{jumps_of, statement_of};
 ghost use Rattle.f77_legal.specs.LabelTable.{IsLabelTable, noted};
 ghost use Rattle.f77_legal.specs.Labels as clause;
 ghost use Rattle.f77_legal.specs.Labels.{is_double, place_of};
@@ -127,43 +127,6 @@ impl Labels {
     }
 }
 
-/// How many labels a statement names that control may go to (11.1, 11.2, 11.4, 11.5).
-pub(crate) fn jump_count(stmt: &Stmt) -> usize
-    ensures { result ≡ length (clause.jumps_of (statement_of stmt.now)) }
-{
-    match stmt {
-        Stmt::Goto { .. } => 1,
-        Stmt::ComputedGoto { labels, .. } => labels.len(),
-        Stmt::ArithIf { .. } => 3,
-        Stmt::LogicalIf { statement, .. } => jump_count(statement),
-        _ => 0,
-    }
-}
-
-fn label_at(labels: &[u32], k: usize) -> Option<u32>
-    ensures { result ≡ slice_get labels.now k }
-{
-    labels.get(k).copied()
-}
-
-/// The label `k` from 0 of those that control may go to from a statement, None past the last.
-pub(crate) fn jump_label(stmt: &Stmt, k: usize) -> Option<u32>
-    ensures { result ≡ slice_get (clause.jumps_of (statement_of stmt.now)) k }
-{
-    match stmt {
-        Stmt::Goto { label } => label_at(&[*label], k),
-        Stmt::ComputedGoto { labels, .. } => label_at(labels, k),
-        Stmt::ArithIf {
-            negative,
-            zero,
-            positive,
-            ..
-        } => label_at(&[*negative, *zero, *positive], k),
-        Stmt::LogicalIf { statement, .. } => jump_label(statement, k),
-        _ => None,
-    }
-}
-
 /// The label of the terminal statement that a DO names (11.10).
 #[tactic(auto, using(crate::proofs::Forms::no_terminal))]
 pub(crate) fn terminal_label(stmt: &Stmt) -> Option<u32>
@@ -178,10 +141,10 @@ pub(crate) fn terminal_label(stmt: &Stmt) -> Option<u32>
 /// Whether a jump of the statement names a label that stands on none.
 fn jumps_nowhere(labels: &Labels, stmt: &Stmt) -> bool
     ensures { (program : List LineFields) → IsLabelTable labels.now program
-        → result ≡ list_any (λ label. not (is_some (place_of program label))) (clause.jumps_of (statement_of stmt.now)) }
+        → result ≡ list_any (λ label. not (is_some (place_of program label))) (jumps_of (statement_of stmt.now)) }
 {
-    for k in 0..jump_count(stmt) {
-        if labels.misses(jump_label(stmt, k)) {
+    for k in 0..stmt.jump_count() {
+        if labels.misses(stmt.jump(k)) {
             return true;
         }
     }
@@ -226,8 +189,8 @@ fn leads_badly(labels: &Labels, lines: &[Shared<Line>], label: Option<u32>) -> b
 pub(crate) fn jumps_badly(labels: &Labels, lines: &[Shared<Line>], stmt: &Stmt) -> bool
     ensures { IsLabelTable labels.now (map line_of lines.now) → result ≡ clause.jumps_badly (map line_of lines.now) (statement_of stmt.now) }
 {
-    for k in 0..jump_count(stmt) {
-        if leads_badly(labels, lines, jump_label(stmt, k)) {
+    for k in 0..stmt.jump_count() {
+        if leads_badly(labels, lines, stmt.jump(k)) {
             return true;
         }
     }
@@ -238,9 +201,22 @@ pub(crate) fn jumps_badly(labels: &Labels, lines: &[Shared<Line>], stmt: &Stmt) 
 pub fn is_terminal(stmt: &Stmt) -> bool
     ensures { result ≡ clause.is_terminal (statement_of stmt.now) }
 {
-    matches!(
+    !matches!(
         stmt.form(),
-        Form::Assign | Form::ComputedGoto | Form::LogicalIf | Form::Continue | Form::Trap
+        Form::Subroutine
+            | Form::Declare
+            | Form::Dimension
+            | Form::Preset
+            | Form::Goto
+            | Form::ArithIf
+            | Form::BlockIf
+            | Form::ElseIf
+            | Form::Else
+            | Form::EndIf
+            | Form::Loop
+            | Form::Return
+            | Form::Stop
+            | Form::End
     )
 }
 

@@ -7,7 +7,7 @@ ghost use Rattle.f77_tree.specs.Data.{data_group_of};
 ghost use Rattle.f77_tree.specs.Declaration.{decl_of};
 ghost use Rattle.f77_nodes.specs.Node as nodes;
 ghost use Rattle.f77_nodes.specs.Node.{NodeOf, all_parts, tree_nodes, nodes_of};
-ghost use Rattle.f77_tree.specs.StatementView.{statement_of};
+ghost use Rattle.f77_tree.specs.Statement.{statement_of};
 ghost use Rattle.f77_tree.specs.View.{trees, tree_of, place_of};
 ghost use Rattle.f77_legal.specs.declared.fault.CheckFault.TheVariants as fault;
 ghost use Rattle.f77_legal.specs.Names.{Mention, mentions_of};
@@ -188,13 +188,14 @@ impl Names {
         Ok(())
     }
 
-    fn note_step(&mut self, alloc: Global, step: &Option<Expr>) -> Result<(), CheckFault>
-        ensures noted { OnOk result (entries_of self.new ≡ with_nodes (entries_of self.old) (nodes.step_parts (option_map tree_of step.now))) }
+    fn note_value(&mut self, alloc: Global, value: Option<&Expr>) -> Result<(), CheckFault>
+        ensures noted { OnOk result (entries_of self.new
+            ≡ with_nodes (entries_of self.old) (nodes.step_parts (option_map (λ value. tree_of value.now) value.entry))) }
         ensures memory { IfErr result (λ f. f ≡ fault.Memory) }
     {
-        match step {
+        match value {
             None => Ok(()),
-            Some(step) => self.note_tree(alloc, step),
+            Some(value) => self.note_tree(alloc, value),
         }
     }
 
@@ -212,7 +213,7 @@ impl Names {
     {
         self.note_tree(alloc, first)?;
         self.note_tree(alloc, last)?;
-        self.note_step(alloc, step)
+        self.note_value(alloc, step.as_ref())
     }
 
     /// Notes the DO variable and the names of the parameters.
@@ -299,8 +300,6 @@ impl Names {
             Stmt::Dimension { items } => self.note_declared(alloc, items),
             Stmt::Preset { groups } => self.note_groups(alloc, groups),
             Stmt::Assign { target, value } => self.note_assignment(alloc, target, value),
-            Stmt::ComputedGoto { value, .. } => self.note_tree(alloc, value),
-            Stmt::ArithIf { value, .. } => self.note_tree(alloc, value),
             Stmt::LogicalIf {
                 condition,
                 statement,
@@ -308,8 +307,6 @@ impl Names {
                 self.note_tree(alloc, condition)?;
                 self.note_nodes(alloc, statement)
             }
-            Stmt::BlockIf { condition } => self.note_tree(alloc, condition),
-            Stmt::ElseIf { condition } => self.note_tree(alloc, condition),
             Stmt::Loop {
                 variable,
                 first,
@@ -317,7 +314,7 @@ impl Names {
                 step,
                 ..
             } => self.note_loop(alloc, variable, first, last, step),
-            _ => Ok(()),
+            _ => self.note_value(alloc, stmt.value()),
         }
     }
 

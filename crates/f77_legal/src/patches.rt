@@ -2,15 +2,15 @@
 
 ghost use Rattle.std.specs.Prelude.{◌≡◌, true, None, map, filter, option_map, slice_get};
 ghost use Rattle.f77_program.specs.Program.{line_of};
-ghost use Rattle.f77_tree.specs.StatementView.{statement_of};
-ghost use Rattle.f77_tree.specs.Tree.{Tree, Statement};
+ghost use Rattle.f77_tree.specs.Statement.{statement_of, Statement};
+ghost use Rattle.f77_tree.specs.Tree.{Tree};
 ghost use Rattle.f77_tree.specs.View.{tree_of, trees};
 ghost use Rattle.f77_legal.specs.Clause.{breaks, fault_at};
 ghost use Rattle.f77_legal.specs.Frames as frames;
 ghost use Rattle.f77_legal.specs.Frames.{framed};
 ghost use Rattle.f77_legal.specs.NameTable.{has_name};
 ghost use Rattle.f77_legal.specs.Patches as patches;
-ghost use Rattle.f77_legal.specs.Patches.{tree_passes, items_pass, step_passes, names_pass};
+ghost use Rattle.f77_legal.specs.Patches.{tree_passes, items_pass, value_passes, names_pass};
 ghost use Rattle.f77_legal.specs.Tables.{Serve};
 
 use crate::clause::Clause;
@@ -38,18 +38,7 @@ fn is_loop_with(stmt: &Stmt, terminal: u32, name: &Name) -> bool
 fn is_framed_out(form: Form) -> bool
     ensures { result ≡ frames.is_framed_out form }
 {
-    matches!(
-        form,
-        Form::Assign
-            | Form::Goto
-            | Form::ComputedGoto
-            | Form::ArithIf
-            | Form::LogicalIf
-            | Form::Continue
-            | Form::Return
-            | Form::Stop
-            | Form::Trap
-    )
+    matches!(form, Form::LogicalIf) || form.acts()
 }
 
 /// Whether a program keeps its declarations, labels, blocks and ranges when the one statement takes the place of the other:
@@ -106,12 +95,12 @@ impl Names {
         true
     }
 
-    fn have_step(&self, step: &Option<Expr>) -> bool
-        ensures { result ≡ step_passes (has_name self.now) (option_map tree_of step.now) }
+    fn have_value(&self, value: Option<&Expr>) -> bool
+        ensures { result ≡ value_passes (has_name self.now) (option_map (λ value. tree_of value.now) value.entry) }
     {
-        match step {
+        match value {
             None => true,
-            Some(step) => self.have_tree(step),
+            Some(value) => self.have_tree(value),
         }
     }
 
@@ -125,14 +114,10 @@ impl Names {
                     && self.have_items(&target.subscripts)
                     && self.have_tree(value)
             }
-            Stmt::ComputedGoto { value, .. } | Stmt::ArithIf { value, .. } => {
-                self.have_tree(value)
-            }
             Stmt::LogicalIf {
                 condition,
                 statement,
             } => self.have_tree(condition) && self.have(statement),
-            Stmt::BlockIf { condition } | Stmt::ElseIf { condition } => self.have_tree(condition),
             Stmt::Loop {
                 variable,
                 first,
@@ -143,9 +128,9 @@ impl Names {
                 self.has(variable)
                     && self.have_tree(first)
                     && self.have_tree(last)
-                    && self.have_step(step)
+                    && self.have_value(step.as_ref())
             }
-            _ => true,
+            _ => self.have_value(stmt.value()),
         }
     }
 }

@@ -5,7 +5,7 @@ ghost use Rattle.std.specs.Option.{option_map_or};
 ghost use Rattle.f77_legal.specs.Blocks.{first_numbers};
 ghost use Rattle.f77_legal.specs.Labels.{place_of};
 ghost use Rattle.f77_program.specs.Program.{LineFields, line_of};
-ghost use Rattle.f77_tree.specs.StatementView.{statement_of};
+ghost use Rattle.f77_tree.specs.Statement.{statement_of};
 ghost use Rattle.f77_legal.specs.Clause as clauses;
 ghost use Rattle.f77_legal.specs.Legal.{clause_faults};
 ghost use Rattle.f77_legal.specs.Loops as loops;
@@ -21,9 +21,7 @@ use crate::dimensions::dimensions_fit;
 use crate::fault::CheckFault;
 use crate::holders::Ranges;
 use crate::kinds::kinds_agree;
-use crate::labels::{
-    Labels, ends_badly, jump_count, jump_label, jumps_badly, names_no_label, terminal_label,
-};
+use crate::labels::{Labels, ends_badly, jumps_badly, names_no_label, terminal_label};
 use crate::loops::sets_variable;
 use crate::names::Names;
 use f77_program::Line;
@@ -117,8 +115,8 @@ impl Tables {
     fn jumps_in(&self, i: usize, stmt: &Stmt) -> bool
         ensures { (program : List LineFields) → Serve self.now program → result ≡ loops.jumps_in program i (statement_of stmt.now) }
     {
-        for k in 0..jump_count(stmt) {
-            if self.leads_in(i, jump_label(stmt, k)) {
+        for k in 0..stmt.jump_count() {
+            if self.leads_in(i, stmt.jump(k)) {
                 return true;
             }
         }

@@ -4,9 +4,10 @@ use Rattle.std.specs.Prelude.{◌&&◌, map, nat_le}
 use Rattle.std.specs.List.{flat_map, list_all}
 use Rattle.std.proofs.lemmas.List.Folds.{list_all-append, list_all-map}
 use Rattle.std.proofs.Math.Bool.{and-true}
-use Rattle.f77_tree.specs.Tree.{Tree, Trees, DeclFields, GroupFields, Statement}
+use Rattle.f77_tree.specs.Tree.{Tree, Trees, DeclFields, GroupFields}
+use Rattle.f77_tree.specs.Statement.{Statement}
 use Rattle.f77_nodes.specs.Limits.{largest, is_label, small_tree, decl_constants, small_value, is_small, statement_constants}
-use Rattle.f77_nodes.specs.Names.{of_step}
+use Rattle.f77_nodes.specs.Names.{of_value}
 use Rattle.f77_nodes.specs.Node.{NodeOf, parts, all_parts, tree_nodes, step_parts, group_nodes, target_nodes, label_nodes, parameter_nodes, nodes_of}
 
 -- an expression, and the expressions of a list
@@ -49,7 +50,7 @@ by_part (Statement.BlockIf t) = small_constants t
 by_part (Statement.ElseIf t) = small_constants t
 by_part Statement.Else = true
 by_part Statement.EndIf = true
-by_part (Statement.Loop label name a b c) = is_label label && (small_constants a && (small_constants b && of_step small_constants c))
+by_part (Statement.Loop label name a b c) = is_label label && (small_constants a && (small_constants b && of_value small_constants c))
 by_part Statement.Continue = true
 by_part Statement.Return = true
 by_part Statement.Stop = true
@@ -75,7 +76,7 @@ mutual
 tree_small : (t : Tree) → list_all is_small (tree_nodes t) ≡ small_constants t
 tree_small t = list_all-map is_small NodeOf.Part (parts t) ∙ parts_small t
 
-step_small : (c : Option Tree) → list_all is_small (step_parts c) ≡ of_step small_constants c
+step_small : (c : Option Tree) → list_all is_small (step_parts c) ≡ of_value small_constants c
 step_small None = refl
 step_small (Some t) = tree_small t
 
@@ -109,10 +110,10 @@ three_labels : (l m n : ℕ) → list_all is_small (label_nodes l m n) ≡ (is_l
 three_labels l m n = rw (and-true (is_label n)) refl
 
 parameters_small : (a b : Tree) (c : Option Tree)
-    → list_all is_small (parameter_nodes a b c) ≡ (small_constants a && (small_constants b && of_step small_constants c))
+    → list_all is_small (parameter_nodes a b c) ≡ (small_constants a && (small_constants b && of_value small_constants c))
 parameters_small a b c =
-    both (tree_nodes a) (tree_nodes b ++ step_parts c) (small_constants a) (small_constants b && of_step small_constants c) (tree_small a)
-    (both (tree_nodes b) (step_parts c) (small_constants b) (of_step small_constants c) (tree_small b) (step_small c))
+    both (tree_nodes a) (tree_nodes b ++ step_parts c) (small_constants a) (small_constants b && of_value small_constants c) (tree_small a)
+    (both (tree_nodes b) (step_parts c) (small_constants b) (of_value small_constants c) (tree_small b) (step_small c))
 
 pub told_by_part : (s : Statement) → statement_constants s ≡ by_part s
 told_by_part (Statement.Subroutine name names) = names_pass names

@@ -4,7 +4,8 @@ use Rattle.std.specs.List.{list_all}
 use Rattle.f77_tree.specs.declared.data.Constant.{Constant}
 use Rattle.f77_tree.specs.declared.data.Constant.TheVariants.{Number, Truth}
 use Rattle.f77_tree.specs.declared.data.Value.{Value}
-use Rattle.f77_tree.specs.Tree.{Tree, DeclFields, Statement}
+use Rattle.f77_tree.specs.Tree.{Tree, DeclFields}
+use Rattle.f77_tree.specs.Statement.{Statement}
 use Rattle.f77_nodes.specs.Node.{NodeOf, nodes_of}
 
 -- the most nodes of a statement

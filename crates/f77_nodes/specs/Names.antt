@@ -2,7 +2,8 @@
 use Rattle.std.specs.Prelude.{List, Bool, true, ◌&&◌, Option, Some, None}
 use Rattle.std.specs.List.{list_all}
 use Rattle.f77_tree.specs.Name.{is_short}
-use Rattle.f77_tree.specs.Tree.{Tree, Trees, DeclFields, GroupFields, Statement}
+use Rattle.f77_tree.specs.Tree.{Tree, Trees, DeclFields, GroupFields}
+use Rattle.f77_tree.specs.Statement.{Statement, value_of}
 
 abbrev mutual
   pub short_names : Tree → Bool
@@ -19,10 +20,10 @@ abbrev mutual
   all_short_names Trees.None = true
   all_short_names (Trees.Then t ts) = short_names t && all_short_names ts
 
--- what holds of a tree, where there is one
-abbrev pub of_step : (Tree → Bool) → Option Tree → Bool
-of_step p None = true
-of_step p (Some t) = p t
+-- what holds of an expression, where there is one
+abbrev pub of_value : (Tree → Bool) → Option Tree → Bool
+of_value p None = true
+of_value p (Some t) = p t
 
 -- The limits: names of six characters at most, bounds that INTEGER has, and a node for each name.
 abbrev pub decl_name : DeclFields → Bool
@@ -44,17 +45,6 @@ statement_names (Statement.Declare kind ds) = declaration_names ds
 statement_names (Statement.Dimension ds) = declaration_names ds
 statement_names (Statement.Preset gs) = data_names gs
 statement_names (Statement.Assign name items t) = is_short name && (all_short_names items && short_names t)
-statement_names (Statement.Goto label) = true
-statement_names (Statement.ComputedGoto labels t) = short_names t
-statement_names (Statement.ArithIf t l m n) = short_names t
 statement_names (Statement.LogicalIf t s) = short_names t && statement_names s
-statement_names (Statement.BlockIf t) = short_names t
-statement_names (Statement.ElseIf t) = short_names t
-statement_names Statement.Else = true
-statement_names Statement.EndIf = true
-statement_names (Statement.Loop label name a b c) = is_short name && (short_names a && (short_names b && of_step short_names c))
-statement_names Statement.Continue = true
-statement_names Statement.Return = true
-statement_names Statement.Stop = true
-statement_names Statement.Trap = true
-statement_names Statement.End = true
+statement_names (Statement.Loop label name a b c) = is_short name && (short_names a && (short_names b && of_value short_names c))
+statement_names s = of_value short_names (value_of s)

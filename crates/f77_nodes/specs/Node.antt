@@ -3,11 +3,11 @@
 use Rattle.std.specs.Prelude.{ℕ, List, [], ◌∷◌, ◌++◌, map, Option, Some, None, filter_map}
 use Rattle.std.specs.List.{flat_map}
 use Rattle.f77_tree.specs.declared.data.Value.{Value}
-use Rattle.f77_tree.specs.Tree.{Tree, Trees, DeclFields, GroupFields, Statement}
+use Rattle.f77_tree.specs.Tree.{Tree, Trees, DeclFields, GroupFields}
+use Rattle.f77_tree.specs.Statement.{Statement, statement_of}
 use Rattle.f77_nodes.specs.declared.node.Node.{Node}
 use Rattle.f77_nodes.specs.declared.node.Node.TheVariants as node
 use Rattle.f77_tree.specs.View.{trees, tree_of, place_of}
-use Rattle.f77_tree.specs.StatementView.{statement_of}
 use Rattle.f77_tree.specs.Declaration.{decl_of}
 
 -- What a node is: a statement; the reference that an assignment assigns to; an expression or a part of one; a dummy argument, a name of DATA

@@ -16,7 +16,7 @@ use Rattle.f77_program.specs.Program.{LineFields, line_of, line_at, IsProgram}
 use Rattle.f77_program.specs.Patching.{replaced, Fits, patched}
 use Rattle.f77_tree.specs.StatementGrammar.{IsFormed}
 use Rattle.f77_nodes.specs.Names.{statement_names}
-use Rattle.f77_tree.specs.Tree.{Statement}
+use Rattle.f77_tree.specs.Statement.{Statement}
 
 -- to write over an item is to change its line
 pub set_replaced : (lines : List Line) (i : ℕ) (old changed : Line) (s : Statement) → i < length lines

@@ -7,14 +7,15 @@ use Rattle.std.proofs.lemmas.Bool.{leb-true, le-leb}
 use Rattle.std.proofs.lemmas.List.{append-nil}
 use Rattle.std.proofs.lemmas.Fmt.{length-decimal-le}
 use Rattle.f77_tree.proofs.Tests.{and_true}
-use Rattle.f77_tree.specs.Tree.{Tree, Statement}
+use Rattle.f77_tree.specs.Tree.{Tree}
+use Rattle.f77_tree.specs.Statement.{Statement}
 use Rattle.f77_tree.specs.Grammar.{Spells, is_name, is_number}
 use Rattle.f77_tree.specs.Joined.{has_items, separated}
 use Rattle.f77_tree.specs.StatementGrammar.{SpellsLabel, SpellsAction, SpellsStatement, IsUnmutated, in_text, tree_in_text, trees_in_text, label_number}
 use Rattle.f77_program.specs.Canonical.{text_of, list_text, names_text, step_text}
-use Rattle.f77_program.specs.Formed.{formed, all_formed, step_formed, is_action, statement_formed}
+use Rattle.f77_program.specs.Formed.{formed, all_formed, value_formed, is_action, statement_formed}
 use Rattle.f77_nodes.specs.Limits.{is_label}
-use Rattle.f77_nodes.specs.Names.{of_step}
+use Rattle.f77_nodes.specs.Names.{of_value}
 use Rattle.f77_nodes.proofs.Constants.{small_constants, all_small_constants, by_part}
 use Rattle.f77_program.proofs.Back.{decimal_number, own_low, small, back, back_reference}
 use Rattle.f77_tree.specs.StatementGrammar.{kind_keyword}
@@ -118,7 +119,7 @@ back_action Statement.Trap u i f k = cc
 back_action Statement.End u i f k = cc
 
 back_loop : (label : ℕ) (name : List ℕ) (a b : Tree) (c : Option Tree) → is_label label ≡ true → is_name name ≡ true → Spells 1 (text_of a) a → Spells 1 (text_of b) b
-    → option_map tree_in_text c ≡ c → step_formed c ≡ true → of_step small_constants c ≡ true → SpellsStatement (bare_text (Statement.Loop label name a b c)) (Statement.Loop label name a b c)
+    → option_map tree_in_text c ≡ c → value_formed c ≡ true → of_value small_constants c ≡ true → SpellsStatement (bare_text (Statement.Loop label name a b c)) (Statement.Loop label name a b c)
 back_loop label name a b None l n p q u f k =
     let r = SpellsStatement.loop {name = name} (decimal label) false (label_row label l) n p q in
     let e : text_of b ++ [] ≡ text_of b = append-nil (text_of b) in
@@ -153,12 +154,12 @@ back_statement (Statement.ElseIf t) u f k = let same : tree_in_text t ≡ t = cc
 back_statement Statement.Else u f k = SpellsStatement.otherwise
 back_statement Statement.EndIf u f k = SpellsStatement.end_if
 back_statement (Statement.Loop label name a b c) u f k =
-    let (is, rest) = and_true (is_name name) (formed a && (formed b && step_formed c)) f in
-    let (first, others) = and_true (formed a) (formed b && step_formed c) rest in
-    let (second, third) = and_true (formed b) (step_formed c) others in
-    let (one, small) = and_true (is_label label) (small_constants a && (small_constants b && of_step small_constants c)) k in
-    let (small_first, small_others) = and_true (small_constants a) (small_constants b && of_step small_constants c) small in
-    let (small_second, small_third) = and_true (small_constants b) (of_step small_constants c) small_others in
+    let (is, rest) = and_true (is_name name) (formed a && (formed b && value_formed c)) f in
+    let (first, others) = and_true (formed a) (formed b && value_formed c) rest in
+    let (second, third) = and_true (formed b) (value_formed c) others in
+    let (one, small) = and_true (is_label label) (small_constants a && (small_constants b && of_value small_constants c)) k in
+    let (small_first, small_others) = and_true (small_constants a) (small_constants b && of_value small_constants c) small in
+    let (small_second, small_third) = and_true (small_constants b) (of_value small_constants c) small_others in
     let u_first : tree_in_text a ≡ a = cc in
     let u_second : tree_in_text b ≡ b = cc in
     let u_third : option_map tree_in_text c ≡ c = cc in

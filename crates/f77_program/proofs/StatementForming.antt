@@ -5,11 +5,12 @@ use Rattle.std.specs.List.{list_all}
 use Rattle.std.specs.Fmt.{decimal}
 use Rattle.std.proofs.lemmas.Fmt.{length-decimal-le}
 use Rattle.std.proofs.lemmas.Bool.{le-leb, leb-true}
-use Rattle.f77_tree.specs.Tree.{Tree, Trees, Statement}
+use Rattle.f77_tree.specs.Tree.{Tree, Trees}
+use Rattle.f77_tree.specs.Statement.{Statement}
 use Rattle.f77_tree.specs.Grammar.{is_name, is_number}
 use Rattle.f77_tree.specs.Joined.{Joined, has_items}
 use Rattle.f77_tree.specs.StatementGrammar.{SpellsLabel, SpellsAction, SpellsStatement, IsFormed, in_text, tree_in_text, label_number, label_in_text}
-use Rattle.f77_program.specs.Formed.{formed, all_formed, step_formed, is_action, statement_formed}
+use Rattle.f77_program.specs.Formed.{formed, all_formed, value_formed, is_action, statement_formed}
 use Rattle.f77_tree.proofs.Tests.{and_true}
 use Rattle.f77_program.proofs.Back.{own_low, decimal_number}
 use Rattle.f77_program.proofs.Forming.{tree_formed, reference_name, reference_items, tree_in_text_formed, trees_in_text_formed, text_for, reference_for}
@@ -48,7 +49,7 @@ spelled_formed (SpellsStatement.loop row comma h n p q) = rw (n, tree_formed p, 
 spelled_formed (SpellsStatement.loop_by row comma h n p q r) = rw (n, tree_formed p, tree_formed q, tree_formed r) refl
 spelled_formed SpellsStatement.end = refl
 
-step_in_text_formed : (c : Option Tree) → step_formed (option_map tree_in_text c) ≡ step_formed c
+step_in_text_formed : (c : Option Tree) → value_formed (option_map tree_in_text c) ≡ value_formed c
 step_in_text_formed None = refl
 step_in_text_formed (Some t) = tree_in_text_formed t
 
@@ -184,7 +185,7 @@ action_for Statement.End i f = cc
 as_statement : (s : Statement) → IsAction s → (text : List ℕ) × SpellsStatement text s
 as_statement s p = (p.0, SpellsStatement.action p.1)
 
-loop_for : (label : ℕ) (name : List ℕ) (a b : Tree) (c : Option Tree) → is_name name ≡ true → formed a ≡ true → formed b ≡ true → step_formed c ≡ true
+loop_for : (label : ℕ) (name : List ℕ) (a b : Tree) (c : Option Tree) → is_name name ≡ true → formed a ≡ true → formed b ≡ true → value_formed c ≡ true
     → IsFormed (Statement.Loop label name a b c)
 loop_for label name a b None n f g h =
     let (x, p) = text_for a f in
@@ -225,9 +226,9 @@ formed_spelled (Statement.ElseIf t) f = let (x, p) = text_for t f in (codes "ELS
 formed_spelled Statement.Else f = (codes "ELSE", SpellsStatement.otherwise)
 formed_spelled Statement.EndIf f = (codes "ENDIF", SpellsStatement.end_if)
 formed_spelled (Statement.Loop label name a b c) f =
-    let (is, rest) = and_true (is_name name) (formed a && (formed b && step_formed c)) f in
-    let (first, others) = and_true (formed a) (formed b && step_formed c) rest in
-    let (second, third) = and_true (formed b) (step_formed c) others in
+    let (is, rest) = and_true (is_name name) (formed a && (formed b && value_formed c)) f in
+    let (first, others) = and_true (formed a) (formed b && value_formed c) rest in
+    let (second, third) = and_true (formed b) (value_formed c) others in
     loop_for label name a b c is first second third
 formed_spelled Statement.Continue f = (codes "CONTINUE", SpellsStatement.action SpellsAction.go_on)
 formed_spelled Statement.Return f = (codes "RETURN", SpellsStatement.action SpellsAction.return)

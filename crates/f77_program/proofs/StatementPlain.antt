@@ -6,13 +6,14 @@ use Rattle.std.specs.Fmt.{decimal}
 use Rattle.f77_source.specs.Line.{is_blank}
 use Rattle.f77_source.specs.Law.{squeezed}
 use Rattle.f77_source.specs.Write.{is_printable, piece}
-use Rattle.f77_tree.specs.Tree.{Tree, Trees, Statement}
+use Rattle.f77_tree.specs.Tree.{Tree, Trees}
+use Rattle.f77_tree.specs.Statement.{Statement}
 use Rattle.f77_tree.specs.Joined.{has_items, separated}
 use Rattle.f77_tree.specs.StatementGrammar.{SpellsStatement, IsFormed, IsUnmutated}
 use Rattle.f77_tree.specs.Grammar.{is_letter, is_word, is_name}
 use Rattle.f77_nodes.proofs.Constants.{told_by_part}
 use Rattle.f77_program.specs.Canonical.{text_of, list_text, names_text, step_text, statement_text}
-use Rattle.f77_program.specs.Formed.{formed, all_formed, step_formed, is_action, statement_formed}
+use Rattle.f77_program.specs.Formed.{formed, all_formed, value_formed, is_action, statement_formed}
 use Rattle.f77_tree.proofs.Tests.{and_true, not_true}
 use Rattle.f77_program.proofs.StatementForming.{is_formed}
 use Rattle.f77_nodes.specs.Limits.{statement_constants}
@@ -65,17 +66,17 @@ plain_labels : (l m n : ℕ) → IsPlain (decimal l ++ (44 ∷ (decimal m ++ (44
 plain_labels l m n =
     both (decimal l) (44 ∷ (decimal m ++ (44 ∷ decimal n))) (plain_decimal l) (both (decimal m) (44 ∷ decimal n) (plain_decimal m) (plain_decimal n))
 
-plain_step : (c : Option Tree) → step_formed c ≡ true → IsPlain (step_text c)
+plain_step : (c : Option Tree) → value_formed c ≡ true → IsPlain (step_text c)
 plain_step None f = refl
 plain_step (Some t) f = plain_text t f
 
 -- the DO variable and the parameters
-plain_range : (name : List ℕ) (a b : Tree) (c : Option Tree) → (is_name name && (formed a && (formed b && step_formed c))) ≡ true
+plain_range : (name : List ℕ) (a b : Tree) (c : Option Tree) → (is_name name && (formed a && (formed b && value_formed c))) ≡ true
     → IsPlain (name ++ (61 ∷ (text_of a ++ (44 ∷ (text_of b ++ step_text c)))))
 plain_range name a b c f =
-    let (is, rest) = and_true (is_name name) (formed a && (formed b && step_formed c)) f in
-    let (first, others) = and_true (formed a) (formed b && step_formed c) rest in
-    let (second, third) = and_true (formed b) (step_formed c) others in
+    let (is, rest) = and_true (is_name name) (formed a && (formed b && value_formed c)) f in
+    let (first, others) = and_true (formed a) (formed b && value_formed c) rest in
+    let (second, third) = and_true (formed b) (value_formed c) others in
     both name (61 ∷ (text_of a ++ (44 ∷ (text_of b ++ step_text c)))) (plain_name name is)
     (both (text_of a) (44 ∷ (text_of b ++ step_text c)) (plain_text a first) (both (text_of b) (step_text c) (plain_text b second) (plain_step c third)))
 

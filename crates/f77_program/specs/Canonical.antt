@@ -8,7 +8,8 @@ use Rattle.f77_tree.specs.Joined.{separated}
 use Rattle.f77_program.specs.Declaration.{declarations_text}
 use Rattle.f77_program.specs.Data.{groups_text}
 use Rattle.f77_tree.specs.StatementGrammar.{kind_keyword}
-use Rattle.f77_tree.specs.Tree.{Tree, Trees, Statement}
+use Rattle.f77_tree.specs.Tree.{Tree, Trees}
+use Rattle.f77_tree.specs.Statement.{Statement}
 
 -- the level of a tree's own form
 abbrev pub own_level : Tree → ℕ

@@ -2,7 +2,7 @@
 use Rattle.std.specs.Prelude.{◌==◌, nat_eq, List, Bool, ◌&&◌}
 use Rattle.std.specs.Cmp.Lexicographic.{pointwise}
 use Rattle.std.specs.Option.{option_eq}
-use Rattle.f77_tree.specs.Comparing.{same_statement}
+use Rattle.f77_tree.specs.Statement.{same_statement}
 use Rattle.f77_program.specs.Program.{LineFields}
 
 abbrev pub same_line : LineFields → LineFields → Bool

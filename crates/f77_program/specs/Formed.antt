@@ -1,11 +1,10 @@
 -- Which trees some text spells, told from the tree alone: constants are of any size.
 use Rattle.std.specs.Prelude.{ℕ, List, Bool, true, false, ◌&&◌, not, Option, Some, None}
 use Rattle.std.specs.List.{list_all}
-use Rattle.f77_tree.specs.Form.{form_of}
-use Rattle.f77_tree.specs.Tree.{Tree, Trees, Statement}
-use Rattle.f77_tree.specs.declared.form.Form.{Form}
+use Rattle.f77_tree.specs.Form.{acts}
+use Rattle.f77_tree.specs.Statement.{Statement, form_of, value_of, has_labels}
+use Rattle.f77_tree.specs.Tree.{Tree, Trees}
 use Rattle.f77_tree.specs.Grammar.{is_name, is_call}
-use Rattle.f77_tree.specs.Joined.{has_items}
 use Rattle.f77_program.specs.Declaration.{declaration_formed}
 use Rattle.f77_tree.specs.Declaration.{all_bounded}
 use Rattle.f77_program.specs.Data.{data_formed}
@@ -34,22 +33,11 @@ abbrev mutual
   all_formed Trees.None = true
   all_formed (Trees.Then t ts) = formed t && all_formed ts
 
-abbrev pub step_formed : Option Tree → Bool
-step_formed None = true
-step_formed (Some t) = formed t
+abbrev pub value_formed : Option Tree → Bool
+value_formed None = true
+value_formed (Some t) = formed t
 
--- statements of this form may stand in a logical IF
-abbrev pub acts : Form → Bool
-acts Form.Assign = true
-acts Form.Goto = true
-acts Form.ComputedGoto = true
-acts Form.ArithIf = true
-acts Form.Continue = true
-acts Form.Return = true
-acts Form.Stop = true
-acts Form.Trap = true
-acts _ = false
-
+-- it may stand in a logical IF
 abbrev pub is_action : Statement → Bool
 is_action statement = acts (form_of statement)
 
@@ -59,17 +47,6 @@ statement_formed (Statement.Declare kind ds) = declaration_formed ds
 statement_formed (Statement.Dimension ds) = declaration_formed ds && all_bounded ds
 statement_formed (Statement.Preset gs) = data_formed gs
 statement_formed (Statement.Assign name items t) = is_name name && (all_formed items && formed t)
-statement_formed (Statement.Goto label) = true
-statement_formed (Statement.ComputedGoto labels t) = has_items labels && formed t
-statement_formed (Statement.ArithIf t l m n) = formed t
 statement_formed (Statement.LogicalIf t s) = formed t && (is_action s && statement_formed s)
-statement_formed (Statement.BlockIf t) = formed t
-statement_formed (Statement.ElseIf t) = formed t
-statement_formed Statement.Else = true
-statement_formed Statement.EndIf = true
-statement_formed (Statement.Loop label name a b c) = is_name name && (formed a && (formed b && step_formed c))
-statement_formed Statement.Continue = true
-statement_formed Statement.Return = true
-statement_formed Statement.Stop = true
-statement_formed Statement.Trap = true
-statement_formed Statement.End = true
+statement_formed (Statement.Loop label name a b c) = is_name name && (formed a && (formed b && value_formed c))
+statement_formed s = has_labels s && value_formed (value_of s)

@@ -2,8 +2,7 @@
 use Rattle.std.specs.Prelude.{◌≡◌, ℕ, ◌==◌, ◌&&◌, nat_lt, nat_le, Bool, List, [], ◌∷◌, ◌++◌, replicate, Option, Some, None}
 use Rattle.f77_program.specs.declared.group.Group.{Group}
 use Rattle.f77_program.specs.declared.group.Group.TheVariants.{Subroutine, Declaration, Data, Executable, End}
-use Rattle.f77_tree.specs.Form.{form_of}
-use Rattle.f77_tree.specs.Tree.{Statement}
+use Rattle.f77_tree.specs.Statement.{form_of, Statement}
 use Rattle.f77_tree.specs.declared.form.Form.{Form}
 
 -- the group that statements of a form belong to

@@ -4,7 +4,7 @@ use Rattle.std.specs.List.{slice_get}
 use Rattle.f77_program.specs.Group.{group_of}
 use Rattle.f77_program.specs.Program.{LineFields}
 use Rattle.f77_tree.specs.StatementGrammar.{IsFormed}
-use Rattle.f77_tree.specs.Tree.{Statement}
+use Rattle.f77_tree.specs.Statement.{Statement}
 
 -- the lines with this statement in the place of the line i, counted from 0: its label and its line number stay
 abbrev pub replaced : List LineFields → ℕ → Statement → List LineFields

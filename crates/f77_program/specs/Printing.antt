@@ -6,7 +6,7 @@ use Rattle.f77_source.specs.Write.{written, is_bad_label, continuation_count}
 use Rattle.f77_source.specs.declared.fault.FormFault.{FormFault}
 use Rattle.f77_source.specs.declared.fault.FormFault.TheVariants.{Memory as FormMemory, TooLarge, NotAscii, Tab, BadLabel}
 use Rattle.f77_source.specs.declared.fault.FormFault.TheVariants.{LooseContinuation, TooManyContinuations}
-use Rattle.f77_tree.specs.Tree.{Statement}
+use Rattle.f77_tree.specs.Statement.{Statement}
 use Rattle.f77_program.specs.Canonical.{statement_text}
 use Rattle.f77_program.specs.Program.{LineFields}
 use Rattle.f77_program.specs.declared.fault.SyntaxFault.{SyntaxFault}

@@ -4,12 +4,11 @@ ghost use Rattle.std.specs.Prelude.{◌≡◌, ◌<◌, ◌++◌, true, OnOk, If
 ghost use Rattle.f77_source.specs.Law.{squeezed};
 ghost use Rattle.std.specs.Fmt.{decimal};
 ghost use Rattle.f77_tree.specs.Joined.{separated};
-ghost use Rattle.f77_tree.specs.Tree.{Statement};
+ghost use Rattle.f77_tree.specs.Statement.{Statement, statement_of};
 ghost use Rattle.f77_tree.specs.StatementGrammar.{SpellsStatement, IsFormed, IsUnmutated};
 ghost use Rattle.f77_nodes.specs.Limits.{statement_constants};
 ghost use Rattle.f77_program.specs.Canonical as canonical;
 ghost use Rattle.f77_tree.specs.View.{tree_of, trees};
-ghost use Rattle.f77_tree.specs.StatementView.{statement_of};
 
 use crate::data::print_groups;
 use crate::declaration::print_declarations;

@@ -6,13 +6,13 @@ ghost use Rattle.f77_tree.specs.Grammar as grammar;
 ghost use Rattle.f77_tree.specs.StatementGrammar.{IsFormed};
 ghost use Rattle.f77_program.specs.Formed as forms;
 ghost use Rattle.f77_tree.specs.Name.{is_short};
-ghost use Rattle.f77_nodes.specs.Names.{short_names, all_short_names, of_step, statement_names};
+ghost use Rattle.f77_nodes.specs.Names.{short_names, all_short_names, of_value, statement_names};
 ghost use Rattle.f77_tree.specs.View.{tree_of, trees};
-ghost use Rattle.f77_tree.specs.StatementView.{statement_of};
+ghost use Rattle.f77_tree.specs.Statement.{statement_of};
 
 use crate::data::data_formed;
 use crate::declaration::declaration_formed;
-use f77_tree::{Expr, Form, Intrinsic, Name, Stmt, all_bounded, known_names};
+use f77_tree::{Expr, Intrinsic, Name, Stmt, all_bounded, known_names};
 
 #[tactic(auto, using(crate::proofs::Forming::some_items))]
 fn is_some_list(items: &[Expr]) -> bool
@@ -65,13 +65,13 @@ fn all_formed(items: &[Expr]) -> bool
     true
 }
 
-fn step_formed(step: &Option<Expr>) -> bool
-    ensures formed { result ≡ forms.step_formed (option_map tree_of step.now) }
-    ensures short { result ≡ true → of_step short_names (option_map tree_of step.now) ≡ true }
+fn value_formed(value: Option<&Expr>) -> bool
+    ensures formed { result ≡ forms.value_formed (option_map (λ value. tree_of value.now) value.entry) }
+    ensures short { result ≡ true → of_value short_names (option_map (λ value. tree_of value.now) value.entry) ≡ true }
 {
-    match step {
+    match value {
         None => true,
-        Some(step) => formed(step),
+        Some(value) => formed(value),
     }
 }
 
@@ -92,13 +92,10 @@ fn statement_formed(stmt: &Stmt) -> bool
             let _ = target.name.as_str();
             all_formed(&target.subscripts) && formed(value)
         }
-        Stmt::ComputedGoto { labels, value } => !labels.is_empty() && formed(value),
-        Stmt::ArithIf { value, .. } => formed(value),
         Stmt::LogicalIf {
             condition,
             statement,
         } => formed(condition) && is_action(statement) && statement_formed(statement),
-        Stmt::BlockIf { condition } | Stmt::ElseIf { condition } => formed(condition),
         Stmt::Loop {
             variable,
             first,
@@ -107,16 +104,9 @@ fn statement_formed(stmt: &Stmt) -> bool
             ..
         } => {
             let _ = variable.as_str();
-            formed(first) && formed(last) && step_formed(step)
+            formed(first) && formed(last) && value_formed(step.as_ref())
         }
-        Stmt::Goto { .. }
-        | Stmt::Else
-        | Stmt::EndIf
-        | Stmt::Continue
-        | Stmt::Return
-        | Stmt::Stop
-        | Stmt::Trap
-        | Stmt::End => true,
+        _ => stmt.has_labels() && value_formed(stmt.value()),
     }
 }
 
@@ -124,17 +114,7 @@ fn statement_formed(stmt: &Stmt) -> bool
 pub fn is_action(stmt: &Stmt) -> bool
     ensures { result ≡ forms.is_action (statement_of stmt.now) }
 {
-    matches!(
-        stmt.form(),
-        Form::Assign
-            | Form::Goto
-            | Form::ComputedGoto
-            | Form::ArithIf
-            | Form::Continue
-            | Form::Return
-            | Form::Stop
-            | Form::Trap
-    )
+    stmt.form().acts()
 }
 
 /// Whether some text spells the statement, names and constants of any length and size allowed.

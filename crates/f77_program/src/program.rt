@@ -5,7 +5,7 @@ ghost use Rattle.std.specs.Coded.{codes};
 ghost use Rattle.std.specs.Cmp.{on_equiv, partial_equiv_from_equiv};
 ghost use Rattle.std.specs.Ordering.{on};
 ghost use Rattle.f77_tree.specs.contracts.tree.Expr as expr;
-ghost use Rattle.f77_tree.specs.contracts.tree.Stmt as stmt;
+ghost use Rattle.f77_tree.specs.contracts.statement.Stmt as stmt;
 ghost use Rattle.f77_program.specs.Comparing.{same_line, same_lines};
 ghost use Rattle.f77_program.specs.SameLines.{line_equiv, lines_equiv};
 ghost use Rattle.f77_program.specs.Program.{IsProgram, MayFollow, line_of, line_at};

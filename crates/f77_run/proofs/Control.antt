@@ -6,9 +6,10 @@ use Rattle.std.specs.Option.{option_and_then, option_map_or}
 use Rattle.std.proofs.lemmas.Bool.Decides.{nat_tests}
 use Rattle.f77_program.specs.Formed.{is_action}
 use Rattle.f77_program.specs.Program.{LineFields}
-use Rattle.f77_tree.specs.Tree.{Tree, Trees, Statement}
+use Rattle.f77_tree.specs.Tree.{Tree, Trees}
+use Rattle.f77_tree.specs.Statement.{Statement, jumps_of}
 use Rattle.f77_legal.specs.Blocks.{has_at, is_alternative, block_end, branch_end, behind}
-use Rattle.f77_legal.specs.Labels.{place_of, statement_at, jumps_of, terminal_label}
+use Rattle.f77_legal.specs.Labels.{place_of, statement_at, terminal_label}
 use Rattle.f77_legal.specs.Loops.{terminal, is_left}
 use Rattle.f77_legal.specs.Names.{Symbol, kind_of, bounds_of}
 use Rattle.f77_check.specs.Start.{is_executable}

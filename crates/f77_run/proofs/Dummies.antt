@@ -9,7 +9,7 @@ use Rattle.std.proofs.lemmas.Cmp.{nat_list_eq_equiv}
 use Rattle.std.proofs.lemmas.Map.Views.{any-filter_same}
 use Rattle.std.proofs.lemmas.Slice.Eq.{bytes_eq-Decides}
 use Rattle.f77_program.specs.Program.{LineFields}
-use Rattle.f77_tree.specs.Tree.{Statement}
+use Rattle.f77_tree.specs.Statement.{Statement}
 use Rattle.f77_legal.specs.Heading.{dummies, dummies_of}
 use Rattle.f77_legal.specs.Legal.{IsLegal, name_faults}
 use Rattle.f77_legal.specs.Names.{Symbol, Mention, Dummy, name_in, mentions_of, mentions, each_once, symbols, is_real, is_twice, dummies_given}

@@ -4,7 +4,8 @@ use Rattle.std.specs.Prelude.{Result, Ok, Err, slice_get, slice_set, ◌+ℤ◌}
 use Rattle.std.specs.Option.{option_and_then, option_map_or}
 use Rattle.std.proofs.lemmas.Option.{option_and_then_some}
 use Rattle.f77_program.specs.Program.{LineFields}
-use Rattle.f77_tree.specs.Tree.{Tree, Trees, Statement}
+use Rattle.f77_tree.specs.Tree.{Tree, Trees}
+use Rattle.f77_tree.specs.Statement.{Statement}
 use Rattle.f77_check.specs.declared.action.Action.{Loop}
 use Rattle.f77_check.specs.declared.expression.Element.{Variable}
 use Rattle.f77_check.specs.declared.expression.Number as number

@@ -2,7 +2,8 @@
 use Rattle.std.proofs.Common.{◌≡◌, ℕ, zero, suc, ◌-◌, ◌<◌, inl, inr, Bool, true, false, List, Option, Some, None, sym, ◌∙◌, ap, subst, arith, ℤ, pos, negsuc}
 use Rattle.std.specs.Prelude.{Result, Ok, Err, MatchOption, IsSome, ◌+ℤ◌}
 use Rattle.f77_program.specs.Program.{LineFields}
-use Rattle.f77_tree.specs.Tree.{Tree, Trees, Statement}
+use Rattle.f77_tree.specs.Tree.{Tree, Trees}
+use Rattle.f77_tree.specs.Statement.{Statement}
 use Rattle.f77_legal.specs.Labels.{statement_at}
 use Rattle.f77_legal.specs.Names.{Symbol, kind_of, bounds_of}
 use Rattle.f77_run.specs.declared.finish.Fault.{Fault}

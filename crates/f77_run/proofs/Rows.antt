@@ -3,7 +3,8 @@ use Rattle.std.proofs.Common.{◌≡◌, refl, ℕ, ℤ, pos, negsuc, List, [], 
 use Rattle.std.specs.Prelude.{codes, map, option_map, position}
 use Rattle.std.specs.Option.{option_and_then}
 use Rattle.f77_program.specs.Program.{LineFields}
-use Rattle.f77_tree.specs.Tree.{Tree, Trees, Statement}
+use Rattle.f77_tree.specs.Tree.{Tree, Trees}
+use Rattle.f77_tree.specs.Statement.{Statement}
 use Rattle.f77_tree.specs.declared.tree.Kind.TheVariants.{Integer}
 use Rattle.f77_tree.specs.declared.intrinsic.Intrinsic.TheVariants.{Mod}
 use Rattle.f77_tree.specs.declared.operator.Operator.TheVariants.{Add, Divide, Power, Less}

@@ -7,12 +7,13 @@ use Rattle.std.proofs.lemmas.Bool.Decides.{nat_tests}
 use Rattle.std.proofs.lemmas.Bool.{and_parts, or_left}
 use Rattle.f77_program.specs.Group.{group_of, may_stand}
 use Rattle.f77_program.specs.Program.{LineFields, IsProgram}
-use Rattle.f77_tree.specs.Tree.{Tree, Statement}
+use Rattle.f77_tree.specs.Tree.{Tree}
+use Rattle.f77_tree.specs.Statement.{Statement, jumps_of}
 use Rattle.f77_program.specs.declared.group.Group.{Group}
 use Rattle.f77_program.specs.declared.group.Group.TheVariants.{Executable}
 use Rattle.f77_legal.specs.declared.clause.Clause.TheVariants.{Targets, Terminals}
 use Rattle.f77_legal.specs.Blocks.{is_end_if, is_alternative, has_at, is_level, block_end, branch_end}
-use Rattle.f77_legal.specs.Labels.{bears, place_of, statement_at, statement_with, jumps_of, terminal_label, is_target, is_terminal}
+use Rattle.f77_legal.specs.Labels.{bears, place_of, statement_at, statement_with, terminal_label, is_target, is_terminal}
 use Rattle.f77_legal.specs.Legal.{IsLegal}
 use Rattle.f77_legal.specs.Loops.{terminal}
 use Rattle.f77_check.specs.Start.{is_executable}

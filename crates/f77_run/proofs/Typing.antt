@@ -8,7 +8,8 @@ use Rattle.std.proofs.lemmas.Bool.{and_parts, cases_lt, eqb-true, lt-ltb, le-ltb
 use Rattle.std.proofs.lemmas.List.{length-set}
 use Rattle.std.proofs.lemmas.Slice.Eq.{bytes_eq-Decides}
 use Rattle.f77_program.specs.Program.{LineFields}
-use Rattle.f77_tree.specs.Tree.{Tree, Trees, Statement}
+use Rattle.f77_tree.specs.Tree.{Tree, Trees}
+use Rattle.f77_tree.specs.Statement.{Statement}
 use Rattle.f77_tree.specs.declared.tree.Kind.{Kind}
 use Rattle.f77_tree.specs.declared.tree.Kind.TheVariants.{Integer, Logical}
 use Rattle.f77_legal.specs.declared.clause.Clause.TheVariants.{Kinds}

@@ -4,7 +4,8 @@ use Rattle.std.specs.Prelude.{Result, Ok, Err, IsSome, MatchOption, ◌+ℤ◌, 
 use Rattle.std.specs.Option.{option_map_or}
 use Rattle.std.specs.Str.{bytes_eq}
 use Rattle.f77_program.specs.Program.{LineFields}
-use Rattle.f77_tree.specs.Tree.{Tree, Trees, Statement}
+use Rattle.f77_tree.specs.Tree.{Tree, Trees}
+use Rattle.f77_tree.specs.Statement.{Statement}
 use Rattle.f77_legal.specs.Blocks.{first_numbers}
 use Rattle.f77_legal.specs.Frames.{HaveOneFrame}
 use Rattle.f77_legal.specs.Labels.{statement_at}

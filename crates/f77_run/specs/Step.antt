@@ -2,7 +2,8 @@
 use Rattle.std.specs.Prelude.{◌≡◌, ◌+◌, ◌-◌, ◌<◌, ◌==◌, ◌⊎◌, if◌then◌else◌, ◌+ℤ◌}
 use Rattle.std.specs.Prelude.{ℕ, zero, suc, Bool, true, false, List, Option, Some, None, IsSome, ℤ, pos, negsuc, Result, Ok, MatchResult, MatchOption}
 use Rattle.f77_program.specs.Program.{LineFields}
-use Rattle.f77_tree.specs.Tree.{Tree, Trees, Statement}
+use Rattle.f77_tree.specs.Tree.{Tree, Trees}
+use Rattle.f77_tree.specs.Statement.{Statement}
 use Rattle.f77_legal.specs.Blocks.{branch_end, behind}
 use Rattle.f77_legal.specs.Labels.{place_of, statement_at}
 use Rattle.f77_legal.specs.Loops.{terminal, is_left}

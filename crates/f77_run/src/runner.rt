@@ -39,7 +39,7 @@ impl<'a> Model for Runner<'a> {
     ghost use Rattle.std.specs.Prelude.{◌≡◌, map, option_map};
     ghost use Rattle.std.specs.Coded.{codes};
     ghost use Rattle.f77_tree.specs.contracts.tree.Expr as expr;
-    ghost use Rattle.f77_tree.specs.contracts.tree.Stmt as stmt;
+    ghost use Rattle.f77_tree.specs.contracts.statement.Stmt as stmt;
     ghost use Rattle.f77_check.specs.Checked.{CheckedFields};
     ghost use Rattle.f77_check.specs.contracts.action.Action as action;
     ghost use Rattle.f77_check.specs.contracts.expression.Condition as condition;

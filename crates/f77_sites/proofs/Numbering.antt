@@ -4,7 +4,8 @@ use Rattle.std.specs.Prelude.{map}
 use Rattle.std.specs.List.{flat_map}
 use Rattle.std.proofs.lemmas.List.{map-append}
 use Rattle.f77_tree.specs.declared.data.Value.{Value}
-use Rattle.f77_tree.specs.Tree.{Tree, Trees, GroupFields, Statement}
+use Rattle.f77_tree.specs.Tree.{Tree, Trees, GroupFields}
+use Rattle.f77_tree.specs.Statement.{Statement}
 use Rattle.f77_nodes.specs.Node.{NodeOf, parts, all_parts, tree_nodes, step_parts, group_nodes, label_nodes, nodes_behind, nodes_of}
 use Rattle.f77_sites.specs.Sites.{Site, node_at, within, fixed, list_sites, item_sites, tree_sites, step_sites, target_sites, label_sites, value_sites, group_sites, sites_behind, sites}
 

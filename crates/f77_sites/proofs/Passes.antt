@@ -6,7 +6,8 @@ use Rattle.std.proofs.lemmas.List.{map-append, length-map, map_push, append_asso
 use Rattle.std.proofs.lemmas.Bool.{cases_lt}
 use Rattle.std.proofs.lemmas.Option.{slice_get-map}
 use Rattle.f77_nodes.specs.Node.{NodeOf}
-use Rattle.f77_tree.specs.Tree.{Tree, Trees, Statement}
+use Rattle.f77_tree.specs.Tree.{Tree, Trees}
+use Rattle.f77_tree.specs.Statement.{Statement}
 use Rattle.f77_tree.specs.View.{trees}
 use Rattle.f77_sites.specs.Sites.{Site, within, fixed, put, list_sites, tree_sites, item_sites, sites, changed}
 use Rattle.f77_sites.specs.Changing.{put_number, Passed}

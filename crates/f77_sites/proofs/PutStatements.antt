@@ -7,16 +7,16 @@ use Rattle.f77_tree.specs.declared.data.Value.{Value}
 use Rattle.f77_tree.specs.declared.data.DataGroup.{DataGroup}
 use Rattle.f77_tree.specs.declared.tree.Expr.{Expr}
 use Rattle.f77_tree.specs.declared.tree.Ref.{Ref}
-use Rattle.f77_tree.specs.declared.tree.Stmt.{Stmt}
+use Rattle.f77_tree.specs.declared.statement.Stmt.{Stmt}
 use Rattle.f77_tree.specs.declared.tree.Kind.{Kind}
 use Rattle.f77_tree.specs.declared.declaration.Decl.{Decl}
-use Rattle.f77_tree.specs.declared.tree.Stmt.TheVariants as forms
-use Rattle.f77_tree.specs.declared.tree.Stmt.TheViews as boxed
+use Rattle.f77_tree.specs.declared.statement.Stmt.TheVariants as forms
+use Rattle.f77_tree.specs.declared.statement.Stmt.TheViews as boxed
 use Rattle.f77_tree.specs.Data.{data_group_of}
 use Rattle.f77_tree.specs.Declaration.{decl_of}
 use Rattle.f77_nodes.specs.Node.{NodeOf}
-use Rattle.f77_tree.specs.StatementView.{statement_of}
-use Rattle.f77_tree.specs.Tree.{Tree, Trees, GroupFields, Statement}
+use Rattle.f77_tree.specs.Statement.{statement_of, Statement}
+use Rattle.f77_tree.specs.Tree.{Tree, Trees, GroupFields}
 use Rattle.f77_tree.specs.View.{tree_of}
 use Rattle.f77_tree.proofs.Views.{subroutine_view, declare_view, dimension_view, preset_view, assign_view, goto_view, computed_view, arithmetic_view, logical_view, block_view, else_if_view, loop_view}
 use Rattle.f77_sites.specs.Sites.{Site, within, list_sites, tree_sites, step_sites, target_sites, label_sites, name_sites, value_sites, group_sites, statement_or, sites_behind, sites}

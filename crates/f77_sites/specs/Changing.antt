@@ -3,7 +3,8 @@
 use Rattle.std.specs.Prelude.{◌≡◌, ◌-◌, ℕ, zero, suc, List, length, Option, None, slice_get}
 use Rattle.f77_tree.specs.declared.tree.Ref.{Ref}
 use Rattle.f77_nodes.specs.Node.{NodeOf}
-use Rattle.f77_tree.specs.Tree.{Trees, Statement}
+use Rattle.f77_tree.specs.Tree.{Trees}
+use Rattle.f77_tree.specs.Statement.{Statement}
 use Rattle.f77_tree.specs.View.{trees, place_of}
 use Rattle.f77_sites.specs.Sites.{Site, put, sites_behind}
 

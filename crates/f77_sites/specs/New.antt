@@ -1,6 +1,6 @@
 -- What a node to be put into a statement stands for.
 use Rattle.f77_nodes.specs.Node.{NodeOf}
-use Rattle.f77_tree.specs.StatementView.{statement_of}
+use Rattle.f77_tree.specs.Statement.{statement_of}
 use Rattle.f77_tree.specs.View.{trees, tree_of, place_of}
 use Rattle.f77_sites.specs.declared.new.New.{New}
 use Rattle.f77_sites.specs.declared.new.New.TheVariants as new

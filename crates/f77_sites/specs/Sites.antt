@@ -3,7 +3,8 @@
 use Rattle.std.specs.Prelude.{ℕ, List, [], ◌∷◌, ◌++◌, map, Option, Some, None, slice_get}
 use Rattle.f77_tree.specs.declared.data.Value.{Value}
 use Rattle.f77_nodes.specs.Node.{NodeOf}
-use Rattle.f77_tree.specs.Tree.{Tree, Trees, GroupFields, Statement}
+use Rattle.f77_tree.specs.Tree.{Tree, Trees, GroupFields}
+use Rattle.f77_tree.specs.Statement.{Statement}
 
 -- a node of a whole, and the whole with another node in its place
 abbrev pub Site : Type 0 → Type 0

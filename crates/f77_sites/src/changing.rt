@@ -3,8 +3,7 @@
 ghost use Rattle.std.specs.Prelude.{◌≡◌, ◌-◌, ◌+◌, ◌<◌, ◌^◌, IfOk, map, option_map};
 ghost use Rattle.f77_tree.specs.Data.{data_group_of};
 ghost use Rattle.f77_nodes.specs.Node.{node_of};
-ghost use Rattle.f77_tree.specs.StatementView.{statement_of};
-ghost use Rattle.f77_tree.specs.Tree.{Statement};
+ghost use Rattle.f77_tree.specs.Statement.{statement_of, Statement};
 ghost use Rattle.f77_tree.specs.View.{tree_of};
 ghost use Rattle.f77_sites.specs.Changing.{IsPut, Passed, target_of};
 ghost use Rattle.f77_sites.specs.Sites.{changed, label_sites, list_sites, sites, statement_or};

@@ -2,7 +2,7 @@
 use Rattle.std.proofs.Common.{◌≡◌, ◌⊎◌, inl, inr, ◌≤◌, ◌<◌, ℕ, List, Bool, true, false, refl, ap, sym, ◌∙◌, subst}
 use Rattle.f77_program.specs.declared.fault.SyntaxFault.{SyntaxFault}
 use Rattle.f77_program.specs.declared.fault.SyntaxFault.TheVariants.{Memory, Unknown, BadName}
-use Rattle.f77_tree.specs.Tree.{Statement}
+use Rattle.f77_tree.specs.Statement.{Statement}
 use Rattle.f77_tree.specs.StatementGrammar.{SpellsStatement}
 use Rattle.f77_syntax.specs.StatementView.{clip_statement}
 use Rattle.f77_syntax.specs.TextLimits.{character_count, most_characters, IsTooDeep}

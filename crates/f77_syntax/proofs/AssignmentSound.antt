@@ -3,7 +3,8 @@ use Rattle.std.proofs.Common.{arith, ◌≡◌, inl, inr, ℕ, length, List, [],
 use Rattle.std.specs.Prelude.{◌==◌}
 use Rattle.std.proofs.lemmas.Option.{same_Some, none-some}
 use Rattle.std.proofs.lemmas.Bool.{eqb-true}
-use Rattle.f77_tree.specs.Tree.{Trees, Statement}
+use Rattle.f77_tree.specs.Tree.{Trees}
+use Rattle.f77_tree.specs.Statement.{Statement}
 use Rattle.f77_tree.specs.Grammar.{SpellsReference, is_name, word, past_word}
 use Rattle.f77_tree.specs.StatementGrammar.{SpellsAction}
 use Rattle.f77_syntax.specs.Reading.{◌>>=◌, after, close_at, reading}

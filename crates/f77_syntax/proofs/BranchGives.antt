@@ -15,10 +15,11 @@ use Rattle.std.proofs.Math.Nat.{pow-le-pow_right}
 use Rattle.f77_syntax.specs.declared.fault.ReadError.{ReadError}
 use Rattle.f77_syntax.specs.declared.fault.ReadError.TheVariants.{Unknown}
 use Rattle.f77_tree.specs.declared.tree.Expr.{Expr}
-use Rattle.f77_tree.specs.declared.tree.Stmt.{Stmt}
-use Rattle.f77_tree.specs.declared.tree.Stmt.TheVariants as forms
-use Rattle.f77_tree.specs.declared.tree.Stmt.TheViews as boxed
-use Rattle.f77_tree.specs.Tree.{Tree, DeclFields, GroupFields, Statement}
+use Rattle.f77_tree.specs.declared.statement.Stmt.{Stmt}
+use Rattle.f77_tree.specs.declared.statement.Stmt.TheVariants as forms
+use Rattle.f77_tree.specs.declared.statement.Stmt.TheViews as boxed
+use Rattle.f77_tree.specs.Tree.{Tree, DeclFields, GroupFields}
+use Rattle.f77_tree.specs.Statement.{Statement, statement_of}
 use Rattle.f77_tree.specs.Grammar.{is_digit, is_number, is_name, word, past_word}
 use Rattle.f77_tree.specs.StatementGrammar.{label_number}
 use Rattle.f77_syntax.specs.Reading.{◌>>=◌, strip, after, close_at, reading, past_comma}
@@ -33,7 +34,6 @@ use Rattle.f77_syntax.specs.Statement.{word_statement, without_expression, simpl
 use Rattle.f77_tree.specs.Name.{cut}
 use Rattle.f77_tree.specs.View.{tree_of}
 use Rattle.f77_syntax.specs.View.{clip, clipped, Fails, Gives}
-use Rattle.f77_tree.specs.StatementView.{statement_of}
 use Rattle.f77_syntax.specs.StatementView.{clip_statement, IsStatement}
 use Rattle.f77_tree.proofs.Tests.{and_true}
 use Rattle.f77_syntax.proofs.Steps.{along}

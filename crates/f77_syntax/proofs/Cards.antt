@@ -8,8 +8,7 @@ use Rattle.f77_program.specs.declared.fault.SyntaxFault.TheVariants.{Memory}
 use Rattle.f77_program.specs.declared.group.Group.{Group}
 use Rattle.f77_program.specs.declared.group.Group.TheVariants.{End}
 use Rattle.f77_program.specs.declared.program.Line.{Line}
-use Rattle.f77_tree.specs.StatementView.{statement_of}
-use Rattle.f77_tree.specs.Tree.{Statement}
+use Rattle.f77_tree.specs.Statement.{statement_of, Statement}
 use Rattle.f77_program.specs.Group.{group_of, may_stand}
 use Rattle.f77_syntax.specs.Parsing.{IsAdmitted, line_with, AreLines, IsFirstFault, unfinished}
 use Rattle.f77_program.specs.Program.{LineFields, line_of, IsProgram}

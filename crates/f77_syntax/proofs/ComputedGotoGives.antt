@@ -4,8 +4,9 @@ use Rattle.std.specs.Prelude.{◌==◌, Vec}
 use Rattle.std.specs.declared.alloc.Global.{Global}
 use Rattle.f77_syntax.specs.declared.fault.ReadError.{ReadError}
 use Rattle.f77_tree.specs.declared.tree.Expr.{Expr}
-use Rattle.f77_tree.specs.declared.tree.Stmt.TheVariants as forms
-use Rattle.f77_tree.specs.Tree.{Tree, Statement}
+use Rattle.f77_tree.specs.declared.statement.Stmt.TheVariants as forms
+use Rattle.f77_tree.specs.Tree.{Tree}
+use Rattle.f77_tree.specs.Statement.{Statement, statement_of}
 use Rattle.f77_syntax.specs.Reading.{◌>>=◌, close_at, past_comma, reading}
 use Rattle.f77_syntax.specs.Assignment.{ended}
 use Rattle.f77_syntax.specs.Joined.{items_at}
@@ -13,7 +14,6 @@ use Rattle.f77_syntax.specs.Label.{label_at}
 use Rattle.f77_syntax.specs.ComputedGoto.{selector_at, computed_at}
 use Rattle.f77_tree.specs.View.{tree_of}
 use Rattle.f77_syntax.specs.View.{clip, Fails}
-use Rattle.f77_tree.specs.StatementView.{statement_of}
 use Rattle.f77_syntax.specs.StatementView.{clip_statement}
 use Rattle.f77_tree.proofs.Views.{computed_view}
 use Rattle.f77_syntax.proofs.Gives.{fails_bind}

@@ -4,7 +4,7 @@ use Rattle.f77_source.specs.Card.{CardFields}
 use Rattle.f77_program.specs.declared.fault.SyntaxFault.{SyntaxFault}
 use Rattle.f77_program.specs.declared.group.Group.{Group}
 use Rattle.f77_program.specs.declared.group.Group.TheVariants.{Subroutine, Declaration, Data, Executable, End}
-use Rattle.f77_tree.specs.Tree.{Statement}
+use Rattle.f77_tree.specs.Statement.{Statement}
 use Rattle.f77_program.specs.Group.{group_of, may_stand}
 use Rattle.f77_nodes.specs.Names.{statement_names}
 use Rattle.f77_nodes.specs.Limits.{statement_constants, statement_nodes}

@@ -3,11 +3,12 @@ use Rattle.std.proofs.Common.{◌≡◌, ◌+◌, true, refl, ap, sym, ◌∙◌
 use Rattle.std.specs.Prelude.{◌&&◌, Option, Some, None, option_map}
 use Rattle.std.specs.List.{list_all}
 use Rattle.std.proofs.lemmas.List.{length-map}
-use Rattle.f77_tree.specs.Tree.{Tree, Statement}
+use Rattle.f77_tree.specs.Tree.{Tree}
+use Rattle.f77_tree.specs.Statement.{Statement}
 use Rattle.f77_syntax.specs.View.{clip}
 use Rattle.f77_syntax.specs.StatementView.{clip_statement}
 use Rattle.f77_nodes.specs.Limits.{is_label, statement_constants, statement_nodes}
-use Rattle.f77_nodes.specs.Names.{of_step, statement_names, short_names, all_short_names}
+use Rattle.f77_nodes.specs.Names.{of_value, statement_names, short_names, all_short_names}
 use Rattle.f77_syntax.proofs.NodeCounts.{step_nodes, count_by_part, counted_by_part}
 use Rattle.f77_tree.specs.Name.{is_short, cut}
 use Rattle.f77_nodes.proofs.Constants.{small_constants, all_small_constants, by_part, told_by_part}
@@ -16,7 +17,7 @@ use Rattle.f77_syntax.proofs.Clip.{constants_clip, all_constants_clip, nodes_cli
 use Rattle.f77_syntax.proofs.DeclarationKept.{declaration_constants_clip, declaration_nodes_clip, declaration_kept}
 use Rattle.f77_syntax.proofs.DataKept.{data_constants_clip, data_nodes_clip, data_kept}
 
-step_constants_clip : (c : Option Tree) → of_step small_constants (option_map clip c) ≡ of_step small_constants c
+step_constants_clip : (c : Option Tree) → of_value small_constants (option_map clip c) ≡ of_value small_constants c
 step_constants_clip None = refl
 step_constants_clip (Some t) = constants_clip t
 
@@ -24,7 +25,7 @@ step_nodes_clip : (c : Option Tree) → step_nodes (option_map clip c) ≡ step_
 step_nodes_clip None = refl
 step_nodes_clip (Some t) = nodes_clip t
 
-step_kept : (c : Option Tree) → of_step short_names c ≡ true → of_step small_constants c ≡ true → option_map clip c ≡ c
+step_kept : (c : Option Tree) → of_value short_names c ≡ true → of_value small_constants c ≡ true → option_map clip c ≡ c
 step_kept None s h = refl
 step_kept (Some t) s h = ap Some (kept t s h)
 
@@ -94,12 +95,12 @@ kept_by_part (Statement.ElseIf t) n h = rw (kept t n h) refl
 kept_by_part Statement.Else n h = refl
 kept_by_part Statement.EndIf n h = refl
 kept_by_part (Statement.Loop label name a b c) n h =
-    let (named, trees_named) = and_true (is_short name) (short_names a && (short_names b && of_step short_names c)) n in
-    let (a_named, b_and_c_named) = and_true (short_names a) (short_names b && of_step short_names c) trees_named in
-    let (b_named, c_named) = and_true (short_names b) (of_step short_names c) b_and_c_named in
-    let (one, rest) = and_true (is_label label) (small_constants a && (small_constants b && of_step small_constants c)) h in
-    let (first, others) = and_true (small_constants a) (small_constants b && of_step small_constants c) rest in
-    let (second, third) = and_true (small_constants b) (of_step small_constants c) others in
+    let (named, trees_named) = and_true (is_short name) (short_names a && (short_names b && of_value short_names c)) n in
+    let (a_named, b_and_c_named) = and_true (short_names a) (short_names b && of_value short_names c) trees_named in
+    let (b_named, c_named) = and_true (short_names b) (of_value short_names c) b_and_c_named in
+    let (one, rest) = and_true (is_label label) (small_constants a && (small_constants b && of_value small_constants c)) h in
+    let (first, others) = and_true (small_constants a) (small_constants b && of_value small_constants c) rest in
+    let (second, third) = and_true (small_constants b) (of_value small_constants c) others in
     rw (short_cut name named, kept a a_named first, kept b b_named second, step_kept c c_named third) refl
 kept_by_part Statement.Continue n h = refl
 kept_by_part Statement.Return n h = refl

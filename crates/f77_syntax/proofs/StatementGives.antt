@@ -5,7 +5,8 @@ use Rattle.std.proofs.lemmas.Option.{none-some}
 use Rattle.f77_syntax.specs.declared.fault.ReadError.{ReadError}
 use Rattle.f77_tree.specs.declared.tree.Expr.{Expr}
 use Rattle.f77_tree.specs.declared.tree.Ref.{Ref}
-use Rattle.f77_tree.specs.Tree.{Tree, Trees, Statement}
+use Rattle.f77_tree.specs.Tree.{Tree, Trees}
+use Rattle.f77_tree.specs.Statement.{Statement}
 use Rattle.f77_tree.specs.Grammar.{is_name, word, past_word}
 use Rattle.f77_tree.specs.Name.{cut}
 use Rattle.f77_syntax.specs.Reading.{◌>>=◌, after, close_at, reading}

@@ -7,7 +7,8 @@ use Rattle.std.proofs.lemmas.List.{get_or-append_right}
 use Rattle.std.proofs.lemmas.List.Sums.{suffix_len_is}
 use Rattle.f77_tree.specs.declared.tree.Kind.{Kind}
 use Rattle.f77_tree.specs.declared.tree.Kind.TheVariants.{Integer, Logical}
-use Rattle.f77_tree.specs.Tree.{Tree, Statement}
+use Rattle.f77_tree.specs.Tree.{Tree}
+use Rattle.f77_tree.specs.Statement.{Statement}
 use Rattle.f77_tree.specs.Grammar.{Spells, is_word, is_name, is_number}
 use Rattle.f77_tree.specs.Name.{is_short}
 use Rattle.f77_nodes.specs.Names.{short_names, all_short_names, statement_names}

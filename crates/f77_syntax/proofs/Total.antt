@@ -8,7 +8,7 @@ use Rattle.f77_program.specs.declared.fault.SyntaxFault.{SyntaxFault}
 use Rattle.f77_program.specs.declared.fault.SyntaxFault.TheVariants.{Unknown, BadName, BadConstant, TooDeep, TooLong, AfterEnd}
 use Rattle.f77_program.specs.declared.group.Group.{Group}
 use Rattle.f77_program.specs.declared.group.Group.TheVariants.{Subroutine, Declaration, Data, Executable, End}
-use Rattle.f77_tree.specs.Tree.{Statement}
+use Rattle.f77_tree.specs.Statement.{Statement}
 use Rattle.f77_program.specs.Group.{group_of, may_stand}
 use Rattle.f77_syntax.specs.TextLimits.{count, most_open, character_count, most_characters, IsTooDeep}
 use Rattle.f77_nodes.specs.Limits.{most_nodes, statement_constants, statement_nodes}

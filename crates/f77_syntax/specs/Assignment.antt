@@ -1,7 +1,8 @@
 -- Reading an assignment.
 use Rattle.std.specs.Prelude.{ℕ, ◌==◌, List, [], ◌∷◌, length, Option, Some, None, if◌then◌else◌}
 use Rattle.f77_tree.specs.Grammar.{is_name, word, past_word}
-use Rattle.f77_tree.specs.Tree.{Trees, Statement}
+use Rattle.f77_tree.specs.Tree.{Trees}
+use Rattle.f77_tree.specs.Statement.{Statement}
 use Rattle.f77_syntax.specs.Reading.{◌>>=◌, after, close_at, reading}
 
 -- the value, where nothing stands behind it

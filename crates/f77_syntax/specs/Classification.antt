@@ -1,7 +1,7 @@
 -- What a statement is, from its text as a whole, since no word is reserved (ANSI X3.9-1978, 2.3 and 3.3).
 use Rattle.std.specs.Prelude.{ℕ, suc, ◌-◌, ◌==◌, List, [], ◌∷◌, Option, Some, None, Bool, false, ◌&&◌, not, is_some, if◌then◌else◌, codes}
 use Rattle.f77_syntax.specs.Reading.{◌>>=◌, strip}
-use Rattle.f77_tree.specs.Tree.{Statement}
+use Rattle.f77_tree.specs.Statement.{Statement}
 use Rattle.f77_syntax.specs.declared.classification.Class.{Class}
 use Rattle.f77_syntax.specs.declared.classification.Class.TheVariants.{If, Loop, Assignment, Keyword}
 

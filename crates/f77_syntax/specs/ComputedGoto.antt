@@ -1,6 +1,6 @@
 -- Reading a computed GO TO.
 use Rattle.std.specs.Prelude.{ℕ, List, Option}
-use Rattle.f77_tree.specs.Tree.{Statement}
+use Rattle.f77_tree.specs.Statement.{Statement}
 use Rattle.f77_syntax.specs.Reading.{◌>>=◌, close_at, past_comma, reading}
 use Rattle.f77_syntax.specs.Assignment.{ended}
 use Rattle.f77_syntax.specs.Joined.{items_at}

@@ -1,6 +1,7 @@
 -- Reading what is in the parentheses of an IF, and the labels of an arithmetic IF.
 use Rattle.std.specs.Prelude.{ℕ, List, Option, Some, codes}
-use Rattle.f77_tree.specs.Tree.{Tree, Statement}
+use Rattle.f77_tree.specs.Tree.{Tree}
+use Rattle.f77_tree.specs.Statement.{Statement}
 use Rattle.f77_syntax.specs.Reading.{◌>>=◌, strip, close_at, reading}
 use Rattle.f77_syntax.specs.Label.{labels_at}
 

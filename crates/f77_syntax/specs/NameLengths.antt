@@ -1,7 +1,7 @@
 -- The lengths of the names in a statement (ANSI X3.9-1978, 2.2), by the words of its text.
 use Rattle.std.specs.Prelude.{ℕ, List, [], Bool, true, false, not, if◌then◌else◌, codes, unwrap_or}
 use Rattle.std.specs.List.{list_all, slice_split, before_last}
-use Rattle.f77_tree.specs.Tree.{Statement}
+use Rattle.f77_tree.specs.Statement.{Statement}
 use Rattle.f77_tree.specs.Grammar.{is_word}
 use Rattle.f77_tree.specs.Name.{is_short}
 use Rattle.f77_syntax.specs.Reading.{strip, past_digits}

@@ -4,7 +4,7 @@ use Rattle.f77_source.specs.Card.{CardFields}
 use Rattle.f77_source.specs.Law.{squeezed}
 use Rattle.f77_source.specs.Read.{AreCards, lines}
 use Rattle.f77_tree.specs.StatementGrammar.{IsUnmutated}
-use Rattle.f77_tree.specs.Tree.{Statement}
+use Rattle.f77_tree.specs.Statement.{Statement}
 use Rattle.f77_nodes.specs.Limits.{most_nodes, statement_constants, statement_nodes}
 use Rattle.f77_program.specs.Canonical.{statement_text}
 use Rattle.f77_program.specs.Printing.{AreAlike}

@@ -2,7 +2,8 @@
 use Rattle.std.specs.Prelude.{ℕ, ◌==◌, List, [], ◌∷◌, length, Option, Some, None, Bool, false, if◌then◌else◌, codes}
 use Rattle.std.specs.Str.{bytes_eq}
 use Rattle.f77_tree.specs.Grammar.{is_digit}
-use Rattle.f77_tree.specs.Tree.{Tree, Statement}
+use Rattle.f77_tree.specs.Tree.{Tree}
+use Rattle.f77_tree.specs.Statement.{Statement}
 use Rattle.f77_program.specs.Formed.{is_action}
 use Rattle.f77_syntax.specs.Reading.{◌>>=◌, strip}
 use Rattle.f77_syntax.specs.Assignment.{assign_at}

@@ -4,36 +4,30 @@ use Rattle.std.specs.Borrow.{Bor}
 use Rattle.std.specs.declared.alloc.Global.{Global}
 use Rattle.f77_tree.specs.declared.tree.Expr.{Expr}
 use Rattle.f77_tree.specs.declared.tree.Ref.{Ref}
-use Rattle.f77_tree.specs.declared.tree.Stmt.{Stmt}
+use Rattle.f77_tree.specs.declared.statement.Stmt.{Stmt}
 use Rattle.f77_tree.specs.Name.{cut}
-use Rattle.f77_tree.specs.Tree.{Tree, Trees, Statement}
+use Rattle.f77_tree.specs.Statement.{Statement, Change, changed_by, statement_of}
+use Rattle.f77_tree.specs.Tree.{Tree, Trees}
 use Rattle.f77_tree.specs.View.{trees, tree_of, place_of}
 use Rattle.f77_syntax.specs.View.{clip, clip_all}
 use Rattle.f77_syntax.specs.Declaration.{clip_decl}
 use Rattle.f77_syntax.specs.Data.{clip_group}
-use Rattle.f77_tree.specs.StatementView.{statement_of}
 
--- a statement as it is kept
+-- a statement as it is kept: names cut, constants clipped
+abbrev pub clipping : Change
+clipping = record {
+  name = cut;
+  names = map cut;
+  declared = map clip_decl;
+  groups = map clip_group;
+  items = clip_all;
+  tree = clip;
+  label = λ label. label;
+  labels = λ labels. labels;
+}
+
 abbrev pub clip_statement : Statement → Statement
-clip_statement (Statement.Subroutine name names) = Statement.Subroutine (cut name) (map cut names)
-clip_statement (Statement.Declare kind ds) = Statement.Declare kind (map clip_decl ds)
-clip_statement (Statement.Dimension ds) = Statement.Dimension (map clip_decl ds)
-clip_statement (Statement.Preset gs) = Statement.Preset (map clip_group gs)
-clip_statement (Statement.Assign name items t) = Statement.Assign (cut name) (clip_all items) (clip t)
-clip_statement (Statement.Goto label) = Statement.Goto label
-clip_statement (Statement.ComputedGoto labels t) = Statement.ComputedGoto labels (clip t)
-clip_statement (Statement.ArithIf t l m n) = Statement.ArithIf (clip t) l m n
-clip_statement (Statement.LogicalIf t s) = Statement.LogicalIf (clip t) (clip_statement s)
-clip_statement (Statement.BlockIf t) = Statement.BlockIf (clip t)
-clip_statement (Statement.ElseIf t) = Statement.ElseIf (clip t)
-clip_statement Statement.Else = Statement.Else
-clip_statement Statement.EndIf = Statement.EndIf
-clip_statement (Statement.Loop label name a b c) = Statement.Loop label (cut name) (clip a) (clip b) (option_map clip c)
-clip_statement Statement.Continue = Statement.Continue
-clip_statement Statement.Return = Statement.Return
-clip_statement Statement.Stop = Statement.Stop
-clip_statement Statement.Trap = Statement.Trap
-clip_statement Statement.End = Statement.End
+clip_statement = changed_by clipping
 
 abbrev pub IsStatement : Stmt → Statement → Type 0
 IsStatement x a = statement_of x ≡ clip_statement a

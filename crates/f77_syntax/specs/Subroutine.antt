@@ -4,7 +4,7 @@ use Rattle.std.specs.declared.alloc.Global.{Global}
 use Rattle.f77_tree.specs.declared.name.Name.{Name}
 use Rattle.f77_tree.specs.Grammar.{is_name, word, past_word}
 use Rattle.f77_tree.specs.Name.{cut}
-use Rattle.f77_tree.specs.Tree.{Statement}
+use Rattle.f77_tree.specs.Statement.{Statement}
 use Rattle.f77_syntax.specs.Reading.{◌>>=◌}
 use Rattle.f77_syntax.specs.Assignment.{ended}
 use Rattle.f77_syntax.specs.Names.{names_at}

@@ -8,8 +8,7 @@ ghost use Rattle.f77_syntax.specs.TextLimits.{character_count, most_characters};
 ghost use Rattle.f77_nodes.specs.Limits.{most_nodes, statement_constants, statement_nodes};
 ghost use Rattle.f77_syntax.specs.Parsing.{IsAdmitted, IsOutside, IsRefused, IsFirstFault, AreLines, misplaced, unfinished};
 ghost use Rattle.f77_program.specs.Program.{IsProgram, LineFields, line_of};
-ghost use Rattle.f77_tree.specs.Tree.{Statement};
-ghost use Rattle.f77_tree.specs.StatementView.{statement_of};
+ghost use Rattle.f77_tree.specs.Statement.{Statement, statement_of};
 ghost use Rattle.f77_syntax.specs.StatementView.{clip_statement};
 ghost use Rattle.f77_program.specs.declared.group.Group.TheVariants.{End};
 

@@ -7,7 +7,7 @@ ghost use Rattle.f77_syntax.specs.Statement.{simple_at, simple_action_at, action
 ghost use Rattle.f77_tree.specs.Tree.{Tree};
 ghost use Rattle.f77_tree.specs.View.{tree_of};
 ghost use Rattle.f77_syntax.specs.View.{clip, Gives};
-ghost use Rattle.f77_tree.specs.StatementView.{statement_of};
+ghost use Rattle.f77_tree.specs.Statement.{statement_of};
 ghost use Rattle.f77_syntax.specs.StatementView.{IsStatement};
 
 use crate::assignment::assignment;

@@ -4,3 +4,4 @@ pub mod Views
 pub mod Copies
 pub mod Names
 pub mod Comparisons
+pub mod Forms

@@ -10,16 +10,16 @@ use Rattle.f77_tree.specs.declared.tree.Expr.TheVariants.{Number, Truth, rolls-N
 use Rattle.f77_tree.specs.declared.tree.Expr.TheViews as views
 use Rattle.f77_tree.specs.declared.tree.Expr.TheOpen.{Expr-F}
 use Rattle.f77_tree.specs.declared.tree.Expr.TheFolds.{fold-roll-Expr, fold_out-Ref}
-use Rattle.f77_tree.specs.declared.tree.Stmt.{Stmt}
-use Rattle.f77_tree.specs.declared.tree.Stmt.TheVariants.{rolls-Subroutine, rolls-Declare, rolls-Dimension, rolls-Preset, rolls-Assign, rolls-ComputedGoto, rolls-ArithIf, rolls-LogicalIf, rolls-BlockIf, rolls-ElseIf, rolls-Else, rolls-Loop, rolls-Goto, rolls-EndIf, rolls-Continue, rolls-Return, rolls-Stop, rolls-Trap, rolls-End}
-use Rattle.f77_tree.specs.declared.tree.Stmt.TheVariants as forms
-use Rattle.f77_tree.specs.declared.tree.Stmt.TheViews as boxed
-use Rattle.f77_tree.specs.declared.tree.Stmt as inside
-use Rattle.f77_tree.specs.declared.tree.Stmt.TheOpen.{Stmt-F}
-use Rattle.f77_tree.specs.declared.tree.Stmt.TheFolds.{fold-roll-Stmt, fold_out-Stmt}
-use Rattle.f77_tree.specs.Tree.{Tree, Statement}
+use Rattle.f77_tree.specs.declared.statement.Stmt.{Stmt}
+use Rattle.f77_tree.specs.declared.statement.Stmt.TheVariants.{rolls-Subroutine, rolls-Declare, rolls-Dimension, rolls-Preset, rolls-Assign, rolls-ComputedGoto, rolls-ArithIf, rolls-LogicalIf, rolls-BlockIf, rolls-ElseIf, rolls-Else, rolls-Loop, rolls-Goto, rolls-EndIf, rolls-Continue, rolls-Return, rolls-Stop, rolls-Trap, rolls-End}
+use Rattle.f77_tree.specs.declared.statement.Stmt.TheVariants as forms
+use Rattle.f77_tree.specs.declared.statement.Stmt.TheViews as boxed
+use Rattle.f77_tree.specs.declared.statement.Stmt as inside
+use Rattle.f77_tree.specs.declared.statement.Stmt.TheOpen.{Stmt-F}
+use Rattle.f77_tree.specs.declared.statement.Stmt.TheFolds.{fold-roll-Stmt, fold_out-Stmt}
+use Rattle.f77_tree.specs.Tree.{Tree}
+use Rattle.f77_tree.specs.Statement.{Statement, stmt_step, statement_of}
 use Rattle.f77_tree.specs.View.{trees, expr_step, ref_step, tree_of, place_of}
-use Rattle.f77_tree.specs.StatementView.{stmt_step, statement_of}
 use Rattle.f77_tree.specs.declared.tree.Kind.{Kind}
 use Rattle.f77_tree.specs.declared.declaration.Decl.{Decl}
 use Rattle.f77_tree.specs.declared.data.DataGroup.{DataGroup}

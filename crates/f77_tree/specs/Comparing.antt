@@ -1,8 +1,7 @@
--- Which expressions and statements are the same: those of one form with the same parts.
+-- Which expressions and parts of declarations are the same: those of one form with the same parts.
 use Rattle.std.specs.Prelude.{ℕ, ◌==◌, nat_eq, List, Bool, true, false, ◌&&◌}
 use Rattle.std.specs.Bool.{beq}
 use Rattle.std.specs.Cmp.Lexicographic.{pointwise}
-use Rattle.std.specs.Option.{option_eq}
 use Rattle.std.specs.Ordering.{int_eq}
 use Rattle.std.specs.Str.{bytes_eq}
 use Rattle.f77_tree.specs.declared.data.Constant.{Constant}
@@ -16,7 +15,7 @@ use Rattle.f77_tree.specs.declared.operator.Sign.{Sign}
 use Rattle.f77_tree.specs.declared.operator.Sign.TheVariants.{Plus, Minus}
 use Rattle.f77_tree.specs.declared.tree.Kind.{Kind}
 use Rattle.f77_tree.specs.declared.tree.Kind.TheVariants.{Integer, Logical}
-use Rattle.f77_tree.specs.Tree.{Tree, Trees, Statement, DeclFields, GroupFields}
+use Rattle.f77_tree.specs.Tree.{Tree, Trees, DeclFields, GroupFields}
 use Rattle.f77_tree.specs.View.{trees}
 
 abbrev pub same_kind : Kind → Kind → Bool
@@ -88,27 +87,3 @@ same_decl d e = bytes_eq d.name e.name && pointwise nat_eq d.bounds e.bounds
 
 abbrev pub same_group : GroupFields → GroupFields → Bool
 same_group g h = pointwise bytes_eq g.names h.names && pointwise same_value g.values h.values
-
-abbrev pub same_statement : Statement → Statement → Bool
-same_statement (Statement.Subroutine name names) (Statement.Subroutine other others) = bytes_eq name other && pointwise bytes_eq names others
-same_statement (Statement.Declare kind ds) (Statement.Declare other es) = same_kind kind other && pointwise same_decl ds es
-same_statement (Statement.Dimension ds) (Statement.Dimension es) = pointwise same_decl ds es
-same_statement (Statement.Preset gs) (Statement.Preset hs) = pointwise same_group gs hs
-same_statement (Statement.Assign name items t) (Statement.Assign other others u) =
-    (bytes_eq name other && same_trees items others) && same_tree t u
-same_statement (Statement.Goto l) (Statement.Goto m) = l == m
-same_statement (Statement.ComputedGoto ls t) (Statement.ComputedGoto ms u) = pointwise nat_eq ls ms && same_tree t u
-same_statement (Statement.ArithIf t l m n) (Statement.ArithIf u i j k) = same_tree t u && (l == i && (m == j && n == k))
-same_statement (Statement.LogicalIf t a) (Statement.LogicalIf u b) = same_tree t u && same_statement a b
-same_statement (Statement.BlockIf t) (Statement.BlockIf u) = same_tree t u
-same_statement (Statement.ElseIf t) (Statement.ElseIf u) = same_tree t u
-same_statement Statement.Else Statement.Else = true
-same_statement Statement.EndIf Statement.EndIf = true
-same_statement (Statement.Loop l name a b c) (Statement.Loop m other d e f) =
-    l == m && (bytes_eq name other && (same_tree a d && (same_tree b e && option_eq same_tree c f)))
-same_statement Statement.Continue Statement.Continue = true
-same_statement Statement.Return Statement.Return = true
-same_statement Statement.Stop Statement.Stop = true
-same_statement Statement.Trap Statement.Trap = true
-same_statement Statement.End Statement.End = true
-same_statement _ _ = false

@@ -1,24 +1,19 @@
--- What a statement is, apart from what it names and computes (ANSI X3.9-1978, 7.1).
-use Rattle.f77_tree.specs.Tree.{Statement}
+-- What is told of a statement from its form alone.
+use Rattle.std.specs.Prelude.{Bool, true, false}
 use Rattle.f77_tree.specs.declared.form.Form.{Form}
 
-abbrev pub form_of : Statement → Form
-form_of (Statement.Subroutine name names) = Form.Subroutine
-form_of (Statement.Declare kind declarations) = Form.Declare
-form_of (Statement.Dimension declarations) = Form.Dimension
-form_of (Statement.Preset groups) = Form.Preset
-form_of (Statement.Assign name items tree) = Form.Assign
-form_of (Statement.Goto label) = Form.Goto
-form_of (Statement.ComputedGoto labels tree) = Form.ComputedGoto
-form_of (Statement.ArithIf tree first second third) = Form.ArithIf
-form_of (Statement.LogicalIf tree statement) = Form.LogicalIf
-form_of (Statement.BlockIf tree) = Form.BlockIf
-form_of (Statement.ElseIf tree) = Form.ElseIf
-form_of Statement.Else = Form.Else
-form_of Statement.EndIf = Form.EndIf
-form_of (Statement.Loop label name first last step) = Form.Loop
-form_of Statement.Continue = Form.Continue
-form_of Statement.Return = Form.Return
-form_of Statement.Stop = Form.Stop
-form_of Statement.Trap = Form.Trap
-form_of Statement.End = Form.End
+-- Statements of this form may stand in a logical IF (ANSI X3.9-1978, 11.5): executable ones, but for DO, block IF, ELSE IF, ELSE, END IF, END
+-- and another logical IF.
+abbrev pub acts : Form → Bool
+acts Form.Subroutine = false
+acts Form.Declare = false
+acts Form.Dimension = false
+acts Form.Preset = false
+acts Form.LogicalIf = false
+acts Form.BlockIf = false
+acts Form.ElseIf = false
+acts Form.Else = false
+acts Form.EndIf = false
+acts Form.Loop = false
+acts Form.End = false
+acts _ = true

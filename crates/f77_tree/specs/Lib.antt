@@ -7,9 +7,9 @@ pub mod View
 pub mod Joined
 pub mod Declaration
 pub mod Data
-pub mod StatementGrammar
-pub mod StatementView
 pub mod Name
 pub mod Comparing
+pub mod Statement
+pub mod StatementGrammar
 pub mod Deciding
 pub mod SameTrees

@@ -19,10 +19,11 @@ use Rattle.f77_tree.specs.declared.operator.Sign.{Sign}
 use Rattle.f77_tree.specs.declared.operator.Sign.TheVariants.{Plus, Minus}
 use Rattle.f77_tree.specs.declared.tree.Kind.{Kind}
 use Rattle.f77_tree.specs.declared.tree.Kind.TheVariants.{Integer, Logical}
-use Rattle.f77_tree.specs.Tree.{Tree, Trees, Statement, DeclFields, GroupFields}
+use Rattle.f77_tree.specs.Tree.{Tree, Trees, DeclFields, GroupFields}
+use Rattle.f77_tree.specs.Statement.{Statement, same_statement}
 use Rattle.f77_tree.specs.View.{trees}
 use Rattle.f77_tree.specs.Comparing.{same_kind, same_sign, same_function, same_operator, same_constant, same_value, same_tree, same_trees}
-use Rattle.f77_tree.specs.Comparing.{same_place, same_decl, same_group, same_statement}
+use Rattle.f77_tree.specs.Comparing.{same_place, same_decl, same_group}
 
 names_decide : (xs ys : List (List ℕ)) → Decides (pointwise bytes_eq xs ys) (xs ≡ ys)
 names_decide = pointwise_decides bytes_decides

@@ -1,9 +1,10 @@
 -- Which blank-free texts spell which statements (ANSI X3.9-1978, sections 7 to 11). Labels are of any length here.
-use Rattle.std.specs.Prelude.{◌≡◌, ℕ, List, [], ◌∷◌, ◌++◌, length, Bool, true, false, nat_le, if◌then◌else◌, Some, None, option_map, map, codes}
+use Rattle.std.specs.Prelude.{◌≡◌, ℕ, List, [], ◌∷◌, ◌++◌, length, Bool, true, false, nat_le, if◌then◌else◌, Some, None, map, codes}
 use Rattle.std.specs.List.{list_all, join_with_byte}
 use Rattle.std.specs.Str.Parse.{digits_value}
 use Rattle.f77_tree.specs.declared.intrinsic.Intrinsic.TheVariants.{Iabs}
-use Rattle.f77_tree.specs.Tree.{Tree, Trees, DeclFields, GroupFields, Statement}
+use Rattle.f77_tree.specs.Statement.{Statement, Change, changed_by}
+use Rattle.f77_tree.specs.Tree.{Tree, Trees, DeclFields, GroupFields}
 use Rattle.f77_tree.specs.Grammar.{is_number, is_name, Spells, SpellsReference}
 use Rattle.f77_tree.specs.Joined.{Joined}
 use Rattle.f77_tree.specs.Declaration.{SpellsDecls, all_bounded}
@@ -90,27 +91,23 @@ abbrev mutual
   trees_in_text Trees.None = Trees.None
   trees_in_text (Trees.Then t ts) = Trees.Then (tree_in_text t) (trees_in_text ts)
 
+abbrev pub parts_in_text : Change
+parts_in_text = record {
+  name = λ name. name;
+  names = λ names. names;
+  declared = λ ds. ds;
+  groups = λ gs. gs;
+  items = trees_in_text;
+  tree = tree_in_text;
+  label = label_in_text;
+  labels = map label_in_text;
+}
+
 -- A statement as a text may spell it, sizes aside: CONTINUE stands for what only mutants have.
 abbrev pub in_text : Statement → Statement
-in_text (Statement.Subroutine name names) = Statement.Subroutine name names
-in_text (Statement.Declare kind ds) = Statement.Declare kind ds
-in_text (Statement.Dimension ds) = Statement.Dimension ds
-in_text (Statement.Preset gs) = Statement.Preset gs
-in_text (Statement.Assign name items t) = Statement.Assign name (trees_in_text items) (tree_in_text t)
-in_text (Statement.Goto label) = Statement.Goto (label_in_text label)
-in_text (Statement.ComputedGoto labels t) = Statement.ComputedGoto (map label_in_text labels) (tree_in_text t)
-in_text (Statement.ArithIf t l m n) = Statement.ArithIf (tree_in_text t) (label_in_text l) (label_in_text m) (label_in_text n)
 in_text (Statement.LogicalIf t s) = Statement.LogicalIf (tree_in_text t) (in_text s)
-in_text (Statement.BlockIf t) = Statement.BlockIf (tree_in_text t)
-in_text (Statement.ElseIf t) = Statement.ElseIf (tree_in_text t)
-in_text Statement.Else = Statement.Else
-in_text Statement.EndIf = Statement.EndIf
-in_text (Statement.Loop label name a b c) = Statement.Loop (label_in_text label) name (tree_in_text a) (tree_in_text b) (option_map tree_in_text c)
-in_text Statement.Continue = Statement.Continue
-in_text Statement.Return = Statement.Return
-in_text Statement.Stop = Statement.Stop
 in_text Statement.Trap = Statement.Continue
-in_text Statement.End = Statement.End
+in_text s = changed_by parts_in_text s
 
 -- it has nothing that only mutants have
 abbrev pub IsUnmutated : Statement → Type 0

@@ -1,10 +1,9 @@
--- Expressions and statements as trees, apart from where they lie in memory. Parentheses leave no trace.
-use Rattle.std.specs.Prelude.{ℕ, List, Bool, Option}
+-- Expressions as trees, apart from where they lie in memory, and the parts of declarations. Parentheses leave no trace.
+use Rattle.std.specs.Prelude.{ℕ, List, Bool}
 use Rattle.f77_tree.specs.declared.intrinsic.Intrinsic.{Intrinsic}
 use Rattle.f77_tree.specs.declared.operator.Operator.{Operator}
 use Rattle.f77_tree.specs.declared.operator.Sign.{Sign}
 use Rattle.f77_tree.specs.declared.data.Value.{Value}
-use Rattle.f77_tree.specs.declared.tree.Kind.{Kind}
 
 mutual
   pub data Tree : Type 0 where
@@ -31,25 +30,3 @@ pub record DeclFields : Type 0 where
 pub record GroupFields : Type 0 where
   pub names : List (List ℕ)
   pub values : List Value
-
--- statements
-pub data Statement : Type 0 where
-  Subroutine : List ℕ → List (List ℕ) → Statement
-  Declare : Kind → List DeclFields → Statement
-  Dimension : List DeclFields → Statement
-  Preset : List GroupFields → Statement
-  Assign : List ℕ → Trees → Tree → Statement
-  Goto : ℕ → Statement
-  ComputedGoto : List ℕ → Tree → Statement
-  ArithIf : Tree → ℕ → ℕ → ℕ → Statement
-  LogicalIf : Tree → Statement → Statement
-  BlockIf : Tree → Statement
-  ElseIf : Tree → Statement
-  Else : Statement
-  EndIf : Statement
-  Loop : ℕ → List ℕ → Tree → Tree → Option Tree → Statement
-  Continue : Statement
-  Return : Statement
-  Stop : Statement
-  Trap : Statement
-  End : Statement

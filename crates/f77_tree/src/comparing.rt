@@ -1,20 +1,19 @@
-//! Comparisons of statements and of their parts: equal are those that stand for the same.
+//! Comparisons of expressions and of the parts of declarations: equal are those that stand for the same.
 //!
 //! They are written out, since a derived `eq` says nothing of a type that holds itself.
 
 ghost use Rattle.std.specs.Prelude.{◌≡◌, map};
 ghost use Rattle.std.specs.Cmp.{on_equiv, partial_equiv_from_equiv};
 ghost use Rattle.std.specs.Ordering.{on};
-ghost use Rattle.f77_tree.specs.Comparing.{same_tree, same_trees, same_place, same_decl, same_group, same_statement};
-ghost use Rattle.f77_tree.specs.SameTrees.{tree_equiv, place_equiv, decl_equiv, group_equiv, statement_equiv};
+ghost use Rattle.f77_tree.specs.Comparing.{same_tree, same_trees, same_place, same_decl, same_group};
+ghost use Rattle.f77_tree.specs.SameTrees.{tree_equiv, place_equiv, decl_equiv, group_equiv};
 ghost use Rattle.f77_tree.specs.View.{trees, tree_of, place_of};
-ghost use Rattle.f77_tree.specs.StatementView.{statement_of};
 ghost use Rattle.f77_tree.specs.Declaration.{decl_of};
 ghost use Rattle.f77_tree.specs.Data.{data_group_of};
 
 use crate::data::DataGroup;
 use crate::declaration::Decl;
-use crate::tree::{Expr, Ref, Stmt};
+use crate::tree::{Expr, Ref};
 
 impl PartialEq for Expr {
     ghost eq = { on tree_of same_tree };
@@ -104,108 +103,4 @@ impl PartialEq for DataGroup {
 
 impl Eq for DataGroup {
     ghost laws = { on_equiv data_group_of group_equiv };
-}
-
-impl PartialEq for Stmt {
-    ghost eq = { on statement_of same_statement };
-
-    ghost laws = { partial_equiv_from_equiv (on_equiv statement_of statement_equiv) };
-
-    #[tactic(auto, using(crate::proofs::Comparisons::form_by_form))]
-    fn eq(&self, other: &Stmt) -> bool {
-        match (self, other) {
-            (
-                Stmt::Subroutine { name, arguments },
-                Stmt::Subroutine {
-                    name: other_name,
-                    arguments: other_arguments,
-                },
-            ) => name == other_name && arguments == other_arguments,
-            (
-                Stmt::Declare { kind, items },
-                Stmt::Declare {
-                    kind: other_kind,
-                    items: other_items,
-                },
-            ) => kind == other_kind && items == other_items,
-            (Stmt::Dimension { items }, Stmt::Dimension { items: other }) => items == other,
-            (Stmt::Preset { groups }, Stmt::Preset { groups: other }) => groups == other,
-            (
-                Stmt::Assign { target, value },
-                Stmt::Assign {
-                    target: other_target,
-                    value: other_value,
-                },
-            ) => target == other_target && value == other_value,
-            (Stmt::Goto { label }, Stmt::Goto { label: other }) => label == other,
-            (
-                Stmt::ComputedGoto { labels, value },
-                Stmt::ComputedGoto {
-                    labels: other_labels,
-                    value: other_value,
-                },
-            ) => labels == other_labels && value == other_value,
-            (
-                Stmt::ArithIf {
-                    value,
-                    negative,
-                    zero,
-                    positive,
-                },
-                Stmt::ArithIf {
-                    value: other_value,
-                    negative: other_negative,
-                    zero: other_zero,
-                    positive: other_positive,
-                },
-            ) => value == other_value
-                && negative == other_negative
-                && zero == other_zero
-                && positive == other_positive,
-            (
-                Stmt::LogicalIf {
-                    condition,
-                    statement,
-                },
-                Stmt::LogicalIf {
-                    condition: other_condition,
-                    statement: other_statement,
-                },
-            ) => condition == other_condition && Stmt::eq(statement, other_statement),
-            (Stmt::BlockIf { condition }, Stmt::BlockIf { condition: other }) => condition == other,
-            (Stmt::ElseIf { condition }, Stmt::ElseIf { condition: other }) => condition == other,
-            (
-                Stmt::Loop {
-                    label,
-                    variable,
-                    first,
-                    last,
-                    step,
-                },
-                Stmt::Loop {
-                    label: other_label,
-                    variable: other_variable,
-                    first: other_first,
-                    last: other_last,
-                    step: other_step,
-                },
-            ) => label == other_label
-                && variable == other_variable
-                && first == other_first
-                && last == other_last
-                && step == other_step,
-            (Stmt::Else, Stmt::Else)
-            | (Stmt::EndIf, Stmt::EndIf)
-            | (Stmt::Continue, Stmt::Continue)
-            | (Stmt::Return, Stmt::Return)
-            | (Stmt::Stop, Stmt::Stop)
-            | (Stmt::Trap, Stmt::Trap)
-            | (Stmt::End, Stmt::End) => true,
-            _ => false,
-        }
-    }
-}
-
-impl Eq for Stmt {
-    ghost laws = { on_equiv statement_of statement_equiv };
 }

@@ -1,16 +1,15 @@
-//! Copies of statements and of their parts, in memory of their own.
+//! Copies of expressions and of the parts of declarations, in memory of their own.
 //!
 //! They are written out, since a derived `clone` says nothing of a type that holds itself.
 
 ghost use Rattle.std.specs.Prelude.{◌≡◌, map, IfOk};
 ghost use Rattle.f77_tree.specs.View.{tree_of, place_of};
-ghost use Rattle.f77_tree.specs.StatementView.{statement_of};
 ghost use Rattle.f77_tree.specs.Declaration.{decl_of};
 ghost use Rattle.f77_tree.specs.Data.{data_group_of};
 
 use crate::data::DataGroup;
 use crate::declaration::Decl;
-use crate::tree::{Expr, Ref, Stmt};
+use crate::tree::{Expr, Ref};
 use std::alloc::AllocError;
 
 impl Clone for Expr {
@@ -86,82 +85,5 @@ impl Clone for DataGroup {
             names: self.names.clone()?,
             values: self.values.clone()?,
         })
-    }
-}
-
-impl Clone for Stmt {
-    ghost is_clone = { λ source copy. statement_of copy ≡ statement_of source };
-
-    #[tactic(auto, using(crate::proofs::Copies::same_subroutine, crate::proofs::Copies::same_declaration, crate::proofs::Copies::same_dimension, crate::proofs::Copies::same_preset))]
-    fn clone(&self) -> Result<Stmt, AllocError> {
-        match self {
-            Stmt::Subroutine { name, arguments } => Ok(Stmt::Subroutine {
-                name: *name,
-                arguments: arguments.clone()?,
-            }),
-            Stmt::Declare { kind, items } => Ok(Stmt::Declare {
-                kind: *kind,
-                items: items.clone()?,
-            }),
-            Stmt::Dimension { items } => Ok(Stmt::Dimension {
-                items: items.clone()?,
-            }),
-            Stmt::Preset { groups } => Ok(Stmt::Preset {
-                groups: groups.clone()?,
-            }),
-            Stmt::Assign { target, value } => Ok(Stmt::Assign {
-                target: target.clone()?,
-                value: value.clone()?,
-            }),
-            Stmt::Goto { label } => Ok(Stmt::Goto { label: *label }),
-            Stmt::ComputedGoto { labels, value } => Ok(Stmt::ComputedGoto {
-                labels: labels.clone()?,
-                value: value.clone()?,
-            }),
-            Stmt::ArithIf {
-                value,
-                negative,
-                zero,
-                positive,
-            } => Ok(Stmt::ArithIf {
-                value: value.clone()?,
-                negative: *negative,
-                zero: *zero,
-                positive: *positive,
-            }),
-            Stmt::LogicalIf {
-                condition,
-                statement,
-            } => Ok(Stmt::LogicalIf {
-                condition: condition.clone()?,
-                statement: Box::new(*Box::allocator(statement), Stmt::clone(statement)?)?,
-            }),
-            Stmt::BlockIf { condition } => Ok(Stmt::BlockIf {
-                condition: condition.clone()?,
-            }),
-            Stmt::ElseIf { condition } => Ok(Stmt::ElseIf {
-                condition: condition.clone()?,
-            }),
-            Stmt::Else => Ok(Stmt::Else),
-            Stmt::EndIf => Ok(Stmt::EndIf),
-            Stmt::Loop {
-                label,
-                variable,
-                first,
-                last,
-                step,
-            } => Ok(Stmt::Loop {
-                label: *label,
-                variable: *variable,
-                first: first.clone()?,
-                last: last.clone()?,
-                step: step.clone()?,
-            }),
-            Stmt::Continue => Ok(Stmt::Continue),
-            Stmt::Return => Ok(Stmt::Return),
-            Stmt::Stop => Ok(Stmt::Stop),
-            Stmt::Trap => Ok(Stmt::Trap),
-            Stmt::End => Ok(Stmt::End),
-        }
     }
 }

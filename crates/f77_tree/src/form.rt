@@ -1,10 +1,7 @@
 //! The forms of statements.
 
 ghost use Rattle.std.specs.Prelude.{◌≡◌};
-ghost use Rattle.f77_tree.specs.Form.{form_of};
-ghost use Rattle.f77_tree.specs.StatementView.{statement_of};
-
-use crate::tree::Stmt;
+ghost use Rattle.f77_tree.specs.Form.{acts};
 
 /// What a statement is, apart from what it names and computes (ANSI X3.9-1978, 7.1).
 #[derive(Clone, Copy, Debug, PartialEq, Eq)]
@@ -49,31 +46,25 @@ pub enum Form {
     End,
 }
 
-impl Stmt {
-    /// Its form. It takes no memory.
-    pub fn form(&self) -> Form
-        ensures { result ≡ form_of (statement_of self.now) }
+impl Form {
+    /// Whether a statement of this form may stand in a logical IF (11.5): it is executable, and no DO, no block IF and nothing
+    /// of its, no logical IF and not END.
+    pub fn acts(self) -> bool
+        ensures { result ≡ acts self }
     {
-        match self {
-            Stmt::Subroutine { .. } => Form::Subroutine,
-            Stmt::Declare { .. } => Form::Declare,
-            Stmt::Dimension { .. } => Form::Dimension,
-            Stmt::Preset { .. } => Form::Preset,
-            Stmt::Assign { .. } => Form::Assign,
-            Stmt::Goto { .. } => Form::Goto,
-            Stmt::ComputedGoto { .. } => Form::ComputedGoto,
-            Stmt::ArithIf { .. } => Form::ArithIf,
-            Stmt::LogicalIf { .. } => Form::LogicalIf,
-            Stmt::BlockIf { .. } => Form::BlockIf,
-            Stmt::ElseIf { .. } => Form::ElseIf,
-            Stmt::Else => Form::Else,
-            Stmt::EndIf => Form::EndIf,
-            Stmt::Loop { .. } => Form::Loop,
-            Stmt::Continue => Form::Continue,
-            Stmt::Return => Form::Return,
-            Stmt::Stop => Form::Stop,
-            Stmt::Trap => Form::Trap,
-            Stmt::End => Form::End,
-        }
+        !matches!(
+            self,
+            Form::Subroutine
+                | Form::Declare
+                | Form::Dimension
+                | Form::Preset
+                | Form::LogicalIf
+                | Form::BlockIf
+                | Form::ElseIf
+                | Form::Else
+                | Form::EndIf
+                | Form::Loop
+                | Form::End
+        )
     }
 }

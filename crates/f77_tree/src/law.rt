@@ -1,8 +1,9 @@
 //! What holds of equality itself.
 
 ghost use Rattle.std.specs.Prelude.{◌≡◌, ◌↔◌, ℕ, true, List};
-ghost use Rattle.f77_tree.specs.Comparing.{same_tree, same_place, same_decl, same_group, same_statement};
-ghost use Rattle.f77_tree.specs.Tree.{Tree, DeclFields, GroupFields, Statement};
+ghost use Rattle.f77_tree.specs.Comparing.{same_tree, same_place, same_decl, same_group};
+ghost use Rattle.f77_tree.specs.Statement.{same_statement, Statement};
+ghost use Rattle.f77_tree.specs.Tree.{Tree, DeclFields, GroupFields};
 
 /// Expressions and references are equal by `==` exactly where their trees are one.
 #[tactic(auto, using(crate::specs::SameTrees::tree_decides, crate::specs::SameTrees::place_decides))]

@@ -12,6 +12,7 @@ pub mod law;
 mod name;
 mod operator;
 mod shared;
+mod statement;
 mod tree;
 
 pub use data::{Constant, DataGroup, Value};
@@ -21,4 +22,5 @@ pub use intrinsic::Intrinsic;
 pub use name::{LONGEST_NAME, Name, known_names};
 pub use operator::{Operator, Sign};
 pub use shared::Shared;
-pub use tree::{Expr, Kind, Ref, Stmt};
+pub use statement::Stmt;
+pub use tree::{Expr, Kind, Ref};

@@ -9,12 +9,12 @@ use denote.Param.Send.{IsSend, IsSync, recorded_send, recorded_sync, sendable, s
 use Rattle.std.proofs.Crossing.{crosses}
 use Rattle.f77_tree.proofs.shared.Shared.TheSendSync as shared
 use Rattle.f77_tree.proofs.tree.Expr.TheLaws.TheKnot as expr_knot
-use Rattle.f77_tree.proofs.tree.Stmt.TheLaws.TheKnot as stmt_knot
+use Rattle.f77_tree.proofs.statement.Stmt.TheLaws.TheKnot as stmt_knot
 use Rattle.f77_check.proofs.action.Action.TheLaws.TheKnot as action_knot
 use Rattle.f77_check.proofs.expression.Condition.TheLaws.TheKnot as condition_knot
 use Rattle.f77_check.proofs.expression.Element.TheLaws.TheKnot as element_knot
 use Rattle.f77_tree.specs.contracts.tree.Expr as expr
-use Rattle.f77_tree.specs.contracts.tree.Stmt as stmt
+use Rattle.f77_tree.specs.contracts.statement.Stmt as stmt
 use Rattle.f77_program.specs.contracts.program.Line as line
 use Rattle.f77_program.specs.contracts.program.Program as program
 use Rattle.f77_check.specs.contracts.expression.Element as element

@@ -7,8 +7,7 @@ use Rattle.std.proofs.lemmas.Option.{same_Some, slice_get_cases}
 use Rattle.std.proofs.lemmas.Slice.Zip.{all_zipped_more}
 use Rattle.f77_program.specs.Program.{LineFields, line_of}
 use Rattle.f77_program.specs.Patching.{Fits, patched}
-use Rattle.f77_tree.specs.StatementView.{statement_of}
-use Rattle.f77_tree.specs.Tree.{Statement}
+use Rattle.f77_tree.specs.Statement.{statement_of, Statement}
 use Rattle.f77_program.specs.declared.program.Line.{Line}
 use Rattle.f77_legal.specs.Frames.{framed}
 use Rattle.f77_legal.proofs.Replaced.{other_line, replaced_frame}

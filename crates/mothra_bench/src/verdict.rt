@@ -3,7 +3,7 @@
 ghost use Rattle.std.specs.Prelude.{◌≡◌, map, IfOk, IfErr, IfSome};
 ghost use Rattle.f77_check.specs.Checked.{shapes};
 ghost use Rattle.f77_program.specs.Program.{line_of};
-ghost use Rattle.f77_tree.specs.StatementView.{statement_of};
+ghost use Rattle.f77_tree.specs.Statement.{statement_of};
 ghost use Rattle.mothra_ops.specs.Edits.{IsMutant};
 ghost use Rattle.mothra_ops.specs.Mutants.{mutant_fields, program_of};
 ghost use Rattle.mothra_bench.specs.Bench.{BenchFields, IsBench};
@@ -42,7 +42,7 @@ impl<'a> Model for Verdicts<'a> {
     ghost use Rattle.std.specs.Prelude.{◌≡◌};
     ghost use Rattle.std.specs.Coded.{codes};
     ghost use Rattle.f77_tree.specs.contracts.tree.Expr as expr;
-    ghost use Rattle.f77_tree.specs.contracts.tree.Stmt as stmt;
+    ghost use Rattle.f77_tree.specs.contracts.statement.Stmt as stmt;
     ghost use Rattle.f77_check.specs.contracts.action.Action as action;
     ghost use Rattle.f77_check.specs.contracts.expression.Condition as condition;
     ghost use Rattle.f77_check.specs.contracts.expression.Element as element;

@@ -2,7 +2,7 @@
 use Rattle.std.proofs.Common.{◌≡◌, List, Some, None, refl, ap, sym, ◌∙◌, subst}
 use Rattle.std.proofs.lemmas.Option.{none-some, same_Some}
 use Rattle.f77_program.specs.Program.{LineFields}
-use Rattle.f77_tree.specs.Tree.{Statement}
+use Rattle.f77_tree.specs.Statement.{Statement}
 use Rattle.mothra_ops.specs.Edits.{IsMadeBy, IsMutant, made}
 use Rattle.mothra_ops.specs.Pools.{PoolFields, pools_of}
 use Rattle.mothra_ops.specs.declared.edit.Edit.{Edit}

@@ -3,7 +3,7 @@ use Rattle.std.proofs.Common.{arith, ◌≡◌, ◌<◌, ◌≤◌, ◌+◌, ℕ
 use Rattle.std.specs.Prelude.{◌⊎◌}
 use Rattle.f77_nodes.specs.Node.{NodeOf, nodes_of}
 use Rattle.f77_program.specs.Program.{LineFields}
-use Rattle.f77_tree.specs.Tree.{Statement}
+use Rattle.f77_tree.specs.Statement.{Statement}
 use Rattle.f77_sites.specs.Sites.{changed}
 use Rattle.mothra_ops.specs.Edits.{IsCountedList, IsMember, IsMutant, IsNoList, IsTooLong, Lists, most_edits, most_whole, numbered, thinned}
 use Rattle.mothra_ops.specs.Listing.{HasCome, Holds, So}

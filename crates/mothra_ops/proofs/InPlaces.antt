@@ -3,9 +3,8 @@ use Rattle.std.proofs.Common.{◌≡◌, ◌≢◌, ◌∷◌, [], List, Bool, t
 use Rattle.std.specs.Prelude.{not, if◌then◌else◌}
 use Rattle.std.specs.List.{filter_map}
 use Rattle.f77_nodes.specs.Node.{NodeOf}
-use Rattle.f77_tree.specs.Comparing.{same_statement}
-use Rattle.f77_tree.specs.Form.{form_of}
-use Rattle.f77_tree.specs.Tree.{Tree, Trees, Statement, DeclFields}
+use Rattle.f77_tree.specs.Statement.{same_statement, form_of, Statement}
+use Rattle.f77_tree.specs.Tree.{Tree, Trees, DeclFields}
 use Rattle.f77_tree.specs.declared.form.Form.{Form}
 use Rattle.f77_tree.specs.View.{trees, place_of}
 use Rattle.f77_tree.specs.declared.tree.Kind.{Kind}

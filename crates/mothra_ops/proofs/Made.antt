@@ -6,8 +6,7 @@ use Rattle.std.proofs.lemmas.Option.{none-some, slice_get-map, slice_get_cases, 
 use Rattle.std.proofs.lemmas.List.{length-map}
 use Rattle.f77_nodes.specs.Node.{NodeOf, node_of, nodes_of}
 use Rattle.f77_program.specs.Program.{LineFields, line_of, line_at}
-use Rattle.f77_tree.specs.StatementView.{statement_of}
-use Rattle.f77_tree.specs.Tree.{Statement}
+use Rattle.f77_tree.specs.Statement.{statement_of, Statement}
 use Rattle.f77_nodes.specs.declared.node.Node.{Node}
 use Rattle.f77_program.specs.declared.program.Line.{Line}
 use Rattle.f77_sites.specs.New.{new_of}

@@ -4,8 +4,7 @@ use Rattle.std.specs.Prelude.{option_map, slice_get}
 use Rattle.std.proofs.lemmas.Option.{none-some, same_Some, slice_get-map}
 use Rattle.f77_program.specs.Program.{LineFields, line_of, line_at}
 use Rattle.f77_program.specs.Patching.{Fits, patched}
-use Rattle.f77_tree.specs.StatementView.{statement_of}
-use Rattle.f77_tree.specs.Tree.{Statement}
+use Rattle.f77_tree.specs.Statement.{statement_of, Statement}
 use Rattle.f77_program.specs.declared.program.Line.{Line}
 use Rattle.f77_legal.specs.Legal.{IsLegal, first_fault}
 use Rattle.f77_legal.specs.declared.fault.CheckFault.{CheckFault}

@@ -5,7 +5,7 @@ use Rattle.std.specs.Option.{option_and_then}
 use Rattle.std.proofs.lemmas.Option.{same_Some, none-some, slice_get-map, slice_get_within, slice_get_cases, option_and_then_some}
 use Rattle.f77_nodes.specs.Node.{NodeOf, nodes_of}
 use Rattle.f77_program.specs.Program.{LineFields}
-use Rattle.f77_tree.specs.Tree.{Statement}
+use Rattle.f77_tree.specs.Statement.{Statement}
 use Rattle.f77_sites.specs.Sites.{Site, node_at, put, changed, sites}
 use Rattle.f77_sites.proofs.Numbering.{numbering}
 use Rattle.mothra_ops.specs.Edits.{IsMember, IsMutant, made, numbered}

@@ -6,8 +6,7 @@ use Rattle.std.proofs.lemmas.List.Elements.{Contains-get_or}
 use Rattle.std.proofs.lemmas.Option.{none-some, same_Some, slice_get_within, get_or_from_slice_get}
 use Rattle.f77_check.specs.Checked.{CheckedFields}
 use Rattle.f77_program.specs.Program.{line_of}
-use Rattle.f77_tree.specs.StatementView.{statement_of}
-use Rattle.f77_tree.specs.Tree.{Statement}
+use Rattle.f77_tree.specs.Statement.{statement_of, Statement}
 use Rattle.mothra_ops.specs.Edits.{IsMember, IsMutant, made, numbered, thinned}
 use Rattle.mothra_ops.specs.Mutants.{MutantFields, mutant_fields, mutant_made, program_of}
 use Rattle.mothra_ops.specs.Original.{IsOriginal, lines_of}

@@ -2,8 +2,7 @@
 use Rattle.std.specs.Prelude.{◌≡◌, ℕ, List, Some, map, option_map, slice_get}
 use Rattle.f77_nodes.specs.Node.{NodeOf, node_of, nodes_of}
 use Rattle.f77_program.specs.Program.{LineFields, line_of}
-use Rattle.f77_tree.specs.StatementView.{statement_of}
-use Rattle.f77_tree.specs.Tree.{Statement}
+use Rattle.f77_tree.specs.Statement.{statement_of, Statement}
 use Rattle.mothra_ops.specs.Edits.{numbered}
 use Rattle.mothra_ops.specs.Pools.{fields_of, pools_of}
 use Rattle.mothra_ops.specs.declared.original.Original.{Original}

@@ -3,11 +3,12 @@ use Rattle.std.specs.Prelude.{ℕ, zero, suc, ◌+◌, ◌==◌, ◌&&◌, ◌+�
 use Rattle.std.specs.Prelude.{List, [], ◌∷◌, ◌++◌, length, map, filter, Option, Some, None, if◌then◌else◌}
 use Rattle.std.specs.List.{filter_map}
 use Rattle.std.specs.Str.{bytes_eq}
-use Rattle.f77_tree.specs.Comparing.{same_tree, same_operator, same_statement}
-use Rattle.f77_tree.specs.Form.{form_of}
+use Rattle.f77_tree.specs.Comparing.{same_tree, same_operator}
+use Rattle.f77_tree.specs.Statement.{same_statement, form_of, Statement}
 use Rattle.f77_nodes.specs.Node.{NodeOf}
-use Rattle.f77_tree.specs.Tree.{Tree, Trees, Statement}
+use Rattle.f77_tree.specs.Tree.{Tree, Trees}
 use Rattle.f77_tree.specs.declared.data.Constant.{Constant}
+use Rattle.f77_tree.specs.Form as forms
 use Rattle.f77_tree.specs.declared.form.Form.{Form}
 use Rattle.f77_tree.specs.declared.intrinsic.Intrinsic.TheVariants.{Iabs}
 use Rattle.f77_tree.specs.declared.operator.Operator.{Operator}
@@ -159,16 +160,12 @@ abbrev pub in_labels : List ℕ → NodeOf → List NodeOf
 in_labels labels (NodeOf.Labelled label) = map NodeOf.Labelled (filter (λ other. not (nat_eq other label)) labels)
 in_labels labels _ = []
 
--- SDL, RSR and SAN: in the place of a statement that does something
+-- SDL, RSR and SAN: in the place of a statement that does something: an action that is no CONTINUE, or a logical IF
 abbrev pub acts : Form → Bool
-acts Form.Assign = true
-acts Form.Goto = true
-acts Form.ComputedGoto = true
-acts Form.ArithIf = true
 acts Form.LogicalIf = true
-acts Form.Return = true
-acts Form.Stop = true
-acts _ = false
+acts Form.Continue = false
+acts Form.Trap = false
+acts form = forms.acts form
 
 abbrev pub acts_or_continues : Form → Bool
 acts_or_continues Form.Continue = true

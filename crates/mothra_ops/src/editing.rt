@@ -3,7 +3,7 @@
 ghost use Rattle.std.specs.Prelude.{◌≡◌, ◌↔◌, ◌<◌, ◌≤◌, ◌+◌, ◌^◌, ◌⊎◌, map, option_map, OnOk, IfOk, IfErr, IsTrue};
 ghost use Rattle.f77_program.specs.Program.{line_of};
 ghost use Rattle.f77_program.specs.Patching.{patched};
-ghost use Rattle.f77_tree.specs.StatementView.{statement_of};
+ghost use Rattle.f77_tree.specs.Statement.{statement_of};
 ghost use Rattle.f77_sites.specs.New.{new_of};
 ghost use Rattle.f77_sites.specs.Sites.{changed};
 ghost use Rattle.mothra_ops.specs.Edits.{IsCountedList, IsList, IsMadeBy, IsMember, IsMutant, IsNoList};

@@ -3,7 +3,7 @@
 ghost use Rattle.std.specs.Prelude.{◌≡◌, ◌++◌, ◌≤◌, option_map, string_bytes, codes, None, IfOk, IfErr, IfSome, IfNone, OnOk};
 ghost use Rattle.f77_check.specs.Checked.{shapes};
 ghost use Rattle.f77_program.specs.Patching.{patched};
-ghost use Rattle.f77_tree.specs.StatementView.{statement_of};
+ghost use Rattle.f77_tree.specs.Statement.{statement_of};
 ghost use Rattle.mothra_ops.specs.Edits.{IsMutant, numbered};
 ghost use Rattle.mothra_ops.specs.Mutants.{change_text, line_at, mutant_fields, mutant_made, mutant_name, mutant_of, mutant_text, program_of};
 ghost use Rattle.mothra_ops.specs.Original.{IsOriginal};
@@ -40,7 +40,7 @@ impl<'a> Model for Mutants<'a> {
     ghost use Rattle.std.specs.Prelude.{◌≡◌};
     ghost use Rattle.std.specs.Coded.{codes};
     ghost use Rattle.f77_tree.specs.contracts.tree.Expr as expr;
-    ghost use Rattle.f77_tree.specs.contracts.tree.Stmt as stmt;
+    ghost use Rattle.f77_tree.specs.contracts.statement.Stmt as stmt;
     ghost use Rattle.f77_check.specs.contracts.action.Action as action;
     ghost use Rattle.f77_check.specs.contracts.expression.Condition as condition;
     ghost use Rattle.f77_check.specs.contracts.expression.Element as element;

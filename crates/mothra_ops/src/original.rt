@@ -1,7 +1,7 @@
 //! The program that mutants are made of.
 
 ghost use Rattle.std.specs.Prelude.{◌≡◌, ◌↔◌, ◌<◌, ◌+◌, ◌^◌, map, option_map, IfOk, IfErr, IsTrue};
-ghost use Rattle.f77_tree.specs.StatementView.{statement_of};
+ghost use Rattle.f77_tree.specs.Statement.{statement_of};
 ghost use Rattle.f77_sites.specs.New.{new_of};
 ghost use Rattle.f77_sites.specs.Sites.{changed};
 ghost use Rattle.mothra_ops.specs.Edits.{IsMadeBy, IsMutant, made};

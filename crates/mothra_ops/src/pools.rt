@@ -6,7 +6,7 @@ ghost use Rattle.indexmap.specs.IndexMap.{keys};
 ghost use Rattle.f77_tree.specs.Comparing.{same_tree};
 ghost use Rattle.f77_nodes.specs.Node.{node_of};
 ghost use Rattle.f77_program.specs.Program.{line_of};
-ghost use Rattle.f77_tree.specs.StatementView.{statement_of};
+ghost use Rattle.f77_tree.specs.Statement.{statement_of};
 ghost use Rattle.f77_tree.specs.View.{tree_of};
 ghost use Rattle.f77_legal.specs.Labels as labelled;
 ghost use Rattle.f77_legal.specs.Legal.{is_array};

@@ -1,9 +1,8 @@
 //! What each operator puts in the place of a node.
 
 ghost use Rattle.std.specs.Prelude.{◌≡◌, ◌∷◌, [], not, map, if◌then◌else◌, IfOk, IfErr};
-ghost use Rattle.f77_tree.specs.Comparing.{same_statement};
+ghost use Rattle.f77_tree.specs.Statement.{same_statement, statement_of};
 ghost use Rattle.f77_nodes.specs.Node.{NodeOf, node_of};
-ghost use Rattle.f77_tree.specs.StatementView.{statement_of};
 ghost use Rattle.f77_sites.specs.New.{new_of};
 ghost use Rattle.mothra_ops.specs.Pools.{PoolFields, fields_of};
 ghost use Rattle.mothra_ops.specs.Replacements as model;

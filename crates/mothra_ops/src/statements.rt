@@ -2,7 +2,7 @@
 
 ghost use Rattle.std.specs.Prelude.{◌≡◌, [], ◌∷◌, not, map, filter, nat_eq, option_map, IfOk, IfErr, Some, None};
 ghost use Rattle.f77_nodes.specs.Node.{NodeOf};
-ghost use Rattle.f77_tree.specs.StatementView.{statement_of};
+ghost use Rattle.f77_tree.specs.Statement.{statement_of};
 ghost use Rattle.f77_legal.specs.NameTable.{kind_at};
 ghost use Rattle.mothra_ops.specs.Replacements as model;
 ghost use Rattle.mothra_ops.specs.Replacements.{next_constants};
@@ -19,16 +19,11 @@ const MOST: i32 = 2_147_483_647;
 pub(crate) fn acts(form: Form) -> bool
     ensures { result ≡ model.acts form }
 {
-    matches!(
-        form,
-        Form::Assign
-            | Form::Goto
-            | Form::ComputedGoto
-            | Form::ArithIf
-            | Form::LogicalIf
-            | Form::Return
-            | Form::Stop
-    )
+    match form {
+        Form::LogicalIf => true,
+        Form::Continue | Form::Trap => false,
+        _ => form.acts(),
+    }
 }
 
 pub(crate) fn acts_or_continues(form: Form) -> bool

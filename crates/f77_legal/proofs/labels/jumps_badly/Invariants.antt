@@ -3,9 +3,9 @@ use Rattle.std.specs.Prelude.{not}
 use Rattle.std.specs.List.{list_any}
 use Rattle.std.specs.Option.{option_map_or}
 use Rattle.f77_program.specs.Program.{line_of}
-use Rattle.f77_tree.specs.StatementView.{statement_of}
+use Rattle.f77_tree.specs.Statement.{statement_of, jumps_of}
 use Rattle.f77_legal.specs.LabelTable.{IsLabelTable}
-use Rattle.f77_legal.specs.Labels.{statement_with, is_target, jumps_of, jumps_badly}
+use Rattle.f77_legal.specs.Labels.{statement_with, is_target, jumps_badly}
 use Rattle.f77_legal.proofs.labels.jumps_badly.Given as goal
 
 -- the other labels decide

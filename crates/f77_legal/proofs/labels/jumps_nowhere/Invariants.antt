@@ -2,9 +2,9 @@ use Rattle.std.proofs.Common.{◌≡◌, List, drop}
 use Rattle.std.specs.Prelude.{not, is_some}
 use Rattle.std.specs.List.{list_any}
 use Rattle.f77_program.specs.Program.{LineFields}
-use Rattle.f77_tree.specs.StatementView.{statement_of}
+use Rattle.f77_tree.specs.Statement.{statement_of, jumps_of}
 use Rattle.f77_legal.specs.LabelTable.{IsLabelTable}
-use Rattle.f77_legal.specs.Labels.{place_of, jumps_of}
+use Rattle.f77_legal.specs.Labels.{place_of}
 use Rattle.f77_legal.proofs.labels.jumps_nowhere.Given as goal
 
 -- the other labels decide

@@ -1,5 +1,5 @@
 use Rattle.std.proofs.Common.{ap, ◌∙◌, ◌++◌, ◌∷◌, []}
-use Rattle.f77_tree.specs.StatementView.{statement_of}
+use Rattle.f77_tree.specs.Statement.{statement_of}
 use Rattle.f77_legal.specs.Tables.{terminal_of}
 use Rattle.f77_legal.proofs.Entries.{pushed}
 use Rattle.f77_legal.proofs.tables.terminals.Goals as goal

@@ -1,6 +1,6 @@
 use Rattle.std.proofs.Common.{◌≡◌, List, take, map}
 use Rattle.f77_program.specs.Program.{LineFields}
-use Rattle.f77_tree.specs.StatementView.{statement_of}
+use Rattle.f77_tree.specs.Statement.{statement_of}
 use Rattle.f77_legal.specs.LabelTable.{IsLabelTable}
 use Rattle.f77_legal.specs.Tables.{terminal_of}
 use Rattle.f77_legal.proofs.tables.terminals.Given as goal

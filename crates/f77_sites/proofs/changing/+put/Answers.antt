@@ -1,7 +1,6 @@
 use Rattle.std.proofs.Common.{arith, ap, sym, ◌∙◌}
-use Rattle.f77_tree.specs.Tree.{Statement}
+use Rattle.f77_tree.specs.Statement.{Statement, statement_of}
 use Rattle.f77_tree.specs.View.{tree_of}
-use Rattle.f77_tree.specs.StatementView.{statement_of}
 use Rattle.f77_tree.proofs.Views.{assign_view, computed_view, arithmetic_view, logical_view, block_view, else_if_view, loop_view}
 use Rattle.f77_sites.proofs.PutExpressions.{not_next}
 use Rattle.f77_sites.proofs.PutStatements as statements

@@ -1,5 +1,5 @@
 use Rattle.std.proofs.Common.{suc}
-use Rattle.f77_tree.specs.StatementView.{statement_of}
+use Rattle.f77_tree.specs.Statement.{statement_of}
 use Rattle.f77_sites.proofs.PutStatements.{depth}
 use Rattle.f77_sites.proofs.changing.+put.Given as goal
 

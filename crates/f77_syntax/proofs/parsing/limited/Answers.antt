@@ -1,7 +1,7 @@
 use Rattle.std.proofs.Common.{inr}
 use Rattle.std.proofs.lemmas.Result.{err_from_is_err_and}
 use Rattle.f77_syntax.specs.Parsing.{IsRefused}
-use Rattle.f77_tree.specs.StatementView.{statement_of}
+use Rattle.f77_tree.specs.Statement.{statement_of}
 use Rattle.f77_syntax.proofs.Admit.{Kept, bad_name, outside, all_well, not_spelled}
 use Rattle.f77_syntax.proofs.parsing.limited.Goals as goal
 

@@ -2,7 +2,7 @@ use Rattle.std.proofs.Common.{[], ◌∷◌, ◌+◌, ◌++◌, drop, Err, sym, 
 use Rattle.std.proofs.lemmas.Result.{err_from_is_err_and}
 use Rattle.std.proofs.lemmas.List.{drop_more}
 use Rattle.std.proofs.Math.ListN.{drop_of_length-le}
-use Rattle.f77_tree.specs.StatementView.{statement_of}
+use Rattle.f77_tree.specs.Statement.{statement_of}
 use Rattle.f77_syntax.proofs.Cards.{Exactly, more_lines, more_faults, are_program, end_lines, refused_so, ended_so, exactly_lines, exactly_refused, exactly_accepts, exactly_first, pushed}
 use Rattle.f77_syntax.proofs.parsing.parse.Goals as goal
 

@@ -1,7 +1,7 @@
 use Rattle.std.proofs.Common.{◌≡◌, true, false, sym, ◌∙◌, ap, length}
 use Rattle.std.specs.Prelude.{◌==◌, codes, not}
 use Rattle.std.specs.Str.{bytes_eq}
-use Rattle.f77_tree.specs.Tree.{Statement}
+use Rattle.f77_tree.specs.Statement.{Statement}
 use Rattle.f77_tree.proofs.Views.{else_view}
 use Rattle.f77_syntax.proofs.BranchGives.{else_alone, else_whole}
 use Rattle.f77_tree.proofs.Tests.{not_false}

@@ -1,7 +1,7 @@
 use Rattle.std.proofs.Common.{◌≡◌, true, false}
 use Rattle.std.proofs.lemmas.Result.{err_from_is_err_and}
 use Rattle.f77_program.specs.Formed.{is_action}
-use Rattle.f77_tree.specs.StatementView.{statement_of}
+use Rattle.f77_tree.specs.Statement.{statement_of}
 use Rattle.f77_syntax.proofs.BranchGives.{action_fails, action_none, action_whole}
 use Rattle.f77_syntax.proofs.statement.simple_action.Goals as goal
 

@@ -2,7 +2,7 @@ use Rattle.std.proofs.Common.{◌≡◌, map, ap, sym, ◌∙◌, refl, inr, sub
 use Rattle.std.specs.Prelude.{option_map}
 use Rattle.f77_program.specs.Program.{line_of}
 use Rattle.f77_program.specs.Patching.{Fits, patched}
-use Rattle.f77_tree.specs.StatementView.{statement_of}
+use Rattle.f77_tree.specs.Statement.{statement_of}
 use Rattle.mothra_ops.specs.Edits.{IsMadeBy, IsMember}
 use Rattle.mothra_ops.proofs.editing.apply.Goals as goal
 

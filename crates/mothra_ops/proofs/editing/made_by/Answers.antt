@@ -3,7 +3,7 @@ use Rattle.std.specs.Prelude.{option_map}
 use Rattle.std.proofs.lemmas.Result.{IfOk-weaker}
 use Rattle.f77_check.specs.Checked.{CheckedFields}
 use Rattle.f77_program.specs.Program.{LineFields, line_of}
-use Rattle.f77_tree.specs.StatementView.{statement_of}
+use Rattle.f77_tree.specs.Statement.{statement_of}
 use Rattle.mothra_ops.specs.Edits.{IsMadeBy}
 use Rattle.mothra_ops.specs.Original.{lines_of}
 use Rattle.mothra_ops.proofs.editing.made_by.Goals as goal

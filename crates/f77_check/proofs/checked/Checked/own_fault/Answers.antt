@@ -1,6 +1,6 @@
 use Rattle.std.proofs.Common.{map, sym, ap, subst, get_or, ◌∙◌}
 use Rattle.f77_program.specs.Program.{line_of}
-use Rattle.f77_tree.specs.StatementView.{statement_of}
+use Rattle.f77_tree.specs.Statement.{statement_of}
 use Rattle.f77_legal.specs.Patches as patches
 use Rattle.f77_legal.specs.Tables.{Serve}
 use Rattle.f77_legal.proofs.Alone.{alone_fault}

@@ -1,7 +1,7 @@
 use Rattle.std.proofs.Common.{None, map, refl, sym, ap, subst, ◌∙◌, ◌-◌}
 use Rattle.f77_program.specs.Program.{line_of}
 use Rattle.f77_program.specs.Patching.{patched}
-use Rattle.f77_tree.specs.StatementView.{statement_of}
+use Rattle.f77_tree.specs.Statement.{statement_of}
 use Rattle.f77_legal.specs.Legal.{IsLegal}
 use Rattle.f77_check.proofs.Changes.{none_legal}
 use Rattle.f77_check.proofs.checked.Checked.patched.Goals as goal

@@ -1,7 +1,7 @@
 use Rattle.std.proofs.Common.{◌≡◌, ◌-◌, true, map, sym, ap, refl, subst, get_or, ◌∙◌}
 use Rattle.indexmap.specs.IndexMap.{keys}
 use Rattle.f77_program.specs.Program.{LineFields, line_of}
-use Rattle.f77_tree.specs.StatementView.{statement_of}
+use Rattle.f77_tree.specs.Statement.{statement_of}
 use Rattle.f77_legal.specs.Frames.{framed}
 use Rattle.f77_legal.specs.Patches.{NamesAmong, names_pass}
 use Rattle.f77_legal.specs.NameTable.{has_name}

@@ -2,7 +2,7 @@ use Rattle.std.proofs.Common.{◌≡◌, ◌+◌, map, sym, subst}
 use Rattle.std.specs.Prelude.{Some}
 use Rattle.indexmap.specs.IndexMap.{keys}
 use Rattle.f77_program.specs.Program.{line_of}
-use Rattle.f77_tree.specs.Tree.{Statement}
+use Rattle.f77_tree.specs.Statement.{Statement}
 use Rattle.f77_check.specs.Resolved.{IsResolved}
 use Rattle.f77_legal.specs.Labels.{statement_at}
 use Rattle.f77_check.proofs.Sites.{AreFirst, one_more}

@@ -1,6 +1,6 @@
 use Rattle.std.proofs.Common.{◌≡◌, sym, subst, ap, ◌∙◌}
 use Rattle.std.specs.Prelude.{Some}
-use Rattle.f77_tree.specs.StatementView.{statement_of}
+use Rattle.f77_tree.specs.Statement.{statement_of}
 use Rattle.f77_legal.specs.Blocks.{behind}
 use Rattle.f77_legal.specs.Labels.{statement_at}
 use Rattle.f77_legal.proofs.Flow.{are_nested, some_behind}

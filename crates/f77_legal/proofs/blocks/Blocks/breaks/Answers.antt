@@ -1,7 +1,7 @@
 use Rattle.std.proofs.Common.{map, arith, sym, ◌∙◌}
 use Rattle.std.proofs.lemmas.List.{length-map}
 use Rattle.f77_program.specs.Program.{line_of}
-use Rattle.f77_tree.specs.StatementView.{statement_of}
+use Rattle.f77_tree.specs.Statement.{statement_of}
 use Rattle.f77_legal.proofs.BlockTables.{breaks_here}
 use Rattle.f77_legal.proofs.blocks.Blocks.breaks.Goals as goal
 

@@ -1,7 +1,7 @@
 use Rattle.std.proofs.Common.{map, ◌∙◌, sym, ap, Some}
 use Rattle.std.proofs.lemmas.Option.{slice_get-get_or}
 use Rattle.f77_program.specs.Program.{line_of}
-use Rattle.f77_tree.specs.StatementView.{statement_of}
+use Rattle.f77_tree.specs.Statement.{statement_of}
 use Rattle.f77_legal.specs.Clause.{breaks, fault_at}
 use Rattle.f77_legal.specs.declared.clause.Clause.TheVariants.{Kinds}
 use Rattle.f77_legal.proofs.First.{broken_not, broken_here}

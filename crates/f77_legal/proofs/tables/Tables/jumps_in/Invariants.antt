@@ -2,8 +2,8 @@ use Rattle.std.proofs.Common.{◌≡◌, List, drop, false}
 use Rattle.std.specs.List.{list_any}
 use Rattle.std.specs.Option.{option_map_or}
 use Rattle.f77_program.specs.Program.{LineFields}
-use Rattle.f77_tree.specs.StatementView.{statement_of}
-use Rattle.f77_legal.specs.Labels.{place_of, jumps_of}
+use Rattle.f77_tree.specs.Statement.{statement_of, jumps_of}
+use Rattle.f77_legal.specs.Labels.{place_of}
 use Rattle.f77_legal.specs.Loops.{goes_in, jumps_in}
 use Rattle.f77_legal.specs.Tables.{Serve}
 use Rattle.f77_legal.proofs.tables.Tables.jumps_in.Given as goal

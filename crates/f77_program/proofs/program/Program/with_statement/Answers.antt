@@ -1,6 +1,6 @@
 use Rattle.std.proofs.Common.{None, map, sym, ◌∙◌, ap, subst}
 use Rattle.f77_program.specs.Program.{line_of, IsProgram}
-use Rattle.f77_tree.specs.StatementView.{statement_of}
+use Rattle.f77_tree.specs.Statement.{statement_of}
 use Rattle.f77_program.proofs.Lines.{same_lines}
 use Rattle.f77_program.proofs.Patches.{changed_lines, changed_program, short_names}
 use Rattle.f77_program.proofs.program.Program.with_statement.Goals as goal

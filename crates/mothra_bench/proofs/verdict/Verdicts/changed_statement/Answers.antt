@@ -1,6 +1,6 @@
 use Rattle.std.proofs.Common.{◌≡◌, ◌-◌, ◌∙◌, List, get_or, ap, sym, subst, rules}
 use Rattle.std.specs.Prelude.{IfSome}
-use Rattle.f77_tree.specs.StatementView.{statement_of}
+use Rattle.f77_tree.specs.Statement.{statement_of}
 use Rattle.f77_program.specs.declared.program.Line.{Line}
 use Rattle.f77_legal.specs.Frames.{framed}
 use Rattle.mothra_ops.specs.Mutants.{mutant_fields, program_of}

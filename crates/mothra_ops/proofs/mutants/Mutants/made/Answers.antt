@@ -1,6 +1,6 @@
 use Rattle.std.proofs.Common.{◌∙◌, Some, None, ap, sym}
 use Rattle.std.specs.Prelude.{option_map}
-use Rattle.f77_tree.specs.StatementView.{statement_of}
+use Rattle.f77_tree.specs.Statement.{statement_of}
 use Rattle.mothra_ops.specs.Plan.{PlanFields}
 use Rattle.mothra_ops.proofs.Numbered.{made_of}
 use Rattle.mothra_ops.proofs.mutants.Mutants.made.Goals as goal

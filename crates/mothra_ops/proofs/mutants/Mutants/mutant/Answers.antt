@@ -4,7 +4,7 @@ use Rattle.std.specs.Borrow.{Bor}
 use Rattle.std.specs.Option.{IfNone, IfSome}
 use Rattle.std.proofs.lemmas.Result.{IfOk-weaker}
 use Rattle.f77_program.specs.Patching.{patched}
-use Rattle.f77_tree.specs.StatementView.{statement_of}
+use Rattle.f77_tree.specs.Statement.{statement_of}
 use Rattle.f77_check.specs.Checked.{shapes}
 use Rattle.mothra_ops.specs.Edits.{IsMutant, numbered}
 use Rattle.mothra_ops.specs.Mutants.{mutant_fields, mutant_made, program_of}

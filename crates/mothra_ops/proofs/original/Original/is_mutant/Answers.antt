@@ -1,6 +1,6 @@
 use Rattle.std.proofs.Common.{◌≡◌, Some, ap, sym, ◌∙◌, refl, true≢false}
 use Rattle.f77_program.specs.Program.{line_at}
-use Rattle.f77_tree.specs.StatementView.{statement_of}
+use Rattle.f77_tree.specs.Statement.{statement_of}
 use Rattle.f77_tree.specs.SameTrees.{statement_decides}
 use Rattle.mothra_ops.proofs.MakesMutant.{the_same, is_mutant}
 use Rattle.mothra_ops.proofs.original.Original.is_mutant.Goals.{then-eq-via-then-eq, then-eq-via-else-eq+then-not-fits}

@@ -2,7 +2,7 @@ use Rattle.std.proofs.Common.{arith, ◌≡◌, ◌+◌, ◌<◌, length, sym, �
 use Rattle.std.specs.Prelude.{◌⊎◌}
 use Rattle.std.proofs.lemmas.Result.{err_from_is_err_and}
 use Rattle.f77_nodes.specs.Node.{node_of}
-use Rattle.f77_tree.specs.StatementView.{statement_of}
+use Rattle.f77_tree.specs.Statement.{statement_of}
 use Rattle.f77_sites.specs.New.{new_of}
 use Rattle.mothra_ops.specs.Edits.{IsTooLong}
 use Rattle.mothra_ops.specs.Original.{lines_of}

@@ -1,5 +1,5 @@
 use Rattle.std.proofs.Common.{◌≡◌}
-use Rattle.f77_tree.specs.StatementView.{statement_of}
+use Rattle.f77_tree.specs.Statement.{statement_of}
 use Rattle.mothra_ops.specs.Listing.{HasCome}
 use Rattle.mothra_ops.specs.Original.{Has, IsOriginal, lines_of}
 use Rattle.mothra_ops.proofs.original.Original.list_statement.Given as goal

@@ -2,7 +2,7 @@ use Rattle.std.proofs.Common.{arith, ◌≡◌, ◌+◌, ◌<◌, List, map, len
 use Rattle.std.proofs.lemmas.List.{length-map}
 use Rattle.std.proofs.lemmas.Result.{err_from_is_err_and}
 use Rattle.f77_program.specs.Program.{line_of}
-use Rattle.f77_tree.specs.StatementView.{statement_of}
+use Rattle.f77_tree.specs.Statement.{statement_of}
 use Rattle.f77_program.specs.declared.program.Line.{Line}
 use Rattle.mothra_ops.specs.Original.{Has, lines_of}
 use Rattle.mothra_ops.proofs.Comings.{come_at_start, come_to_end, counted_of, no_list_of}

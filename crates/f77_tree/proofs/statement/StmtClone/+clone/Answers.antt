@@ -1,7 +1,7 @@
 use Rattle.std.proofs.Common.{rules, refl}
 use Rattle.std.proofs.lemmas.List.Elements.{same_from_all_zip}
 use Rattle.f77_tree.proofs.Copies.{same_subroutine, same_computed_goto}
-use Rattle.f77_tree.proofs.copying.StmtClone.+clone.Goals as goal
+use Rattle.f77_tree.proofs.statement.StmtClone.+clone.Goals as goal
 
 pub returns-in_ok-clone-in-Subroutine : goal.returns-in_ok-clone-in-Subroutine
 returns-in_ok-clone-in-Subroutine t c =
