@@ -13,6 +13,7 @@ from collections.abc import Callable, Iterable, Iterator, Sequence
 from typing import IO
 
 from mutants.program.calling import failure_of
+from mutants.program.unproved import MARK
 
 BEGIN, END = "JOB ", "STATUS "
 # More than a job may have, so that one job is one block.
@@ -116,5 +117,7 @@ def run_all(
         with subprocess.Popen(call, stdin=pipe, stdout=pipe, stderr=errors) as running:
             collect(running, jobs, keep)
         errors.seek(0)
-        told = errors.read().decode("utf-8", "replace").strip().splitlines()
-    return told[-1] if told else ""
+        told = errors.read().decode("utf-8", "replace").splitlines()
+    # An unproved build says at each call what it is, which is no failure.
+    told = [line for line in told if line.strip() and not line.startswith(MARK)]
+    return told[-1].strip() if told else ""

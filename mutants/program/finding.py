@@ -6,7 +6,7 @@ import shutil
 import sys
 
 from mutants.program.roots import ROOT
-from mutants.program.unproved import SAID, find_unproved, is_unproved
+from mutants.program.unproved import find_unproved, is_unproved, said
 
 BUILT = ROOT / "crates" / "mothra" / "out" / "mothra"
 VARIABLE = "MOTHRA"
@@ -38,7 +38,7 @@ def find_program(word: str | None = None) -> str:
     """The path of the program. That it is an unproved build is told on standard error."""
     program = searched_program(word)
     if is_unproved(program):
-        sys.stderr.write(f"{program}: {SAID}\n")
+        sys.stderr.write(f"{program}: {said()}\n")
     return program
 
 

@@ -3,14 +3,16 @@
     mutants unproved [--remove]
 
 The program is built by `rt try`, in a minute or two, without any proof, and kept in the user's folder for caches. Where
-no other program is found the subcommands take this one, and say so on standard error and in what they write. It is not
-taken when the sources of the program have changed: call this again. A proved program, once there is one, comes first.
+no other program is found the subcommands take this one, and say so on standard error and in what they write. It can be
+called by itself too: each call of it writes a line `unproved build: ..` to standard error. It is not taken when the
+sources of the program have changed: call this again. Where the command is installed away from the sources it is taken,
+and told with the digest of those that it was built from. A proved program, once there is one, comes first.
 """
 
 import argparse
 import sys
 
-from mutants.program.unproved import SAID, make, remove
+from mutants.program.unproved import make, remove, said
 from mutants.progress import Progress
 from mutants.statuses import SUCCESS
 
@@ -29,5 +31,5 @@ def run(given: argparse.Namespace, name: str) -> int:
         path = make()
     finally:
         progress.end()
-    sys.stdout.write(f"{path}: {SAID}\n")
+    sys.stdout.write(f"{path}: {said()}\n")
     return SUCCESS
