@@ -1,6 +1,8 @@
 """The words of a call: parsers that all have --help and --version."""
 
 import argparse
+import sys
+from collections.abc import Iterable
 from pathlib import Path
 
 from mutants import __version__
@@ -42,3 +44,9 @@ def asked_words(given: argparse.Namespace, *names: str) -> list[str]:
     """The words for mothra of those options that were given."""
     pairs = [(name, getattr(given, name)) for name in names]
     return [word for name, value in pairs if value is not None for word in (f"--{name}", str(value))]
+
+
+def tell_remarks(name: str, remarks: Iterable[str]) -> None:
+    """Warnings, a line each on standard error: what is done is done all the same."""
+    for remark in remarks:
+        sys.stderr.write(f"{name}: warning: {remark}\n")

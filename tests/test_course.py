@@ -127,6 +127,11 @@ class OneProgram(Class):
         row = self.table()["anna"]
         self.assertEqual((row["equivalent"], row["score"]), ("1", "100.00"))
         has(self, self.page(), "0 mutants that no suite of the class kills")
+        self.put({"equivalent.csv": "mutant,before,after,reason\nROR 3,IF (J.LT.I) K=J,IF (J.LE.I) K=J,the same\n"})
+        self.assertIn("ROR 3 is now ROR 1", self.course()[2])
+        has(self, (self.folder / "out" / "jobs" / "anna.html").read_text(), "the same</span>", "declared equivalent")
+        self.assertEqual(self.table()["anna"]["score"], "100.00")
+        (self.folder / "equivalent.csv").unlink()
         self.put({"equivalent.json": "[1]"})
         self.course()
         self.assertIn("no list of names", self.table()["anna"]["told"])

@@ -6,21 +6,25 @@ last; so where the key is that of the job of now, the result is whole and of tha
 """
 
 import hashlib
-import os
 from collections.abc import Sequence
 from pathlib import Path
 from typing import NamedTuple
 
-from mutants.jobs.making import job_text
+from mutants.declarations.files import NONE_MEANT, Meant, found_beside
+from mutants.jobs.making import made_of, meant_for
+from mutants.jobs.sources import is_program
+from mutants.program.calling import Fault
+from mutants.texts.files import written
 
 
 class Task(NamedTuple):
-    """A job of the class: its name, the program's file, and its text, or why there is none."""
+    """A job of the class: its name, the program's file, its text, or why there is none, and what is declared."""
 
     name: str
     program: Path | None
     text: bytes | None
     refusal: str | None
+    meant: Meant = NONE_MEANT
 
     @property
     def program_name(self) -> str:
@@ -38,7 +42,7 @@ def name_of(path: Path) -> str:
 
 
 def programs_in(folder: Path) -> list[Path]:
-    return sorted(path for path in folder.iterdir() if path.suffix.lower() == ".f" and path.is_file())
+    return sorted(path for path in folder.iterdir() if is_program(path) and path.is_file())
 
 
 def tables_in(folder: Path) -> dict[str, Path]:
@@ -63,21 +67,28 @@ def program_of(name: str, programs: Sequence[Path]) -> Path | None:
 
 def declared_for(program: Path, programs: Sequence[Path]) -> Path | None:
     """The file of the mutants of a program that are declared equivalent, or None."""
-    own = program.with_name(f"{program.stem}.equivalent.json")
-    common = program.with_name("equivalent.json")
-    return own if own.exists() else common if len(programs) == 1 and common.exists() else None
+    common = [program.with_name(f"equivalent{ending}") for ending in (".csv", ".json")] if len(programs) == 1 else []
+    return found_beside(program) or next((path for path in common if path.exists()), None)
 
 
-def task_of(name: str, program: Path | None, table: Path, programs: Sequence[Path]) -> Task:
+def task_of(name: str, program: Path | None, table: Path, programs: Sequence[Path], mothra: str) -> Task:
+    """The job of a table. What does not fit is left to the program to tell."""
     try:
         if program is None:
             raise ValueError(f"{table}: there is no program of this name")
-        return Task(name, program, job_text(program, table, declared_for(program, programs)).encode(), None)
+        made = made_of(program, table, is_strict=False)
+        try:
+            meant = meant_for(made, program, declared_for(program, programs), lambda: mothra, looks_beside=False)
+        except Fault:
+            # The source has a fault, which the run tells.
+            meant = NONE_MEANT
+        text = made.text(meant.names if meant.is_of_file else None)
+        return Task(name, program, text.encode(), None, meant)
     except ValueError as fault:
         return Task(name, program, None, " ".join(str(fault).split()).replace(f"{table.parent}/", ""))
 
 
-def tasks_in(folder: Path) -> list[Task]:
+def tasks_in(folder: Path, mothra: str) -> list[Task]:
     """The jobs that a folder asks for, by name: one for each table, and for each program without one of its own."""
     if not folder.is_dir():
         raise ValueError(f"{folder}: there is no such folder")
@@ -91,14 +102,7 @@ def tasks_in(folder: Path) -> list[Task]:
     wanted |= {path.stem: (path, common) for path in programs if common and path not in having}
     if not wanted:
         raise ValueError(f"{folder}: there is no table of tests, a file that ends in .json or .csv")
-    return [task_of(name, *wanted[name], programs) for name in sorted(wanted)]
-
-
-def written(path: Path, data: bytes) -> None:
-    """Writes a file under another name and then renames it, so that it is there as a whole or not at all."""
-    part = path.with_name(path.name + ".part")
-    part.write_bytes(data)
-    os.replace(part, path)
+    return [task_of(name, *wanted[name], programs, mothra) for name in sorted(wanted)]
 
 
 class Results:

@@ -6,7 +6,7 @@ from collections.abc import Mapping
 from typing import Any
 
 from mutants.fortran.unit import Dummy, read_head, read_unit
-from mutants.jobs.making import is_value
+from mutants.jobs.cells import is_value
 from mutants.operators import NAMES
 from mutants.pages.frame import plural
 from mutants.program.calling import Fault, answer

@@ -6,7 +6,7 @@ A suite examples/NAME.suite.json is of the program examples/NAME.f, or of that w
 things are compared:
 
 - examples/NAME.json with the job that `mutants job` makes of program and suite, and of the mutants that
-  examples/NAME.equivalent.json declares, where that is there;
+  examples/NAME.equivalent.csv declares, where that is there;
 - examples/NAME.report with what `MOTHRA run` writes for that job, with no option;
 - the texts of programs, suites and reports in the test of the examples with the files;
 - what README.md and docs/GUIDE.md show behind each line `$ COMMAND` of a block ```console with what the command writes,
@@ -50,8 +50,8 @@ def compare_files(mothra: str) -> Iterator[tuple[str, bool]]:
         name = suite.name.removesuffix(".suite.json")
         program, job = suite.with_name(f"{name.split('-')[0]}.f"), suite.with_name(f"{name}.json")
         report = suite.with_name(f"{name}.report")
-        names = suite.with_name(f"{name}.equivalent.json")
-        made = job_text(program, suite, names if names.exists() else None)
+        names = suite.with_name(f"{name}.equivalent.csv")
+        made = job_text(program, suite, names if names.exists() else None, mothra)
         yield f"examples/{job.name}", made == job.read_text()
         yield f"examples/{report.name}", written([mothra, "run"], job.read_bytes()) == report.read_text()
 

@@ -1,91 +1,143 @@
-"""The job of a program in fixed form and a table of its tests, as a text."""
+"""The job of a program in fixed form and a table of its tests, as a value and as a text."""
 
+import argparse
 import csv
 import json
-import re
-from collections.abc import Callable
+from collections.abc import Callable, Mapping, Sequence
 from pathlib import Path
-from typing import Any
+from typing import Any, NamedTuple, TypeVar
 
-from mutants.texts.jobs import Value
+from mutants.declarations.files import NONE_MEANT, Meant, found_beside, meant_by, read_declarations
+from mutants.fortran.unit import read_head, read_unit
+from mutants.jobs.sizes import bounds_of, read_sizes
+from mutants.jobs.sources import Source, Wish, source_of
+from mutants.jobs.tables import Table, read_table
+from mutants.texts.cards import cards_of
 
-TRUTHS = {"T": True, "TRUE": True, "F": False, "FALSE": False}
-
-
-def read_word(word: str) -> Value | str:
-    """The number or the truth value that a word of a CSV table writes; another word stays, and is no value."""
-    if re.fullmatch("[+-]?[0-9]{1,10}", word):
-        return int(word)
-    return TRUTHS.get(word.upper(), word)
-
-
-def read_cell(cell: str) -> Any:
-    values = [read_word(word) for word in cell.split()]
-    return values[0] if len(values) == 1 else values
+# The limits of a job: its tests, and its bytes.
+TESTS, BYTES = 256, 1_048_576
+Read = TypeVar("Read")
 
 
-def read_tests(path: Path) -> Any:
-    text = path.read_text(encoding="utf-8-sig")
-    if path.suffix.lower() == ".csv":
-        return [[read_cell(cell) for cell in row] for row in csv.reader(text.splitlines()) if row]
-    return json.loads(text)
+class Made(NamedTuple):
+    """A job before it is written: its source, the table of its tests where there is one, and what is told of them."""
+
+    source: Source
+    table: Table | None
+    remarks: list[str]
+
+    @property
+    def suite(self) -> list[list[Any]]:
+        return self.table.tests if self.table else []
+
+    def text(self, equivalent: Sequence[str] | None = None, suite: Sequence[Any] | None = None) -> str:
+        """The job in JSON, with these declared mutants; another suite may stand in the place of its own."""
+        tests = self.suite if suite is None else suite
+        members = ['"source": ' + json.dumps(self.source.text)]
+        if self.table or suite is not None:
+            members.append('"suite": [\n' + ",\n".join("  " + json.dumps(test) for test in tests) + "\n]")
+        members += ['"equivalent": ' + json.dumps(list(equivalent))] if equivalent is not None else []
+        return "{" + ",\n".join(members) + "}\n"
 
 
-def is_scalar(value: object) -> bool:
-    return isinstance(value, bool) or isinstance(value, int) and -(2**31) <= value < 2**31
-
-
-def is_value(value: object) -> bool:
-    if isinstance(value, list):
-        return all(map(is_scalar, value)) and len(set(map(type, value))) == 1
-    return is_scalar(value)
-
-
-def check_tests(tests: object) -> None:
-    if not isinstance(tests, list):
-        raise ValueError("the table is no list of tests")
-    for number, test in enumerate(tests, 1):
-        if not isinstance(test, list):
-            raise ValueError(f"test {number} is no list of values")
-        for place, value in enumerate(test, 1):
-            if not is_value(value):
-                raise ValueError(f"test {number}, value {place}: {json.dumps(value)} is no value of a job")
-
-
-def read_names(path: Path) -> list[str]:
-    """The mutants that a file declares equivalent: a list of texts in JSON."""
-    names = json.loads(path.read_text(encoding="utf-8-sig"))
-    if not isinstance(names, list) or not all(isinstance(name, str) for name in names):
-        raise ValueError('it is no list of names of mutants, as ["ROR 1"]')
-    return names
-
-
-def told_of(path: Path, read: Callable[[Path], str]) -> str:
+def told_of(path: Path, read: Callable[[], Read]) -> Read:
     """What is read of a file; a fault names the file."""
     try:
-        return read(path)
+        return read()
     except (OSError, ValueError, RecursionError, csv.Error) as fault:
         raise ValueError(f"{path}: {getattr(fault, 'strerror', None) or fault}") from None
 
 
-def source_member(path: Path) -> str:
-    # Bytes are decoded here, for reading as text would change the ends of lines.
-    return '"source": ' + json.dumps(path.read_bytes().decode("utf-8"))
+def dummies_of(source: str) -> list[str] | None:
+    """The names of the dummy arguments; None where the source does not begin with SUBROUTINE."""
+    cards = cards_of(source)
+    try:
+        return read_head(cards[0].text if cards else "")[1]
+    except ValueError:
+        return None
 
 
-def suite_member(path: Path) -> str:
-    tests = read_tests(path)
-    check_tests(tests)
-    return '"suite": [\n' + ",\n".join("  " + json.dumps(test) for test in tests) + "\n]"
+def check_sizes(source: Source, table: Table, sizes: Mapping[str, int]) -> None:
+    """The tests fit the sizes: an array has as many elements as its bounds say, and no N is above its value."""
+    names, dummies = dummies_of(source.text) or [], read_unit(source.text)[1]
+    changed = {
+        bound.array for card in cards_of(source.shown) for bound in bounds_of(card.text)
+        if bound.array in sizes or not bound.text.isdecimal()
+    }  # fmt: skip
+    for row, test in zip(table.rows, table.tests):
+        for name, (_, elements), value in zip(names, dummies, test):
+            if name in changed and elements is not None:
+                count = len(value) if isinstance(value, list) else 1
+                if count != elements:
+                    raise ValueError(f"row {row}: {name} has {count} elements, and its bounds with --size take {elements}")
+            elif name in sizes and elements is None and isinstance(value, int) and value > sizes[name]:
+                raise ValueError(f"row {row}: {name} is {value}, above the {sizes[name]} of --size")
 
 
-def equivalent_member(path: Path) -> str:
-    return '"equivalent": ' + json.dumps(read_names(path))
+def made_of(program: Path, tests: Path | None = None, wish: Wish = Wish(), is_strict: bool = True) -> Made:
+    """The job of these files; ValueError names the file that does not serve, and why.
+
+    Where it is not strict, tests may have other numbers of values than there are dummy arguments: the program tells.
+    """
+    source = told_of(program, lambda: source_of(program.read_bytes(), wish))
+    remarks = [f"{program}: {remark}" for remark in source.remarks]
+    if tests is None:
+        return Made(source, None, remarks)
+    path, dummies = tests, dummies_of(source.text)
+    table = told_of(path, lambda: read_table(path, dummies, is_strict))
+    if wish.sizes and dummies is not None:
+        told_of(path, lambda: check_sizes(source, table, wish.sizes))
+    return Made(source, table, remarks + [f"{tests}: {remark}" for remark in table.remarks])
 
 
-def job_text(program: Path, tests: Path | None = None, equivalent: Path | None = None) -> str:
-    """The job of these files; ValueError names the file that cannot be read, and why."""
-    members = [told_of(program, source_member)]
-    members += [told_of(tests, suite_member)] if tests else []
-    members += [told_of(equivalent, equivalent_member)] if equivalent else []
-    return "{" + ",\n".join(members) + "}\n"
+def meant_for(
+    made: Made, program: Path, equivalent: Path | None, mothra: Callable[[], str | None], looks_beside: bool = True
+) -> Meant:
+    """What is declared for a job: by a file that is named, else by the one beside the program. Mothra is asked if needed."""
+    path = equivalent or (found_beside(program, made.source.unit) if looks_beside else None)
+    if path is None:
+        return NONE_MEANT
+    declarations = read_declarations(path)
+    return meant_by(declarations, mothra() if declarations.entries else "", made.text().encode())
+
+
+def whole_text(made: Made, equivalent: Sequence[str] | None = None) -> str:
+    """The text of a job that has to hold all its tests at once; ValueError tells what is over a limit."""
+    text = made.text(equivalent)
+    if len(made.suite) > TESTS:
+        raise ValueError(f"the table has {len(made.suite)} tests, and a job takes {TESTS}")
+    if len(text.encode()) > BYTES:
+        raise ValueError(f"the job has {len(text.encode()):,} bytes, and {BYTES:,} are the limit: leave out tests or comments")
+    return text
+
+
+def job_text(
+    program: Path, tests: Path | None = None, equivalent: Path | None = None, mothra: str | None = None
+) -> str:
+    """The job of these files as it comes, for a folder of many: what does not fit is left to the program to tell."""
+    made = made_of(program, tests, is_strict=False)
+    meant = meant_for(made, program, equivalent, lambda: mothra, looks_beside=False)
+    return made.text(meant.names if meant.is_of_file else None)
+
+
+def sizes_word(word: str) -> dict[str, int]:
+    """The values of --size, as an option takes them."""
+    try:
+        return read_sizes(word)
+    except ValueError as fault:
+        raise argparse.ArgumentTypeError(str(fault)) from None
+
+
+def add_making_options(parser: argparse.ArgumentParser) -> None:
+    """The options that say how a program is read, and what is declared."""
+    parser.add_argument("--unit", metavar="NAME", help="the unit, where the file has several; lines keep their numbers")
+    parser.add_argument("--size", metavar="N=8,..", type=sizes_word, default={}, help="values of adjustable bounds")
+    told = "read tabs as blanks: the first of a line leads to column 7"
+    parser.add_argument("--expand-tabs", action="store_true", help=told)
+    told = "the mutants declared equivalent, .csv or a list in .json; else those of PROGRAM.equivalent.csv"
+    parser.add_argument("--equivalent", metavar="FILE", type=Path, help=told)
+    parser.add_argument("--undeclared", action="store_true", help="declare no mutant")
+
+
+def wish_of(given: argparse.Namespace) -> Wish:
+    return Wish(given.unit, given.size, given.expand_tabs)

@@ -3,6 +3,7 @@
 import re
 from collections.abc import Iterable, Mapping, Sequence
 from itertools import groupby
+from types import MappingProxyType
 
 from mutants.operators import NAMES
 from mutants.pages.differences import pieces
@@ -13,6 +14,7 @@ from mutants.texts.reports import Count
 
 # So many survivors of an operator on one line are shown unfolded.
 UNFOLDED = 12
+NO_REASONS: Mapping[str, str] = MappingProxyType({})
 MARKS = {"=": "{}", "-": "<del>{}</del>", "+": "<ins>{}</ins>"}
 
 
@@ -34,13 +36,16 @@ def difference(old: str, new: str) -> str:
     return "".join(MARKS[mark].format(text(piece)) for mark, piece in pieces(old, new))
 
 
-def survivor_item(mutant: Mutant, statement: str) -> str:
+def survivor_item(mutant: Mutant, statement: str, reason: str = "") -> str:
+    why = f' <span class="soft">{text(reason)}</span>' if reason else ""
     name = f'<abbr title="{text(NAMES.get(mutant.op, mutant.op))}">{text(mutant.op)}</abbr> {mutant.place}'
-    return f"<li><b>{name}</b><code>{difference(statement, mutant.text)}</code></li>\n"
+    return f"<li><b>{name}</b><code>{difference(statement, mutant.text)}</code>{why}</li>\n"
 
 
-def items(mutants: Iterable[Mutant], statement: str) -> str:
-    return "<ul>\n" + "".join(survivor_item(mutant, statement) for mutant in mutants) + "</ul>\n"
+def items(mutants: Iterable[Mutant], statement: str, reasons: Mapping[str, str] = NO_REASONS) -> str:
+    """The mutants of a line; declared ones have reasons by their names."""
+    parts = [survivor_item(mutant, statement, reasons.get(f"{mutant.op} {mutant.place}", "")) for mutant in mutants]
+    return "<ul>\n" + "".join(parts) + "</ul>\n"
 
 
 def survivors_part(survivors: Iterable[Mutant], statement: str) -> str:
@@ -54,10 +59,10 @@ def survivors_part(survivors: Iterable[Mutant], statement: str) -> str:
     return f'<div class="mutants">{"".join(parts)}</div>\n'
 
 
-def declared_part(declared: Sequence[Mutant], statement: str) -> str:
+def declared_part(declared: Sequence[Mutant], statement: str, reasons: Mapping[str, str]) -> str:
     """The mutants of a line that are declared equivalent and survived, folded."""
     summary = f"<summary>{len(declared)} declared equivalent</summary>"
-    return f'<div class="mutants declared"><details>{summary}{items(declared, statement)}</details></div>\n'
+    return f'<div class="mutants declared"><details>{summary}{items(declared, statement, reasons)}</details></div>\n'
 
 
 def marks_of(count: Count, survived: int) -> str:
@@ -80,6 +85,13 @@ def line_part(number: int, line: str, count: Count | None, survived: int, has_li
     return f'<div class="{kind}"{link}>{told}</div>\n'
 
 
+def numbered_lines(source: str) -> list[tuple[int, str]]:
+    """The lines with their numbers. Blank ones at both ends, where other units of a file stand, are left out."""
+    lines = list(enumerate(source_lines(source), 1))
+    kept = [number for number, line in lines if line.strip()] or [0]
+    return lines[max(kept[0] - 1, 0) : kept[-1]]
+
+
 def program_part(
     source: str,
     statements: Mapping[int, str],
@@ -87,12 +99,13 @@ def program_part(
     survivors: Mapping[int, Sequence[Mutant]],
     declared: Mapping[int, Sequence[Mutant]],
     has_links: bool = False,
+    reasons: Mapping[str, str] = NO_REASONS,
 ) -> str:
     """The whole program: counts of mutants, survivors and declared mutants are by line number."""
     parts = []
-    for number, line in enumerate(source_lines(source), 1):
+    for number, line in numbered_lines(source):
         found, others = survivors.get(number, []), declared.get(number, [])
         parts.append(line_part(number, line, counts.get(number), len(found), has_links))
         parts += [survivors_part(found, statements[number])] if found else []
-        parts += [declared_part(others, statements[number])] if others else []
+        parts += [declared_part(others, statements[number], reasons)] if others else []
     return '<div class="program">\n' + "".join(parts) + "</div>\n"

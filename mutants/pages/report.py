@@ -4,6 +4,7 @@ from collections import Counter, defaultdict
 from collections.abc import Iterable, Mapping, Sequence
 
 from mutants.operators import NAMES
+from mutants.pages.declared import NOTHING, Said, declared_part, remarks_part
 from mutants.pages.frame import Cell, bar, joined_words, page, plural, remark_part, table, text
 from mutants.pages.matrix import matrix_part
 from mutants.pages.program import program_part, statements_by_line
@@ -101,9 +102,9 @@ def sections(parts: Sequence[tuple[str, str, str]]) -> tuple[str, str]:
 
 
 def report_page(
-    job: Job, printed: Sequence[str], listed: Sequence[Mutant], report: Report, remark: str = ""
+    job: Job, printed: Sequence[str], listed: Sequence[Mutant], report: Report, remark: str = "", said: Said = NOTHING
 ) -> str:
-    """The page of a job, of its printed program, its list of mutants and its report."""
+    """The page of a job, of its printed program, its list of mutants and its report, and what else is said of it."""
     assert_same_mutants(listed, report)
     if len(job.suite) != report.tests:
         raise ValueError("the report and the job have not the same number of tests")
@@ -112,15 +113,19 @@ def report_page(
         raise ValueError("the list has mutants of lines that are none of the job")
     counts, survivors = counts_by_line(listed, report.rows), report.survivors
     declared = by_line(with_status(listed, report.rows, "E"))
-    listing = program_part(job.source, statements, counts, by_line(survivors), declared, has_links=True)
+    source = job.source if said.shown is None else said.shown
+    listing = program_part(source, statements, counts, by_line(survivors), declared, True, said.reasons)
+    reasons = declared_part(listed, report.rows, statements, said.reasons)
     links, bodies = sections([
         ("program", "The program", program_key() + listing),
+        *([("declared", "Declared equivalent", reasons)] if reasons else []),
         ("operators", "The operators", operators_part(report.counts)),
         ("tests", "The tests", tests_part(job.suite, report.rows)),
         ("matrix", "The kill matrix", matrix_part(report.rows, report.tests)),
     ])
     head = f"<h1>{text(report.unit)}: which mutants the tests kill</h1>\n" + remark_part(remark)
     head += score_part(summed(report.counts.values())) + facts_of(report) + wrong_part(report.rows)
+    head += remarks_part(said.remarks)
     return page(f"{report.unit}: kills and survivors", head + first_look(survivors) + links + bodies)
 
 

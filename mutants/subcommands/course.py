@@ -2,11 +2,11 @@
 
     mutants course [--mothra MOTHRA] [--jobs N] [--sshlogin LOGIN].. [--ops A,B] [--every Q] [--steps N] FOLDER
 
-The folder has programs in fixed form, NAME.f, and tables of tests as mutants job takes them, NAME.json or NAME.csv (or
-NAME.suite.json). With one program each table is a suite of it: a file for each student. With several a table is of the
-program whose name it has, or has before a hyphen (sort-anna.csv is of sort.f); a table named suite is of each program
-without a table of its own. NAME.equivalent.json, or equivalent.json with one program, lists mutants that are declared
-equivalent.
+The folder has programs in fixed form, NAME.f (or .for, .ftn, .f77), and tables of tests as mutants job takes them,
+NAME.json or NAME.csv (or NAME.suite.json). With one program each table is a suite of it: a file for each student. With
+several a table is of the program whose name it has, or has before a hyphen (sort-anna.csv is of sort.f); a table named
+suite is of each program without a table of its own. NAME.equivalent.csv, or equivalent.csv with one program, has the
+mutants that are declared equivalent, as mutants declare writes them; a bare list in .json is read too.
 
 Each table becomes a job. The jobs are run side by side by GNU parallel, N at once (else one for each processor), each
 with one thread; --sshlogin is handed to parallel, and MOTHRA is then the name of the program on all the machines. Jobs
@@ -27,10 +27,11 @@ import io
 import sys
 from pathlib import Path
 
-from mutants.classes.folder import Results, Task, tasks_in, written
+from mutants.classes.folder import Results, Task, tasks_in
 from mutants.classes.page import View, course_page
 from mutants.classes.results import COLUMNS, Result, csv_row, only_here, reported_of
 from mutants.classes.running import find_parallel, run_all
+from mutants.pages.declared import Said
 from mutants.pages.program import statements_by_line
 from mutants.pages.report import report_page
 from mutants.program.asking import asked_list, asked_print
@@ -39,10 +40,11 @@ from mutants.program.finding import add_mothra_option, find_program
 from mutants.program.unproved import remark_on
 from mutants.progress import Progress
 from mutants.statuses import FAULT, SUCCESS
+from mutants.texts.files import written
 from mutants.texts.jobs import read_job
 from mutants.texts.lines import Mutant
 from mutants.texts.reports import read_report
-from mutants.words import add_mothra_options, asked_words, number_from_1
+from mutants.words import add_mothra_options, asked_words, number_from_1, tell_remarks
 
 # So much of what parallel says of a failure is told.
 LONGEST = 200
@@ -133,7 +135,8 @@ def write_pages(
             continue
         views[task.program_name] = view_of(task.text, known[task.program_name])
         if result.report is not None:
-            told = report_page(read_job(task.text), *known[task.program_name], result.report, remark_on(program))
+            said = Said(None, task.meant.reasons, task.meant.remarks)
+            told = report_page(read_job(task.text), *known[task.program_name], result.report, remark_on(program), said)
             written(results.path(task.name, ".html"), told.encode())
     written(out / "course.html", course_page(out.resolve().parent.name, found, views, remark_on(program)).encode())
 
@@ -153,7 +156,8 @@ def write_table(out: Path, found: list[Result]) -> None:
 
 def run(given: argparse.Namespace, name: str) -> int:
     program = find_program(given.mothra)
-    tasks = tasks_in(given.folder)
+    tasks = tasks_in(given.folder, program)
+    tell_remarks(name, dict.fromkeys(remark for task in tasks for remark in task.meant.remarks))
     known = known_programs(given, program, tasks)
     out = given.folder / "out"
     results = Results(out / "jobs", asked_words(given, "ops", "every", "steps"))

@@ -1,7 +1,11 @@
 """Make one HTML file of what mothra says of a job: the program with its survivors, the kill matrix, the score.
 
     mutants page [--mothra MOTHRA] [--ops A,B] [--every Q] [--steps N] [--workers N] JOB > page.html
+    mutants page [OPTION..] PROGRAM.f [TESTS.json|TESTS.csv] > page.html
     mutants page --print FILE --list FILE --report FILE JOB > page.html
+
+Of a program and its tests a job is made, as by mutants job and with its options. Declared mutants stand on the page with
+their texts and reasons; of a job the reasons are those of the file that --equivalent names.
 
 The program is asked for `print`, `list` and `run` with the job. Any of the three texts can be given as a file instead,
 as the program wrote it; with all of them the program is not needed. The page is one file with no script, and nothing
@@ -14,8 +18,11 @@ joined. A text that is no such text, is cut short or is not of this job is refus
 import argparse
 import sys
 from collections.abc import Sequence
+from functools import cache
 from pathlib import Path
 
+from mutants.jobs.given import given_job
+from mutants.jobs.making import add_making_options
 from mutants.pages.report import report_page
 from mutants.program.asking import asked_report
 from mutants.program.calling import answer, read_as, text_of
@@ -26,12 +33,14 @@ from mutants.texts.jobs import read_job
 from mutants.texts.lists import read_list
 from mutants.texts.prints import read_print
 from mutants.texts.reports import read_report
-from mutants.words import add_mothra_options, asked_words
+from mutants.words import add_mothra_options, asked_words, tell_remarks
 
 
 def add_words(parser: argparse.ArgumentParser) -> None:
-    parser.add_argument("job", metavar="JOB", type=Path, help="the job, a file")
+    parser.add_argument("job", metavar="JOB|PROGRAM.f", type=Path, help="the job, a file, or a program in fixed form")
+    parser.add_argument("tests", metavar="TESTS", type=Path, nargs="?", help="a table of tests of the program")
     add_mothra_option(parser)
+    add_making_options(parser)
     add_mothra_options(parser, "ops", "every", "steps", "workers")
     for option, command in (("print", "print"), ("list", "list"), ("report", "run")):
         parser.add_argument(f"--{option}", metavar="FILE", help=f"what mothra {command} wrote, in place of asking it")
@@ -43,10 +52,12 @@ def text_from(path: str | None, program: str, words: Sequence[str], job: bytes) 
 
 
 def run(given: argparse.Namespace, name: str) -> int:
-    command, text = name, given.job.read_bytes()
+    command, find = name, cache(lambda: find_program(given.mothra))
+    text, said, warnings = given_job(given, given.job, given.tests, find)
     job = read_as(given.job, read_job, text)
     needed = [given.print, given.list, given.report]
-    program = find_program(given.mothra) if None in needed else ""
+    program = find() if None in needed else ""
+    tell_remarks(name, warnings)
     chosen = asked_words(given, "ops", "every")
     name, told = text_from(given.print, program, ["print"], text)
     printed = read_as(name, read_print, told)
@@ -57,5 +68,5 @@ def run(given: argparse.Namespace, name: str) -> int:
     else:
         report = asked_report(program, asked_words(given, "every", "steps", "workers"), totals, text, command)
     # A page is UTF-8 whatever the terminal takes.
-    sys.stdout.buffer.write(report_page(job, printed, listed, report, remark_on(program)).encode())
+    sys.stdout.buffer.write(report_page(job, printed, listed, report, remark_on(program), said).encode())
     return SUCCESS

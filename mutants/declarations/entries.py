@@ -1,0 +1,105 @@
+"""The file of declarations: a table in CSV with a row for each mutant that is declared equivalent.
+
+Its columns are `mutant`, as ROR 1; `before` and `after`, the statement without and with the change, as `mothra print`
+and `mothra list` write them; `reason`; and `program`. The last one may be absent. It is filled where the same two texts
+stand on several lines: the number alone tells then which mutant is meant, and it does so in one version of the program,
+whose digest this is.
+"""
+
+import csv
+import io
+import re
+from collections.abc import Iterable, Mapping, Sequence
+from pathlib import Path
+from typing import NamedTuple
+
+COLUMNS = ["mutant", "before", "after", "reason", "program"]
+# Columns that a file has to have.
+NEEDED = COLUMNS[:3]
+NAME = re.compile(r"([A-Z]{3}) ([1-9]\d*)")
+
+
+class Entry(NamedTuple):
+    """A declaration as its file has it, and the line of the file on which it ends."""
+
+    op: str
+    place: int
+    before: str
+    after: str
+    reason: str = ""
+    program: str = ""
+    row: int = 0
+
+    @property
+    def name(self) -> str:
+        return f"{self.op} {self.place}"
+
+    @property
+    def texts(self) -> tuple[str, str, str]:
+        """What an entry says of its mutant but for the number."""
+        return self.op, self.before, self.after
+
+
+def entry_of(cells: Mapping[str, str], row: int) -> Entry:
+    """The entry of a row of the table."""
+    found = NAME.fullmatch(" ".join(cells["mutant"].split()).upper())
+    if not found:
+        raise ValueError(f"row {row}: {cells['mutant']!r} is no name of a mutant, as ROR 1")
+    if not cells["before"].strip() or not cells["after"].strip():
+        raise ValueError(f"row {row}: {found[0]} has not both texts, that of the line before the change and that after it")
+    before, after, reason, program = (cells.get(column, "").strip() for column in COLUMNS[1:])
+    return Entry(found[1], int(found[2]), before, after, reason, program, row)
+
+
+def columns_of(row: Sequence[str]) -> list[str]:
+    """The columns that the first row of the table names."""
+    columns = [cell.strip().lower() for cell in row]
+    if not set(NEEDED) <= set(columns) or len(set(columns)) < len(columns):
+        raise ValueError(f"its first row does not name the columns {', '.join(COLUMNS)}")
+    return columns
+
+
+def read_entries(text: str) -> list[Entry]:
+    """The entries of a file, in its order."""
+    reader = csv.reader(io.StringIO(text, newline=""), strict=True)
+    columns: list[str] = []
+    entries: list[Entry] = []
+    try:
+        for row in reader:
+            if not any(cell.strip() for cell in row):
+                continue
+            if not columns:
+                columns = columns_of(row)
+            elif len(row) > len(columns):
+                raise ValueError(f"row {reader.line_num} has {len(row)} cells, and there are {len(columns)} columns")
+            else:
+                row += [""] * (len(columns) - len(row))
+                entries.append(entry_of(dict(zip(columns, row)), reader.line_num))
+    except csv.Error as fault:
+        raise ValueError(f"row {reader.line_num}: {fault}") from None
+    return entries
+
+
+def entries_text(entries: Iterable[Entry], has_head: bool = True) -> str:
+    """The file of entries, or the rows to be put behind one."""
+    kept = io.StringIO()
+    writer = csv.writer(kept, lineterminator="\n")
+    if has_head:
+        writer.writerow(COLUMNS)
+    writer.writerows([entry.name, entry.before, entry.after, entry.reason, entry.program] for entry in entries)
+    return kept.getvalue()
+
+
+def appended(text: str, entries: Sequence[Entry]) -> str:
+    """The text of a file with more entries behind those that it has. Its own rows keep their bytes."""
+    if not text.strip():
+        return entries_text(entries)
+    has_columns = columns_of(next(csv.reader(io.StringIO(text, newline="")))) == COLUMNS
+    if not has_columns:
+        return entries_text([*read_entries(text), *entries])
+    return text + ("" if text.endswith("\n") else "\n") + entries_text(entries, has_head=False)
+
+
+def written_entries(path: Path) -> list[Entry]:
+    """The entries of a file; none where there is no such file."""
+    return read_entries(path.read_text(encoding="utf-8-sig")) if path.exists() else []

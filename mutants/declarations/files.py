@@ -1,0 +1,104 @@
+"""Where declarations are kept, and what they say: entries with texts, or a bare list of names.
+
+Beside PROGRAM.f lies PROGRAM.equivalent.csv; for a unit that was picked by its name, PROGRAM.UNIT.equivalent.csv.
+A bare list in JSON is read too. Its numbers are not tied to the program, and so a remark comes with it.
+"""
+
+import hashlib
+import json
+from collections.abc import Sequence
+from pathlib import Path
+from typing import NamedTuple
+
+from mutants.declarations.entries import Entry, read_entries
+from mutants.declarations.settling import Present, Settled, settled
+from mutants.pages.program import statements_by_line
+from mutants.program.asking import asked_list
+from mutants.program.calling import answer, read_as
+from mutants.texts.jobs import read_job
+from mutants.texts.prints import read_print
+
+BARE = "the bare numbers of {} are not tied to the program: once it changes they mean other mutants (mutants declare ties them)"
+
+
+class Declarations(NamedTuple):
+    """A file of declarations: its entries, or the names of a bare list."""
+
+    path: Path
+    entries: list[Entry]
+    bare: list[str] | None = None
+
+
+class Meant(NamedTuple):
+    """What declarations mean in the program of now: the names for a job, their reasons, and what is told of them.
+
+    Without a file of declarations a job has no key for them at all.
+    """
+
+    names: list[str]
+    reasons: dict[str, str]
+    remarks: list[str]
+    is_of_file: bool = True
+
+
+NONE_MEANT = Meant([], {}, [], is_of_file=False)
+
+
+def path_beside(program: Path, unit: str = "") -> Path:
+    """Where the declarations of a program lie, or of a unit of it that was picked by name."""
+    middle = f".{unit.lower()}" if unit else ""
+    return program.with_name(f"{program.stem}{middle}.equivalent.csv")
+
+
+def found_beside(program: Path, unit: str = "") -> Path | None:
+    """The file of declarations beside a program: entries, else a bare list, else None."""
+    path = path_beside(program, unit)
+    return next((each for each in (path, path.with_suffix(".json")) if each.exists()), None)
+
+
+def read_names(text: str) -> list[str]:
+    """The names of a bare list in JSON."""
+    names = json.loads(text)
+    if not isinstance(names, list) or not all(isinstance(name, str) for name in names):
+        raise ValueError('it is no list of names of mutants, as ["ROR 1"]')
+    return names
+
+
+def read_declarations(path: Path) -> Declarations:
+    """The declarations of a file; ValueError names the file, and why it cannot be read."""
+    try:
+        text = path.read_text(encoding="utf-8-sig")
+        if path.suffix.lower() == ".csv":
+            return Declarations(path, read_entries(text))
+        return Declarations(path, [], read_names(text))
+    except (OSError, ValueError, RecursionError) as fault:
+        raise ValueError(f"{path}: {getattr(fault, 'strerror', None) or fault}") from None
+
+
+def digest_of(printed: str) -> str:
+    """The digest of a version of a program, by its printed text: comments and blanks are no part of it."""
+    return hashlib.sha256(printed.encode()).hexdigest()[:16]
+
+
+def asked_present(program: str, ops: Sequence[str], job: bytes) -> Present:
+    """What mothra says of the program of a job, and of all mutants of these operators."""
+    printed = answer(program, ["print"], job)
+    statements = statements_by_line(read_job(job).source, read_as("mothra print", read_print, printed))
+    listed = asked_list(program, ["--ops", ",".join(ops)], job)[1] if ops else []
+    return Present(statements, listed, digest_of(printed))
+
+
+def asked_settled(program: str, entries: Sequence[Entry], job: bytes) -> Settled:
+    """What entries mean in the program of a job, by what mothra says of it."""
+    ops = sorted({entry.op for entry in entries})
+    return settled(entries, asked_present(program, ops, job)) if entries else Settled([], [], [])
+
+
+def meant_by(declarations: Declarations, program: str | None, job: bytes) -> Meant:
+    """What declarations mean for a job, whose own declarations do not matter. A bare list needs no program."""
+    if declarations.bare is not None:
+        return Meant(declarations.bare, {}, [BARE.format(declarations.path)] if declarations.bare else [])
+    if program is None:
+        raise ValueError(f"{declarations.path}: its entries are looked for in the list of mothra, which is not there")
+    found = asked_settled(program, declarations.entries, job)
+    return Meant(found.names, found.reasons, [f"{declarations.path}: {remark}" for remark in found.remarks()])

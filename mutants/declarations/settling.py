@@ -1,0 +1,158 @@
+"""Which mutants of the program of now are meant by declarations that were made of an earlier one, and which by none.
+
+An entry is settled where its two texts are those of a mutant of its operator on one line and on no other: it means that
+mutant, whatever its number has become. Where they stand nowhere the entry is refused. Where they stand on several lines
+the number alone tells which is meant, and that only while the program is the one that the entry names.
+"""
+
+from collections import defaultdict
+from collections.abc import Iterable, Mapping, Sequence
+from typing import NamedTuple
+
+from mutants.declarations.entries import Entry
+from mutants.pages.frame import joined_words, plural
+from mutants.texts.lines import Mutant
+
+# So many moved entries are named.
+NAMED = 3
+
+
+class Present(NamedTuple):
+    """The program of now: its statements by line, all mutants of some operators, and the digest of its printed text."""
+
+    statements: Mapping[int, str]
+    listed: Sequence[Mutant]
+    digest: str
+
+    def texts_of(self, mutant: Mutant) -> tuple[str, str, str]:
+        return mutant.op, self.statements[mutant.line], mutant.text
+
+
+class Declared(NamedTuple):
+    """A mutant that is declared, and what is said of it."""
+
+    mutant: Mutant
+    before: str
+    reason: str
+
+    @property
+    def name(self) -> str:
+        return f"{self.mutant.op} {self.mutant.place}"
+
+
+class Settled(NamedTuple):
+    """The declared mutants in the order of the entries; entries with a new number; entries that are refused, and why."""
+
+    declared: list[Declared]
+    moved: list[tuple[Entry, Mutant]]
+    refused: list[tuple[Entry, str]]
+
+    @property
+    def names(self) -> list[str]:
+        """The names of the mutants, as a job declares them."""
+        return [each.name for each in self.declared]
+
+    @property
+    def reasons(self) -> dict[str, str]:
+        return {each.name: each.reason for each in self.declared}
+
+    def remarks(self) -> list[str]:
+        """What is told of entries that are not taken as they stand, in sentences."""
+        return moved_remarks(self.moved) + [f"{entry.name} is not declared: {why}" for entry, why in self.refused]
+
+
+def moved_remarks(moved: Sequence[tuple[Entry, Mutant]]) -> list[str]:
+    """One sentence on the entries that have a new number."""
+    if not moved:
+        return []
+    named = [f"{entry.name} is now {mutant.op} {mutant.place}" for entry, mutant in moved[:NAMED]]
+    more = f" and {len(moved) - NAMED} more" if len(moved) > NAMED else ""
+    told = f"{plural(len(moved), 'declared mutant')} found by the texts under a new number: {', '.join(named)}{more}"
+    return [f"{told} (mutants declare --renew writes the numbers of now)"]
+
+
+def why_not_there(entry: Entry, present: Present) -> str:
+    """Why an entry is refused whose texts stand nowhere."""
+    lines = [line for line, text in present.statements.items() if text == entry.before]
+    if not lines:
+        return f"no statement is {entry.before} any more"
+    where = f"line{'s' if len(lines) > 1 else ''} {joined_words(lines)}"
+    return f"{entry.before} stands on {where}, but no mutant of {entry.op} makes {entry.after} of it"
+
+
+def why_unclear(entry: Entry, lines: Iterable[int]) -> str:
+    """Why an entry is refused whose texts stand on several lines."""
+    told = f"its texts stand on lines {joined_words(lines)}"
+    if entry.program:
+        return f"{told}, and the program has changed since one was meant: declare it again"
+    return f"{told}, and which is meant is not said: declare it again"
+
+
+class Settling:
+    """Entries are settled one after the other; a mutant is taken once."""
+
+    def __init__(self, present: Present) -> None:
+        self.present = present
+        self.taken: set[Mutant] = set()
+        self.by_texts: dict[tuple[str, str, str], list[Mutant]] = defaultdict(list)
+        for mutant in present.listed:
+            self.by_texts[present.texts_of(mutant)].append(mutant)
+
+    def found(self, entry: Entry) -> Mutant | str:
+        """The mutant that an entry means, or why there is none."""
+        alike = self.by_texts.get(entry.texts, [])
+        if not alike:
+            return why_not_there(entry, self.present)
+        lines = sorted({mutant.line for mutant in alike})
+        at_number = [mutant for mutant in alike if mutant.place == entry.place]
+        if entry.program or len(lines) > 1:
+            is_same = entry.program == self.present.digest
+            free = at_number if is_same else []
+            if not free:
+                return why_unclear(entry, lines) if len(lines) > 1 else why_changed(entry)
+        else:
+            # On one line these are one program, whichever of them is taken.
+            free = at_number + alike
+        return next((mutant for mutant in free if mutant not in self.taken), "an earlier entry declares the same mutant")
+
+    def settle(self, entries: Sequence[Entry]) -> dict[int, Mutant | str]:
+        """Of each entry by its place the mutant, or why there is none; those come first whose numbers still hold."""
+        by_name = {(mutant.op, mutant.place): mutant for mutant in self.present.listed}
+        told: dict[int, Mutant | str] = {}
+
+        def holds(place: int) -> bool:
+            mutant = by_name.get((entries[place].op, entries[place].place))
+            return mutant is not None and self.present.texts_of(mutant) == entries[place].texts
+
+        for place in sorted(range(len(entries)), key=lambda place: not holds(place)):
+            found = told[place] = self.found(entries[place])
+            if isinstance(found, Mutant):
+                self.taken.add(found)
+        return told
+
+
+def why_changed(entry: Entry) -> str:
+    """Why an entry is refused whose texts stood on several lines, and now stand on one."""
+    return "its texts stood on several lines, and the program has changed since one was meant: declare it again"
+
+
+def settled(entries: Sequence[Entry], present: Present) -> Settled:
+    """What the entries mean in the program of now."""
+    told = Settling(present).settle(entries)
+    result = Settled([], [], [])
+    for place, entry in enumerate(entries):
+        found = told[place]
+        if isinstance(found, str):
+            result.refused.append((entry, found))
+            continue
+        result.declared.append(Declared(found, entry.before, entry.reason))
+        if found.place != entry.place:
+            result.moved.append((entry, found))
+    return result
+
+
+def entry_for(mutant: Mutant, reason: str, present: Present) -> Entry:
+    """The entry that declares a mutant of the program of now."""
+    alike = {each.line for each in present.listed if present.texts_of(each) == present.texts_of(mutant)}
+    digest = present.digest if len(alike) > 1 else ""
+    return Entry(mutant.op, mutant.place, present.statements[mutant.line], mutant.text, reason, digest)

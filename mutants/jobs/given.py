@@ -1,0 +1,50 @@
+"""What a subcommand is given to work on: a job, or a program with a table of tests of which a job is made."""
+
+import argparse
+from collections.abc import Callable
+from pathlib import Path
+from typing import NamedTuple
+
+from mutants.declarations.files import NONE_MEANT, Meant, meant_by, read_declarations
+from mutants.jobs.making import made_of, meant_for, whole_text, wish_of
+from mutants.jobs.sources import is_program
+from mutants.pages.declared import Said
+
+MORE = "of a program that is read with options, or with declarations, take PROGRAM.f in place of a job"
+
+
+class Given(NamedTuple):
+    """The bytes of a job, and what is known of it beside them. `warnings` are told on standard error as well."""
+
+    job: bytes
+    said: Said
+    warnings: list[str]
+
+
+def of_job(path: Path, equivalent: Path | None, mothra: Callable[[], str | None]) -> Given:
+    """A job as it is stored; a file of declarations gives the reasons of those that the job has."""
+    job = path.read_bytes()
+    meant = meant_by(read_declarations(equivalent), mothra(), job) if equivalent else NONE_MEANT
+    return Given(job, Said(None, meant.reasons, meant.remarks), meant.remarks)
+
+
+def of_program(
+    given: argparse.Namespace, program: Path, tests: Path | None, mothra: Callable[[], str | None]
+) -> Given:
+    """The job that is made of a program and a table."""
+    made = made_of(program, tests, wish_of(given))
+    meant: Meant = meant_for(made, program, given.equivalent, mothra, looks_beside=not given.undeclared)
+    told = made.remarks + meant.remarks
+    text = whole_text(made, meant.names if meant.is_of_file else None)
+    return Given(text.encode(), Said(made.source.shown, meant.reasons, told), told)
+
+
+def given_job(
+    given: argparse.Namespace, path: Path, tests: Path | None, mothra: Callable[[], str | None]
+) -> Given:
+    """What the words name: a program in fixed form, by the ending of its name or with a table behind it; else a job."""
+    if tests is not None or is_program(path):
+        return of_program(given, path, tests, mothra)
+    if given.unit or given.size or given.expand_tabs or given.undeclared:
+        raise ValueError(f"{path} is taken for a job: {MORE}")
+    return of_job(path, given.equivalent, mothra)

@@ -1,0 +1,101 @@
+"""The source of a job, from a file as it is: in UTF-8 or Latin-1, with tabs, several units, or adjustable bounds."""
+
+from collections.abc import Mapping
+from pathlib import Path
+from types import MappingProxyType
+from typing import NamedTuple
+
+from mutants.jobs.remarks import remarks_on_text
+from mutants.jobs.sizes import sized, unsized
+from mutants.jobs.units import picked, units_of, with_lines
+from mutants.texts.tabs import has_tab, without_tabs
+
+# What a source may have, in bytes.
+LARGEST = 65_536
+SUFFIXES = (".f", ".for", ".ftn", ".f77")
+FREE = (".f90", ".f95", ".f03", ".f08")
+
+
+class Wish(NamedTuple):
+    """What is asked of the making of a job: a unit by name, the values of bounds, and whether tabs become blanks."""
+
+    unit: str | None = None
+    sizes: Mapping[str, int] = MappingProxyType({})
+    expands_tabs: bool = False
+
+
+class Source(NamedTuple):
+    """A source: the text that the job has, the text as its file has it, line for line, and what is told of it.
+
+    The unit is the name of the one that was picked among several; else it is empty.
+    """
+
+    text: str
+    shown: str
+    unit: str
+    remarks: list[str]
+
+
+def is_program(path: Path) -> bool:
+    """Whether the name of a file is that of a program in fixed form."""
+    return path.suffix.lower() in SUFFIXES
+
+
+def decoded(data: bytes) -> str:
+    """The text of a file. What is no UTF-8 is Latin-1, as comments of old programs are; an end of file of DOS is left out."""
+    try:
+        text = data.decode("utf-8-sig")
+    except UnicodeDecodeError:
+        text = data.decode("latin-1")
+    return text.rstrip("\x1a") if text.endswith("\x1a") else text
+
+
+def tabs_told(source: str) -> str:
+    """Why a source with tabs does not serve, and what does; no text where it has none."""
+    lines = [number for number, line in enumerate(source.split("\n"), 1) if has_tab(line)]
+    if not lines:
+        return ""
+    many = f" (and {len(lines) - 1} more)" if len(lines) > 1 else ""
+    told = f"line {lines[0]}{many} has a tab, which FORTRAN 77 does not know: --expand-tabs reads the first tab of a line as the"
+    return f"{told} way to column 7, or to column 6 before a digit from 1 to 9, and any other tab as a blank"
+
+
+def unit_in(source: str, name: str | None) -> tuple[str, str, list[str]]:
+    """The source with the lines of one unit alone, its name where there are others, and what is told of that."""
+    units = units_of(source)
+    if len(units) < 2 and name is None:
+        return source, "", []
+    unit = picked(units, name)
+    if len(units) == 1:
+        return source, "", []
+    told = [] if name is not None else [f"of {len(units)} units the only subroutine is taken, {unit.told()}"]
+    return with_lines(source, unit), unit.name, told
+
+
+def bounds_told(source: str) -> list[str]:
+    """A sentence on each bound that is no number, with the option that gives it one."""
+    told = []
+    for line, bound in unsized(source):
+        name = bound.array if bound.text == "*" else bound.text if bound.text.isalnum() else ""
+        offer = f": --size {name}=.. gives it one" if name else ""
+        told.append(f"line {line}: the bound {bound.text} of {bound.array} has no value{offer}")
+    return told
+
+
+def source_of(data: bytes, wish: Wish) -> Source:
+    """The source of a job, of the bytes of a file; ValueError says why there is none."""
+    text = decoded(data)
+    plain = "\n".join(map(without_tabs, text.split("\n")))
+    # The units are told by the statements, which tabs would hide.
+    kept, unit, remarks = unit_in(plain, wish.unit)
+    if not wish.expands_tabs:
+        kept = "\n".join(old if new else "" for old, new in zip(text.split("\n"), kept.split("\n"))) if unit else text
+    shown, told = kept, tabs_told(kept)
+    if told:
+        raise ValueError(told)
+    kept = sized(kept, wish.sizes) if wish.sizes else kept
+    size = len(kept.encode())
+    if size > LARGEST:
+        advice = "leave out comments" if unit else "leave out comments, or pick a unit by --unit"
+        raise ValueError(f"the source has {size:,} bytes, and a job takes {LARGEST:,}: {advice}")
+    return Source(kept, shown, unit, remarks + bounds_told(kept) + remarks_on_text(kept))

@@ -1,0 +1,152 @@
+"""Tables of tests: JSON or CSV, with or without a row of names, and what is told of a cell that does not serve."""
+
+import csv
+import io
+import json
+import re
+from collections.abc import Callable, Collection, Iterator, Sequence
+from pathlib import Path
+from typing import Any, NamedTuple
+
+from mutants.jobs.cells import LONGEST, TRUTHS, checked_value, read_cell
+from mutants.pages.frame import joined_words, plural
+
+NAME = re.compile(r"[A-Za-z][A-Za-z0-9]*")
+# Columns that a table may have beside those of the dummy arguments.
+OTHERS = ("EXPECT",)
+Cells = list[Any]
+
+
+class Table(NamedTuple):
+    """The tests; for each the row of the table where it stands; further columns by name; and what is told of it all."""
+
+    tests: list[list[Any]]
+    rows: list[int]
+    others: dict[str, list[Any]]
+    remarks: list[str]
+
+
+class Cell(NamedTuple):
+    """Where a cell stands: its row and its column, from 1, and the dummy argument that it is for, where that is known."""
+
+    row: int
+    column: int
+    name: str = ""
+
+    def told(self) -> str:
+        return f"row {self.row}, column {self.column}" + (f" ({self.name})" if self.name else "")
+
+
+def rows_of_csv(text: str) -> Iterator[tuple[int, Cells]]:
+    """The rows that are not blank, each with the number of the line on which it ends."""
+    reader = csv.reader(io.StringIO(text, newline=""))
+    try:
+        for row in reader:
+            if any(cell.strip() for cell in row):
+                yield reader.line_num, row
+    except csv.Error as fault:
+        raise ValueError(f"row {reader.line_num}: {fault}") from None
+
+
+def rows_of_json(text: str) -> Iterator[tuple[int, Cells]]:
+    tests = json.loads(text)
+    if not isinstance(tests, list):
+        raise ValueError("the table is no list of tests")
+    for number, test in enumerate(tests, 1):
+        if not isinstance(test, list):
+            raise ValueError(f"row {number} is no list of values: {json.dumps(test)[:LONGEST]}")
+        yield number, test
+
+
+def is_head(cells: Cells, dummies: Sequence[str]) -> bool:
+    """Whether a row has names alone. T and F are truth values, unless the dummy arguments are just those."""
+    if not cells or not all(isinstance(cell, str) and NAME.fullmatch(cell.strip()) for cell in cells):
+        return False
+    names = [cell.strip().upper() for cell in cells]
+    return sorted(names) == sorted(dummies) or not set(names) <= set(TRUTHS)
+
+
+def columns_of(row: int, cells: Cells, dummies: Sequence[str], others: Collection[str]) -> list[str]:
+    """The columns that a row of names has; each dummy argument has to be among them, once."""
+    names = [str(cell).strip().upper() for cell in cells]
+    known = f"the dummy arguments are {joined_words(dummies) or 'none'}"
+    for column, name in enumerate(names, 1):
+        if name not in dummies and name not in others:
+            raise ValueError(f"{Cell(row, column).told()}: {name} is no dummy argument; {known}")
+        if name in names[: column - 1]:
+            raise ValueError(f"{Cell(row, column).told()}: {name} stands twice")
+    for name in dummies:
+        if name not in names:
+            raise ValueError(f"row {row} names no column for {name}; {known}")
+    return names
+
+
+def shape_fault(row: int, cells: Cells, columns: Sequence[str], is_text: bool) -> str:
+    """Why a row does not serve that has another number of cells than there are columns."""
+    told = f"row {row} has {plural(len(cells), 'cell')}, and {len(columns)} are wanted: {', '.join(columns)}"
+    if is_text and len(cells) == 1 and ";" in cells[0]:
+        return f"{Cell(row, 1).told()}: {cells[0].strip()[:LONGEST]!r} has semicolons: cells are separated by commas"
+    if is_text and len(cells) == 1 and len(cells[0].split()) > 1:
+        shown = cells[0].strip()[:LONGEST]
+        return f"{told} (blanks make one array of {shown!r}: cells are separated by commas)"
+    return told
+
+
+class Reading:
+    """Reads the rows of a table, one after the other."""
+
+    def __init__(self, dummies: Sequence[str] | None, others: Collection[str], is_strict: bool) -> None:
+        self.dummies, self.names, self.is_strict = dummies, dummies or [], is_strict
+        self.others = others
+        self.columns: list[str] = []
+        self.table = Table([], [], {}, [])
+
+    def value(self, cell: Cell, given: Any, read: Callable[[Any], Any]) -> Any:
+        try:
+            return read(given)
+        except ValueError as fault:
+            raise ValueError(f"{cell.told()}: {fault}") from None
+
+    def add(self, row: int, cells: Cells, read: Callable[[Any], Any], is_text: bool) -> None:
+        """Adds the test of a row."""
+        columns = self.columns or list(self.names)
+        wanted = self.columns or self.dummies is not None and self.is_strict
+        if wanted and len(cells) != len(columns):
+            raise ValueError(shape_fault(row, cells, columns, is_text))
+        named = [*columns, *[""] * (len(cells) - len(columns))]
+        values = {}
+        for place, given in enumerate(cells):
+            if named[place] and named[place] not in self.names:
+                self.table.others.setdefault(named[place], []).append(given)
+            else:
+                values[place] = self.value(Cell(row, place + 1, named[place]), given, read)
+        order = [self.columns.index(name) for name in self.names] if self.columns else list(values)
+        self.table.tests.append([values[place] for place in order])
+        self.table.rows.append(row)
+        if is_text and len(cells) == 1 and isinstance(values.get(0), list) and not self.table.remarks:
+            name = f", for {named[0]}" if named[0] else ""
+            told = f"row {row}: {cells[0].strip()[:LONGEST]!r} is one array of {len(values[0])} elements{name}"
+            self.table.remarks.append(told)
+
+    def take(self, rows: Iterator[tuple[int, Cells]], read: Callable[[Any], Any], is_text: bool) -> Table:
+        for place, (row, cells) in enumerate(rows):
+            if place == 0 and self.dummies is not None and is_head(cells, self.names):
+                self.columns = columns_of(row, cells, self.names, self.others)
+            else:
+                self.add(row, cells, read, is_text)
+        return self.table
+
+
+def read_table(
+    path: Path, dummies: Sequence[str] | None = None, is_strict: bool = True, others: Collection[str] = OTHERS
+) -> Table:
+    """The table of a file for these dummy arguments; None where they are not known. What is not strict may be ragged."""
+    data = path.read_bytes()
+    try:
+        text = data.decode("utf-8-sig")
+    except UnicodeDecodeError:
+        text = data.decode("latin-1")
+    reading = Reading(dummies, others, is_strict)
+    if path.suffix.lower() == ".csv":
+        return reading.take(rows_of_csv(text), read_cell, True)
+    return reading.take(rows_of_json(text), checked_value, False)

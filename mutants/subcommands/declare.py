@@ -1,0 +1,101 @@
+"""Declare mutants of a program to be equivalent, each with the texts that it was said of and a reason.
+
+    mutants declare [OPTION..] PROGRAM.f MUTANT.. --reason TEXT
+    mutants declare [OPTION..] PROGRAM.f --renew
+
+A mutant is a code and a number, as pages and reports name it; further numbers are of the same operator: ABS 7 9 12 ROR 1.
+An entry is put behind those of PROGRAM.equivalent.csv beside the program: the mutant, its line before and after the
+change as mothra writes them, and the reason. Later calls look for an entry by these texts. Where they stand on one line
+alone the entry means that mutant, whatever its number has become; else it is refused, and named. So a changed program
+has no declared mutant that nobody looked at. With --renew the numbers of the program of now are written into the file.
+"""
+
+import argparse
+import re
+import sys
+from collections.abc import Iterable, Sequence
+from pathlib import Path
+
+from mutants.declarations.entries import Entry, appended, entries_text, written_entries
+from mutants.declarations.files import asked_present, path_beside
+from mutants.declarations.settling import Present, Settled, entry_for, settled
+from mutants.jobs.making import job_text
+from mutants.operators import NAMES
+from mutants.pages.frame import plural
+from mutants.program.finding import add_mothra_option, find_program
+from mutants.statuses import SUCCESS
+from mutants.texts.files import written
+from mutants.texts.lines import Mutant
+
+Name = tuple[str, int]
+
+
+def add_words(parser: argparse.ArgumentParser) -> None:
+    parser.add_argument("program", metavar="PROGRAM.f", type=Path)
+    parser.add_argument("mutants", metavar="MUTANT", nargs="*", help="a code and a number, as ROR 1; further numbers")
+    parser.add_argument("--reason", metavar="TEXT", help="why no test can kill them")
+    parser.add_argument("--renew", action="store_true", help="write the numbers of now of all entries that have moved")
+    told = "the file of declarations, in place of the one beside the program"
+    parser.add_argument("--equivalent", metavar="FILE.csv", type=Path, help=told)
+    add_mothra_option(parser)
+
+
+def names_in(words: Iterable[str]) -> list[Name]:
+    """The mutants that words name: codes, each with one number or more behind it."""
+    names: list[Name] = []
+    op = ""
+    for part in re.findall(r"[A-Za-z]+|\d+|[^\s,A-Za-z\d]+", " ".join(words)):
+        if part.upper() in NAMES:
+            op = part.upper()
+        elif op and part.isdecimal():
+            names.append((op, int(part)))
+        elif part not in "-:#":
+            raise ValueError(f"{part!r} is neither a code of an operator nor a number behind one, as in ROR 1")
+    return list(dict.fromkeys(names))
+
+
+def chosen_mutants(names: Sequence[Name], present: Present) -> list[Mutant]:
+    """The mutants of these names, each of which has to be there."""
+    by_name = {(mutant.op, mutant.place): mutant for mutant in present.listed}
+    for op, place in names:
+        if (op, place) not in by_name:
+            total = sum(mutant.op == op for mutant in present.listed)
+            raise ValueError(f"there is no {op} {place}: {op} has {plural(total, 'mutant')} of this program")
+    return [by_name[name] for name in names]
+
+
+def renewed(entries: Sequence[Entry], found: Settled) -> list[Entry]:
+    """The entries with the numbers of now; one that is refused stays as it is."""
+    numbers = {entry.row: mutant.place for entry, mutant in found.moved}
+    return [entry._replace(place=numbers.get(entry.row, entry.place)) for entry in entries]
+
+
+def new_entries(given: argparse.Namespace, names: Sequence[Name], found: Settled, present: Present) -> list[Entry]:
+    """The entries of mutants that are not declared yet."""
+    chosen = chosen_mutants(names, present)
+    declared = [mutant for mutant in chosen if f"{mutant.op} {mutant.place}" in found.names]
+    for mutant in declared:
+        raise ValueError(f"{mutant.op} {mutant.place} is declared already")
+    return [entry_for(mutant, " ".join(given.reason.split()), present) for mutant in chosen]
+
+
+def run(given: argparse.Namespace, name: str) -> int:
+    names = names_in(given.mutants)
+    if bool(names) == given.renew or names and not (given.reason or "").strip():
+        raise ValueError("it takes mutants and their --reason, or --renew alone")
+    path = given.equivalent or path_beside(given.program)
+    entries = written_entries(path)
+    ops = sorted({op for op, _ in names} | {entry.op for entry in entries})
+    present = asked_present(find_program(given.mothra), ops, job_text(given.program).encode())
+    found = settled(entries, present)
+    if given.renew:
+        written(path, entries_text(renewed(entries, found)).encode())
+        told = f"{len(found.moved)} of {len(entries)} entries with a new number"
+    else:
+        text = path.read_text(encoding="utf-8-sig") if path.exists() else ""
+        written(path, appended(text, new_entries(given, names, found, present)).encode())
+        told = f"{plural(len(names), 'mutant')} declared, and {len(found.declared)} before"
+    for remark in found.remarks() if not given.renew else [f"{entry.name}: {why}" for entry, why in found.refused]:
+        sys.stderr.write(f"{name}: {path}: {remark}\n")
+    sys.stdout.write(f"{path}: {told}\n")
+    return SUCCESS
