@@ -1,0 +1,336 @@
+"""Programs and tables as they are: bytes, tabs, units, adjustable bounds, cells, and what is told of them."""
+
+import json
+import re
+import tempfile
+import unittest
+from collections.abc import Mapping
+from pathlib import Path
+
+import running
+from mutants.jobs.cells import read_cell
+from mutants.jobs.making import Made, check_sizes, made_of, whole_text
+from mutants.jobs.remarks import hidden_statement, is_statement, remarks_on_text
+from mutants.jobs.sizes import bounds_of, read_sizes, sized, unsized
+from mutants.jobs.sources import LARGEST, Wish, decoded, source_of
+from mutants.jobs.tables import Table, read_table
+from mutants.jobs.units import units_of
+from mutants.texts.tabs import without_tabs
+from running import LEAST, STAND_IN, refuses, run
+
+SUM = """\
+      SUBROUTINE SUM(N,X,JPNTR,LAST,K)
+      INTEGER N,X(N),JPNTR(N+1),
+     *        LAST(1),K
+C     NOTHING ELSE
+      DIMENSION MAT(2*N,*)
+      K=X(1)
+      END
+"""
+TWO = "C     one\n      SUBROUTINE ONE(I)\n      I=1\n      END\n\nC     two\n      SUBROUTINE TWO(I)\n      I=2\n      END\n"
+
+
+class Room(unittest.TestCase):
+    def setUp(self) -> None:
+        room = tempfile.TemporaryDirectory()
+        self.addCleanup(room.cleanup)
+        self.room = Path(room.name)
+
+    def put(self, name: str, text: str | bytes) -> Path:
+        path = self.room / name
+        path.write_bytes(text if isinstance(text, bytes) else text.encode())
+        return path
+
+    def made(self, source: str | bytes, table: str = "", wish: Wish = Wish(), ending: str = ".csv") -> Made:
+        tests = self.put("tests" + ending, table) if table else None
+        return made_of(self.put("program.f", source), tests, wish)
+
+
+class Bytes(Room):
+    def test_latin_1_utf_8_and_a_mark_in_front(self) -> None:
+        for encoding in ("latin-1", "utf-8", "utf-8-sig"):
+            source = self.made(f"C     l'\u00e9t\u00e9\r\n{LEAST}".encode(encoding)).source.text
+            self.assertEqual(source, f"C     l'\u00e9t\u00e9\r\n{LEAST}")
+        self.assertEqual(decoded(LEAST.encode() + b"\x1a\x1a"), LEAST)
+
+    def test_the_job_is_ascii_whatever_the_comments_are(self) -> None:
+        self.assertTrue(self.made(b"C \xe9\n" + LEAST.encode()).text().isascii())
+
+    def test_other_endings_of_names(self) -> None:
+        for name in ("least.for", "LEAST.FTN", "least.F", "least.f77"):
+            page = run("page", "--mothra", STAND_IN, self.put(name, LEAST.replace("\n", "\r\n")))
+            self.assertEqual((page[0], page[2]), (0, ""), name)
+
+    def test_a_source_over_the_limit_is_told(self) -> None:
+        with self.assertRaisesRegex(ValueError, r"program.f: the source has 66,\d+ bytes, and a job takes 65,536: leave out"):
+            self.made("C\n" * 33_000 + LEAST)
+        # What is left out of other units does not count.
+        whole = LEAST + "C" * 70 + "\n" + TWO.replace("C     two\n", "C     two\n" * 7000)
+        self.assertGreater(len(whole), LARGEST)
+        self.assertEqual(self.made(whole, wish=Wish("LEAST")).source.unit, "LEAST")
+
+    def test_a_suite_and_a_job_over_a_limit_are_told(self) -> None:
+        made = self.made(LEAST, "1,2,0\n" * 257)
+        self.assertEqual(len(made.suite), 257)
+        with self.assertRaisesRegex(ValueError, "257 tests, and a job takes 256"):
+            whole_text(made)
+        made = self.made("      SUBROUTINE A(M)\n      INTEGER M(9999)\n      END\n", ("1 " * 2500 + "\n") * 200)
+        with self.assertRaisesRegex(ValueError, "the job has 1,.* bytes, and 1,048,576 are the limit"):
+            whole_text(made)
+
+    def test_batches_of_a_suite(self) -> None:
+        made = self.made(LEAST, "1,2,0\n2,1,0\n")
+        self.assertEqual(json.loads(made.text([], made.suite[1:])), {"source": LEAST, "suite": [[2, 1, 0]], "equivalent": []})
+
+
+class Tabs(Room):
+    def test_the_first_leads_to_column_7_and_others_are_blanks(self) -> None:
+        for line, wanted in (
+            ("\tK=I", "      K=I"),
+            ("10\tK=I", "10    K=I"),
+            ("\t1+J", "     1+J"),
+            ("\t\tK=I", "       K=I"),
+            ("      K\t=\tI", "      K = I"),
+            ("     &\t+J", "     & +J"),
+            ("C\tcomment", "C\tcomment"),
+            ("\t", "      "),
+        ):
+            with self.subTest(line):
+                self.assertEqual(without_tabs(line), wanted)
+
+    def test_they_are_refused_with_an_offer_and_read_where_it_is_taken(self) -> None:
+        source = LEAST.replace("      K=I", "\tK=I\t! x")
+        with self.assertRaisesRegex(ValueError, r"program.f: line 3 has a tab, .*: --expand-tabs reads the first tab"):
+            self.made(source)
+        self.assertEqual(self.made(source, wish=Wish(expands_tabs=True)).source.text.split("\n")[2], "      K=I ! x")
+        self.made(LEAST.replace("C     K", "C\tK"))
+        self.made(LEAST.replace("      K=I", f"{'      K=I':72}\tmore"))
+
+
+class Units(Room):
+    def test_one_is_picked_and_its_lines_keep_their_numbers(self) -> None:
+        made = self.made(TWO, wish=Wish("two"))
+        self.assertEqual(made.source.text.split("\n"), ["", "", "", "", *TWO.split("\n")[4:]])
+        self.assertEqual((made.source.unit, made.remarks), ("TWO", []))
+        self.assertEqual(self.made(TWO, wish=Wish("ONE")).source.text, TWO.partition("\n\n")[0] + "\n")
+
+    def test_without_a_name_several_subroutines_are_refused(self) -> None:
+        told = r"2 units, and --unit NAME says which is meant: SUBROUTINE ONE \(lines 1 to 4\); SUBROUTINE TWO \(lines 5 to 9\)"
+        with self.assertRaisesRegex(ValueError, told):
+            self.made(TWO)
+        with self.assertRaisesRegex(ValueError, "no unit has the name THREE: SUBROUTINE ONE"):
+            self.made(TWO, wish=Wish("THREE"))
+        with self.assertRaisesRegex(ValueError, "no unit has the name OTHER"):
+            self.made(LEAST, wish=Wish("OTHER"))
+
+    def test_the_only_subroutine_is_taken_and_told(self) -> None:
+        main = "      INTEGER K\n      CALL LEAST(1,2,K)\n      END\n"
+        made = self.made(main + LEAST + "      REAL FUNCTION F(X)\n      F=X\n      END\n")
+        self.assertEqual(made.source.text, "\n\n\n" + LEAST)
+        self.assertIn("of 3 units the only subroutine is taken, SUBROUTINE LEAST (lines 4 to 8)", made.remarks[0])
+
+    def test_the_kinds_of_units(self) -> None:
+        heads = "SUBROUTINE A", "INTEGER FUNCTION B(I)", "FUNCTION C(I)", "PROGRAM D", "BLOCK DATA", "I=1"
+        found = units_of("".join(f"      {head}\n      END\n" for head in heads))
+        wanted = ["SUBROUTINE A", "FUNCTION B", "FUNCTION C", "PROGRAM D", "BLOCK DATA", "a unit without a name"]
+        self.assertEqual([unit.told().partition(" (")[0] for unit in found], wanted)
+
+    def test_what_stands_behind_the_last_end_is_left_to_the_program(self) -> None:
+        source = LEAST + "      K=1\n"
+        self.assertEqual(self.made(source).source.text, source)
+        self.assertEqual(units_of(source)[0].last, 6)
+
+    def test_a_unit_with_tabs_is_found(self) -> None:
+        source = TWO.replace("      ", "\t")
+        self.assertEqual(self.made(source, wish=Wish("TWO", expands_tabs=True)).source.text.split("\n")[6], "      SUBROUTINE TWO(I)")
+        with self.assertRaisesRegex(ValueError, r"line 7 \(and 2 more\) has a tab"):
+            self.made(source, wish=Wish("TWO"))
+
+    def test_a_page_shows_the_lines_of_the_unit_alone(self) -> None:
+        path = self.put("two.f", TWO + LEAST)
+        page = run("page", "--mothra", STAND_IN, "--unit", "LEAST", path)[1]
+        self.assertNotIn("SUBROUTINE TWO", page)
+        self.assertIn('<span class="number">10</span>', page)
+        self.assertNotIn('<span class="number">9</span>', page)
+
+
+class Sizes(Room):
+    def test_the_values_of_the_option(self) -> None:
+        self.assertEqual(read_sizes("n=8, NPAIRS=14"), {"N": 8, "NPAIRS": 14})
+        for word in ("", "N", "N=0", "N=8,N=9", "N=-1", "N=10001", "TOOLONG=1", "N=8;M=9"):
+            with self.subTest(word), self.assertRaisesRegex(ValueError, "--size has"):
+                read_sizes(word)
+
+    def test_bounds_get_values_on_their_own_lines(self) -> None:
+        found = sized(SUM, {"N": 8, "LAST": 9, "MAT": 3}).split("\n")
+        self.assertEqual(found[1:3], ["      INTEGERN,X(8),JPNTR(9),LAST(9),K", ""])
+        self.assertEqual(found[4], "      DIMENSIONMAT(16,3)")
+        self.assertEqual(len(found), len(SUM.split("\n")))
+        self.assertEqual([(line, bound.text) for line, bound in unsized(SUM)], [(2, "N"), (2, "N+1"), (5, "2*N"), (5, "*")])
+
+    def test_expressions_are_those_of_the_language(self) -> None:
+        for text, wanted in (("N", 7), ("(N+1)*2", 16), ("N/2", 3), ("N-3*2", 1), ("2*N-(-1)", 15), ("-N+08", 1), ("007", None)):
+            source = f"      SUBROUTINE A(X)\n      INTEGER X({text})\n      END\n"
+            with self.subTest(text):
+                found = sized(source, {"N": 7}).split("\n")[1] if wanted else ""
+                self.assertEqual(found, f"      INTEGERX({wanted})" if wanted else "")
+        for text in ("0:N", "M", "N**2", "N/0", "F(N)", "*"):
+            source = f"      SUBROUTINE A(X)\n      INTEGER X({text}),Y(N)\n      END\n"
+            self.assertIn(f"X({text}),Y(7)", sized(source, {"N": 7}))
+
+    def test_a_name_that_gives_nothing_and_a_bound_below_1_are_refused(self) -> None:
+        with self.assertRaisesRegex(ValueError, "--size has M, but no bound of an array is made of it"):
+            sized(SUM, {"N": 8, "M": 1})
+        with self.assertRaisesRegex(ValueError, "line 2: the bound N-9 of X becomes -1, and is 1 at least"):
+            sized("      SUBROUTINE A(X)\n      INTEGER X(N-9)\n      END\n", {"N": 8})
+
+    def test_a_line_without_room_is_told(self) -> None:
+        names = ",".join(f"A{place:03}(N)" for place in range(7))
+        source = f"      SUBROUTINE A\n      INTEGER {names}\n      END\n"
+        self.assertEqual(len(source.split("\n")[1]), 6 + 8 + 7 * 8 - 1)
+        self.assertIn("A006(1)", sized(source, {"N": 1}))
+        with self.assertRaisesRegex(ValueError, "line 2: there is no room"):
+            sized(source, {"N": 1000})
+
+    def test_subscripts_and_nested_parentheses_are_no_bounds(self) -> None:
+        self.assertEqual([bound.text for bound in bounds_of("INTEGERA(N,M),B,C((N+1)*2)")], ["N", "M", "(N+1)*2"])
+        self.assertEqual(list(bounds_of("K=A(N)")), [])
+
+    def test_tests_fit_the_sizes(self) -> None:
+        wish = Wish(sizes={"N": 3, "LAST": 2, "MAT": 1})
+        row = "3,1 2 3,1 2 3 4,1 2,0\n"
+        made = self.made(SUM, "2,1 2 3,1 2 3 4,1 2,0\n" + row, wish)
+        self.assertEqual(made.suite[1], [3, [1, 2, 3], [1, 2, 3, 4], [1, 2], 0])
+        self.assertEqual(made.source.shown, SUM)
+        for table, told in (
+            (row.replace("1 2 3,", "1 2,", 1), r"tests.csv: row 1: X has 2 elements, and its bounds with --size take 3"),
+            (row + row.replace("1 2,0", "1,0"), "row 2: LAST has 1 elements, and its bounds with --size take 2"),
+            (row.replace("3", "4", 1), "row 1: N is 4, above the 3 of --size"),
+        ):
+            with self.subTest(told), self.assertRaisesRegex(ValueError, told):
+                self.made(SUM, table, wish)
+
+    def test_a_bound_without_a_value_is_told_with_the_option(self) -> None:
+        told = self.made(SUM).remarks
+        self.assertIn("line 2: the bound N of X has no value: --size N=.. gives it one", told[0])
+        self.assertIn("line 5: the bound * of MAT has no value: --size MAT=.. gives it one", told[3])
+        self.assertEqual(len(told), 4)
+
+    def test_words_that_are_no_sizes_are_refused_as_words(self) -> None:
+        status, out, errors = run("job", "--size", "N", self.put("a.f", SUM))
+        self.assertEqual((status, out), (2, ""))
+        self.assertIn("--size has 'N'", errors)
+
+
+class Tables(Room):
+    def table(self, text: str, ending: str = ".csv", dummies: tuple[str, ...] = ("I", "P", "M")) -> Table:
+        return read_table(self.put("tests" + ending, text), dummies)
+
+    def test_a_first_row_of_names_puts_them_in_order(self) -> None:
+        found = self.table("M, p ,I\n1 2,T,7\n3 4,F,8\n")
+        self.assertEqual((found.tests, found.rows), ([[7, True, [1, 2]], [8, False, [3, 4]]], [2, 3]))
+        found = self.table('[["P","I","M"],[true,7,[1]]]', ".json")
+        self.assertEqual((found.tests, found.rows), ([[7, True, [1]]], [2]))
+        self.assertEqual(self.table("T,F\nT,F\n", dummies=("F", "T")).tests, [[False, True]])
+        self.assertEqual(self.table("T,F\nT,F\n", dummies=("A", "B")).tests, [[True, False]] * 2)
+
+    def test_further_columns_are_kept_apart(self) -> None:
+        found = self.table("I,P,expect,M\n7,T,RETURNED 7,1 2\n")
+        self.assertEqual((found.tests, found.others), ([[7, True, [1, 2]]], {"EXPECT": ["RETURNED 7"]}))
+
+    def test_a_cell_is_told_by_row_and_column_with_the_reason(self) -> None:
+        for text, told in (
+            ("7,T,1 2\n7,x,1 2\n", "row 2, column 2 (P): 'x' is no number and no truth value"),
+            ("7,T,1 2\n\n7,,1 2\n", "row 3, column 2 (P): the cell is empty"),
+            ("2147483648,T,1\n", "row 1, column 1 (I): 2147483648 is out of range: a value is from -2147483648 to 2147483647"),
+            ("-99999999999999,T,1\n", "row 1, column 1 (I): -99999999999999 is out of range"),
+            ("1.5,T,1\n", "row 1, column 1 (I): '1.5' is no whole number"),
+            ("7;8,T,1\n", "row 1, column 1 (I): '7;8' has a semicolon: cells are separated by commas"),
+            ("7;T;1 2\n", "row 1, column 1: '7;T;1 2' has semicolons: cells are separated by commas"),
+            ("7,T,1 F\n", "row 1, column 3 (M): '1 F' has numbers and truth values in one array"),
+            ("7,T\n", "row 1 has 2 cells, and 3 are wanted: I, P, M"),
+            ("7,T,1 2\n7,T,1 2,\n", "row 2 has 4 cells, and 3 are wanted: I, P, M"),
+            ("7 8 9\n", "row 1 has 1 cell, and 3 are wanted: I, P, M (blanks make one array of '7 8 9': cells are"),
+            ("I,P,N\n", "row 1, column 3: N is no dummy argument; the dummy arguments are I, P and M"),
+            ("I,P,I\n", "row 1, column 3: I stands twice"),
+            ("I,P\n", "row 1 names no column for M"),
+            ('"7\n', "row 1 has 1 cell"),
+        ):
+            with self.subTest(text), self.assertRaisesRegex(ValueError, re.escape(told)):
+                self.table(text)
+
+    def test_a_table_in_json_is_told_in_the_same_way(self) -> None:
+        for text, told in (
+            ("{}", "the table is no list of tests"),
+            ("[5]", "row 1 is no list of values: 5"),
+            ("[[1,true,[1]],[1,1.5,[1]]]", "row 2, column 2 (P): 1.5 is no value"),
+            ("[[1,true,[]]]", "row 1, column 3 (M): [] is no value"),
+            ("[[4294967296,true,[1]]]", "row 1, column 1 (I): 4294967296 is out of range"),
+            ("[[1,true]]", "row 1 has 2 cells, and 3 are wanted"),
+        ):
+            with self.subTest(text), self.assertRaisesRegex(ValueError, re.escape(told)):
+                self.table(text, ".json")
+
+    def test_a_row_that_becomes_one_array_is_told_once(self) -> None:
+        found = self.table("3 4 5\n6 7 8\n", dummies=("M",))
+        self.assertEqual((found.tests, found.remarks), ([[[3, 4, 5]], [[6, 7, 8]]], ["row 1: '3 4 5' is one array of 3 elements, for M"]))
+
+    def test_what_is_not_strict_may_be_ragged(self) -> None:
+        path = self.put("tests.csv", "1,2\n1,2,3,4\n")
+        self.assertEqual(read_table(path, ["I", "J", "K"], is_strict=False).tests, [[1, 2], [1, 2, 3, 4]])
+
+    def test_cells(self) -> None:
+        for cell, value in ((" +7 ", 7), ("-0", 0), ("0007", 7), ("t", True), (".", None), (" 1  2 ", [1, 2]), ("false F", [False, False])):
+            with self.subTest(cell):
+                if value is None:
+                    self.assertRaises(ValueError, read_cell, cell)
+                else:
+                    self.assertEqual(read_cell(cell), value)
+
+
+class Remarks(unittest.TestCase):
+    def test_text_behind_column_72_is_told(self) -> None:
+        line = "      K=I".ljust(72)
+        comment = "C     more".ljust(72)
+        source = f"      SUBROUTINE A\n{line}+J\n{line[:72]}     \n{comment}+J\n"
+        self.assertEqual(remarks_on_text(source), ["line 2: '+J' stands behind column 72 and is not read"])
+        numbers = "".join(f"{line}TRI{place:05}\n" for place in range(10, 30))
+        told = remarks_on_text(f"{numbers}{line},K\n")
+        self.assertEqual(told[0], "line 21: ',K' stands behind column 72 and is not read")
+        self.assertIn("20 lines with what looks like the number of a card behind column 72", told[1])
+        told = remarks_on_text(f"{line}+J\n" * 9)
+        self.assertEqual(told, ["lines 1, 2, 3, 4, 5 and 4 more: text behind column 72 is not read, as '+J'"])
+
+    def test_comments_that_look_like_statements(self) -> None:
+        for line in ("CONTINUE", "CALL SUB(K)", "COUNT=COUNT+1", "*     K=K+1", "C     K = M(I) + 1", "C  10 GO TO 20",
+                     "C     IF (K.GT.0) GO TO 10", "COMMON A", "c     RETURN"):  # fmt: skip
+            with self.subTest(line):
+                self.assertTrue(hidden_statement(line))
+        for line in ("C", "C     K BECOMES THE LESSER OF I AND J.", "C     Return the lesser.", "* * * * *", "C-----", "*****",
+                     "CCCCCC", "C     N = NUMBER OF SIDES", "C     CALLED BY NOBODY", "C     DO NOT ENTER", "      K=1",
+                     "C     (G. J. Myers, 1979).", "C     If the sides are equal, ITYPE=1.", "C Copyright = none of it"):  # fmt: skip
+            with self.subTest(line):
+                self.assertFalse(hidden_statement(line))
+        told = remarks_on_text("      SUBROUTINE A\nCOUNT=1\n      END\n")
+        self.assertEqual(told, ["line 2: column 1 makes a comment of what looks like a statement: 'COUNT=1'"])
+
+    def test_the_examples_have_none(self) -> None:
+        for path in sorted((running.ROOT / "examples").glob("*.f")):
+            with self.subTest(path.name):
+                self.assertEqual(remarks_on_text(path.read_text()), [])
+
+
+class Jobs(Room):
+    def test_warnings_are_told_and_the_job_is_made(self) -> None:
+        program = self.put("least.f", LEAST.replace("      K=I\n", "      K=I".ljust(72) + "+J\n"))
+        status, out, errors = run("job", program, self.put("t.csv", "K,J,I\n0,2,1\n"))
+        self.assertEqual((status, json.loads(out)["suite"]), (0, [[1, 2, 0]]))
+        self.assertEqual(errors, f"mutants job: warning: {program}: line 3: '+J' stands behind column 72 and is not read\n")
+
+    def test_a_table_that_does_not_serve_is_one_line(self) -> None:
+        table = self.put("t.csv", "1,2,0\n1,2\n")
+        refuses(self, run("job", self.put("least.f", LEAST), table), f"{table}: row 2 has 2 cells, and 3 are wanted: I, J, K")
+
+
+if __name__ == "__main__":
+    unittest.main()
