@@ -252,6 +252,15 @@ class Commands(unittest.TestCase):
         self.assertIn("ROR 1: no statement is", errors)
         self.assertIn("\nSDL 1,K=I,CONTINUE,,\n", self.file.read_text())
 
+    def test_a_unit_that_is_picked_has_a_file_of_its_own(self) -> None:
+        self.program.write_text(LEAST + LEAST.replace("LEAST", "GREAT").replace(".LT.", ".GT."))
+        own = self.file.with_name("least.great.equivalent.csv")
+        ended = self.declare("SDL", "1", "--unit", "GREAT", "--reason", "none")
+        self.assertEqual(ended, (0, f"{own}: 1 mutant declared, and 0 before\n", ""))
+        job = json.loads(run("job", "--mothra", STAND_IN, "--unit", "great", self.program)[1])
+        self.assertEqual(job["equivalent"], ["SDL 1"])
+        self.assertNotIn("equivalent", run("job", "--unit", "LEAST", self.program)[1])
+
     def test_a_bare_list_is_taken_with_a_warning_and_without_a_program(self) -> None:
         bare = self.file.with_suffix(".json")
         bare.write_text('["ROR 1"]')

@@ -212,9 +212,9 @@ class Sizes(Room):
 
     def test_a_bound_without_a_value_is_told_with_the_option(self) -> None:
         told = self.made(SUM).remarks
-        self.assertIn("line 2: the bound N of X has no value: --size N=.. gives it one", told[0])
-        self.assertIn("line 5: the bound * of MAT has no value: --size MAT=.. gives it one", told[3])
-        self.assertEqual(len(told), 4)
+        self.assertIn("line 2: no number is the bound N of X and N+1 of JPNTR: --size N=.. gives values", told[0])
+        self.assertIn("line 5: no number is the bound 2*N of MAT and * of MAT: --size N=..,MAT=.. gives values", told[1])
+        self.assertEqual(len(told), 2)
 
     def test_words_that_are_no_sizes_are_refused_as_words(self) -> None:
         status, out, errors = run("job", "--size", "N", self.put("a.f", SUM))

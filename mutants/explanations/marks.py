@@ -4,6 +4,7 @@ import re
 from collections.abc import Callable, Iterable, Sequence
 from typing import NamedTuple
 
+from mutants.explanations.beyond import FUNCTIONS_TOLD, called_names, declared_arrays, notes_on_statement
 from mutants.pages.frame import joined_words
 from mutants.texts.cards import Card, action_at, cards_of, source_lines
 
@@ -20,16 +21,6 @@ class Mark(NamedTuple):
 Marked = tuple[list[Mark], list[str]]
 
 KEYWORDS = "SUBROUTINE INTEGER LOGICAL DIMENSION DATA".split()
-# Statements of FORTRAN 77 that the subset does not have, by how they begin without blanks.
-BEYOND = {
-    "CALL": "CALL", "READ": "READ", "WRITE": "WRITE", "PRINT": "PRINT", "FORMAT(": "FORMAT", "REAL": "REAL",
-    "DOUBLEPRECISION": "DOUBLE PRECISION", "COMPLEX": "COMPLEX", "CHARACTER": "CHARACTER", "COMMON": "COMMON",
-    "EQUIVALENCE": "EQUIVALENCE", "EXTERNAL": "EXTERNAL", "INTRINSIC": "INTRINSIC", "IMPLICIT": "IMPLICIT",
-    "PARAMETER(": "PARAMETER", "SAVE": "SAVE", "PAUSE": "PAUSE", "ASSIGN": "ASSIGN", "ENTRY": "ENTRY", "OPEN(": "OPEN",
-    "PROGRAM": "PROGRAM", "FUNCTION": "FUNCTION", "BLOCKDATA": "BLOCK DATA", "CLOSE(": "CLOSE", "REWIND": "REWIND",
-}  # fmt: skip
-
-
 def span(card: Card, begin: int, end: int) -> list[Mark]:
     """The marks under characters of a statement: one for each line that has some."""
     columns: dict[int, list[int]] = {}
@@ -106,18 +97,26 @@ def form_marks(code: str, number: int, lines: Sequence[str]) -> Marked:
     return [Mark(number, 6, 6)], []
 
 
-def long_name(card: Card) -> Marked:
-    """The first name of more than six characters, without the keyword before it."""
+def long_name_in(whole_text: str) -> tuple[int, int] | None:
+    """Where the first name of more than six characters stands, without the keyword before it."""
     front = re.compile("|".join(KEYWORDS) + r"|DO\d+|GOTO")
-    text = without_operators(card.text)
+    text = without_operators(whole_text)
     for found in re.finditer(r"[A-Z][A-Z0-9]*", text):
         word, begin = found[0], found.start()
         keyword = front.match(word) if begin in (0, action_at(text)) else None
         begin += len(keyword[0]) if keyword else 0
         if found.end() - begin > 6 and text[begin].isalpha():
-            note = f"{text[begin : found.end()]} has {found.end() - begin} characters."
-            return span(card, begin, found.end()), [note]
-    return whole(card), []
+            return begin, found.end()
+    return None
+
+
+def long_name(card: Card) -> Marked:
+    """The first name that is too long."""
+    found = long_name_in(card.text)
+    if not found:
+        return whole(card), []
+    begin, end = found
+    return span(card, begin, end), [f"{card.text[begin:end]} has {end - begin} characters."]
 
 
 def large_number(card: Card) -> Marked:
@@ -140,8 +139,14 @@ def deep_parenthesis(card: Card) -> Marked:
 
 
 def unknown_statement(card: Card) -> Marked:
-    word = next((told for begin, told in BEYOND.items() if card.text.startswith(begin)), None)
-    return whole(card), [f"{word} is a statement of FORTRAN 77, but not one of the subset."] if word else []
+    return whole(card), notes_on_statement(card.text)
+
+
+def number_fault(card: Card, cards: Sequence[Card]) -> Marked:
+    """Marks of what stands in parentheses behind names, where bounds, subscripts or arguments do not agree."""
+    names = called_names(card.text, declared_arrays(other.text for other in cards))
+    marks = [mark for name, at in names for mark in span(card, at, at + len(name))]
+    return marks or whole(card), [f"{name}( stands here, but {name} is {FUNCTIONS_TOLD}" for name, _ in names]
 
 
 def missing_labels(card: Card, cards: Sequence[Card]) -> Marked:
@@ -173,6 +178,7 @@ OF_CARDS: dict[str, Callable[[Card, Sequence[Card]], Marked]] = {
     "S3": lambda card, cards: long_name(card),
     "S4": lambda card, cards: large_number(card),
     "S5": lambda card, cards: deep_parenthesis(card),
+    "C5": number_fault,
     "C7": missing_labels,
     "C8": targets,
     "C9": targets,
@@ -218,6 +224,9 @@ def places(code: str, kind: str, detail: str, source: str) -> Marked:
         marks, notes = line_marks(code, int(detail), lines, cards)
     elif kind == "name":
         marks = name_marks(code, detail, cards)
+        arrays = declared_arrays(card.text for card in cards)
+        is_called = code == "C2" and any(detail in dict(called_names(card.text, arrays)) for card in cards)
+        notes = [f"{detail}( stands here, but {detail} is {FUNCTIONS_TOLD}"] if is_called else []
     elif kind == "label":
         marks = label_marks(cards, int(detail))
     elif code in ("S7", "S8") and cards:

@@ -36,14 +36,14 @@ def rule_text(meaning: Meaning) -> str:
     return wrapped(f"The rule (ANSI X3.9-1978, {many} {meaning.sections}): {meaning.rule}")
 
 
-def explained(line: str, text: bytes, program: str | None, words: list[str]) -> str:
-    """The explanation of a line, in paragraphs."""
+def explained(line: str, text: bytes, program: str | None, words: list[str], shown_source: str | None = None) -> str:
+    """The explanation of a line, in paragraphs. The source is shown as its file has it, where that is given."""
     code, kind, detail = parts_of(line)
     meaning = MEANINGS[code]
     parts = [f"{line}\n{wrapped(meaning.says)}"]
     notes = notes_on(code, kind, detail, text, program, words)
     if code[0] in "FSC":
-        source = read_job(text).source
+        source = read_job(text).source if shown_source is None else shown_source
         marks, more = places(code, kind, detail, source)
         parts += ["\n".join(shown(source, marks))] if marks else []
         notes += more

@@ -1,7 +1,7 @@
 """What a subcommand is given to work on: a job, or a program with a table of tests of which a job is made."""
 
 import argparse
-from collections.abc import Callable
+from collections.abc import Callable, Sequence
 from pathlib import Path
 from typing import NamedTuple
 
@@ -19,6 +19,8 @@ class Given(NamedTuple):
     job: bytes
     said: Said
     warnings: list[str]
+    # The row of each test in its table, where there is one.
+    rows: Sequence[int] = ()
 
 
 def of_job(path: Path, equivalent: Path | None, mothra: Callable[[], str | None]) -> Given:
@@ -36,7 +38,8 @@ def of_program(
     meant: Meant = meant_for(made, program, given.equivalent, mothra, looks_beside=not given.undeclared)
     told = made.remarks + meant.remarks
     text = whole_text(made, meant.names if meant.is_of_file else None)
-    return Given(text.encode(), Said(made.source.shown, meant.reasons, told), told)
+    rows = made.table.rows if made.table else []
+    return Given(text.encode(), Said(made.source.shown, meant.reasons, told), told, rows)
 
 
 def given_job(

@@ -110,6 +110,11 @@ def names_in(bound: Bound) -> list[str]:
     return re.findall(r"[A-Z][A-Z0-9]*", bound.text)
 
 
+def names_for(bound: Bound) -> list[str]:
+    """The names whose values --size takes for a bound that is no number; none where there is a lower bound too."""
+    return [] if ":" in bound.text else [bound.array] if bound.text == "*" else names_in(bound)
+
+
 def with_bounds(card: Card, sizes: Mapping[str, int]) -> tuple[str, set[str]]:
     """The text of a declaration with the values of its bounds, and the names that gave them."""
     text, used, at = "", set(), 0

@@ -1,13 +1,15 @@
 """The source of a job, from a file as it is: in UTF-8 or Latin-1, with tabs, several units, or adjustable bounds."""
 
+from collections import defaultdict
 from collections.abc import Mapping
 from pathlib import Path
 from types import MappingProxyType
 from typing import NamedTuple
 
 from mutants.jobs.remarks import remarks_on_text
-from mutants.jobs.sizes import sized, unsized
+from mutants.jobs.sizes import Bound, names_for, sized, unsized
 from mutants.jobs.units import picked, units_of, with_lines
+from mutants.pages.frame import joined_words
 from mutants.texts.tabs import has_tab, without_tabs
 
 # What a source may have, in bytes.
@@ -73,12 +75,16 @@ def unit_in(source: str, name: str | None) -> tuple[str, str, list[str]]:
 
 
 def bounds_told(source: str) -> list[str]:
-    """A sentence on each bound that is no number, with the option that gives it one."""
-    told = []
+    """A sentence for each line with bounds that are no numbers, with the option that gives them values."""
+    by_line: dict[int, list[Bound]] = defaultdict(list)
     for line, bound in unsized(source):
-        name = bound.array if bound.text == "*" else bound.text if bound.text.isalnum() else ""
-        offer = f": --size {name}=.. gives it one" if name else ""
-        told.append(f"line {line}: the bound {bound.text} of {bound.array} has no value{offer}")
+        by_line[line].append(bound)
+    told = []
+    for line, bounds in by_line.items():
+        which = joined_words(f"{bound.text} of {bound.array}" for bound in bounds)
+        names = dict.fromkeys(name for bound in bounds for name in names_for(bound))
+        offer = f": --size {','.join(f'{name}=..' for name in names)} gives values" if names else ""
+        told.append(f"line {line}: no number is the bound {which}{offer}")
     return told
 
 

@@ -4,10 +4,11 @@
     mutants declare [OPTION..] PROGRAM.f --renew
 
 A mutant is a code and a number, as pages and reports name it; further numbers are of the same operator: ABS 7 9 12 ROR 1.
-An entry is put behind those of PROGRAM.equivalent.csv beside the program: the mutant, its line before and after the
-change as mothra writes them, and the reason. Later calls look for an entry by these texts. Where they stand on one line
-alone the entry means that mutant, whatever its number has become; else it is refused, and named. So a changed program
-has no declared mutant that nobody looked at. With --renew the numbers of the program of now are written into the file.
+An entry is put behind those of PROGRAM.equivalent.csv beside the program (PROGRAM.UNIT.equivalent.csv of a unit that is
+picked among several): the mutant, its line before and after the change as mothra writes them, and the reason. Later calls
+look for an entry by these texts. Where they stand on one line alone the entry means that mutant, whatever its number has
+become; else it is refused, and named. So a changed program has no declared mutant that nobody looked at. With --renew the
+numbers of the program of now are written into the file.
 """
 
 import argparse
@@ -19,7 +20,7 @@ from pathlib import Path
 from mutants.declarations.entries import Entry, appended, entries_text, written_entries
 from mutants.declarations.files import asked_present, path_beside
 from mutants.declarations.settling import Present, Settled, entry_for, settled
-from mutants.jobs.making import job_text
+from mutants.jobs.making import add_reading_options, made_of, told_of, wish_of
 from mutants.operators import NAMES
 from mutants.pages.frame import plural
 from mutants.program.finding import add_mothra_option, find_program
@@ -37,6 +38,7 @@ def add_words(parser: argparse.ArgumentParser) -> None:
     parser.add_argument("--renew", action="store_true", help="write the numbers of now of all entries that have moved")
     told = "the file of declarations, in place of the one beside the program"
     parser.add_argument("--equivalent", metavar="FILE.csv", type=Path, help=told)
+    add_reading_options(parser)
     add_mothra_option(parser)
 
 
@@ -83,10 +85,11 @@ def run(given: argparse.Namespace, name: str) -> int:
     names = names_in(given.mutants)
     if bool(names) == given.renew or names and not (given.reason or "").strip():
         raise ValueError("it takes mutants and their --reason, or --renew alone")
-    path = given.equivalent or path_beside(given.program)
-    entries = written_entries(path)
+    made = made_of(given.program, None, wish_of(given))
+    path = given.equivalent or path_beside(given.program, made.source.unit)
+    entries = told_of(path, lambda: written_entries(path))
     ops = sorted({op for op, _ in names} | {entry.op for entry in entries})
-    present = asked_present(find_program(given.mothra), ops, job_text(given.program).encode())
+    present = asked_present(find_program(given.mothra), ops, made.text().encode())
     found = settled(entries, present)
     if given.renew:
         written(path, entries_text(renewed(entries, found)).encode())

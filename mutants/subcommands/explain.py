@@ -1,6 +1,7 @@
 """Say in words what a fault of mothra means for a job: the rule, the line of the source with a mark, and what to do.
 
-    mutants explain [--mothra MOTHRA] JOB [WORD..]
+    mutants explain [OPTION..] JOB [WORD..]
+    mutants explain [OPTION..] PROGRAM.f [TESTS.json|TESTS.csv] [WORD..]
     mutants explain [--mothra MOTHRA] JOB FAULT CODE [DETAIL..]
     mothra run < JOB | mutants explain JOB -
 
@@ -9,24 +10,38 @@ a fault is given, as words or on standard input. For a fault of the suite the te
 option. A rule of the language is told with its sections of ANSI X3.9-1978. For B4 and B5 the program is asked what it
 does on the test, or how many mutants there are, where there is a program.
 
+Of a program and its tests a job is made, as by mutants job and with its options. Where the program cannot be read, all
+that keeps it from being read is told, each with its line: what is told first is taken out of a copy, and mothra is asked
+again.
+
 The exit status is 0 where a fault was explained, or where there is none.
 """
 
 import argparse
+import re
 import sys
+from collections.abc import Callable, Sequence
+from functools import cache
 from pathlib import Path
 
-from mutants.program.calling import call, failure_of
-from mutants.program.finding import add_mothra_option, find_program, find_program_if_any
+from mutants.explanations.also import also_told
 from mutants.explanations.told import BAD_LIST, explained, explained_words
 from mutants.explanations.words import words_say
+from mutants.jobs.given import Given, given_job
+from mutants.jobs.making import add_making_options
+from mutants.jobs.sources import is_program
+from mutants.program.calling import Fault, call, failure_of
+from mutants.program.finding import add_mothra_option, find_program, find_program_if_any
 from mutants.program.unproved import remark_on
 from mutants.statuses import SUCCESS
+from mutants.texts.jobs import read_job
+from mutants.words import tell_remarks
 
 
 def add_words(parser: argparse.ArgumentParser) -> None:
     add_mothra_option(parser)
-    parser.add_argument("job", metavar="JOB", type=Path, help="the job, a file")
+    add_making_options(parser)
+    parser.add_argument("job", metavar="JOB|PROGRAM.f", type=Path, help="the job, a file, or a program in fixed form")
     told = "words for mothra, or the line of a fault, or - where that is on standard input"
     parser.add_argument("words", metavar="WORD", nargs=argparse.REMAINDER, help=told)
 
@@ -43,23 +58,61 @@ def asked_line(program: str, words: list[str], text: bytes) -> str | None:
     return failure_of(told, status) if status else None
 
 
+def given_words(given: argparse.Namespace) -> tuple[Path | None, list[str]]:
+    """The table of tests behind a program, where there is one, and the words for mothra."""
+    words = list(given.words)
+    if is_program(given.job) and words and Path(words[0]).suffix.lower() in (".csv", ".json"):
+        return Path(words[0]), words[1:]
+    return None, words
+
+
+def asked_job(given: argparse.Namespace, tests: Path | None, mothra: Callable[[], str | None]) -> Given:
+    """The job; where the source has a fault there are no mutants that could be declared."""
+    try:
+        return given_job(given, given.job, tests, mothra)
+    except Fault:
+        given.undeclared, given.equivalent = True, None
+        return given_job(given, given.job, tests, mothra)
+
+
+def row_told(line: str, rows: Sequence[int]) -> str:
+    """In which row of its table a test stands that a fault names."""
+    found = re.fullmatch(r"FAULT (?:B3|B4|J4) (\d+)", line)
+    place = int(found[1]) - 1 if found else -1
+    return f"\nTest {place + 1} stands in row {rows[place]} of its table.\n" if 0 <= place < len(rows) else ""
+
+
+def explanation(line: str, words: list[str], asked: Given, program: str | None, is_asked: bool) -> str:
+    """What is told of a line; where the program was asked, all else that keeps the unit from being read as well."""
+    if line.startswith("FAULT "):
+        told = explained(line, asked.job, program, words, asked.said.shown)
+        if program and is_asked and line[6:7] in "FSC":
+            source = read_job(asked.job).source
+            also = also_told(program, source, source if asked.said.shown is None else asked.said.shown)
+            told += f"\n{also}" if also else ""
+        return told + row_told(line, asked.rows)
+    if line == BAD_LIST or words and words_say(words):
+        return explained_words(line, words)
+    raise ValueError(f"no line of a fault: {line[:80]}")
+
+
 def run(given: argparse.Namespace, name: str) -> int:
-    text = given.job.read_bytes()
-    line, words = told_line(given.words), given.words or ["run"]
+    find = cache(lambda: find_program(given.mothra))
+    tests, rest = given_words(given)
+    asked = asked_job(given, tests, find)
+    tell_remarks(name, asked.warnings)
+    line, words = told_line(rest), rest or ["run"]
+    is_asked = line is None
     program: str | None
-    if line is None:
-        program = find_program(given.mothra)
-        line = asked_line(program, words, text)
+    if is_asked:
+        program = find()
+        line = asked_line(program, words, asked.job)
     else:
         program, words = find_program_if_any(given.mothra), []
     if line is None or line.startswith("REPORT "):
         sys.stdout.write("There is no fault.\n")
-    elif line.startswith("FAULT "):
-        sys.stdout.write(explained(line, text, program, words))
-    elif line == BAD_LIST or words and words_say(words):
-        sys.stdout.write(explained_words(line, words))
     else:
-        raise ValueError(f"no line of a fault: {line[:80]}")
+        sys.stdout.write(explanation(line, words, asked, program, is_asked))
     if program and remark_on(program):
         sys.stdout.write(f"\n{remark_on(program)}\n")
     return SUCCESS

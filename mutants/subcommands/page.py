@@ -53,11 +53,11 @@ def text_from(path: str | None, program: str, words: Sequence[str], job: bytes) 
 
 def run(given: argparse.Namespace, name: str) -> int:
     command, find = name, cache(lambda: find_program(given.mothra))
-    text, said, warnings = given_job(given, given.job, given.tests, find)
-    job = read_as(given.job, read_job, text)
+    asked = given_job(given, given.job, given.tests, find)
+    text, job = asked.job, read_as(given.job, read_job, asked.job)
     needed = [given.print, given.list, given.report]
     program = find() if None in needed else ""
-    tell_remarks(name, warnings)
+    tell_remarks(name, asked.warnings)
     chosen = asked_words(given, "ops", "every")
     name, told = text_from(given.print, program, ["print"], text)
     printed = read_as(name, read_print, told)
@@ -68,5 +68,5 @@ def run(given: argparse.Namespace, name: str) -> int:
     else:
         report = asked_report(program, asked_words(given, "every", "steps", "workers"), totals, text, command)
     # A page is UTF-8 whatever the terminal takes.
-    sys.stdout.buffer.write(report_page(job, printed, listed, report, remark_on(program), said).encode())
+    sys.stdout.buffer.write(report_page(job, printed, listed, report, remark_on(program), asked.said).encode())
     return SUCCESS

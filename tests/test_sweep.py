@@ -1,0 +1,200 @@
+"""What else keeps a unit from being read: what is told first is taken out of a copy, and the program is asked again."""
+
+import json
+import re
+import tempfile
+import unittest
+from pathlib import Path
+
+import running
+from mutants.explanations.also import told_fault
+from mutants.explanations.beyond import called_names, declared_arrays, notes_on_statement
+from mutants.explanations.sweep import Found, Sweep, all_faults
+from mutants.texts.cards import cards_of
+from running import LEAST, STAND_IN, run
+
+SOURCE = """\
+      SUBROUTINE BAD(N,
+     *  X,K)
+      INTEGER N,X(N+1),TOOLONG,LONGERNAME
+      REAL Y(10)
+C     a comment
+      DO I=1,N
+  7   CALL SUB(K,
+     *   2)
+\tK=1
+      END DO
+      IF (K.GT.1.5) THEN
+        K=TOOLONG
+      END IF
+      Z=MIN(K,Z)
+      END
+"""
+
+# A program in the place of mothra: codes with what a statement has that has the fault, in the order of its rules.
+RULES = (
+    ("S2", r"CALL.*|ENDDO|REAL.*|.*1\.5.*|DOI=.*|INTEGER.*\([^)]*[A-Z].*\).*"),
+    ("S3", r".*(TOOLONG|LONGERNAME).*"),
+    ("C5", r".*MIN\(.*"),
+)
+
+
+def told_of(source: str) -> tuple[str, str] | None:
+    """The first fault that the small program tells of a source."""
+    for number, line in enumerate(source.split("\n"), 1):
+        if "\t" in line:
+            return "F4", str(number)
+    cards = cards_of(source)
+    for code in ("S", "C"):
+        if code == "C" and any("Z" in card.text for card in cards) and "INTEGERZ" not in [card.text for card in cards]:
+            return "C2", "Z"
+        for card in cards:
+            for rule, pattern in RULES:
+                if rule.startswith(code) and re.fullmatch(pattern, card.text):
+                    return rule, str(card.line)
+    return None
+
+
+class Sweeps(unittest.TestCase):
+    def test_each_fault_is_found_with_its_line(self) -> None:
+        found, is_all = all_faults(SOURCE, told_of)
+        wanted = ["F4 9", "S2 3", "S3 3", "S2 4", "S2 6", "S2 7", "S2 10", "S2 11", "S3 12", "C2 Z", "C5 14"]
+        self.assertEqual([f"{each.code} {each.detail}" for each in found], wanted)
+        self.assertTrue(is_all)
+
+    def test_what_stays_is_a_program_with_the_same_lines(self) -> None:
+        sweep = Sweep(SOURCE)
+        while fault := told_of(sweep.text()):
+            self.assertTrue(sweep.mended(*fault))
+        kept = [(card.line, card.label, card.text) for card in cards_of(sweep.text())]
+        self.assertEqual(kept, [
+            (1, "", "SUBROUTINEBAD(N,X,K)"), (3, "", "INTEGERZ"), (4, "", "INTEGERN,X(9),TOOLON,LONGER"), (5, "", "INTEGERY(10)"),
+            (8, "7", "CONTINUE"), (10, "", "K=1"), (12, "", "IF(.TRUE.)THEN"), (13, "", "K=TOOLON"), (14, "", "ENDIF"),
+            (16, "", "END"),
+        ])  # fmt: skip
+
+    def test_it_ends_where_nothing_can_be_taken_out(self) -> None:
+        for fault in (("C11", "2"), ("C3", "K"), ("S1", ""), ("J2", ""), ("", ""), ("S2", "99")):
+            with self.subTest(fault):
+                found, is_all = all_faults(LEAST, lambda source, told=fault: told)  # type: ignore[misc]
+                self.assertLessEqual(len(found), 1)
+                self.assertFalse(is_all)
+        found, is_all = all_faults(LEAST, lambda source: ("S2", "3"))
+        self.assertEqual((found, is_all), ([Found("S2", "3")], False))
+
+    def test_lines_labels_and_ends_are_mended(self) -> None:
+        for code, detail, lines, wanted in (
+            ("F3", "2", ["A", "      K=\u00e9"], ["A", "      K=X"]),
+            ("F5", "1", ["  X 0 K=1"], ["      K=1"]),
+            ("F6", "1", ["     &K=1"], [""]),
+            ("C6", "10", ["   10 K=1", "  010 K=2"], ["   10 K=1", "      K=2"]),
+            ("S8", "", ["      K=1"], ["      K=1", "      END"]),
+            ("S9", "2", ["      END", "      K=1", "C"], ["      END", ""]),
+            ("S7", "", ["      INTEGER FUNCTION F(N)"], ["      SUBROUTINE F(N)"]),
+            ("S2", "1", ["      ELSE IF (K == 1) THEN"], ["      ELSE IF (.TRUE.) THEN"]),
+        ):
+            with self.subTest(code):
+                sweep = Sweep("\n".join(lines))
+                self.assertTrue(sweep.mended(code, detail))
+                self.assertEqual(sweep.lines, wanted)
+
+    def test_names_are_not_looked_for_where_a_declaration_is_gone(self) -> None:
+        faults = iter([("S4", "2"), ("C5", "3")])
+        found, is_all = all_faults("      SUBROUTINE A\n      INTEGER M(0)\n      M(1)=1\n      END\n", lambda source: next(faults))
+        self.assertEqual((found, is_all), ([Found("S4", "2")], False))
+
+
+class Notes(unittest.TestCase):
+    def test_what_a_statement_is(self) -> None:
+        for text, told in (
+            ("ENDDO", "END DO is of later FORTRAN"),
+            ("DOI=1,N", "A DO has a label here"),
+            ("IF(P)CALLX", "CALL is a statement of FORTRAN 77"),
+            ("INTEGERX(N+1,*)", "The bound N+1 of X is no number: --size N=.. gives it one."),
+            ("INTEGERX(N+1,*)", "The bound * of X is no number: --size X=.. gives it one."),
+            ("INTEGERX(0:N)", "The bound 0:N of X is no number."),
+            ("INTEGER*4K", "INTEGER with a length is of later FORTRAN"),
+            ("X=1.E3", "A number with a point is REAL"),
+            ("IF(K==1)THEN", "Relations are written .EQ."),
+            ("LOGICALFUNCTIONF(X)", "subroutines alone are read here"),
+        ):
+            with self.subTest(text):
+                self.assertIn(told, " ".join(notes_on_statement(text)))
+        for text in ("K=1", "CALLED=1", "IF(1.EQ.K)K=2", "READ(1)=5", "DO10I=1,N", "INTEGERX(5)"):
+            with self.subTest(text):
+                self.assertEqual(notes_on_statement(text), [])
+
+    def test_names_that_are_neither_arrays_nor_functions(self) -> None:
+        arrays = declared_arrays(["INTEGERA(3),B", "REAL*8C(4)", "DIMENSIOND(2)", "COMMON/X/E(5)", "F(1)=2"])
+        self.assertEqual(arrays, {"A", "C", "D", "E"})
+        self.assertEqual(called_names("IF(A(1).EQ.MIN(K,MOD(I,J)))G=ISIGN(1,MIN(2,3))", arrays), [("MIN", 11), ("ISIGN", 29)])
+
+    def test_a_fault_is_told_with_its_line_and_its_text(self) -> None:
+        line, told = told_fault(Found("C2", "Z"), SOURCE)
+        self.assertEqual((line, told.split("\n")[0]), (14, "  line 14, C2 Z: Z=MIN(K,Z)"))
+        line, told = told_fault(Found("S2", "7"), SOURCE)
+        self.assertEqual(told, "  line 7, S2: CALL SUB(K,\n      CALL is a statement of FORTRAN 77, but not one of the subset.")
+
+
+ASKED = """\
+#!/usr/bin/env -S python3 -S
+import json, sys
+source = json.load(sys.stdin)["source"].split("\\n")
+wrong = [number for number, line in enumerate(source, 1) if "CALL" in line]
+print(f"FAULT S2 {wrong[0]}" if wrong else "SDL 0\\nTOTAL 0")
+sys.exit(1 if wrong else 0)
+"""
+
+
+class Tool(unittest.TestCase):
+    def setUp(self) -> None:
+        room = tempfile.TemporaryDirectory()
+        self.addCleanup(room.cleanup)
+        self.room = Path(room.name)
+        self.program = self.room / "a.f"
+        self.mothra = self.room / "mothra"
+        self.mothra.write_text(ASKED)
+        self.mothra.chmod(0o755)
+
+    def explain(self, *words: object) -> running.Ended:
+        return run("explain", "--mothra", self.mothra, *words)
+
+    def test_all_that_is_in_the_way_of_a_program_is_told(self) -> None:
+        self.program.write_text("      SUBROUTINE A(I)\n      CALL X\n      I=1\n      CALL Y\n      CALL Z\n      END\n")
+        status, out, errors = self.explain(self.program)
+        self.assertEqual((status, errors), (0, ""))
+        self.assertTrue(out.startswith("FAULT S2 2\n"))
+        told = out.partition("What else keeps the unit from being read (2), the first fault taken out:\n")[2]
+        self.assertEqual([line for line in told.split("\n") if "line" in line], ["  line 4, S2: CALL Y", "  line 5, S2: CALL Z"])
+        self.assertNotIn("beyond these", out)
+
+    def test_the_lines_are_those_of_the_file_whatever_the_job_has(self) -> None:
+        self.program.write_text(LEAST + "      SUBROUTINE B(N,X)\n      INTEGER   X(N)\n      CALL X\n      END\n")
+        out = self.explain("--unit", "B", "--size", "N=3", self.program)[1]
+        self.assertIn("     8 |       CALL X\n       |       ^^^^^^\n", out)
+        self.assertNotIn("What else", out)
+
+    def test_a_job_and_a_given_line(self) -> None:
+        job = self.room / "job.json"
+        job.write_text(json.dumps({"source": "      SUBROUTINE A\n      CALL X\n      CALL Y\n      END\n"}))
+        self.assertIn("  line 3, S2: CALL Y\n", self.explain(job)[1])
+        self.assertNotIn("CALL Y", self.explain(job, "FAULT", "S2", "2")[1])
+
+    def test_a_table_and_declarations_beside(self) -> None:
+        self.program.write_text(LEAST)
+        tests = self.room / "tests.csv"
+        tests.write_text("K,I,J\n0,1,2\n0,1,2\n")
+        (self.room / "a.equivalent.csv").write_text("mutant,before,after\nROR 1,IF (J.LT.I) K=J,IF (J.LE.I) K=J\n")
+        self.assertEqual(run("explain", "--mothra", STAND_IN, self.program, tests), (0, "There is no fault.\n", ""))
+        told = run("explain", "--mothra", STAND_IN, self.program, tests, "exec", "--test", "3")[1]
+        self.assertIn("FAULT J8 3\n", told)
+        tests.write_text("K,I,J\n0,1,2\n\n0,T,2\n")
+        told = run("explain", "--mothra", STAND_IN, self.program, tests)[1]
+        self.assertIn("Value 1 is true, for I (INTEGER).", told)
+        self.assertIn("\nTest 2 stands in row 4 of its table.\n", told)
+        self.program.write_text(LEAST.replace("LEAST", "OTHER").partition("\n")[2])
+        self.assertTrue(run("explain", "--mothra", STAND_IN, self.program, tests)[1].startswith("FAULT S2 1\n"))
+
+
+if __name__ == "__main__":
+    unittest.main()
