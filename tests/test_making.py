@@ -216,6 +216,13 @@ class Sizes(Room):
         self.assertIn("line 5: no number is the bound 2*N of MAT and * of MAT: --size N=..,MAT=.. gives values", told[1])
         self.assertEqual(len(told), 2)
 
+    def test_arrays_of_one_element_are_told_with_the_size_that_the_tests_have(self) -> None:
+        source = "      SUBROUTINE A(X,K,Y)\n      INTEGER X(1),Y(1)\n      END\n"
+        told = self.made(source, "1 2 3,1,4 5\n1 2 3,2,4 5\n").remarks
+        self.assertEqual(told, [f"{self.room}/tests.csv: X and Y have one element, and the tests more: --size X=3,Y=2"])
+        self.assertEqual(self.made(source, "1 2 3,1,4 5\n", Wish(sizes={"X": 3, "Y": 2})).remarks, [])
+        self.assertEqual(self.made(source, "[[[1],1,[2]],[[1,2],1,[2]]]", ending=".json").remarks, [])
+
     def test_words_that_are_no_sizes_are_refused_as_words(self) -> None:
         status, out, errors = run("job", "--size", "N", self.put("a.f", SUM))
         self.assertEqual((status, out), (2, ""))

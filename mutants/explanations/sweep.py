@@ -10,8 +10,8 @@ from collections.abc import Callable
 from typing import NamedTuple
 
 from mutants.explanations.beyond import TYPES
-from mutants.explanations.marks import long_name_in
 from mutants.explanations.meanings import MEANINGS
+from mutants.explanations.statements import long_name_in
 from mutants.jobs.sizes import bounds_of, lay, lines_of_card
 from mutants.texts.cards import Card, cards_of
 from mutants.texts.tabs import without_tabs

@@ -12,6 +12,7 @@ from mutants.fortran.unit import read_head, read_unit
 from mutants.jobs.sizes import bounds_of, read_sizes
 from mutants.jobs.sources import Source, Wish, source_of
 from mutants.jobs.tables import Table, read_table
+from mutants.pages.frame import joined_words
 from mutants.texts.cards import cards_of
 
 # The limits of a job: its tests, and its bytes.
@@ -74,6 +75,20 @@ def check_sizes(source: Source, table: Table, sizes: Mapping[str, int]) -> None:
                 raise ValueError(f"row {row}: {name} is {value}, above the {sizes[name]} of --size")
 
 
+def ones_told(source: Source, table: Table) -> list[str]:
+    """A sentence on dummy arrays of one element for which the tests have more: a bound (1) once meant any size."""
+    sizes: dict[str, int] = {}
+    for place, (name, (_, elements)) in enumerate(zip(dummies_of(source.text) or [], read_unit(source.text)[1])):
+        values = [test[place] for test in table.tests if place < len(test)]
+        lengths = {len(value) for value in values if isinstance(value, list)}
+        if elements == 1 and len(lengths) == 1 and lengths != {1}:
+            sizes[name] = lengths.pop()
+    if not sizes:
+        return []
+    words = ",".join(f"{name}={size}" for name, size in sizes.items())
+    return [f"{joined_words(sizes)} {'has' if len(sizes) == 1 else 'have'} one element, and the tests more: --size {words}"]
+
+
 def made_of(program: Path, tests: Path | None = None, wish: Wish = Wish(), is_strict: bool = True) -> Made:
     """The job of these files; ValueError names the file that does not serve, and why.
 
@@ -87,7 +102,8 @@ def made_of(program: Path, tests: Path | None = None, wish: Wish = Wish(), is_st
     table = told_of(path, lambda: read_table(path, dummies, is_strict))
     if wish.sizes and dummies is not None:
         told_of(path, lambda: check_sizes(source, table, wish.sizes))
-    return Made(source, table, remarks + [f"{tests}: {remark}" for remark in table.remarks])
+    told = table.remarks + (ones_told(source, table) if dummies else [])
+    return Made(source, table, remarks + [f"{tests}: {remark}" for remark in told])
 
 
 def meant_for(

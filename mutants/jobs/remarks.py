@@ -20,9 +20,14 @@ STATEMENT = re.compile(
 )
 
 
+# What stands in front of other words in a statement, with blanks between them.
+KEYWORD = re.compile(r" *\d* *(GO *TO|DO +\d+|CALL|ELSE *IF|END *(IF|DO)|INTEGER|LOGICAL|DIMENSION|COMMON|IF\b.*)")
+
+
 def is_statement(text: str) -> bool:
     """Whether a text looks like a statement. Two words that only a blank parts are prose, but behind a keyword."""
-    bare = re.sub(r"^ *\d* *(GO *TO|DO +\d+|CALL|ELSE *IF|END *(IF|DO)|INTEGER|LOGICAL|DIMENSION|COMMON|IF\b.*)", "", text.upper())
+    found = KEYWORD.match(text.upper())
+    bare = text.upper()[found.end() :] if found else text.upper()
     if re.search(r"[A-Z0-9] +[A-Z0-9]", bare) or not text.strip():
         return False
     return STATEMENT.fullmatch(re.sub(r"\s", "", text.upper())) is not None
