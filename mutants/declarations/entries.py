@@ -1,9 +1,8 @@
 """The file of declarations: a table in CSV with a row for each mutant that is declared equivalent.
 
 Its columns are `mutant`, as ROR 1; `before` and `after`, the statement without and with the change, as `mothra print`
-and `mothra list` write them; `reason`; and `program`. The last one may be absent. It is filled where the same two texts
-stand on several lines: the number alone tells then which mutant is meant, and it does so in one version of the program,
-whose digest this is.
+and `mothra list` write them; `reason`; and `where`. The last one may be absent. It is filled where the same two texts
+stand on several lines: on how many, and the digests of the statements up to the one that is meant, and from it on.
 """
 
 import csv
@@ -13,7 +12,7 @@ from collections.abc import Iterable, Mapping, Sequence
 from pathlib import Path
 from typing import NamedTuple
 
-COLUMNS = ["mutant", "before", "after", "reason", "program"]
+COLUMNS = ["mutant", "before", "after", "reason", "where"]
 # Columns that a file has to have.
 NEEDED = COLUMNS[:3]
 NAME = re.compile(r"([A-Z]{3}) ([1-9]\d*)")
@@ -27,7 +26,7 @@ class Entry(NamedTuple):
     before: str
     after: str
     reason: str = ""
-    program: str = ""
+    where: str = ""
     row: int = 0
 
     @property
@@ -47,8 +46,8 @@ def entry_of(cells: Mapping[str, str], row: int) -> Entry:
         raise ValueError(f"row {row}: {cells['mutant']!r} is no name of a mutant, as ROR 1")
     if not cells["before"].strip() or not cells["after"].strip():
         raise ValueError(f"row {row}: {found[0]} has not both texts, that of the line before the change and that after it")
-    before, after, reason, program = (cells.get(column, "").strip() for column in COLUMNS[1:])
-    return Entry(found[1], int(found[2]), before, after, reason, program, row)
+    before, after, reason, where = (cells.get(column, "").strip() for column in COLUMNS[1:])
+    return Entry(found[1], int(found[2]), before, after, reason, where, row)
 
 
 def columns_of(row: Sequence[str]) -> list[str]:
@@ -86,7 +85,7 @@ def entries_text(entries: Iterable[Entry], has_head: bool = True) -> str:
     writer = csv.writer(kept, lineterminator="\n")
     if has_head:
         writer.writerow(COLUMNS)
-    writer.writerows([entry.name, entry.before, entry.after, entry.reason, entry.program] for entry in entries)
+    writer.writerows([entry.name, entry.before, entry.after, entry.reason, entry.where] for entry in entries)
     return kept.getvalue()
 
 

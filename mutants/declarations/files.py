@@ -4,7 +4,6 @@ Beside PROGRAM.f lies PROGRAM.equivalent.csv; for a unit that was picked by its 
 A bare list in JSON is read too. Its numbers are not tied to the program, and so a remark comes with it.
 """
 
-import hashlib
 import json
 from collections.abc import Sequence
 from pathlib import Path
@@ -13,10 +12,8 @@ from typing import NamedTuple
 from mutants.declarations.entries import Entry, read_entries
 from mutants.declarations.settling import Present, Settled, settled
 from mutants.pages.program import statements_by_line
-from mutants.program.asking import asked_list
-from mutants.program.calling import answer, read_as
+from mutants.program.asking import asked_list, asked_print
 from mutants.texts.jobs import read_job
-from mutants.texts.prints import read_print
 
 BARE = "the bare numbers of {} are not tied to the program: once it changes they mean other mutants (mutants declare ties them)"
 
@@ -75,17 +72,11 @@ def read_declarations(path: Path) -> Declarations:
         raise ValueError(f"{path}: {getattr(fault, 'strerror', None) or fault}") from None
 
 
-def digest_of(printed: str) -> str:
-    """The digest of a version of a program, by its printed text: comments and blanks are no part of it."""
-    return hashlib.sha256(printed.encode()).hexdigest()[:16]
-
-
 def asked_present(program: str, ops: Sequence[str], job: bytes) -> Present:
     """What mothra says of the program of a job, and of all mutants of these operators."""
-    printed = answer(program, ["print"], job)
-    statements = statements_by_line(read_job(job).source, read_as("mothra print", read_print, printed))
+    statements = statements_by_line(read_job(job).source, asked_print(program, job))
     listed = asked_list(program, ["--ops", ",".join(ops)], job)[1] if ops else []
-    return Present(statements, listed, digest_of(printed))
+    return Present(statements, listed)
 
 
 def asked_settled(program: str, entries: Sequence[Entry], job: bytes) -> Settled:

@@ -2,9 +2,11 @@
 
 An entry is settled where its two texts are those of a mutant of its operator on one line and on no other: it means that
 mutant, whatever its number has become. Where they stand nowhere the entry is refused. Where they stand on several lines
-the number alone tells which is meant, and that only while the program is the one that the entry names.
+the statements around tell which is meant: on just one of the lines those up to it are what they were, or those from it
+on; and the texts stand on as many lines as before. Else the entry is refused.
 """
 
+import hashlib
 from collections import defaultdict
 from collections.abc import Iterable, Mapping, Sequence
 from typing import NamedTuple
@@ -13,31 +15,45 @@ from mutants.declarations.entries import Entry
 from mutants.pages.frame import joined_words, plural
 from mutants.texts.lines import Mutant
 
-# So many moved entries are named.
-NAMED = 3
+# So many moved entries are named, and so many digits stand for the statements on a side.
+NAMED, DIGITS = 3, 12
 
 
 class Present(NamedTuple):
-    """The program of now: its statements by line, all mutants of some operators, and the digest of its printed text."""
+    """The program of now: its statements by line, and all mutants of some operators."""
 
     statements: Mapping[int, str]
     listed: Sequence[Mutant]
-    digest: str
 
     def texts_of(self, mutant: Mutant) -> tuple[str, str, str]:
         return mutant.op, self.statements[mutant.line], mutant.text
 
+    def sides(self, line: int) -> tuple[str, str]:
+        """The digests of the statements up to that of a line, and from it on."""
+        lines = sorted(self.statements)
+        at = lines.index(line)
+        parts = lines[: at + 1], lines[at:]
+        front, rest = (hashlib.sha256("\n".join(self.statements[each] for each in part).encode()).hexdigest() for part in parts)
+        return front[:DIGITS], rest[:DIGITS]
+
+    def where(self, line: int, count: int) -> str:
+        """What an entry says of a line where its texts stand on so many lines."""
+        return ":".join([str(count), *self.sides(line)])
+
 
 class Declared(NamedTuple):
-    """A mutant that is declared, and what is said of it."""
+    """A mutant that is declared, and the entry that says so."""
 
     mutant: Mutant
-    before: str
-    reason: str
+    entry: Entry
 
     @property
     def name(self) -> str:
         return f"{self.mutant.op} {self.mutant.place}"
+
+    @property
+    def reason(self) -> str:
+        return self.entry.reason
 
 
 class Settled(NamedTuple):
@@ -80,11 +96,11 @@ def why_not_there(entry: Entry, present: Present) -> str:
     return f"{entry.before} stands on {where}, but no mutant of {entry.op} makes {entry.after} of it"
 
 
-def why_unclear(entry: Entry, lines: Iterable[int]) -> str:
-    """Why an entry is refused whose texts stand on several lines."""
-    told = f"its texts stand on lines {joined_words(lines)}"
-    if entry.program:
-        return f"{told}, and the program has changed since one was meant: declare it again"
+def why_unclear(entry: Entry, lines: Sequence[int]) -> str:
+    """Why an entry is refused whose texts stand on several lines, or stood on several."""
+    told = f"its texts stand on line{'s' if len(lines) > 1 else ''} {joined_words(lines)}"
+    if entry.where:
+        return f"{told}, and before and behind them the program has changed since one was meant: declare it again"
     return f"{told}, and which is meant is not said: declare it again"
 
 
@@ -105,15 +121,23 @@ class Settling:
             return why_not_there(entry, self.present)
         lines = sorted({mutant.line for mutant in alike})
         at_number = [mutant for mutant in alike if mutant.place == entry.place]
-        if entry.program or len(lines) > 1:
-            is_same = entry.program == self.present.digest
-            free = at_number if is_same else []
-            if not free:
-                return why_unclear(entry, lines) if len(lines) > 1 else why_changed(entry)
-        else:
-            # On one line these are one program, whichever of them is taken.
-            free = at_number + alike
+        if entry.where or len(lines) > 1:
+            lines_meant = self.lines_meant(entry, lines)
+            if len(lines_meant) != 1:
+                return why_unclear(entry, lines)
+            alike = [mutant for mutant in alike if mutant.line in lines_meant]
+        # On one line these are one program, whichever of them is taken.
+        free = [mutant for mutant in at_number if mutant in alike] + alike
         return next((mutant for mutant in free if mutant not in self.taken), "an earlier entry declares the same mutant")
+
+    def lines_meant(self, entry: Entry, lines: Sequence[int]) -> list[int]:
+        """Those of the lines where the statements on one side at least are what they were."""
+        count, _, sides = entry.where.partition(":")
+        front, _, rest = sides.partition(":")
+        if count != str(len(lines)) or not (front and rest):
+            return []
+        found = {line: self.present.sides(line) for line in lines}
+        return [line for line in lines if found[line][0] == front or found[line][1] == rest]
 
     def settle(self, entries: Sequence[Entry]) -> dict[int, Mutant | str]:
         """Of each entry by its place the mutant, or why there is none; those come first whose numbers still hold."""
@@ -131,11 +155,6 @@ class Settling:
         return told
 
 
-def why_changed(entry: Entry) -> str:
-    """Why an entry is refused whose texts stood on several lines, and now stand on one."""
-    return "its texts stood on several lines, and the program has changed since one was meant: declare it again"
-
-
 def settled(entries: Sequence[Entry], present: Present) -> Settled:
     """What the entries mean in the program of now."""
     told = Settling(present).settle(entries)
@@ -145,7 +164,7 @@ def settled(entries: Sequence[Entry], present: Present) -> Settled:
         if isinstance(found, str):
             result.refused.append((entry, found))
             continue
-        result.declared.append(Declared(found, entry.before, entry.reason))
+        result.declared.append(Declared(found, entry))
         if found.place != entry.place:
             result.moved.append((entry, found))
     return result
@@ -154,5 +173,5 @@ def settled(entries: Sequence[Entry], present: Present) -> Settled:
 def entry_for(mutant: Mutant, reason: str, present: Present) -> Entry:
     """The entry that declares a mutant of the program of now."""
     alike = {each.line for each in present.listed if present.texts_of(each) == present.texts_of(mutant)}
-    digest = present.digest if len(alike) > 1 else ""
-    return Entry(mutant.op, mutant.place, present.statements[mutant.line], mutant.text, reason, digest)
+    where = present.where(mutant.line, len(alike)) if len(alike) > 1 else ""
+    return Entry(mutant.op, mutant.place, present.statements[mutant.line], mutant.text, reason, where)

@@ -7,8 +7,8 @@ A mutant is a code and a number, as pages and reports name it; further numbers a
 An entry is put behind those of PROGRAM.equivalent.csv beside the program (PROGRAM.UNIT.equivalent.csv of a unit that is
 picked among several): the mutant, its line before and after the change as mothra writes them, and the reason. Later calls
 look for an entry by these texts. Where they stand on one line alone the entry means that mutant, whatever its number has
-become; else it is refused, and named. So a changed program has no declared mutant that nobody looked at. With --renew the
-numbers of the program of now are written into the file.
+become; where they stand on several, the statements before or behind tell which is meant. Else it is refused, and named. So
+a changed program has no declared mutant that nobody looked at. With --renew the numbers of now are written into the file.
 """
 
 import argparse
@@ -66,10 +66,10 @@ def chosen_mutants(names: Sequence[Name], present: Present) -> list[Mutant]:
     return [by_name[name] for name in names]
 
 
-def renewed(entries: Sequence[Entry], found: Settled) -> list[Entry]:
-    """The entries with the numbers of now; one that is refused stays as it is."""
-    numbers = {entry.row: mutant.place for entry, mutant in found.moved}
-    return [entry._replace(place=numbers.get(entry.row, entry.place)) for entry in entries]
+def renewed(entries: Sequence[Entry], found: Settled, present: Present) -> list[Entry]:
+    """The entries as they would be written now; one that is refused stays as it is."""
+    now = {each.entry.row: entry_for(each.mutant, each.reason, present) for each in found.declared}
+    return [now.get(entry.row, entry) for entry in entries]
 
 
 def new_entries(given: argparse.Namespace, names: Sequence[Name], found: Settled, present: Present) -> list[Entry]:
@@ -92,7 +92,7 @@ def run(given: argparse.Namespace, name: str) -> int:
     present = asked_present(find_program(given.mothra), ops, made.text().encode())
     found = settled(entries, present)
     if given.renew:
-        written(path, entries_text(renewed(entries, found)).encode())
+        written(path, entries_text(renewed(entries, found, present)).encode())
         told = f"{len(found.moved)} of {len(entries)} entries with a new number"
     else:
         text = path.read_text(encoding="utf-8-sig") if path.exists() else ""
