@@ -17,6 +17,7 @@ from mutants.subcommands.declare import names_in
 from mutants.texts.lines import Mutant
 from mutants.texts.reports import Row
 from running import LEAST, STAND_IN, has, refuses, run
+from test_page import Tags
 
 # The statements of a program, with two that stand twice.
 DAYS = [
@@ -114,7 +115,7 @@ class Edits(unittest.TestCase):
 
     def test_after_an_edit_what_is_declared_was_meant(self) -> None:
         random.seed(1977)
-        for _ in range(300):
+        for _ in range(150):
             program, entries, meant = self.room()
             program = self.edited(program, random.choice("less new copy".split()))
             found = settled(entries, present_of([text for _, text in program]))
@@ -124,14 +125,14 @@ class Edits(unittest.TestCase):
 
     def test_a_new_statement_leaves_all_that_is_declared(self) -> None:
         random.seed(1978)
-        for _ in range(100):
+        for _ in range(50):
             program, entries, _ = self.room()
             found = settled(entries, present_of([text for _, text in self.edited(program, "new")]))
             self.assertEqual((len(found.declared), found.refused), (len(entries), []))
 
     def test_after_many_edits_the_texts_are_those_of_the_entries(self) -> None:
         random.seed(1979)
-        for _ in range(100):
+        for _ in range(50):
             program, entries, _ = self.room()
             for _ in range(random.randint(2, 5)):
                 program = self.edited(program, random.choice("less new copy".split()))
@@ -254,6 +255,8 @@ class Commands(unittest.TestCase):
         self.assertEqual((status, errors), (0, ""))
         has(self, page, "J and I are the same then", "Killed by test 1.", '<h2 id="declared">Declared equivalent</h2>')
         has(self, page, "<b>Wrongly declared equivalent:</b> SDL 1.", "100.00 %")
+        tags = Tags(page)
+        self.assertEqual((tags.open, tags.wrong), ([], []))
         job = json.loads(run("job", "--mothra", STAND_IN, self.program, self.tests)[1])
         self.assertEqual(job["equivalent"], ["ROR 1", "SDL 1"])
         self.assertNotIn("equivalent", run("job", "--undeclared", self.program, self.tests)[1])

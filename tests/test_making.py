@@ -74,7 +74,7 @@ class Bytes(Room):
         self.assertEqual(len(made.suite), 257)
         with self.assertRaisesRegex(ValueError, "257 tests, and a job takes 256"):
             whole_text(made)
-        made = self.made("      SUBROUTINE A(M)\n      INTEGER M(9999)\n      END\n", ("1 " * 2500 + "\n") * 200)
+        made = self.made("      SUBROUTINE A(M)\n      INTEGER M(9999)\n      END\n", ("-2147483648 " * 2500 + "\n") * 36)
         with self.assertRaisesRegex(ValueError, "the job has 1,.* bytes, and 1,048,576 are the limit"):
             whole_text(made)
 
@@ -310,12 +310,15 @@ class Remarks(unittest.TestCase):
 
     def test_comments_that_look_like_statements(self) -> None:
         for line in ("CONTINUE", "CALL SUB(K)", "COUNT=COUNT+1", "*     K=K+1", "C     K = M(I) + 1", "C  10 GO TO 20",
-                     "C     IF (K.GT.0) GO TO 10", "COMMON A", "c     RETURN"):  # fmt: skip
+                     "C     IF (K.GT.0) GO TO 10", "COMMON A", "c     RETURN", "C     K=(I+J)*M(I,N(J))", "C     DO 10 I=1,N",
+                     "*     IF ((K).GT.0) THEN", "C     GO TO (10,20),I", "C     INTEGER M(5), N"):  # fmt: skip
             with self.subTest(line):
                 self.assertTrue(hidden_statement(line))
         for line in ("C", "C     K BECOMES THE LESSER OF I AND J.", "C     Return the lesser.", "* * * * *", "C-----", "*****",
                      "CCCCCC", "C     N = NUMBER OF SIDES", "C     CALLED BY NOBODY", "C     DO NOT ENTER", "      K=1",
-                     "C     (G. J. Myers, 1979).", "C     If the sides are equal, ITYPE=1.", "C Copyright = none of it"):  # fmt: skip
+                     "C     (G. J. Myers, 1979).", "C     If the sides are equal, ITYPE=1.", "C Copyright = none of it", "C     IF RETURN", "C" + " A(B)+" * 11 + "!", "C     DO 10 TIMES",
+                     "C" + "(" * 70, "C     (A)", "C     K=", "C     INTEGER VALUES",
+                     "C     CALL ME"):  # fmt: skip
             with self.subTest(line):
                 self.assertFalse(hidden_statement(line))
         told = remarks_on_text("      SUBROUTINE A\nCOUNT=1\n      END\n")

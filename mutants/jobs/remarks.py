@@ -10,18 +10,26 @@ from mutants.texts.cards import is_comment, source_lines
 MOST, LONGEST = 5, 50
 # What the columns behind 72 had on cards: a number of the card, or a name and a number.
 CARD_NUMBER = re.compile(r"[A-Z]{0,4} *\d{2,8}")
-TERM = r"[+-]?\(*(?:\.NOT\.)?(?:[A-Z][A-Z0-9]{0,5}(?:\([^=]*\))?|\d+|\.TRUE\.|\.FALSE\.)\)*"
-OPERATOR = r"(?:[-+/]|\*\*?|\.(?:EQ|NE|LT|LE|GT|GE|AND|OR|EQV|NEQV)\.)"
+NAME = "[A-Z][A-Z0-9]{0,5}"
+TERM = rf"[+-]?(?:\.NOT\.)?(?:{NAME}|\d+|\.TRUE\.|\.FALSE\.)"
+SUM = rf"{TERM}(?:(?:[-+/]|\*\*?|\.(?:EQ|NE|LT|LE|GT|GE|AND|OR|EQV|NEQV)\.){TERM})*"
+# Statements whose parentheses are gone, with all that stands in them.
 STATEMENT = re.compile(
-    rf"\d{{0,5}}(?:[A-Z][A-Z0-9]{{0,5}}(?:\([^=]*\))?={TERM}(?:{OPERATOR}{TERM})*"
-    r"|GOTO\(?\d+.*|IF\(.*\)(?:THEN|GOTO\d+|RETURN|STOP|CONTINUE|[A-Z0-9()]+=.+|\d+,\d+,\d+)|ELSEIF\(.*\)THEN"
-    r"|DO\d+,?[A-Z][A-Z0-9]*=.+,.+|CALL[A-Z][A-Z0-9]{0,5}(?:\(.*\))?|CONTINUE|RETURN|ENDIF|ENDDO"
-    r"|(?:INTEGER|LOGICAL|DIMENSION|COMMON)[A-Z][A-Z0-9]{0,5}(?:\([0-9A-Z,*]+\))?(?:,[A-Z][A-Z0-9(),]*)*)"
+    rf"\d{{0,5}}(?:{NAME}={SUM}|GOTO(?:\d+|,?{NAME})|IF(?:THEN|GOTO\d+|RETURN|STOP|CONTINUE|{NAME}={SUM}|\d+,\d+,\d+)"
+    rf"|ELSEIFTHEN|DO\d+,?{NAME}={SUM},{SUM}(?:,{SUM})?|CALL{NAME}|CONTINUE|RETURN|ENDIF|ENDDO"
+    rf"|(?:INTEGER|LOGICAL|DIMENSION|COMMON){NAME}(?:,{NAME})*)"
 )
-
-
 # What stands in front of other words in a statement, with blanks between them.
 KEYWORD = re.compile(r" *\d* *(GO *TO|DO +\d+|CALL|ELSE *IF|END *(IF|DO)|INTEGER|LOGICAL|DIMENSION|COMMON|IF\b.*)")
+
+
+def without_parentheses(text: str) -> str:
+    """A text without what stands in parentheses: behind a name nothing is left of it, and elsewhere a number."""
+    while True:
+        shorter = re.sub(r"([A-Z0-9]?)\([^()=]*\)", lambda found: found[1] or "1", text)
+        if shorter == text:
+            return text
+        text = shorter
 
 
 def is_statement(text: str) -> bool:
@@ -30,7 +38,10 @@ def is_statement(text: str) -> bool:
     bare = text.upper()[found.end() :] if found else text.upper()
     if re.search(r"[A-Z0-9] +[A-Z0-9]", bare) or not text.strip():
         return False
-    return STATEMENT.fullmatch(re.sub(r"\s", "", text.upper())) is not None
+    flat = without_parentheses(re.sub(r"\s", "", text.upper()))
+    # An IF has a condition in parentheses.
+    is_bare = "IF" in flat[:11] and "(" not in text
+    return STATEMENT.fullmatch(flat) is not None and not is_bare
 
 
 def hidden_statement(line: str) -> bool:
@@ -39,7 +50,10 @@ def hidden_statement(line: str) -> bool:
         return False
     if line[:1] != "*" and line[1:2] not in ("", " ") and is_statement(line[:72]):
         return True
-    return line[1:6].strip(" 0123456789") == "" and is_statement(line[1:72])
+    # Two words such as CALL ME may be prose; a statement that is left out has more to it, or is one word.
+    text = line[1:72].strip()
+    has_more = " " not in text or re.search(r"[=(,\d]", text) is not None
+    return line[1:6].strip(" 0123456789") == "" and has_more and is_statement(text)
 
 
 def listed(lines: Sequence[tuple[int, str]], one: str, many: str) -> Iterator[str]:
@@ -55,7 +69,7 @@ def behind_72(lines: Sequence[str]) -> Iterator[str]:
     """What is told of text behind column 72. Numbers of cards are told in one sentence."""
     found = [(number, line[72:].strip()) for number, line in enumerate(lines, 1) if line[72:].strip() and not is_comment(line)]
     numbers = [(number, text) for number, text in found if CARD_NUMBER.fullmatch(text.upper())]
-    others = [each for each in found if each not in numbers]
+    others = [(number, text) for number, text in found if not CARD_NUMBER.fullmatch(text.upper())]
     yield from listed(others, "{!r} stands behind column 72 and is not read", "text behind column 72 is not read, as {!r}")
     if numbers:
         told = f"{plural(len(numbers), 'line')} with what looks like the number of a card"
