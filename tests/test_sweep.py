@@ -86,6 +86,7 @@ class Sweeps(unittest.TestCase):
         for code, detail, lines, wanted in (
             ("F3", "2", ["A", "      K=\u00e9"], ["A", "      K=X"]),
             ("F5", "1", ["  X 0 K=1"], ["      K=1"]),
+            ("F5", "1", ["K = 1"], ["      K = 1"]),
             ("F6", "1", ["     &K=1"], [""]),
             ("C6", "10", ["   10 K=1", "  010 K=2"], ["   10 K=1", "      K=2"]),
             ("S8", "", ["      K=1"], ["      K=1", "      END"]),
@@ -179,6 +180,15 @@ class Tool(unittest.TestCase):
         job.write_text(json.dumps({"source": "      SUBROUTINE A\n      CALL X\n      CALL Y\n      END\n"}))
         self.assertIn("  line 3, S2: CALL Y\n", self.explain(job)[1])
         self.assertNotIn("CALL Y", self.explain(job, "FAULT", "S2", "2")[1])
+
+    def test_free_form_is_told(self) -> None:
+        free = self.room / "a.f90"
+        free.write_text(LEAST)
+        running.refuses(self, self.explain(free), "free form is not read")
+        running.refuses(self, self.explain(self.mothra), "it is no job in JSON, and the name of a program ends in .f, .for")
+        self.program.write_text("SUBROUTINE A(I)\n")
+        told = self.explain(self.program, "FAULT", "F5", "1")[1]
+        self.assertIn("It begins in column 1, as in free form", told)
 
     def test_a_table_and_declarations_beside(self) -> None:
         self.program.write_text(LEAST)

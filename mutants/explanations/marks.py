@@ -1,5 +1,6 @@
 """Where in a source a fault lies: the marks under its lines, and what else is worth saying of them."""
 
+import re
 from collections.abc import Callable, Iterable, Sequence
 
 from mutants.explanations.beyond import FUNCTIONS_TOLD, called_names, declared_arrays
@@ -28,7 +29,9 @@ def form_marks(code: str, number: int, lines: Sequence[str]) -> Marked:
     if code == "F4":
         return bytes_mark(line, number, lambda c: c == "\t")
     if code == "F5":
-        return [Mark(number, 1, min(max(len(line), 1), 5))], []
+        is_free = re.match(r"[A-Za-z]{2}", line) is not None
+        notes = ["It begins in column 1, as in free form: in fixed form a statement begins in column 7."] if is_free else []
+        return [Mark(number, 1, min(max(len(line), 1), 5))], notes
     return [Mark(number, 6, 6)], []
 
 

@@ -100,7 +100,8 @@ class Sweep:
         if code == "F4":
             self.lines[line - 1] = without_tabs(text)
         elif code == "F5":
-            self.lines[line - 1] = " " * 5 + text[5:]
+            # What begins in column 1 is a statement that was written in free form.
+            self.lines[line - 1] = " " * 6 + text.strip() if text[:1].isalpha() else " " * 5 + text[5:]
         elif code == "F3":
             self.lines[line - 1] = "".join(c if " " <= c <= "~" else "X" for c in text)
         else:

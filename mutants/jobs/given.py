@@ -7,7 +7,7 @@ from typing import NamedTuple
 
 from mutants.declarations.files import NONE_MEANT, Meant, meant_by, read_declarations
 from mutants.jobs.making import made_of, meant_for, whole_text, wish_of
-from mutants.jobs.sources import is_program
+from mutants.jobs.sources import FREE, SUFFIXES, is_program
 from mutants.pages.declared import Said
 
 MORE = "of a program that is read with options, or with declarations, take PROGRAM.f in place of a job"
@@ -26,6 +26,10 @@ class Given(NamedTuple):
 def of_job(path: Path, equivalent: Path | None, mothra: Callable[[], str | None]) -> Given:
     """A job as it is stored; a file of declarations gives the reasons of those that the job has."""
     job = path.read_bytes()
+    if path.suffix.lower() in FREE:
+        raise ValueError(f"{path}: free form is not read; in fixed form statements stand in columns 7 to 72, in a file named .f")
+    if path.suffix.lower() != ".json" and not job.lstrip().startswith(b"{"):
+        raise ValueError(f"{path}: it is no job in JSON, and the name of a program ends in {', '.join(SUFFIXES)}")
     meant = meant_by(read_declarations(equivalent), mothra(), job) if equivalent else NONE_MEANT
     return Given(job, Said(None, meant.reasons, meant.remarks), meant.remarks)
 
