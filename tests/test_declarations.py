@@ -12,6 +12,7 @@ import running
 from mutants.declarations.entries import COLUMNS, Entry, appended, entries_text, read_entries
 from mutants.declarations.files import read_declarations
 from mutants.declarations.settling import Present, entry_for, settled
+from mutants.jobs.making import made_of, meant_for
 from mutants.pages.declared import declared_part
 from mutants.subcommands.declare import names_in
 from mutants.texts.lines import Mutant
@@ -191,7 +192,8 @@ class Files(unittest.TestCase):
         for text, told in (
             ("ROR 1,a,b\n", "does not name the columns mutant, before"),
             ("mutant,before,after\nROR,a,b\n", "row 2: 'ROR' is no name of a mutant"),
-            ("mutant,before,after\nROR 1,a\n", "row 2: ROR 1 has not both texts".replace("ROR 1", "ROR 1")),
+            ("mutant,before,after\nROX 1,a,b\n", "row 2: there is no operator ROX"),
+            ("mutant,before,after\nROR 1,a\n", "row 2: ROR 1 has not both texts"),
             ("mutant,before,after\nROR 1,a,b,c\n", "row 2 has 4 cells"),
             ('mutant,before,after\nROR 1,"a\n', "row 2: unexpected end of data"),
         ):
@@ -200,9 +202,9 @@ class Files(unittest.TestCase):
 
     def test_the_words_that_name_mutants(self) -> None:
         wanted = [("ABS", 7), ("ABS", 9), ("ROR", 1)]
-        for words in (["ABS 7", "ABS 9", "ROR 1"], ["abs", "7,9", "ror", "1"], ["ABS7", "9", "7", "ROR-1"]):
+        for words in (["ABS 7", "ABS 9", "ROR 1"], ["abs", "7,9", "ror", "1"], ["ABS7", "9", "7", "ROR-1,"]):
             self.assertEqual(names_in(words), wanted)
-        for words in (["7"], ["XYZ 1"], ["ROR one"]):
+        for words in (["7"], ["XYZ 1"], ["ROR one"], ["ROR 3-5"], ["ROR", "-", "3"], ["RORS 1"]):
             with self.assertRaises(ValueError):
                 names_in(words)
 
@@ -281,6 +283,13 @@ class Commands(unittest.TestCase):
         job = json.loads(run("job", "--mothra", STAND_IN, "--unit", "great", self.program)[1])
         self.assertEqual(job["equivalent"], ["SDL 1"])
         self.assertNotIn("equivalent", run("job", "--unit", "LEAST", self.program)[1])
+
+    def test_more_tests_than_a_job_takes_do_not_matter_to_declarations(self) -> None:
+        self.declare("ROR", "1", "--reason", "none")
+        self.tests.write_text("1,2,0\n" * 300)
+        made = made_of(self.program, self.tests)
+        meant = meant_for(made, self.program, None, lambda: str(STAND_IN))
+        self.assertEqual((len(made.suite), meant.names, meant.reasons), (300, ["ROR 1"], {"ROR 1": "none"}))
 
     def test_a_bare_list_is_taken_with_a_warning_and_without_a_program(self) -> None:
         bare = self.file.with_suffix(".json")

@@ -12,6 +12,8 @@ from collections.abc import Iterable, Mapping, Sequence
 from pathlib import Path
 from typing import NamedTuple
 
+from mutants.operators import NAMES
+
 COLUMNS = ["mutant", "before", "after", "reason", "where"]
 # Columns that a file has to have.
 NEEDED = COLUMNS[:3]
@@ -44,6 +46,8 @@ def entry_of(cells: Mapping[str, str], row: int) -> Entry:
     found = NAME.fullmatch(" ".join(cells["mutant"].split()).upper())
     if not found:
         raise ValueError(f"row {row}: {cells['mutant']!r} is no name of a mutant, as ROR 1")
+    if found[1] not in NAMES:
+        raise ValueError(f"row {row}: there is no operator {found[1]}")
     if not cells["before"].strip() or not cells["after"].strip():
         raise ValueError(f"row {row}: {found[0]} has not both texts, that of the line before the change and that after it")
     before, after, reason, where = (cells.get(column, "").strip() for column in COLUMNS[1:])

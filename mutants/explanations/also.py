@@ -29,7 +29,10 @@ def told_fault(found: Found, source: str) -> tuple[int, str]:
     marks, notes = places(found.code, kind, found.detail, source)
     line = int(found.detail) if kind == "line" else marks[0].line if marks else 0
     lines = source_lines(source)
-    shown = lines[line - 1][6:72].strip()[:LONGEST] if 0 < line <= len(lines) else ""
+    # A line that is none is shown from its first column on, a statement without its label.
+    begin = 0 if found.code[0] == "F" else 6
+    shown = lines[line - 1][begin:72].strip()[:LONGEST] if 0 < line <= len(lines) else ""
+    shown = "".join(character if character.isprintable() else "?" for character in shown)
     what = f"line {line}" if line else "the unit"
     head = f"  {what}, {found.code}{f' {found.detail}' if kind in ('name', 'label') else ''}: {shown}".rstrip(": ")
     said = " ".join(notes) or MEANINGS[found.code].says

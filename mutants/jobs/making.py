@@ -114,7 +114,8 @@ def meant_for(
     if path is None:
         return NONE_MEANT
     declarations = read_declarations(path)
-    return meant_by(declarations, mothra() if declarations.entries else "", made.text().encode())
+    # The tests do not matter here, and there may be more of them than a job takes.
+    return meant_by(declarations, mothra() if declarations.entries else "", made.text(suite=[]).encode())
 
 
 def whole_text(made: Made, equivalent: Sequence[str] | None = None) -> str:

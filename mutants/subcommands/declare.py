@@ -46,13 +46,13 @@ def names_in(words: Iterable[str]) -> list[Name]:
     """The mutants that words name: codes, each with one number or more behind it."""
     names: list[Name] = []
     op = ""
-    for part in re.findall(r"[A-Za-z]+|\d+|[^\s,A-Za-z\d]+", " ".join(words)):
-        if part.upper() in NAMES:
-            op = part.upper()
-        elif op and part.isdecimal():
-            names.append((op, int(part)))
-        elif part not in "-:#":
-            raise ValueError(f"{part!r} is neither a code of an operator nor a number behind one, as in ROR 1")
+    for part in re.split(r"[\s,]+", " ".join(words).strip(" ,")):
+        found = re.fullmatch(r"(?:([A-Za-z]{3})[-:#]?)?(\d{1,10})|([A-Za-z]{3})", part)
+        op = (found[1] or found[3] or op).upper() if found else ""
+        if not found or op not in NAMES:
+            raise ValueError(f"{part!r} is neither a code of an operator nor a number behind one, as in ROR 1 or ABS 7 9 12")
+        if found[2]:
+            names.append((op, int(found[2])))
     return list(dict.fromkeys(names))
 
 
@@ -82,7 +82,7 @@ def new_entries(given: argparse.Namespace, names: Sequence[Name], found: Settled
 
 
 def run(given: argparse.Namespace, name: str) -> int:
-    names = names_in(given.mutants)
+    names = names_in(given.mutants) if given.mutants else []
     if bool(names) == given.renew or names and not (given.reason or "").strip():
         raise ValueError("it takes mutants and their --reason, or --renew alone")
     made = made_of(given.program, None, wish_of(given))
