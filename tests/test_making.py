@@ -169,7 +169,7 @@ class Sizes(Room):
         self.assertEqual([(line, bound.text) for line, bound in unsized(SUM)], [(2, "N"), (2, "N+1"), (5, "2*N"), (5, "*")])
 
     def test_expressions_are_those_of_the_language(self) -> None:
-        for text, wanted in (("N", 7), ("(N+1)*2", 16), ("N/2", 3), ("N-3*2", 1), ("2*N-(-1)", 15), ("-N+08", 1), ("007", None)):
+        for text, wanted in (("N", 7), ("(N+1)*2", 16), ("N/2", 3), ("N-3*2", 1), ("2*N-(-1)", 15), ("-N+08", 1), ("1:N", 7), ("007", None)):
             source = f"      SUBROUTINE A(X)\n      INTEGER X({text})\n      END\n"
             with self.subTest(text):
                 found = sized(source, {"N": 7}).split("\n")[1] if wanted else ""
@@ -177,6 +177,7 @@ class Sizes(Room):
         for text in ("0:N", "M", "N**2", "N/0", "F(N)", "*"):
             source = f"      SUBROUTINE A(X)\n      INTEGER X({text}),Y(N)\n      END\n"
             self.assertIn(f"X({text}),Y(7)", sized(source, {"N": 7}))
+        self.assertIn("INTEGERX(9),Y(7)", sized(source.replace("X(*)", "X(1:9)"), {"N": 7}))
 
     def test_a_name_that_gives_nothing_and_a_bound_below_1_are_refused(self) -> None:
         with self.assertRaisesRegex(ValueError, "--size has M, but no bound of an array is made of it"):

@@ -181,6 +181,12 @@ class Tool(unittest.TestCase):
         self.assertIn("  line 3, S2: CALL Y\n", self.explain(job)[1])
         self.assertNotIn("CALL Y", self.explain(job, "FAULT", "S2", "2")[1])
 
+    def test_options_stand_in_front(self) -> None:
+        self.program.write_text(LEAST)
+        for words in (["--unit", "A"], ["tests.csv", "--size", "N=1"]):
+            running.refuses(self, self.explain(self.program, *words), "stands behind", "options come before it")
+        self.assertIn("There is no fault.", self.explain(self.program, "list", "--ops", "SDL")[1])
+
     def test_free_form_is_told(self) -> None:
         free = self.room / "a.f90"
         free.write_text(LEAST)

@@ -27,6 +27,7 @@ from pathlib import Path
 
 from mutants.jobs.making import job_text
 from mutants.program.roots import ROOT
+from mutants.program.unproved import MARK
 from mutants.statuses import FAULT, SUCCESS
 from mutants.words import whole_path
 
@@ -41,7 +42,9 @@ def written(words: Sequence[str], given: bytes | None = None, env: dict[str, str
     ended = subprocess.run(
         words, cwd=ROOT, input=given, env=env, stdout=subprocess.PIPE, stderr=subprocess.STDOUT, timeout=SECONDS
     )
-    return ended.stdout.decode(errors="replace")
+    lines = ended.stdout.decode(errors="replace").splitlines(keepends=True)
+    # An unproved build says what it is at each call, on the error output that is shown here with the other.
+    return "".join(line for line in lines if not line.startswith(MARK))
 
 
 def compare_files(mothra: str) -> Iterator[tuple[str, bool]]:

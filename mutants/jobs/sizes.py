@@ -25,6 +25,11 @@ class Bound(NamedTuple):
     end: int
     is_last: bool
 
+    @property
+    def upper(self) -> str:
+        """The bound without a lower one that is 1, which changes nothing."""
+        return self.text.removeprefix("1:")
+
 
 def read_sizes(word: str) -> dict[str, int]:
     """The values of --size, by names in upper case."""
@@ -96,11 +101,11 @@ def bound_value(bound: Bound, sizes: Mapping[str, int]) -> int | None:
     """The value that a bound gets; None where none is given, or where it is a number already."""
     if bound.is_last and bound.array in sizes:
         return sizes[bound.array]
-    if bound.text.isdecimal() or not re.fullmatch(r"[A-Z0-9+\-*/()]+", bound.text) or "**" in bound.text:
+    if bound.text.isdecimal() or not re.fullmatch(r"[A-Z0-9+\-*/()]+", bound.upper) or "**" in bound.upper:
         return None
     try:
         # Python reads sums and products as FORTRAN does, but for zeros in front of a number.
-        text = re.sub(r"(?<![A-Z0-9])0+(?=\d)", "", bound.text)
+        text = re.sub(r"(?<![A-Z0-9])0+(?=\d)", "", bound.upper)
         return value_of(ast.parse(text, mode="eval").body, sizes)
     except (KeyError, ValueError, SyntaxError):
         return None
@@ -112,7 +117,7 @@ def names_in(bound: Bound) -> list[str]:
 
 def names_for(bound: Bound) -> list[str]:
     """The names whose values --size takes for a bound that is no number; none where there is a lower bound too."""
-    return [] if ":" in bound.text else [bound.array] if bound.text == "*" else names_in(bound)
+    return [] if ":" in bound.upper else [bound.array] if bound.upper == "*" else names_in(bound)
 
 
 def with_bounds(card: Card, sizes: Mapping[str, int]) -> tuple[str, set[str]]:

@@ -26,7 +26,7 @@ from pathlib import Path
 
 from mutants.explanations.also import also_told
 from mutants.explanations.told import BAD_LIST, explained, explained_words
-from mutants.explanations.words import words_say
+from mutants.explanations.words import OPTIONS, words_say
 from mutants.jobs.given import Given, given_job
 from mutants.jobs.making import add_making_options
 from mutants.jobs.sources import is_program
@@ -61,6 +61,9 @@ def asked_line(program: str, words: list[str], text: bytes) -> str | None:
 def given_words(given: argparse.Namespace) -> tuple[Path | None, list[str]]:
     """The table of tests behind a program, where there is one, and the words for mothra."""
     words = list(given.words)
+    late = next((word for word in words[:2] if word.startswith("--")), None) if is_program(given.job) else None
+    if late and words[0] not in OPTIONS:
+        raise ValueError(f"{late} stands behind {given.job}: options come before it, and words for mothra behind")
     if is_program(given.job) and words and Path(words[0]).suffix.lower() in (".csv", ".json"):
         return Path(words[0]), words[1:]
     return None, words
