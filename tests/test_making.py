@@ -4,15 +4,14 @@ import json
 import re
 import tempfile
 import unittest
-from collections.abc import Mapping
 from pathlib import Path
 
 import running
 from mutants.jobs.cells import read_cell
-from mutants.jobs.making import Made, check_sizes, made_of, whole_text
+from mutants.jobs.making import Made, made_of, whole_text
 from mutants.jobs.remarks import hidden_statement, is_statement, remarks_on_text
 from mutants.jobs.sizes import bounds_of, read_sizes, sized, unsized
-from mutants.jobs.sources import LARGEST, Wish, decoded, source_of
+from mutants.jobs.sources import LARGEST, Wish, decoded, is_program
 from mutants.jobs.tables import Table, read_table
 from mutants.jobs.units import units_of
 from mutants.texts.tabs import without_tabs
@@ -58,8 +57,11 @@ class Bytes(Room):
 
     def test_other_endings_of_names(self) -> None:
         for name in ("least.for", "LEAST.FTN", "least.F", "least.f77"):
-            page = run("page", "--mothra", STAND_IN, self.put(name, LEAST.replace("\n", "\r\n")))
-            self.assertEqual((page[0], page[2]), (0, ""), name)
+            self.assertTrue(is_program(Path(name)), name)
+        for name in ("least.json", "least.f90", "least"):
+            self.assertFalse(is_program(Path(name)), name)
+        page = run("page", "--mothra", STAND_IN, self.put("LEAST.FOR", LEAST.replace("\n", "\r\n")))
+        self.assertEqual((page[0], page[2]), (0, ""))
 
     def test_a_source_over_the_limit_is_told(self) -> None:
         with self.assertRaisesRegex(ValueError, r"program.f: the source has 66,\d+ bytes, and a job takes 65,536: leave out"):
