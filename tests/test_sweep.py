@@ -133,6 +133,8 @@ class Notes(unittest.TestCase):
     def test_a_fault_is_told_with_its_line_and_its_text(self) -> None:
         line, told = told_fault(Found("C2", "Z"), SOURCE)
         self.assertEqual((line, told.split("\n")[0]), (14, "  line 14, C2 Z: Z=MIN(K,Z)"))
+        # On a line that is none of a statement, one may begin in the copy.
+        self.assertEqual(told_fault(Found("S2", "8"), SOURCE)[1].split("\n")[0], "  line 8, S2: 2)")
         line, told = told_fault(Found("S2", "7"), SOURCE)
         self.assertEqual(told, "  line 7, S2: CALL SUB(K,\n      CALL is a statement of FORTRAN 77, but not one of the subset.")
 

@@ -5,6 +5,7 @@ import textwrap
 
 from mutants.explanations.marks import places
 from mutants.explanations.meanings import MEANINGS
+from mutants.explanations.spans import Marked
 from mutants.explanations.sweep import Found, all_faults
 from mutants.program.calling import call, failure_of
 from mutants.statuses import SUCCESS
@@ -23,10 +24,18 @@ def asked_fault(program: str, source: str) -> tuple[str, str] | None:
     return (code, detail[0]) if word == "FAULT" else ("", "")
 
 
+def places_if_any(found: Found, source: str) -> Marked:
+    """Marks and notes of a fault; none where its statement begins in the copy alone, as on a line that was no line."""
+    try:
+        return places(found.code, MEANINGS[found.code].detail, found.detail, source)
+    except ValueError:
+        return [], []
+
+
 def told_fault(found: Found, source: str) -> tuple[int, str]:
     """The line of a fault, and what is said of it there."""
     kind = MEANINGS[found.code].detail
-    marks, notes = places(found.code, kind, found.detail, source)
+    marks, notes = places_if_any(found, source)
     line = int(found.detail) if kind == "line" else marks[0].line if marks else 0
     lines = source_lines(source)
     # A line that is none is shown from its first column on, a statement without its label.
