@@ -13,10 +13,14 @@ from mutants.declarations.entries import COLUMNS, Entry, appended, entries_text,
 from mutants.declarations.files import read_declarations
 from mutants.declarations.settling import Present, entry_for, settled
 from mutants.jobs.making import made_of, meant_for
-from mutants.pages.declared import declared_part
+from mutants.pages.declared import Said, declared_part
+from mutants.pages.report import report_page
 from mutants.subcommands.declare import names_in
+from mutants.texts.jobs import read_job
 from mutants.texts.lines import Mutant
-from mutants.texts.reports import Row
+from mutants.texts.lists import read_list
+from mutants.texts.prints import read_print
+from mutants.texts.reports import Row, read_report
 from running import LEAST, STAND_IN, has, refuses, run
 from test_page import Tags
 
@@ -225,6 +229,16 @@ class Pages(unittest.TestCase):
         has(self, page, "Killed by tests 1 and 3.", "no reason is given", "it &lt;is&gt;", "<del>9</del><ins>1</ins>")
         self.assertNotIn("ROR 2", page)
         self.assertEqual(declared_part(listed[1:2], rows[1:2], {3: "K=9"}, {}), "")
+
+
+    def test_the_source_is_shown_as_its_file_has_it_and_what_is_told_stands_at_the_top(self) -> None:
+        job = json.dumps({"source": LEAST, "suite": [[1, 2, 0]], "equivalent": ["ROR 1"]}).encode()
+        printed, listed, told = (running.call_stand_in(command, job).decode() for command in ("print", "list", "run"))
+        said = Said(LEAST.replace("      K=I", "      k  = i"), {"ROR 1": "the same"}, ["not <declared>"])
+        page = report_page(read_job(job), read_print(printed), read_list(listed)[1], read_report(told), "", said)
+        has(self, page, "k  = i</span>", '<p class="warn">not &lt;declared&gt;</p>', "the same</span>")
+        self.assertLess(page.index("not &lt;declared"), page.index('<h2 id="program">'))
+        self.assertNotIn("      K=I</span>", page)
 
 
 class Commands(unittest.TestCase):

@@ -11,7 +11,7 @@ from pathlib import Path
 from typing import NamedTuple
 
 from mutants.declarations.files import NONE_MEANT, Meant, found_beside
-from mutants.jobs.making import made_of, meant_for
+from mutants.jobs.making import Made, made_of, meant_for
 from mutants.jobs.sources import is_program
 from mutants.program.calling import Fault
 from mutants.texts.files import written
@@ -71,17 +71,31 @@ def declared_for(program: Path, programs: Sequence[Path]) -> Path | None:
     return found_beside(program) or next((path for path in common if path.exists()), None)
 
 
-def task_of(name: str, program: Path | None, table: Path, programs: Sequence[Path], mothra: str) -> Task:
+class Declaring:
+    """What is declared for the programs of a folder: mothra is asked once for each."""
+
+    def __init__(self, programs: Sequence[Path], mothra: str) -> None:
+        self.programs, self.mothra = programs, mothra
+        self.known: dict[Path, Meant] = {}
+
+    def meant(self, program: Path, made: Made) -> Meant:
+        if program not in self.known:
+            file = declared_for(program, self.programs)
+            try:
+                self.known[program] = meant_for(made, program, file, lambda: self.mothra, looks_beside=False)
+            except Fault:
+                # The source has a fault, which the run tells.
+                self.known[program] = NONE_MEANT
+        return self.known[program]
+
+
+def task_of(name: str, program: Path | None, table: Path, declaring: Declaring) -> Task:
     """The job of a table. What does not fit is left to the program to tell."""
     try:
         if program is None:
             raise ValueError(f"{table}: there is no program of this name")
         made = made_of(program, table, is_strict=False)
-        try:
-            meant = meant_for(made, program, declared_for(program, programs), lambda: mothra, looks_beside=False)
-        except Fault:
-            # The source has a fault, which the run tells.
-            meant = NONE_MEANT
+        meant = declaring.meant(program, made)
         text = made.text(meant.names if meant.is_of_file else None)
         return Task(name, program, text.encode(), None, meant)
     except ValueError as fault:
@@ -102,7 +116,8 @@ def tasks_in(folder: Path, mothra: str) -> list[Task]:
     wanted |= {path.stem: (path, common) for path in programs if common and path not in having}
     if not wanted:
         raise ValueError(f"{folder}: there is no table of tests, a file that ends in .json or .csv")
-    return [task_of(name, *wanted[name], programs, mothra) for name in sorted(wanted)]
+    declaring = Declaring(programs, mothra)
+    return [task_of(name, *wanted[name], declaring) for name in sorted(wanted)]
 
 
 class Results:
