@@ -281,6 +281,11 @@ class Tables(Room):
             with self.subTest(text), self.assertRaisesRegex(ValueError, re.escape(told)):
                 self.table(text, ".json")
 
+    def test_without_dummy_arguments_a_row_has_no_cell(self) -> None:
+        with self.assertRaisesRegex(ValueError, "row 1 has 2 cells, and there is no dummy argument"):
+            self.table("1,2\n", dummies=())
+        self.assertEqual(self.table("[[], []]", ".json", ()).tests, [[], []])
+
     def test_a_row_that_becomes_one_array_is_told_once(self) -> None:
         found = self.table("3 4 5\n6 7 8\n", dummies=("M",))
         self.assertEqual((found.tests, found.remarks), ([[[3, 4, 5]], [[6, 7, 8]]], ["row 1: '3 4 5' is one array of 3 elements, for M"]))

@@ -148,7 +148,7 @@ def sizes_word(word: str) -> dict[str, int]:
 def add_reading_options(parser: argparse.ArgumentParser) -> None:
     """The options that say how a program is read."""
     parser.add_argument("--unit", metavar="NAME", help="the unit, where the file has several; lines keep their numbers")
-    parser.add_argument("--size", metavar="N=8,..", type=sizes_word, default={}, help="values of adjustable bounds")
+    parser.add_argument("--size", metavar="N=8,..", type=sizes_word, help="values of adjustable bounds")
     told = "read tabs as blanks: the first of a line leads to column 7"
     parser.add_argument("--expand-tabs", action="store_true", help=told)
 
@@ -162,4 +162,4 @@ def add_making_options(parser: argparse.ArgumentParser) -> None:
 
 
 def wish_of(given: argparse.Namespace) -> Wish:
-    return Wish(given.unit, given.size, given.expand_tabs)
+    return Wish(given.unit, given.size or {}, given.expand_tabs)

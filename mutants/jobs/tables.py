@@ -83,7 +83,8 @@ def columns_of(row: int, cells: Cells, dummies: Sequence[str], others: Collectio
 
 def shape_fault(row: int, cells: Cells, columns: Sequence[str], is_text: bool) -> str:
     """Why a row does not serve that has another number of cells than there are columns."""
-    told = f"row {row} has {plural(len(cells), 'cell')}, and {len(columns)} are wanted: {', '.join(columns)}"
+    wanted = f"{len(columns)} are wanted: {', '.join(columns)}" if columns else "there is no dummy argument"
+    told = f"row {row} has {plural(len(cells), 'cell')}, and {wanted}"
     if is_text and len(cells) == 1 and ";" in cells[0]:
         return f"{Cell(row, 1).told()}: {cells[0].strip()[:LONGEST]!r} has semicolons: cells are separated by commas"
     if is_text and len(cells) == 1 and len(cells[0].split()) > 1:
