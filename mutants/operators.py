@@ -1,5 +1,8 @@
 """The operators of Mothra, in their order: their codes and their full names (King and Offutt 1991)."""
 
+import difflib
+import re
+
 NAMES = {
     "AAR": "array reference for array reference",
     "ABS": "absolute value insertion",
@@ -24,3 +27,20 @@ NAMES = {
     "SVR": "scalar variable replacement",
     "UOI": "unary operator insertion",
 }
+
+
+def code_of(word: str) -> str:
+    """The code of an operator that a word writes in any case; ValueError tells the nearest one."""
+    if word.upper() in NAMES:
+        return word.upper()
+    near = difflib.get_close_matches(word.upper(), NAMES, 1, 0.3)
+    hint = f"is {near[0]} meant, {NAMES[near[0]]}? " if near else ""
+    raise ValueError(f"{word!r} is no code of an operator; {hint}The codes are {', '.join(NAMES)}")
+
+
+def codes_in(text: str) -> list[str]:
+    """The codes in a text, with commas or blanks between them, each once and in the order of the operators."""
+    found = {code_of(word) for word in re.split(r"[,\s]+", text) if word}
+    if not found:
+        raise ValueError("there is no code of an operator")
+    return [code for code in NAMES if code in found]

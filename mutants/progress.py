@@ -1,6 +1,8 @@
 """How far a command is, on standard error."""
 
+import math
 import sys
+import time
 
 
 class Progress:
@@ -22,3 +24,42 @@ class Progress:
         if self.width:
             sys.stderr.write("\n")
             self.width = 0
+
+
+# What takes no longer than so many seconds is not told on the way, but on a terminal; and then so often.
+QUIET, OFTEN = 1.0, 2.0
+
+
+def seconds_text(seconds: float) -> str:
+    """A time that is guessed, as one says it."""
+    whole = round(seconds)
+    if whole < 100:
+        return f"{max(whole, 1)} s"
+    minutes = round(seconds / 60)
+    return f"{minutes} minutes" if minutes < 100 else f"{seconds / 3600:.1f} hours"
+
+
+class Estimate:
+    """How much of some work is done, and how long the rest may take, told by a progress where it takes long."""
+
+    def __init__(self, progress: Progress, what: str, whole: int) -> None:
+        self.progress, self.what, self.whole, self.done = progress, what, whole, 0
+        self.begun = time.monotonic()
+        self.next = self.begun + (0 if progress.is_terminal else QUIET)
+
+    def add(self, part: int) -> None:
+        self.done += part
+
+    def text(self, now: float) -> str:
+        share = self.done / self.whole if self.whole else 1.0
+        told = f"{self.what}: {math.floor(100 * share)} % done"
+        if self.done and share < 1:
+            told += f", about {seconds_text((now - self.begun) * (1 - share) / share)} left"
+        return told
+
+    def tick(self) -> None:
+        """Tells it, where it is time to."""
+        now = time.monotonic()
+        if now >= self.next:
+            self.next = now + (0 if self.progress.is_terminal else OFTEN)
+            self.progress.tell(self.text(now))

@@ -1,11 +1,16 @@
 """The words of a call: parsers that all have --help and --version."""
 
 import argparse
+import re
 import sys
-from collections.abc import Iterable
+from collections.abc import Callable, Iterable
+from fractions import Fraction
 from pathlib import Path
+from typing import TypeVar
 
 from mutants import __version__
+
+Read = TypeVar("Read")
 
 
 def text_of_help(told: str | None) -> str:
@@ -14,6 +19,28 @@ def text_of_help(told: str | None) -> str:
 
 def add_version(parser: argparse.ArgumentParser) -> None:
     parser.add_argument("--version", action="version", version=f"mutants {__version__}", help="show the version and exit")
+
+
+def read_by(read: Callable[[str], Read]) -> Callable[[str], Read]:
+    """What reads a word, for an option: what it says against the word is told as it is."""
+
+    def typed(word: str) -> Read:
+        try:
+            return read(word)
+        except ValueError as fault:
+            raise argparse.ArgumentTypeError(str(fault)) from None
+
+    return typed
+
+
+def percent(word: str) -> Fraction:
+    """A share in percent, as an option takes it."""
+    if not re.fullmatch(r"\d{1,3}(\.\d{1,9})?\s*%?", word.strip()):
+        raise argparse.ArgumentTypeError(f"{word} is no percentage, as 80 or 92.5")
+    found = Fraction(word.strip().rstrip("% "))
+    if found > 100:
+        raise argparse.ArgumentTypeError(f"{word} is above 100 percent")
+    return found
 
 
 def number_from_1(word: str) -> int:

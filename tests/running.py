@@ -10,9 +10,13 @@ import tempfile
 import time
 import traceback
 import unittest
-from collections.abc import Callable, Iterable
+from collections.abc import Callable, Iterable, Sequence
+from contextlib import ExitStack
+from importlib.machinery import ModuleSpec, SourceFileLoader
+from importlib.util import module_from_spec, spec_from_loader
 from pathlib import Path
-from typing import IO, NoReturn, TypeVar
+from typing import IO, Any, ContextManager, NoReturn, TypeVar
+from unittest import mock
 
 TESTS = Path(__file__).resolve().parent
 ROOT = TESTS.parent
@@ -20,10 +24,14 @@ TOOLS, MUTANTS = ROOT / "tools", ROOT / "bin" / "mutants"
 STAND_IN = TESTS / "stand_in"
 EXAMPLES = ["triangle", "triangle-more", "sort", "euclid", "closure"]
 
+# What a test starts finds the Python that runs the test first: a front of it on the path would take longer than most tests.
+os.environ["PATH"] = f"{Path(sys.executable).parent}:{os.environ['PATH']}"
+
 # The modules of the package are imported where they lie, and leave no files there.
 sys.dont_write_bytecode = True
 sys.path.insert(0, str(ROOT))
 
+from mutants.program import calling, many  # noqa: E402
 from mutants.subcommands.registry import SUBCOMMANDS  # noqa: E402
 
 # Of what was run: its exit status, its output and its errors.
@@ -126,8 +134,34 @@ def refuses(case: unittest.TestCase, ended: Ended, *told: str) -> None:
         case.assertIn(word, errors)
 
 
-def call_stand_in(command: str, job: bytes) -> bytes:
-    return subprocess.run([str(STAND_IN), command], input=job, capture_output=True).stdout
+def call_stand_in(command: str, job: bytes, *words: str) -> bytes:
+    return subprocess.run([str(STAND_IN), command, *words], input=job, capture_output=True).stdout
+
+
+def stand_in_module() -> Any:
+    """The stand-in as a module: what it answers without a process."""
+    loader = SourceFileLoader("stand_in", str(STAND_IN))
+    found = module_from_spec(spec_from_loader("stand_in", loader) or ModuleSpec("stand_in", loader))
+    loader.exec_module(found)
+    return found
+
+
+def without_processes() -> ContextManager[object]:
+    """While it holds, what is asked of the stand-in is answered by it as a module, so that a test takes less time."""
+    module = stand_in_module()
+
+    def call(program: str, words: Sequence[str], job: bytes) -> tuple[str, int]:
+        assert program == str(STAND_IN), program
+        text, status = module.answer(words, job)
+        return str(text), int(status)
+
+    def answer(calls: many.Calls, words: Sequence[str], job: bytes) -> str:
+        return calling.answer(calls.program, words, job)
+
+    patches = ExitStack()
+    patches.enter_context(mock.patch.object(calling, "call", call))
+    patches.enter_context(mock.patch.object(many.Calls, "answer", answer))
+    return patches
 
 
 def with_closed_pipe(tool: str, *words: object) -> str:

@@ -44,7 +44,8 @@ class Class(unittest.TestCase):
             (self.folder / name).write_text(text)
 
     def course(self, *words: object) -> running.Ended:
-        return run("course", "--mothra", STAND_IN, *words, self.folder, path=TESTS / "bin")
+        with running.without_processes():
+            return run("course", "--mothra", STAND_IN, *words, self.folder, path=TESTS / "bin")
 
     def table(self) -> dict[str, dict[str, str]]:
         with open(self.folder / "out" / "course.csv", newline="") as file:
@@ -96,6 +97,9 @@ class OneProgram(Class):
         has(self, page, "The smallest set that kills all 15 that the class kills has 2 tests.")
         has(self, page, "<td><code>[2, 1, 0]</code></td><td>anna and emil</td>")
         has(self, page, '<a href="jobs/emil.html">emil</a>')
+        jobs = self.folder / "out" / "jobs"
+        has(self, (jobs / "emil.html").read_text(), "<td><code>[5, 4, 9]</code></td><td><code>RETURNED 5 4 4</code></td>")
+        self.assertEqual((jobs / "emil.outcomes").read_text(), "RETURNED 5 4 4\nRETURNED 2 1 1\n")
         self.assertLess(page.index("anna.html"), page.index("emil.html"))
         self.assertLess(page.index("emil.html"), page.index("bert.html"))
 
@@ -106,6 +110,7 @@ class OneProgram(Class):
         self.put({"bert.csv": "1,2,0\n"})
         self.assertEqual(self.course()[2].splitlines(), ["mutants course: 4 of 5", "mutants course: 5 of 5"])
         self.assertEqual(self.table()["bert"]["tests"], "1")
+        self.assertEqual((self.folder / "out" / "jobs" / "bert.outcomes").read_text(), "RETURNED 1 2 1\n")
         self.assertEqual(self.course("--ops", "ROR")[2].splitlines()[0], "mutants course: 1 of 5")
 
     def test_a_result_without_its_key_is_made_again(self) -> None:

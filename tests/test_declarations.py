@@ -235,7 +235,7 @@ class Pages(unittest.TestCase):
         job = json.dumps({"source": LEAST, "suite": [[1, 2, 0]], "equivalent": ["ROR 1"]}).encode()
         printed, listed, told = (running.call_stand_in(command, job).decode() for command in ("print", "list", "run"))
         said = Said(LEAST.replace("      K=I", "      k  = i"), {"ROR 1": "the same"}, ["not <declared>"])
-        page = report_page(read_job(job), read_print(printed), read_list(listed)[1], read_report(told), "", said)
+        page = report_page(read_job(job), read_print(printed), read_list(listed)[1], read_report(told), said=said)
         has(self, page, "k  = i</span>", '<p class="warn">not &lt;declared&gt;</p>', "the same</span>")
         self.assertLess(page.index("not &lt;declared"), page.index('<h2 id="program">'))
         self.assertNotIn("      K=I</span>", page)

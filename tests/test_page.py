@@ -10,6 +10,7 @@ from html.parser import HTMLParser
 from pathlib import Path
 
 import running
+from room import without_progress
 from running import LEAST, STAND_IN, has, refuses, run
 from mutants.pages.matrix import MOST, matrix_part, thinned
 from mutants.pages.suite import alone_of, kills_of, needless_text
@@ -56,7 +57,8 @@ def page_of(job: bytes, *words: str) -> running.Ended:
     with tempfile.TemporaryDirectory() as folder:
         path = Path(folder, "job.json")
         path.write_bytes(job)
-        return run("page", "--mothra", STAND_IN, *words, path)
+        with running.without_processes():
+            return run("page", "--mothra", STAND_IN, *words, path)
 
 
 def plain(page: str) -> str:
@@ -81,6 +83,10 @@ class Pages(unittest.TestCase):
         page = plain(page_of(job_of(suite=[[1, 2, 0], [2, 1, 0], [3, 3, 0]]))[1])
         has(self, page, "Test 3 kills nothing that others do not: it may be left out.")
         has(self, page, "The smallest set that kills all 15 that the suite kills has 2 tests: 1 and 2.")
+
+    def test_what_the_program_does_on_each_test(self) -> None:
+        page = page_of(job_of())[1]
+        has(self, page, "The program</th>", "<td><code>[2, 1, 0]</code></td><td><code>RETURNED 2 1 1</code>")
 
     def test_an_equivalent_mutant_is_counted_and_a_wrong_one_is_told(self) -> None:
         page = page_of(job_of(equivalent=["ROR 1", "SDL 2"]))[1]
@@ -123,15 +129,21 @@ class Pages(unittest.TestCase):
                 path = Path(folder, option)
                 path.write_bytes(running.call_stand_in(command, job_of()))
                 words += [f"--{option}", path]
+            outcomes = Path(folder, "outcomes")
+            outcomes.write_text("RETURNED 1 2 1\nRETURNED 2 1 1\n")
+            self.assertNotIn("The program</th>", run("page", *words, job)[1])
+            words += ["--outcomes", outcomes]
             ended = run("page", "--mothra", "there-is-none", *words, job)
             self.assertEqual(ended, (0, page_of(job_of())[1], ""))
-            for option in ("print", "list", "report"):
+            for option in ("print", "list", "report", "outcomes"):
                 path = Path(folder, option)
                 whole = path.read_bytes()
                 path.write_bytes(whole[: len(whole) * 2 // 3])
                 refuses(self, run("page", *words, job), option)
                 path.write_bytes(whole)
             job.write_bytes(job_of(suite=[[1, 2, 0]]))
+            refuses(self, run("page", *words, job), "it has 2 outcomes, and the job 1 tests")
+            words = words[:-2]
             refuses(self, run("page", *words, job), "not the same number of tests")
             job.write_bytes(job_of(source=LEAST.replace("      K=I\n", "")))
             refuses(self, run("page", *words, job), "not the same statements")
@@ -165,8 +177,8 @@ class Refusals(unittest.TestCase):
     def test_a_closed_pipe_ends_it_without_more(self) -> None:
         with tempfile.TemporaryDirectory() as folder:
             path = Path(folder, "job.json")
-            path.write_bytes(job_of(suite=[[n, 3, 0] for n in range(200)]))
-            self.assertEqual(running.with_closed_pipe("page", "--mothra", STAND_IN, path), "")
+            path.write_bytes(job_of(suite=[[n, 3, 0] for n in range(9)]))
+            self.assertEqual(without_progress(running.with_closed_pipe("page", "--mothra", STAND_IN, path)), "")
 
 
 class Matrices(unittest.TestCase):

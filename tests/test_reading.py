@@ -6,7 +6,7 @@ import running
 from mutants.texts.jobs import read_job
 from mutants.texts.lists import read_list
 from mutants.texts.prints import read_print
-from mutants.texts.reports import Count, counted, joined, read_report, score_of, sum_lines, summed
+from mutants.texts.reports import Count, read_report, score_of, sum_lines, summed
 
 REPORT = """\
 REPORT 2
@@ -70,17 +70,6 @@ class Reports(unittest.TestCase):
     def test_a_fault_in_the_place_of_a_report_is_told(self) -> None:
         with self.assertRaisesRegex(ValueError, "FAULT C4 2"):
             read_report("FAULT C4 2\n")
-
-    def test_joins_the_reports_of_operators(self) -> None:
-        whole = read_report(running.example("euclid", ".report").read_text())
-        parts = []
-        for op in whole.counts:
-            rows = [row for row in whole.rows if row.op == op]
-            alive = [mutant for mutant in whole.survivors if mutant.op == op]
-            parts.append(whole._replace(counts=counted(rows, [op]), rows=rows, survivors=alive))
-        self.assertEqual(joined(parts), whole)
-        with self.assertRaises(ValueError):
-            joined([parts[0], parts[1]._replace(unit="OTHER")])
 
     def test_the_score_is_rounded_down(self) -> None:
         self.assertEqual(score_of(Count(3, 2, 0)), "66.66")

@@ -2,7 +2,8 @@
 
 A result is kept as three files in FOLDER/out/jobs: NAME.json, the job; NAME.report, what `mothra run` wrote of it; and
 NAME.key, the digest of the job and the words of that run. Each is written to another name and then renamed, the key
-last; so where the key is that of the job of now, the result is whole and of that job.
+last; so where the key is that of the job of now, the result is whole and of that job. NAME.outcomes, what the program
+itself does on each test, is written after these, and taken away before them.
 """
 
 import hashlib
@@ -11,10 +12,10 @@ from pathlib import Path
 from typing import NamedTuple
 
 from mutants.declarations.files import NONE_MEANT, Meant, found_beside
+from mutants.files import written
 from mutants.jobs.making import Made, made_of, meant_for
 from mutants.jobs.sources import is_program
 from mutants.program.calling import Fault
-from mutants.texts.files import written
 
 
 class Task(NamedTuple):
@@ -144,10 +145,19 @@ class Results:
 
     def keep(self, task: Task, text: str) -> None:
         """Keeps a result."""
-        self.path(task.name, ".key").unlink(missing_ok=True)
+        for ending in (".key", ".outcomes"):
+            self.path(task.name, ending).unlink(missing_ok=True)
         written(self.path(task.name, ".json"), task.text or b"")
         written(self.path(task.name, ".report"), text.encode())
         written(self.path(task.name, ".key"), self.key(task).encode())
+
+    def keep_outcomes(self, task: Task, lines: Sequence[str]) -> None:
+        written(self.path(task.name, ".outcomes"), "".join(f"{line}\n" for line in lines).encode())
+
+    def outcomes(self, task: Task) -> list[str] | None:
+        """What the program itself does on each test, where it is kept: it is of the job of now, as the report is."""
+        path = self.path(task.name, ".outcomes")
+        return path.read_text().splitlines() if path.exists() else None
 
     def is_missing(self, task: Task) -> bool:
         """Whether a job has still to be run: there is no result, or what came may not come again."""

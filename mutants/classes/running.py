@@ -71,12 +71,12 @@ def text_of_answer(text: str, status: int) -> str:
     return text if status == 0 and text.startswith("REPORT ") else failure_of(text, status) + "\n"
 
 
-def feed(pipe: IO[bytes], jobs: Iterable[bytes]) -> None:
-    """Hands the jobs over. Where parallel has ended before, no more is wanted."""
+def feed_lines(pipe: IO[bytes], lines: Iterable[bytes]) -> None:
+    """Hands the lines over. Where parallel has ended before, no more is wanted."""
     try:
         with pipe:
-            for job in jobs:
-                pipe.write(on_one_line(job))
+            for line in lines:
+                pipe.write(line)
     except BrokenPipeError:
         pass
 
@@ -92,7 +92,7 @@ def collect(running: "subprocess.Popen[bytes]", jobs: Sequence[bytes], keep: Cal
     """Hands the jobs to parallel, and keeps what comes of each."""
     assert running.stdin and running.stdout
     source, target = running.stdin, running.stdout
-    feeder = threading.Thread(target=feed, args=(source, jobs), daemon=True)
+    feeder = threading.Thread(target=feed_lines, args=(source, map(on_one_line, jobs)), daemon=True)
     feeder.start()
     try:
         lines = (line.decode("utf-8", "replace") for line in target)

@@ -2,12 +2,13 @@
 
     tools/examples MOTHRA
 
-A suite examples/NAME.suite.json is of the program examples/NAME.f, or of that whose name stands before a hyphen. Four
+A suite examples/NAME.suite.json is of the program examples/NAME.f, or of that whose name stands before a hyphen. Five
 things are compared:
 
 - examples/NAME.json with the job that `mutants job` makes of program and suite, and of the mutants that
   examples/NAME.equivalent.csv declares, where that is there;
 - examples/NAME.report with what `MOTHRA run` writes for that job, with no option;
+- the same report, and its score, with what `mutants check` joins and tells of program and suite;
 - the texts of programs, suites and reports in the test of the examples with the files;
 - what README.md and docs/GUIDE.md show behind each line `$ COMMAND` of a block ```console with what the command writes,
   run from the top of the repository with MOTHRA as `mothra`. A line `...` stands for any lines. tools/against-gfortran
@@ -20,15 +21,18 @@ is one. It tests what the tests of the crates can not, since those read no files
 import argparse
 import re
 import subprocess
+import sys
 import tempfile
 from collections.abc import Iterator, Sequence
 from os import environ
 from pathlib import Path
+from typing import NamedTuple
 
 from mutants.jobs.making import job_text
 from mutants.program.roots import ROOT
 from mutants.program.unproved import MARK
 from mutants.statuses import FAULT, SUCCESS
+from mutants.texts.reports import read_report, score_of, summed
 from mutants.words import whole_path
 
 TEST = ROOT / "crates" / "mothra_tests" / "src" / "example_reports.rt"
@@ -47,16 +51,46 @@ def written(words: Sequence[str], given: bytes | None = None, env: dict[str, str
     return "".join(line for line in lines if not line.startswith(MARK))
 
 
-def compare_files(mothra: str) -> Iterator[tuple[str, bool]]:
-    """Each stored job and report: its name, and whether it is the same."""
+class Example(NamedTuple):
+    """The files of an example: its name, the program, the suite, and the declared mutants, where there are any."""
+
+    name: str
+    program: Path
+    suite: Path
+    declared: Path | None
+
+    def stored(self, ending: str) -> Path:
+        return self.suite.with_name(self.name + ending)
+
+
+def examples() -> Iterator[Example]:
     for suite in sorted(ROOT.glob("examples/*.suite.json")):
         name = suite.name.removesuffix(".suite.json")
-        program, job = suite.with_name(f"{name.split('-')[0]}.f"), suite.with_name(f"{name}.json")
-        report = suite.with_name(f"{name}.report")
         names = suite.with_name(f"{name}.equivalent.csv")
-        made = job_text(program, suite, names if names.exists() else None, mothra)
-        yield f"examples/{job.name}", made == job.read_text()
+        yield Example(name, suite.with_name(f"{name.split('-')[0]}.f"), suite, names if names.exists() else None)
+
+
+def compare_files(mothra: str) -> Iterator[tuple[str, bool]]:
+    """Each stored job and report: its name, and whether it is the same."""
+    for each in examples():
+        job, report = each.stored(".json"), each.stored(".report")
+        yield f"examples/{job.name}", job_text(each.program, each.suite, each.declared, mothra) == job.read_text()
         yield f"examples/{report.name}", written([mothra, "run"], job.read_bytes()) == report.read_text()
+
+
+def compare_checks(mothra: str) -> Iterator[tuple[str, bool]]:
+    """Whether `mutants check` joins the stored report of each example, and tells its numbers."""
+    with tempfile.TemporaryDirectory() as folder:
+        for each in examples():
+            report = Path(folder, f"{each.name}.report")
+            words = [sys.executable, "-B", str(ROOT / "bin" / "mutants"), "check", "--mothra", mothra, "--no-page"]
+            words += ["--equivalent", str(each.declared)] if each.declared else []
+            told = written([*words, "--report", str(report), str(each.program), str(each.suite)])
+            stored = each.stored(".report").read_text()
+            count = summed(read_report(stored).counts.values())
+            numbers = f"Score {score_of(count)} %: {count.killed} of {count.total - count.equivalent} mutants killed"
+            is_same = report.exists() and report.read_text() == stored and numbers in told
+            yield f"mutants check of examples/{each.name}", is_same
 
 
 def compare_test() -> Iterator[tuple[str, bool]]:
@@ -94,7 +128,8 @@ def add_words(parser: argparse.ArgumentParser) -> None:
 
 def run(given: argparse.Namespace, name: str) -> int:
     same = differ = 0
-    for compare in (compare_files(given.mothra), compare_test(), compare_pages(given.mothra)):
+    mothra = given.mothra
+    for compare in (compare_files(mothra), compare_checks(mothra), compare_test(), compare_pages(mothra)):
         for what, is_same in compare:
             same += is_same
             differ += not is_same

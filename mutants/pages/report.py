@@ -2,6 +2,7 @@
 
 from collections import Counter, defaultdict
 from collections.abc import Iterable, Mapping, Sequence
+from typing import NamedTuple
 
 from mutants.operators import NAMES
 from mutants.pages.declared import NOTHING, Said, declared_part, remarks_part
@@ -101,8 +102,29 @@ def sections(parts: Sequence[tuple[str, str, str]]) -> tuple[str, str]:
     return f"<nav>{links}</nav>\n", bodies
 
 
+class Outcomes(NamedTuple):
+    """What the program itself does on each test, and by test, from 1, what was expected where that is something else."""
+
+    lines: Sequence[str] = ()
+    unexpected: Mapping[int, str] = {}
+
+
+def unexpected_part(unexpected: Mapping[int, str]) -> str:
+    if not unexpected:
+        return ""
+    which = f"Test {joined_words(unexpected)}" if len(unexpected) == 1 else f"Tests {joined_words(sorted(unexpected))}"
+    told = f"<b>{which}: the program does not do what is expected.</b> The score is that of a wrong program."
+    return f'<p class="warn">{told}</p>\n'
+
+
 def report_page(
-    job: Job, printed: Sequence[str], listed: Sequence[Mutant], report: Report, remark: str = "", said: Said = NOTHING
+    job: Job,
+    printed: Sequence[str],
+    listed: Sequence[Mutant],
+    report: Report,
+    remark: str = "",
+    outcomes: Outcomes = Outcomes(),
+    said: Said = NOTHING,
 ) -> str:
     """The page of a job, of its printed program, its list of mutants and its report, and what else is said of it."""
     assert_same_mutants(listed, report)
@@ -120,11 +142,12 @@ def report_page(
         ("program", "The program", program_key() + listing),
         *([("declared", "Declared equivalent", reasons)] if reasons else []),
         ("operators", "The operators", operators_part(report.counts)),
-        ("tests", "The tests", tests_part(job.suite, report.rows)),
+        ("tests", "The tests", tests_part(job.suite, report.rows, *outcomes)),
         ("matrix", "The kill matrix", matrix_part(report.rows, report.tests)),
     ])
     head = f"<h1>{text(report.unit)}: which mutants the tests kill</h1>\n" + remark_part(remark)
-    head += score_part(summed(report.counts.values())) + facts_of(report) + wrong_part(report.rows)
+    head += unexpected_part(outcomes.unexpected) + score_part(summed(report.counts.values()))
+    head += facts_of(report) + wrong_part(report.rows)
     head += remarks_part(said.remarks)
     return page(f"{report.unit}: kills and survivors", head + first_look(survivors) + links + bodies)
 

@@ -1,7 +1,7 @@
 """What each test of a suite adds: how many mutants it kills, how many it alone, and the smallest set of tests."""
 
 import json
-from collections.abc import Iterable, Sequence
+from collections.abc import Iterable, Mapping, Sequence
 
 from mutants.pages.cover import smallest_set
 from mutants.pages.frame import Cell, bar, joined_words, plural, table, text
@@ -27,9 +27,12 @@ def alone_of(rows: Iterable[Row], tests: int) -> list[int]:
     return [single.count(test) for test in range(tests)]
 
 
-def values_of(test: object) -> str:
-    told = json.dumps(test, ensure_ascii=False)
+def shortened(told: str) -> str:
     return told if len(told) <= LONGEST else told[: LONGEST - 2] + " .."
+
+
+def values_of(test: object) -> str:
+    return shortened(json.dumps(test, ensure_ascii=False))
 
 
 def least_set_text(kept: Sequence[int], is_least: bool, killed: int, noun: str = "suite") -> str:
@@ -62,20 +65,35 @@ def remarks_on(rows: Sequence[Row], alone: Sequence[int]) -> str:
     return f"<p>{needless_text(alone)} {least}{which}.</p>\n"
 
 
-def tests_part(suite: Sequence[object], rows: Sequence[Row]) -> str:
-    """The table of the tests of a suite, and what follows of it."""
+def outcome_cell(outcome: str, expected: str | None) -> Cell:
+    """What the program itself does on a test, and what is expected where that is something else."""
+    told = f"<code>{text(shortened(outcome))}</code>"
+    return "", told if expected is None else f'{told} <span class="live">expected {text(shortened(expected))}</span>'
+
+
+def test_cells(number: int, test: object, kills: int, alone: int, mutants: int) -> list[Cell]:
+    return [
+        ("n", number),
+        ("", f"<code>{text(values_of(test))}</code>"),
+        ("n", kills),
+        ("n", f"<b>{alone}</b>" if alone else "none"),
+        ("bar", bar(kills, mutants, f"{kills} of {mutants}")),
+    ]
+
+
+def tests_part(
+    suite: Sequence[object], rows: Sequence[Row], outcomes: Sequence[str] = (), unexpected: Mapping[int, str] = {}
+) -> str:
+    """The table of the tests of a suite, and what follows of it. The outcomes are those of the program, where known."""
     if not suite:
         return "<p>The suite has no test.</p>\n"
     kills, alone = kills_of(rows, len(suite)), alone_of(rows, len(suite))
     head: list[Cell] = [("n", "Test"), ("", "Values"), ("n", "Kills"), ("n", "It alone"), ("bar", "Share of all mutants")]
-    shown: list[list[Cell]] = [
-        [
-            ("n", number),
-            ("", f"<code>{text(values_of(test))}</code>"),
-            ("n", kills[number - 1]),
-            ("n", f"<b>{alone[number - 1]}</b>" if alone[number - 1] else "none"),
-            ("bar", bar(kills[number - 1], len(rows), f"{kills[number - 1]} of {len(rows)}")),
-        ]
-        for number, test in enumerate(suite, 1)
+    shown = [
+        test_cells(number, test, kills[number - 1], alone[number - 1], len(rows)) for number, test in enumerate(suite, 1)
     ]
+    if outcomes:
+        head.insert(2, ("", "The program"))
+        for number, (cells, outcome) in enumerate(zip(shown, outcomes), 1):
+            cells.insert(2, outcome_cell(outcome, unexpected.get(number)))
     return remarks_on(rows, alone) + table(head, shown)

@@ -5,10 +5,11 @@ from collections.abc import Mapping, Sequence
 
 from mutants.program.calling import answer, read_as
 from mutants.progress import Progress
+from mutants.texts.joining import joined_operators
 from mutants.texts.lines import Mutant
 from mutants.texts.lists import read_list
 from mutants.texts.prints import read_print
-from mutants.texts.reports import Report, joined, read_report
+from mutants.texts.reports import Report, read_report
 
 # What takes no longer than so many seconds is not told on the way, but on a terminal.
 QUIET = 1.0
@@ -62,4 +63,4 @@ def asked_report(program: str, words: Sequence[str], totals: Mapping[str, int], 
             progress.tell(f"{done} of {whole} mutants")
     finally:
         progress.end()
-    return joined(reports)
+    return joined_operators(reports)

@@ -13,12 +13,13 @@ with one thread; --sshlogin is handed to parallel, and MOTHRA is then the name o
 whose result is there are not run again: so a second call goes on where the first was cut, and does what has changed.
 How many are done is told on standard error.
 
-Written are, in FOLDER/out: jobs/NAME.json and .report (the job, and what mothra run wrote of it), jobs/NAME.html (its
-page), course.html (the page of the class), and course.csv with these columns: name (of the table), program, unit,
-tests, mutants, killed, equivalent (declared, and not killed), survived, score (in percent, rounded down, or NONE),
-only_here (mutants that no other suite of the program kills), wrong (declared, but killed), fault (its code; - where
-there was no job or no answer) and told (the line of the fault). A job without a report is a row with its fault, and
-the exit status is 0 all the same; it is 1 where jobs have no answer, which the next call asks for again.
+Written are, in FOLDER/out: jobs/NAME.json, .report and .outcomes (the job, what mothra run wrote of it, and what the
+program itself does on each test), jobs/NAME.html (its page), course.html (the page of the class), and course.csv with
+these columns: name (of the table), program, unit, tests, mutants, killed, equivalent (declared, and not killed),
+survived, score (in percent, rounded down, or NONE), only_here (mutants that no other suite of the program kills),
+wrong (declared, but killed), fault (its code; - where there was no job or no answer) and told (the line of the fault).
+A job without a report is a row with its fault, and the exit status is 0 all the same; it is 1 where jobs have no
+answer, which the next call asks for again.
 """
 
 import argparse
@@ -27,20 +28,22 @@ import io
 import sys
 from pathlib import Path
 
+from mutants.checks.outcomes import asked_outcomes
+from mutants.checks.running import Means
 from mutants.classes.folder import Results, Task, tasks_in
 from mutants.classes.page import View, course_page
 from mutants.classes.results import COLUMNS, Result, csv_row, only_here, reported_of
 from mutants.classes.running import find_parallel, run_all
+from mutants.files import written
 from mutants.pages.declared import Said
 from mutants.pages.program import statements_by_line
-from mutants.pages.report import report_page
+from mutants.pages.report import Outcomes, report_page
 from mutants.program.asking import asked_list, asked_print
 from mutants.program.calling import Fault
 from mutants.program.finding import add_mothra_option, find_program
 from mutants.program.unproved import remark_on
 from mutants.progress import Progress
 from mutants.statuses import FAULT, SUCCESS
-from mutants.texts.files import written
 from mutants.texts.jobs import read_job
 from mutants.texts.lines import Mutant
 from mutants.texts.reports import read_report
@@ -125,10 +128,20 @@ def view_of(text: bytes, known: Known) -> View:
     return View(source, statements_by_line(source, known[0]), known[1])
 
 
+def outcomes_of(task: Task, means: Means, results: Results) -> Outcomes:
+    """What the program itself does on each test of a job that has a report; it is asked once, and kept."""
+    lines = results.outcomes(task)
+    if lines is None:
+        lines = asked_outcomes(read_job(task.text or b""), means, None)
+        results.keep_outcomes(task, lines)
+    return Outcomes(lines)
+
+
 def write_pages(
-    out: Path, program: str, tasks: list[Task], found: list[Result], known: dict[str, Known], results: Results
+    out: Path, means: Means, tasks: list[Task], found: list[Result], known: dict[str, Known], results: Results
 ) -> None:
     """The page of each job that has a report, and that of the class, whose title is the name of its folder."""
+    remark = remark_on(means.program)
     views = {}
     for task, result in zip(tasks, found):
         if task.text is None or task.program_name not in known:
@@ -136,9 +149,10 @@ def write_pages(
         views[task.program_name] = view_of(task.text, known[task.program_name])
         if result.report is not None:
             said = Said(None, task.meant.reasons, task.meant.remarks)
-            told = report_page(read_job(task.text), *known[task.program_name], result.report, remark_on(program), said)
-            written(results.path(task.name, ".html"), told.encode())
-    written(out / "course.html", course_page(out.resolve().parent.name, found, views, remark_on(program)).encode())
+            outcomes = outcomes_of(task, means, results)
+            text = report_page(read_job(task.text), *known[task.program_name], result.report, remark, outcomes, said)
+            written(results.path(task.name, ".html"), text.encode())
+    written(out / "course.html", course_page(out.resolve().parent.name, found, views, remark).encode())
 
 
 def write_table(out: Path, found: list[Result]) -> None:
@@ -164,7 +178,7 @@ def run(given: argparse.Namespace, name: str) -> int:
     run_missing(given, program, tasks, results, name)
     found = [result_of(task, results) for task in tasks]
     write_table(out, found)
-    write_pages(out, program, tasks, found, known, results)
+    write_pages(out, Means(program, given.steps), tasks, found, known, results)
     done = sum(result.report is not None for result in found)
     print(f"{done} of {len(found)} with a report: {out / 'course.html'}")
     print(remark_on(program), end="\n" if remark_on(program) else "")

@@ -20,12 +20,12 @@ from pathlib import Path
 from mutants.declarations.entries import Entry, appended, entries_text, written_entries
 from mutants.declarations.files import asked_present, path_beside
 from mutants.declarations.settling import Present, Settled, entry_for, settled
+from mutants.files import written
 from mutants.jobs.making import add_reading_options, made_of, told_of, wish_of
 from mutants.operators import NAMES
 from mutants.pages.frame import plural
 from mutants.program.finding import add_mothra_option, find_program
 from mutants.statuses import SUCCESS
-from mutants.texts.files import written
 from mutants.texts.lines import Mutant
 
 Name = tuple[str, int]

@@ -2,14 +2,14 @@
 
     mutants page [--mothra MOTHRA] [--ops A,B] [--every Q] [--steps N] [--workers N] JOB > page.html
     mutants page [OPTION..] PROGRAM.f [TESTS.json|TESTS.csv] > page.html
-    mutants page --print FILE --list FILE --report FILE JOB > page.html
+    mutants page --print FILE --list FILE --report FILE [--outcomes FILE] JOB > page.html
 
 Of a program and its tests a job is made, as by mutants job and with its options. Declared mutants stand on the page with
 their texts and reasons; of a job the reasons are those of the file that --equivalent names.
 
-The program is asked for `print`, `list` and `run` with the job. Any of the three texts can be given as a file instead,
-as the program wrote it; with all of them the program is not needed. The page is one file with no script, and nothing
-in it is loaded from elsewhere.
+The program is asked for `print`, `list` and `run` with the job, and for `exec` with each test. Any of these texts can be
+given as a file instead, as the program wrote it, the outcomes a line each; with the first three the program is not
+needed. The page is one file with no script, and nothing in it is loaded from elsewhere.
 
 `run` is asked for a few operators at a time, so that a line on standard error can say how far it is; the reports are
 joined. A text that is no such text, is cut short or is not of this job is refused with one line, and the exit status is 1.
@@ -21,15 +21,18 @@ from collections.abc import Sequence
 from functools import cache
 from pathlib import Path
 
+from mutants.checks.outcomes import asked_outcomes
+from mutants.checks.running import Means
 from mutants.jobs.given import given_job
 from mutants.jobs.making import add_making_options
-from mutants.pages.report import report_page
+from mutants.pages.report import Outcomes, report_page
 from mutants.program.asking import asked_report
 from mutants.program.calling import answer, read_as, text_of
 from mutants.program.finding import add_mothra_option, find_program
 from mutants.program.unproved import remark_on
 from mutants.statuses import SUCCESS
-from mutants.texts.jobs import read_job
+from mutants.texts.jobs import Job, read_job
+from mutants.texts.lines import lines_of_text
 from mutants.texts.lists import read_list
 from mutants.texts.prints import read_print
 from mutants.texts.reports import read_report
@@ -44,11 +47,22 @@ def add_words(parser: argparse.ArgumentParser) -> None:
     add_mothra_options(parser, "ops", "every", "steps", "workers")
     for option, command in (("print", "print"), ("list", "list"), ("report", "run")):
         parser.add_argument(f"--{option}", metavar="FILE", help=f"what mothra {command} wrote, in place of asking it")
+    parser.add_argument("--outcomes", metavar="FILE", help="what mothra exec wrote of each test, a line each")
 
 
 def text_from(path: str | None, program: str, words: Sequence[str], job: bytes) -> tuple[str, str]:
     """A text that is given as a file, or that the program is asked for; and the name that a fault tells."""
     return (path, text_of(path)) if path else (f"mothra {words[0]}", answer(program, words, job))
+
+
+def outcomes_of(given: argparse.Namespace, program: str, job: Job, name: str) -> Outcomes:
+    """What the program itself does on each test: from a file, or asked of it; none where there is neither."""
+    if not given.outcomes:
+        return Outcomes(asked_outcomes(job, Means(program, given.steps), name) if program else ())
+    lines = read_as(given.outcomes, lambda text: lines_of_text(text, "the outcomes"), text_of(given.outcomes))
+    if len(lines) != len(job.suite):
+        raise ValueError(f"{given.outcomes}: it has {len(lines)} outcomes, and the job {len(job.suite)} tests")
+    return Outcomes(lines)
 
 
 def run(given: argparse.Namespace, name: str) -> int:
@@ -67,6 +81,8 @@ def run(given: argparse.Namespace, name: str) -> int:
         report = read_as(given.report, read_report, text_of(given.report))
     else:
         report = asked_report(program, asked_words(given, "every", "steps", "workers"), totals, text, command)
+    outcomes = outcomes_of(given, program, job, command)
     # A page is UTF-8 whatever the terminal takes.
-    sys.stdout.buffer.write(report_page(job, printed, listed, report, remark_on(program), asked.said).encode())
+    told = report_page(job, printed, listed, report, remark_on(program), outcomes, asked.said)
+    sys.stdout.buffer.write(told.encode())
     return SUCCESS

@@ -32,6 +32,7 @@ class Subcommand(NamedTuple):
 
 
 SUBCOMMANDS = [
+    Subcommand("check", "run the mutants of a program on its tests: score, survivors, page"),
     Subcommand("job", "make a job of a program and a table of its tests"),
     Subcommand("declare", "declare mutants equivalent, tied to the texts that this is said of"),
     Subcommand("page", "make one HTML file of what mothra says of a job"),

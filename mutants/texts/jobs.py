@@ -10,10 +10,11 @@ Value = int | list[int]
 class Job(NamedTuple):
     source: str
     suite: list[Any]
+    equivalent: list[Any] = []
 
 
 def read_job(text: bytes) -> Job:
-    """The source and the suite of a job in JSON, given as bytes."""
+    """A job in JSON, given as bytes: its source, its suite, and what it declares equivalent."""
     try:
         job = json.loads(text.decode("utf-8-sig"))
     except (ValueError, RecursionError):
@@ -22,7 +23,7 @@ def read_job(text: bytes) -> Job:
         raise ValueError("it is no job: there is no JSON object at its top")
     if not isinstance(job.get("source"), str):
         raise ValueError("it is no job: its key source is absent or no text")
-    suite = job.get("suite", [])
-    if not isinstance(suite, list):
-        raise ValueError("it is no job: its key suite has no list")
-    return Job(job["source"], suite)
+    for key in ("suite", "equivalent"):
+        if not isinstance(job.get(key, []), list):
+            raise ValueError(f"it is no job: its key {key} has no list")
+    return Job(job["source"], job.get("suite", []), job.get("equivalent", []))

@@ -1,4 +1,4 @@
-"""Reports: what `mothra run` writes, read as a value, and joined."""
+"""Reports: what `mothra run` writes, read as a value."""
 
 import re
 from collections import Counter
@@ -131,16 +131,6 @@ def score_of(count: Count) -> str:
 def sum_lines(counts: Iterable[Count]) -> list[str]:
     total = summed(counts)
     return [f"TOTAL {total.total} {total.killed} {total.equivalent}", f"SCORE {score_of(total)}"]
-
-
-def joined(reports: Sequence[Report]) -> Report:
-    """The reports of one job for different operators, in their order, as one report."""
-    if len({report[:4] for report in reports}) != 1:
-        raise ValueError("the reports of the operators are not of one job")
-    counts = {op: count for report in reports for op, count in report.counts.items()}
-    rows = [row for report in reports for row in report.rows]
-    survived = [mutant for report in reports for mutant in report.survivors]
-    return reports[0]._replace(counts=counts, rows=rows, survivors=survived)
 
 
 def with_status(listed: Iterable[Mutant], rows: Iterable[Row], status: str) -> list[Mutant]:

@@ -1,4 +1,4 @@
-"""Files that are written: whole or not at all."""
+"""Files that are written as a whole or not at all."""
 
 import os
 from pathlib import Path
@@ -7,5 +7,9 @@ from pathlib import Path
 def written(path: Path, data: bytes) -> None:
     """Writes a file under another name and then renames it, so that it is there as a whole or not at all."""
     part = path.with_name(path.name + ".part")
-    part.write_bytes(data)
-    os.replace(part, path)
+    try:
+        part.write_bytes(data)
+        os.replace(part, path)
+    except BaseException:
+        part.unlink(missing_ok=True)
+        raise

@@ -1,0 +1,163 @@
+"""A check: the program and its tests asked for all that is told of them."""
+
+from collections.abc import Callable, Sequence
+from pathlib import Path
+from typing import NamedTuple, TypeVar
+
+from mutants.checks.batches import batch_text
+from mutants.checks.choice import Choice, choose, lines_changed, lines_within, restricted, totals_of
+from mutants.checks.faults import told_of_program
+from mutants.checks.outcomes import Difference, asked_outcomes, differences
+from mutants.checks.running import Means, asked_in_parts
+from mutants.jobs.expecting import Expected, assert_header
+from mutants.jobs.making import made_of
+from mutants.jobs.sources import Wish
+from mutants.operators import NAMES
+from mutants.pages.declared import NOTHING, Said
+from mutants.pages.frame import joined_words
+from mutants.pages.program import statements_by_line
+from mutants.program.asking import asked_list, asked_print
+from mutants.program.calling import Fault
+from mutants.texts.jobs import Job
+from mutants.texts.lines import Mutant
+from mutants.texts.reports import Report
+
+# The limit on steps where none is given.
+STEPS = 10000
+Found = TypeVar("Found")
+
+
+class Asked(NamedTuple):
+    """What a check is asked about: its files, the operators (None: all), lines, an older version of the program, and
+    how programs are read."""
+
+    program: Path
+    tests: Path
+    ops: list[str] | None
+    without: list[str]
+    ranges: list[tuple[int, int]] | None
+    old: Path | None
+    wish: Wish = Wish()
+
+
+class Checked(NamedTuple):
+    """What came of a check. The list and the report have the mutants that were asked about; `whole` has all that ran."""
+
+    job: Job
+    printed: list[str]
+    statements: dict[int, str]
+    listed: list[Mutant]
+    report: Report
+    whole: Report
+    left_out: list[str]
+    outcomes: list[str]
+    unexpected: list[Difference]
+    # The source as its file has it, the reasons of declared mutants, and what was told.
+    said: Said = NOTHING
+
+    @property
+    def shown(self) -> str:
+        """The source as it is shown."""
+        return self.job.source if self.said.shown is None else self.said.shown
+
+
+def dummies_of(printed: Sequence[str]) -> list[str]:
+    """The names of the dummy arguments, in order."""
+    _, _, names = printed[0].partition("(")
+    return names.rstrip(")").split(",") if names else []
+
+
+def source_alone(job: Job) -> bytes:
+    return batch_text(Job(job.source, []))
+
+
+def printed_of(program: str, path: Path, job: Job) -> list[str]:
+    try:
+        return asked_print(program, source_alone(job))
+    except Fault as fault:
+        raise told_of_program(path, job.source, fault) from None
+
+
+def ops_of(asked: Asked) -> list[str]:
+    """The operators that are asked for."""
+    return [op for op in asked.ops or NAMES if op not in asked.without]
+
+
+def words_of_ops(asked: Asked) -> list[str]:
+    """The words for the operators that are asked for; none where all are."""
+    ops = ops_of(asked)
+    if not ops:
+        raise ValueError("no operator is left: --except has all that are asked for")
+    return ["--ops", ",".join(ops)] if len(ops) < len(NAMES) else []
+
+
+def changed_of(program: str, asked: Asked, job: Job, printed: Sequence[str]) -> tuple[set[int], str]:
+    """The lines that the older version has not, and why the others are left out."""
+    assert asked.old
+    old = Job(made_of(asked.old, None, asked.wish).source.text, [])
+    lines = lines_changed(job.source, printed, old.source, printed_of(program, asked.old, old))
+    return lines, f"of statements that are the same in {asked.old}"
+
+
+def chosen(program: str, asked: Asked, job: Job, printed: Sequence[str], listed: Sequence[Mutant]) -> Choice:
+    """The mutants of the lines that are asked about."""
+    choice = choose(listed, None, "")
+    if asked.ranges is not None:
+        choice = choose(listed, lines_within(job.source, asked.ranges), "of other lines than those of --lines")
+    if asked.old is not None:
+        more = choose(choice.listed, *changed_of(program, asked, job, printed))
+        choice = Choice(more.listed, choice.left_out + more.left_out)
+    return choice
+
+
+def listed_of(program: str, asked: Asked, job: Job) -> tuple[dict[str, int], list[Mutant]]:
+    try:
+        return asked_list(program, words_of_ops(asked), source_alone(job))
+    except Fault as fault:
+        raise told_of_program(asked.program, job.source, fault) from None
+
+
+def ops_left_out(asked: Asked) -> list[str]:
+    """Which operators are left out, in as few names as tell it."""
+    kept = ops_of(asked)
+    rest = [op for op in NAMES if op not in kept]
+    if not rest:
+        return []
+    told = f"all operators but {joined_words(kept)}" if len(kept) < len(rest) else joined_words(rest)
+    return [f"the mutants of {told}"]
+
+
+def ran(job: Job, printed: Sequence[str], totals: dict[str, int], means: Means, name: str) -> Report:
+    """The report on these operators; there may be none."""
+    if totals:
+        return asked_in_parts(job, totals, means, name)
+    unit = printed[0].removeprefix("SUBROUTINE ").partition("(")[0]
+    return Report(unit, len(job.suite), int(means.steps or STEPS), 1, {}, [], [])
+
+
+def named(path: Path, find: Callable[[], Found]) -> Found:
+    """What is found; a fault that is not the program's own names the file."""
+    try:
+        return find()
+    except Fault:
+        raise
+    except ValueError as fault:
+        raise ValueError(f"{path}: {fault}") from None
+
+
+def check(asked: Asked, job: Job, expected: Expected, means: Means, name: str) -> Checked:
+    """Asks the program for all of it. What keeps the program or a test from being run is told before mutants are run."""
+    program = means.program
+    printed = printed_of(program, asked.program, job)
+    names = dummies_of(printed)
+    assert_header(expected.header, names, asked.tests)
+    totals, listed = listed_of(program, asked, job)
+    choice = chosen(program, asked, job, printed, listed)
+    outcomes = named(asked.tests, lambda: asked_outcomes(job, means, name))
+    unexpected = named(expected.path, lambda: differences(expected.texts, outcomes, names))
+    is_whole = len(choice.listed) == len(listed)
+    whole = ran(job, printed, totals if is_whole else totals_of(totals, choice.listed), means, name)
+    report = whole if is_whole else restricted(whole, choice.listed)
+    left_out = ops_left_out(asked) + choice.left_out
+    statements = statements_by_line(job.source, printed)
+    return Checked(job, printed, statements, choice.listed, report, whole, left_out, outcomes, unexpected)

@@ -1,0 +1,127 @@
+"""Which tests come to which statement, asked of the program.
+
+A trap in the place of a statement (operator SAN) is sprung by the tests that come to it. A block IF, ELSE IF or DO has no
+such mutant. So 1-0 is put into each of them in a way that changes nothing, and the mutant that has 1/0 there (operator
+AOR) is killed by the tests that come to it.
+"""
+
+import re
+from collections.abc import Iterable, Sequence
+from typing import NamedTuple
+
+from mutants.checks.batches import batch_text
+from mutants.checks.checking import Checked
+from mutants.checks.running import Means, asked_in_parts
+from mutants.program.asking import asked_list
+from mutants.program.calling import Fault
+from mutants.texts.cards import cards_of
+from mutants.texts.jobs import Job
+from mutants.texts.lines import Mutant
+from mutants.texts.reports import Row
+
+TRAP, SAN, AOR = "TRAP", "SAN", "AOR"
+# So many characters of a statement stand on a line.
+WIDTH = 66
+
+
+class Watched(NamedTuple):
+    """A statement with 1-0 in it, and how its mutant begins that has 1/0 there."""
+
+    statement: str
+    front: str
+
+
+def trap_bits(listed: Sequence[Mutant], rows: Iterable[Row]) -> dict[int, str]:
+    """The tests that come to each statement that has a trap in its place, a digit each."""
+    traps = [mutant for mutant in listed if mutant.op == SAN and mutant.text == TRAP]
+    lines: dict[tuple[str, int, int], int] = {mutant[:3]: mutant.line for mutant in traps}
+    return {lines[row[:3]]: row.bits for row in rows if row[:3] in lines}
+
+
+def asked_mutants(job: Job, op: str, means: Means) -> tuple[dict[str, int], list[Mutant]]:
+    return asked_list(means.program, ["--ops", op], batch_text(Job(job.source, [])))
+
+
+def asked_traps(checked: Checked, means: Means, name: str) -> dict[int, str]:
+    """The tests that come to each statement that a trap can replace: of the report, or asked of the program."""
+    if SAN in checked.whole.counts:
+        return trap_bits(checked.listed, checked.whole.rows)
+    job = Job(checked.job.source, checked.job.suite)
+    totals, listed = asked_mutants(job, SAN, means)
+    return trap_bits(listed, asked_in_parts(job, totals, means, name).rows)
+
+
+def kill_bits(listed: Iterable[Mutant], rows: Iterable[Row], tests: int) -> dict[int, str]:
+    """The tests that kill some mutant of each line."""
+    found: dict[int, int] = {}
+    for mutant, row in zip(listed, rows):
+        found[mutant.line] = found.get(mutant.line, 0) | int(row.bits or "0", 2)
+    return {line: f"{bits:0{tests}b}" if tests else "" for line, bits in found.items()}
+
+
+def first_parameter(text: str) -> int:
+    """How long the first of some expressions is that are joined by commas."""
+    depth = 0
+    for place, character in enumerate(text):
+        depth += {"(": 1, ")": -1}.get(character, 0)
+        if character == "," and depth == 0:
+            return place
+    return len(text)
+
+
+def watched(told: str) -> Watched | None:
+    """A block IF, ELSE IF or DO that does the same and has 1-0 in it; None for another statement."""
+    block = re.fullmatch(r"((?:ELSE )?IF )\((.*)\) THEN", told)
+    if block:
+        return Watched(f"{block[1]}(1-0.EQ.1.AND.({block[2]})) THEN", f"{block[1]}(1/0.EQ.1.AND.")
+    loop = re.match(r"DO \d+ \w+=", told)
+    if not loop:
+        return None
+    rest = told[loop.end() :]
+    end = first_parameter(rest)
+    return Watched(f"{loop[0]}(1-0)*({rest[:end]}){rest[end:]}", f"{loop[0]}1/0*")
+
+
+def card_lines(label: str, told: str) -> list[str]:
+    """A statement in fixed form."""
+    pieces = [told[at : at + WIDTH] for at in range(0, len(told), WIDTH)]
+    return [f"{label:>5} {pieces[0]}", *(f"     +{piece}" for piece in pieces[1:])]
+
+
+def watched_source(checked: Checked) -> tuple[str, dict[int, tuple[int, str]]]:
+    """The program with 1-0 in those statements; and by their lines there, their lines and how the mutants begin."""
+    lines: list[str] = []
+    found = {}
+    for card, told in zip(cards_of(checked.job.source), checked.printed):
+        watch = watched(told)
+        if watch:
+            found[len(lines) + 1] = card.line, watch.front
+        lines += card_lines(card.label, watch.statement if watch else told)
+    return "".join(f"{line}\n" for line in lines), found
+
+
+def asked_watches(checked: Checked, means: Means, name: str) -> dict[int, str]:
+    """The tests that come to each block IF, ELSE IF and DO; none where these are too long for a further operation."""
+    source, found = watched_source(checked)
+    job = Job(source, checked.job.suite)
+    try:
+        totals, listed = asked_mutants(job, AOR, means) if found else ({}, [])
+    except Fault:
+        return {}
+    rows = asked_in_parts(job, totals, means, name).rows if found else []
+    pairs = [(found[mutant.line], mutant, row) for mutant, row in zip(listed, rows) if mutant.line in found]
+    return {line: row.bits for (line, front), mutant, row in pairs if mutant.text.startswith(front)}
+
+
+def covering(checked: Checked, means: Means, name: str) -> dict[int, str]:
+    """For each line that has mutants a digit for each test, 1 where it comes to the statement.
+
+    Where this is not known otherwise, the tests that kill a mutant of the line are told.
+    """
+    tests = len(checked.job.suite)
+    lines = {mutant.line for mutant in checked.listed}
+    known = {line: "1" * tests for line in lines if checked.statements[line].startswith("DATA ")}
+    known |= asked_traps(checked, means, name) if lines - set(known) else {}
+    known |= asked_watches(checked, means, name) if lines - set(known) else {}
+    known = {**kill_bits(checked.listed, checked.report.rows, tests), **known}
+    return {line: known[line] for line in sorted(lines)}

@@ -1,0 +1,41 @@
+"""What keeps a check from being made, in one line for its user."""
+
+from collections.abc import Sequence
+from pathlib import Path
+
+from mutants.explanations.meanings import MEANINGS
+from mutants.program.calling import Fault
+from mutants.texts.cards import source_lines
+
+# So much of a line of the program is shown.
+LONGEST = 80
+
+
+def said_of(line: str) -> str:
+    """What the line of a fault means, and the line itself."""
+    code = line.removeprefix("FAULT ").split(" ")[0]
+    meaning = MEANINGS.get(code) if line.startswith("FAULT ") else None
+    return f"{meaning.says} ({line})" if meaning else line
+
+
+def told_of_program(path: Path, source: str, fault: Fault) -> ValueError:
+    """What keeps a program from being read, with its line where the fault has one; other faults stay as they are."""
+    code, _, detail = fault.line.removeprefix("FAULT ").partition(" ")
+    meaning = MEANINGS.get(code) if fault.line.startswith("FAULT ") else None
+    if not meaning or code[0] not in "JFSCO":
+        return fault
+    lines = source_lines(source)
+    if meaning.detail != "line" or not detail.isdecimal() or not 0 < int(detail) <= len(lines):
+        return ValueError(f"{path}: {said_of(fault.line)}")
+    shown = " ".join(lines[int(detail) - 1].split())[:LONGEST]
+    return ValueError(f"{path}, line {detail}: {said_of(fault.line)}: {shown}")
+
+
+def told_of_run(declared: Sequence[object], fault: Fault) -> ValueError:
+    """What keeps the mutants from being run; a declared mutant is named. What is no fault stays as it is."""
+    code, _, detail = fault.line.removeprefix("FAULT ").partition(" ")
+    if not fault.line.startswith("FAULT "):
+        return fault
+    if code in ("J5", "B5", "B6") and detail.isdecimal() and 0 < int(detail) <= len(declared):
+        return ValueError(f"declared mutant {declared[int(detail) - 1]}: {said_of(fault.line)}")
+    return ValueError(said_of(fault.line))

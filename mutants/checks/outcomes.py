@@ -1,0 +1,127 @@
+"""What the program itself does on each test, and whether that is what is expected of it."""
+
+import re
+from collections.abc import Mapping, Sequence
+from typing import NamedTuple
+
+from mutants.checks.batches import batch_text
+from mutants.checks.faults import said_of
+from mutants.checks.running import Means, calls_at_once
+from mutants.program.calling import Fault
+from mutants.program.many import Call, ask_many
+from mutants.progress import Estimate, Progress
+from mutants.texts.jobs import Job
+
+# The outcomes on which a test can be run at all: others are faults of the program itself.
+ENDS = ("RETURNED", "STOPPED")
+TRUTHS = {"TRUE": "T", ".TRUE.": "T", "FALSE": "F", ".FALSE.": "F"}
+
+
+class Difference(NamedTuple):
+    """A test on which the outcome of the program is another than the expected one."""
+
+    test: int
+    outcome: str
+    expected: str
+
+
+def told_of_test(number: int, fault: Fault) -> ValueError:
+    """What keeps a test from being run, in one line; what is no fault of the test stays as it is."""
+    if not fault.line.startswith(("FAULT N", "FAULT J4", "FAULT J7")):
+        return fault
+    return ValueError(f"test {number}: {said_of(fault.line)}")
+
+
+def untold() -> None:
+    """In the place of what tells how far it is."""
+
+
+def asked_outcomes(job: Job, means: Means, name: str | None) -> list[str]:
+    """The line of the outcome of the program itself on each test; the first test that cannot be run is refused.
+
+    How far it is is told by the name of a command, where there is one.
+    """
+    steps = ["--steps", means.steps] if means.steps is not None else []
+    words, plain = ["exec", "--test", "1", *steps], Job(job.source, job.suite)
+    calls: list[Call] = [(words, batch_text(plain, at, at + 1)) for at in range(len(job.suite))]
+    found, progress = [""] * len(calls), Progress(name or "")
+    estimate = Estimate(progress, f"the program itself on {len(calls)} tests", len(calls))
+
+    def keep(place: int, text: str) -> None:
+        found[place] = text.rstrip("\n")
+        estimate.add(1)
+
+    def refuse(place: int, fault: Fault) -> ValueError:
+        return told_of_test(place + 1, fault)
+
+    try:
+        ask_many(means.program, calls, calls_at_once(means), keep, estimate.tick if name else untold, refuse)
+    finally:
+        progress.end()
+    for number, outcome in enumerate(found, 1):
+        if outcome.split(" ")[0] not in ENDS:
+            raise ValueError(f"test {number}: the program itself ends as {outcome}; it has to return or stop on each test")
+    return found
+
+
+def values_in(outcome: str) -> list[str]:
+    """The values of an outcome, as its line has them."""
+    return outcome.split(" ")[1:]
+
+
+def scalar_text(word: str) -> str:
+    """A number or a truth value as an outcome writes it; another text stays."""
+    if re.fullmatch(r"[+-]?\d{1,10}", word):
+        return str(int(word))
+    return TRUTHS.get(word, word)
+
+
+def array_text(inside: str) -> str:
+    return "(" + ",".join(map(scalar_text, re.split(r"[\s,]+", inside.strip()))) + ")"
+
+
+def words_in(text: str) -> list[str]:
+    """The words of an expectation as an outcome has them: upper case, arrays in parentheses and without blanks."""
+    plain = re.sub(r"\s*=\s*", "=", text.strip().upper().translate(str.maketrans("[]", "()")))
+    plain = re.sub(r"\(([^()]*)\)", lambda found: f" {array_text(found[1])} ", plain).replace("= (", "=(")
+    words = [word.rpartition("=") for word in plain.split()]
+    return [name + sign + (word if word.startswith("(") else scalar_text(word)) for name, sign, word in words]
+
+
+def is_word_met(word: str, outcome: str, names: Sequence[str]) -> bool:
+    """Whether NAME=VALUE holds of an outcome."""
+    name, _, value = word.partition("=")
+    if name not in names:
+        raise ValueError(f"{name} is no dummy argument: these are {', '.join(names) or 'none'}")
+    return value in ("*", values_in(outcome)[list(names).index(name)])
+
+
+def is_met(expected: str, outcome: str, names: Sequence[str]) -> bool:
+    """Whether an outcome is what is expected: NAME=VALUE for some arguments, or all values in order, * for any.
+
+    In front may stand RETURNED or STOPPED; without it the program has to return. An empty text expects nothing.
+    """
+    words = words_in(expected)
+    if not words:
+        return True
+    kind = words.pop(0) if words[0] in ENDS else ENDS[0]
+    if outcome.split(" ")[0] != kind:
+        return False
+    if all("=" in word for word in words):
+        return all([is_word_met(word, outcome, names) for word in words])
+    if len(words) != len(names):
+        raise ValueError(f"{expected!r} has {len(words)} values, and the subroutine has {len(names)} dummy arguments")
+    return all(word in ("*", value) for word, value in zip(words, values_in(outcome)))
+
+
+def differences(expected: Mapping[int, str], outcomes: Sequence[str], names: Sequence[str]) -> list[Difference]:
+    """The tests, from 1, whose outcome is not what is expected of them."""
+    found = []
+    for number, text in sorted(expected.items()):
+        try:
+            met = is_met(text, outcomes[number - 1], names)
+        except ValueError as fault:
+            raise ValueError(f"what is expected of test {number}: {fault}") from None
+        if not met:
+            found.append(Difference(number, outcomes[number - 1], " ".join(text.split())))
+    return found

@@ -1,0 +1,54 @@
+"""The parts of a job: batches of its tests by groups of its operators, and the report that their reports make."""
+
+from collections.abc import Mapping, Sequence
+from typing import NamedTuple
+
+from mutants.texts.joining import joined_batches, joined_operators
+from mutants.texts.reports import Report
+
+# A group has so many mutants at least, so that a part is worth a call.
+LEAST = 40
+# So many parts there are for each processor, where the job is long: so none of them waits long for the last one.
+SHARE = 8
+
+
+class Part(NamedTuple):
+    """A batch and a group, by their places, and how many runs of mutants they ask for."""
+
+    batch: int
+    group: int
+    runs: int
+
+
+def groups_of(totals: Mapping[str, int], least: int) -> list[list[str]]:
+    """The operators in their order, in groups that have so many mutants at least, but for the last."""
+    groups: list[list[str]] = [[]]
+    count = 0
+    for op, total in totals.items():
+        if count >= least:
+            groups.append([])
+            count = 0
+        groups[-1].append(op)
+        count += total
+    return groups
+
+
+def group_size(totals: Mapping[str, int], batches: int, at_once: int) -> int:
+    """How many mutants a group should have, so that there are parts for all processors."""
+    return max(LEAST, sum(totals.values()) * batches // (SHARE * at_once))
+
+
+def parts_of(totals: Mapping[str, int], groups: Sequence[Sequence[str]], sizes: Sequence[int]) -> list[Part]:
+    """All parts of a job whose batches have these numbers of tests, the longest first."""
+    mutants = [sum(totals[op] for op in group) for group in groups]
+    found = [
+        Part(batch, group, count * max(size, 1)) for batch, size in enumerate(sizes) for group, count in enumerate(mutants)
+    ]
+    return sorted(found, key=lambda part: (-part.runs, part))
+
+
+def whole_report(reports: Mapping[tuple[int, int], Report]) -> Report:
+    """The one report of those of all parts, by batch and group."""
+    groups = sorted({group for _, group in reports})
+    count = len({batch for batch, _ in reports})
+    return joined_operators([joined_batches([reports[batch, group] for batch in range(count)]) for group in groups])

@@ -1,0 +1,73 @@
+"""The parts of a job run side by side, on the processors here or on other machines, and their one report."""
+
+from collections.abc import Mapping, Sequence
+from typing import NamedTuple
+
+from mutants.checks.batches import batch_text, batches
+from mutants.checks.faults import told_of_run
+from mutants.checks.machines import ask_machines
+from mutants.checks.parts import Part, group_size, groups_of, parts_of, whole_report
+from mutants.program.calling import Fault, read_as
+from mutants.program.many import Call, ask_many, processors
+from mutants.progress import Estimate, Progress
+from mutants.texts.jobs import Job
+from mutants.texts.reports import Report, read_report
+
+
+class Means(NamedTuple):
+    """What the runs are made with: the program, the options of the user, how many calls at once, and machines with
+    the name that the program has on all of them."""
+
+    program: str
+    steps: str | None = None
+    workers: str | None = None
+    jobs: int | None = None
+    logins: Sequence[str] = ()
+    remote: str = ""
+
+
+def calls_at_once(means: Means) -> int:
+    """How many calls are made at once here: so that their threads are as many as the processors."""
+    if means.jobs:
+        return means.jobs
+    threads = int(means.workers) if means.workers and means.workers.isdecimal() else 1
+    return max(1, processors() // max(threads, 1))
+
+
+def words_of(means: Means, ops: Sequence[str], threads: int) -> list[str]:
+    """The words of the call of one part."""
+    steps = ["--steps", means.steps] if means.steps is not None else []
+    return ["run", "--ops", ",".join(ops), *steps, "--workers", means.workers or str(threads)]
+
+
+def part_calls(job: Job, means: Means, groups: Sequence[Sequence[str]], parts: Sequence[Part]) -> list[Call]:
+    """The calls of the parts. Where there are fewer than processors a call has several threads."""
+    texts = [batch_text(job, *ends) for ends in batches(job)]
+    threads = 1 if means.logins or means.jobs else min(32, max(1, processors() // len(parts)))
+    return [(words_of(means, groups[part.group], threads), texts[part.batch]) for part in parts]
+
+
+def asked_in_parts(job: Job, totals: Mapping[str, int], means: Means, name: str) -> Report:
+    """The report on the operators of these totals, as one call would give it if it took suites of any length."""
+    sizes, at_once = [last - first for first, last in batches(job)], calls_at_once(means)
+    groups = groups_of(totals, group_size(totals, len(sizes), at_once))
+    parts = parts_of(totals, groups, sizes)
+    calls, reports = part_calls(job, means, groups, parts), dict[tuple[int, int], Report]()
+    progress = Progress(name)
+    estimate = Estimate(progress, f"{sum(totals.values())} mutants, {len(job.suite)} tests", sum(p.runs for p in parts))
+
+    def keep(place: int, text: str) -> None:
+        part = parts[place]
+        reports[part.batch, part.group] = read_as("mothra run", read_report, text)
+        estimate.add(part.runs)
+
+    try:
+        if means.logins:
+            ask_machines(means.remote, calls, means.jobs, means.logins, keep, estimate.tick)
+        else:
+            ask_many(means.program, calls, at_once, keep, estimate.tick)
+    except Fault as fault:
+        raise told_of_run(job.equivalent, fault) from None
+    finally:
+        progress.end()
+    return whole_report(reports)

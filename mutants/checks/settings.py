@@ -1,0 +1,105 @@
+"""The options of a check that a file beside the program has: mutants.ini, or mutants.toml, its section [mutants].
+
+An option has the name that it has on the command line, without the hyphens in front. What the command line says comes
+first. Names of files in it are from its own folder.
+"""
+
+import argparse
+import configparser
+import difflib
+from collections.abc import Callable, Mapping
+from importlib import import_module
+from pathlib import Path
+from typing import NoReturn
+
+SECTION = "mutants"
+INI, TOML = "mutants.ini", "mutants.toml"
+AddOptions = Callable[[argparse.ArgumentParser], None]
+# An option of the command line, and one of the file that is passed over then.
+OVERRULES = (("ops", "without"), ("page", "no_page"), ("no_page", "page"))
+TRUE, FALSE = ("1", "yes", "true", "on"), ("0", "no", "false", "off")
+
+
+class Parser(argparse.ArgumentParser):
+    """A parser whose refusals are faults of a file."""
+
+    def error(self, message: str) -> NoReturn:
+        raise ValueError(message.removeprefix("argument --"))
+
+
+def parser_of(add_options: AddOptions) -> Parser:
+    parser = Parser(add_help=False, allow_abbrev=False)
+    add_options(parser)
+    return parser
+
+
+def read_ini(path: Path) -> dict[str, str]:
+    found = configparser.ConfigParser(interpolation=None)
+    try:
+        found.read_string(path.read_text(encoding="utf-8-sig"), str(path))
+    except configparser.Error as fault:
+        raise ValueError(" ".join(str(fault).split())) from None
+    return dict(found[SECTION]) if SECTION in found else {}
+
+
+def toml_text(value: object) -> str:
+    """A value of toml as the command line would have it."""
+    if isinstance(value, bool):
+        return "yes" if value else "no"
+    return ",".join(map(str, value)) if isinstance(value, list) else str(value)
+
+
+def read_toml(path: Path) -> dict[str, str]:
+    try:
+        loads: Callable[[str], dict[str, object]] = import_module("tomllib").loads
+    except ImportError:
+        raise ValueError(f"Python reads toml from 3.11 on; {INI} is read by all") from None
+    section = loads(path.read_text(encoding="utf-8")).get(SECTION, {})
+    return {key: toml_text(value) for key, value in section.items()} if isinstance(section, dict) else {}
+
+
+def words_for(action: argparse.Action, option: str, value: str, folder: Path) -> list[str]:
+    """The words of an option with its value in a file."""
+    if action.nargs == 0:
+        if value.lower() not in (*TRUE, *FALSE):
+            raise ValueError(f"{option} is yes or no")
+        return [option] if value.lower() in TRUE else []
+    return [f"{option}={folder / value if action.type is Path else value}"]
+
+
+def words_in(values: Mapping[str, str], parser: Parser, folder: Path) -> list[str]:
+    actions = {option: action for action in parser._actions for option in action.option_strings}
+    words = []
+    for key, value in values.items():
+        option = f"--{key.strip().replace('_', '-')}"
+        if option not in actions:
+            near = difflib.get_close_matches(option, actions, 1)
+            raise ValueError(f"{key} is no option{f'; is {near[0][2:]} meant?' if near else ''}")
+        words += words_for(actions[option], option, value, folder)
+    return words
+
+
+def file_beside(program: Path) -> Path | None:
+    return next((path for path in (program.with_name(INI), program.with_name(TOML)) if path.is_file()), None)
+
+
+def read_settings(path: Path, add_options: AddOptions) -> argparse.Namespace:
+    """The options that a file has, as the command line would give them."""
+    try:
+        values = read_toml(path) if path.suffix == ".toml" else read_ini(path)
+        parser = parser_of(add_options)
+        return parser.parse_args(words_in(values, parser, path.parent))
+    except ValueError as fault:
+        raise ValueError(f"{path}: {fault}") from None
+
+
+def with_settings(given: argparse.Namespace, add_options: AddOptions) -> Path | None:
+    """Fills in what the command line left open, from the file beside the program; its path, where there is one."""
+    path = file_beside(given.program)
+    if path:
+        kept = vars(read_settings(path, add_options))
+        overruled = {other for name, other in OVERRULES if getattr(given, name)}
+        for name, value in kept.items():
+            if getattr(given, name) in (None, [], False) and name not in overruled:
+                setattr(given, name, value)
+    return path

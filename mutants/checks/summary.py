@@ -1,0 +1,125 @@
+"""What a check tells on the terminal: the program on the tests, the score, the survivors by line, tests that add nothing."""
+
+from collections.abc import Iterable, Iterator, Sequence
+from itertools import groupby
+
+from mutants.checks.checking import Checked
+from mutants.pages.declared import NO_REASON
+from mutants.pages.frame import joined_words, plural
+from mutants.pages.report import by_line, counts_by_line
+from mutants.pages.suite import alone_of, needless_text, values_of
+from mutants.texts.lines import Mutant
+from mutants.texts.reports import score_of, summed
+from mutants.pages.spans import change_of
+
+# So many tests are shown with their outcomes, and so many survivors of an operator on a line.
+TESTS, ALIKE = 20, 8
+# So many declared mutants are shown that no test kills.
+DECLARED = 10
+
+
+def outcome_lines(checked: Checked) -> Iterator[str]:
+    """What the program itself does on each test."""
+    shown = [(values_of(test), outcome) for test, outcome in zip(checked.job.suite, checked.outcomes)][:TESTS]
+    if not shown:
+        return
+    yield "The program on the tests:"
+    wide = max(len(values) for values, _ in shown)
+    for number, (values, outcome) in enumerate(shown, 1):
+        yield f"  {number:>3}  {values:<{wide}}  {outcome}"
+    rest = len(checked.outcomes) - len(shown)
+    if rest:
+        yield f"  and {plural(rest, 'further test')}"
+
+
+def difference_lines(checked: Checked) -> Iterator[str]:
+    """The tests on which the program does not do what is expected."""
+    found = checked.unexpected
+    if found:
+        yield f"NOT AS EXPECTED: {plural(len(found), 'test')}. The score is that of a program that is wrong."
+    for each in found:
+        values = values_of(checked.job.suite[each.test - 1])
+        yield f"  test {each.test}  {values}: {each.outcome}, expected {each.expected}"
+
+
+def score_line(checked: Checked) -> str:
+    count = summed(checked.report.counts.values())
+    wanted = count.total - count.equivalent
+    score = "No score" if wanted == 0 else f"Score {score_of(count)} %"
+    told = f"{score}: {count.killed} of {plural(wanted, 'mutant')} killed"
+    told += f", not counting {count.equivalent} declared equivalent" if count.equivalent else ""
+    return f"{told}, of those that were asked for." if checked.left_out else f"{told}."
+
+
+def wrong_lines(checked: Checked) -> Iterator[str]:
+    wrong = [f"{row.op} {row.place}" for row in checked.report.rows if row.status == "W"]
+    if wrong:
+        verb = "it" if len(wrong) == 1 else "each of them"
+        yield f"WRONGLY DECLARED EQUIVALENT: {joined_words(wrong)}. A test kills {verb}."
+
+
+def declared_lines(checked: Checked) -> Iterator[str]:
+    """The declared mutants with their texts and reasons, those first that a test kills."""
+    pairs = [(mutant, row) for mutant, row in zip(checked.listed, checked.report.rows) if row.status in "WE"]
+    pairs.sort(key=lambda pair: pair[1].status != "W")
+    wrong = sum(row.status == "W" for _, row in pairs)
+    if pairs:
+        yield f"{plural(len(pairs), 'mutant')} declared equivalent:"
+    for mutant, row in pairs[: wrong + DECLARED]:
+        name = f"{mutant.op} {mutant.place}"
+        killed = "KILLED, " if row.status == "W" else ""
+        reason = checked.said.reasons.get(name) or NO_REASON
+        yield f"  {name:<8}  line {mutant.line}: {changed_text(checked.statements[mutant.line], mutant.text)}: {killed}{reason}"
+    if len(pairs) > wrong + DECLARED:
+        yield f"  and {len(pairs) - wrong - DECLARED} more"
+
+
+def changed_text(old: str, new: str) -> str:
+    """A statement with what a mutant changes, as [old -> new]."""
+    change = change_of(old, new)
+    return f"{change.front}[{change.old} -> {change.new}]{change.back}"
+
+
+def line_lines(survivors: Iterable[Mutant], statement: str) -> Iterator[str]:
+    """The survivors of a line; where an operator has many, some of them."""
+    for op, alike in groupby(survivors, key=lambda mutant: mutant.op):
+        group = list(alike)
+        shown = group if len(group) <= ALIKE else group[: ALIKE - 1]
+        for mutant in shown:
+            yield f"  {f'{op} {mutant.place}':<8}  {changed_text(statement, mutant.text)}"
+        if len(shown) < len(group):
+            yield f"  {op}       and {len(group) - len(shown)} more"
+
+
+def survivor_lines(checked: Checked) -> Iterator[str]:
+    survivors, counts = checked.report.survivors, counts_by_line(checked.listed, checked.report.rows)
+    lines = by_line(survivors)
+    if not survivors:
+        yield "No mutant survives that is not declared equivalent."
+        return
+    yield f"{plural(len(survivors), 'survivor')} on {plural(len(lines), 'line')}, each with what it changes:"
+    for line in sorted(lines):
+        yield f"line {line}: {checked.statements[line]} ({len(lines[line])} of {counts[line].total} survive)"
+        yield from line_lines(lines[line], checked.statements[line])
+
+
+def unreached_lines(checked: Checked) -> Iterator[str]:
+    """The statements that no test comes to, as far as the report tells it: a trap in their place survives."""
+    found = [mutant.line for mutant in checked.report.survivors if mutant.op == "SAN" and mutant.text == "TRAP"]
+    if found:
+        yield f"No test comes to {'line' if len(found) == 1 else 'lines'} {joined_words(sorted(found))}."
+
+
+def suite_lines(checked: Checked) -> Iterator[str]:
+    tests = len(checked.job.suite)
+    if tests and checked.report.rows:
+        yield needless_text(alone_of(checked.report.rows, tests))
+
+
+def summary(checked: Checked, program: object, more: Sequence[str]) -> str:
+    """The whole text; `more` are lines on what was written."""
+    lines = [f"{checked.report.unit} of {program}: {plural(len(checked.job.suite), 'test')}", *outcome_lines(checked)]
+    lines += [*difference_lines(checked), "", *wrong_lines(checked), score_line(checked)]
+    lines += [f"Left out: {each}." for each in checked.left_out]
+    lines += ["", *survivor_lines(checked), *unreached_lines(checked), *declared_lines(checked), "", *suite_lines(checked), *more]
+    return "\n".join(lines).rstrip("\n") + "\n"

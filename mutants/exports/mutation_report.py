@@ -1,0 +1,70 @@
+"""The mutants of a check in the JSON format that tools of mutation testing share for their reports."""
+
+import json
+from collections.abc import Mapping, Sequence
+from pathlib import Path
+from typing import Any
+
+from mutants import __version__
+from mutants.checks.checking import Checked
+from mutants.exports.rows import Told, told_of
+from mutants.operators import NAMES
+from mutants.pages.spans import Places, Span, placed
+from mutants.pages.suite import values_of
+from mutants.texts.cards import Place, cards_of
+
+SCHEMA_VERSION = "2"
+# From this score on, in percent, a file is shown as good, and below that one as bad.
+HIGH, LOW = 80, 60
+EQUIVALENT = "declared equivalent"
+
+
+def position(place: Place) -> dict[str, int]:
+    return {"line": place[0], "column": place[1]}
+
+
+def location(span: Span) -> dict[str, dict[str, int]]:
+    return {"start": position(span.start), "end": position(span.end)}
+
+
+def mutant_object(told: Told, places: Places, reason: str) -> dict[str, Any]:
+    span, new = placed(places, told.before, told.mutant.text)
+    found: dict[str, Any] = {
+        "id": told.name,
+        "mutatorName": told.mutant.op,
+        "description": f"{NAMES.get(told.mutant.op, told.mutant.op)}: {told.mutant.text}",
+        "replacement": new,
+        "location": location(span),
+        "status": told.status,
+        "killedBy": list(map(str, told.killed_by)),
+        "coveredBy": list(map(str, told.covered_by)),
+    }
+    if told.is_declared:
+        what = EQUIVALENT if told.status == "Ignored" else f"{EQUIVALENT}, but a test kills it"
+        found["statusReason"] = f"{what}: {reason}" if reason else what
+    return found
+
+
+def tests_object(suite: Sequence[Any]) -> dict[str, Any]:
+    return {"tests": [{"id": str(number), "name": values_of(test)} for number, test in enumerate(suite, 1)]}
+
+
+def mutation_report(checked: Checked, covered: Mapping[int, str], program: Path, tests: Path) -> dict[str, Any]:
+    """The whole report, as an object of JSON."""
+    cards = {card.line: card for card in cards_of(checked.shown)}
+    places = {line: Places(cards[line], checked.statements[line]) for line in covered}
+    reasons = checked.said.reasons
+    mutants = [
+        mutant_object(told, places[told.mutant.line], reasons.get(told.name, "")) for told in told_of(checked, covered)
+    ]
+    return {
+        "schemaVersion": SCHEMA_VERSION,
+        "thresholds": {"high": HIGH, "low": LOW},
+        "files": {program.as_posix(): {"language": "fortran", "source": checked.shown, "mutants": mutants}},
+        "testFiles": {tests.as_posix(): tests_object(checked.job.suite)},
+        "framework": {"name": "mutants", "version": __version__},
+    }
+
+
+def mutation_report_text(checked: Checked, covered: Mapping[int, str], program: Path, tests: Path) -> str:
+    return json.dumps(mutation_report(checked, covered, program, tests), ensure_ascii=False) + "\n"

@@ -1,0 +1,62 @@
+"""The mutants of a check, each with what other programs are told of it; and as a table in CSV, a row each."""
+
+import csv
+import io
+from collections.abc import Iterator, Mapping
+from typing import NamedTuple
+
+from mutants.checks.checking import Checked
+from mutants.texts.lines import Mutant
+from mutants.texts.reports import Row
+
+COLUMNS = "mutant operator line status declared before after killed_by covered_by".split()
+
+
+class Told(NamedTuple):
+    """A mutant, its statement, its status, whether it is declared equivalent, and the tests that kill it and come to it."""
+
+    mutant: Mutant
+    before: str
+    status: str
+    is_declared: bool
+    killed_by: list[int]
+    covered_by: list[int]
+
+    @property
+    def name(self) -> str:
+        return f"{self.mutant.op} {self.mutant.place}"
+
+
+def tests_in(bits: str) -> list[int]:
+    """The numbers of the tests whose digit is 1."""
+    return [number for number, bit in enumerate(bits, 1) if bit == "1"]
+
+
+def status_of(row: Row, covered: str) -> str:
+    """The status by the names that reports of mutants share."""
+    if row.status in "KW":
+        return "Killed"
+    if row.status == "E":
+        return "Ignored"
+    return "Survived" if "1" in covered else "NoCoverage"
+
+
+def told_of(checked: Checked, covered: Mapping[int, str]) -> Iterator[Told]:
+    """What is told of each mutant, in the order of the report; `covered` has for each line the tests that come to it."""
+    for mutant, row in zip(checked.listed, checked.report.rows):
+        bits = covered[mutant.line]
+        before, status = checked.statements[mutant.line], status_of(row, bits)
+        yield Told(mutant, before, status, row.status in "EW", tests_in(row.bits), tests_in(bits))
+
+
+def table_text(checked: Checked, covered: Mapping[int, str]) -> str:
+    """The table of the mutants."""
+    kept = io.StringIO()
+    table = csv.writer(kept, lineterminator="\n")
+    table.writerow(COLUMNS)
+    for each in told_of(checked, covered):
+        tests = [" ".join(map(str, numbers)) for numbers in (each.killed_by, each.covered_by)]
+        declared = "yes" if each.is_declared else "no"
+        row = [each.name, each.mutant.op, each.mutant.line, each.status, declared, each.before, each.mutant.text]
+        table.writerow([*row, *tests])
+    return kept.getvalue()

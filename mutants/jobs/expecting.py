@@ -1,0 +1,39 @@
+"""What is expected of the program on each test: a column `expect` of a table in CSV, or a file of its own.
+
+A table with such a column has a header, whose other names are those of the dummy arguments.
+"""
+
+import json
+from collections.abc import Sequence
+from pathlib import Path
+from typing import NamedTuple
+
+COLUMN = "expect"
+
+
+class Expected(NamedTuple):
+    """Where it is from, the header of the table without the column, if it has one, and what is expected by test, from 1."""
+
+    path: Path
+    header: list[str]
+    texts: dict[int, str]
+
+
+def expected_in_file(path: Path, tests: int) -> Expected:
+    """What a file expects: a list of texts in JSON, or a line for each test."""
+    text = path.read_text(encoding="utf-8-sig")
+    try:
+        texts = json.loads(text) if path.suffix.lower() == ".json" else text.rstrip().split("\n")
+    except ValueError as fault:
+        raise ValueError(f"{path}: {fault}") from None
+    if not isinstance(texts, list) or not all(isinstance(each, str) for each in texts):
+        raise ValueError(f"{path}: it is no list of texts, as [\"RETURNED 1 2 1\"]")
+    if len(texts) != tests:
+        raise ValueError(f"{path}: it has {len(texts)} outcomes for {tests} tests")
+    return Expected(path, [], dict(enumerate(texts, 1)))
+
+
+def assert_header(header: Sequence[str], names: Sequence[str], path: Path) -> None:
+    """The columns of a table with a header are the dummy arguments, in order."""
+    if header and list(header) != list(names):
+        raise ValueError(f"{path}: its columns are {','.join(header)}, and the dummy arguments {','.join(names) or 'none'}")

@@ -1,0 +1,109 @@
+"""What a mutant changes: the piece of its statement that is another one, and where that stands in the source."""
+
+from collections.abc import Sequence
+from difflib import SequenceMatcher
+from typing import NamedTuple
+
+from mutants.pages.differences import WORD, common_front
+from mutants.texts.cards import Card, Place
+
+
+class Change(NamedTuple):
+    """A statement is `front`, `old` and `back`, and that of the mutant `front`, `new` and `back`."""
+
+    front: str
+    old: str
+    new: str
+    back: str
+
+
+class Span(NamedTuple):
+    """The place of the first character of a piece of the source, and the place behind its last one."""
+
+    start: Place
+    end: Place
+
+
+def operand_before(words: Sequence[str]) -> int:
+    """How many words at the end of these are an operand: a name or a number, or what stands in parentheses and its name."""
+    depth = count = 0
+    for word in reversed(words):
+        depth += {")": 1, "(": -1}.get(word, 0)
+        if depth < 0 or depth == 0 and not (word.isalnum() or word == "("):
+            return count
+        count += 1
+        if depth == 0 and word.isalnum():
+            return count
+    return count
+
+
+def widened(olds: Sequence[str], front: int, back: int) -> tuple[int, int]:
+    """The same piece with the operand before it, or else the word behind it, where the piece has no word of its own."""
+    if "".join(olds[front : len(olds) - back]).strip():
+        return front, back
+    before = operand_before(olds[:front])
+    return (front - before, back) if before or not back else (front, back - 1)
+
+
+def change_of(old: str, new: str) -> Change:
+    """The change of a statement to that of a mutant, in whole words; what is changed has a word at least."""
+    olds, news = WORD.findall(old), WORD.findall(new)
+    front = common_front(olds, news)
+    back = common_front(olds[front:][::-1], news[front:][::-1])
+    front, back = widened(olds, front, back)
+    parts = olds[:front], olds[front : len(olds) - back], news[front : len(news) - back], olds[len(olds) - back :]
+    return Change(*map("".join, parts))
+
+
+def squeezed(text: str) -> str:
+    return text.replace(" ", "")
+
+
+def aligned(told: str, text: str) -> dict[int, int]:
+    """For each character of the printed text, without blanks, its place in the text of the card, where it has one."""
+    if told == text:
+        return {place: place for place in range(len(text))}
+    blocks = SequenceMatcher(None, told, text, autojunk=False).get_matching_blocks()
+    return {block.a + step: block.b + step for block in blocks for step in range(block.size)}
+
+
+def is_apart(text: str, first: int, last: int, kept: frozenset[int]) -> bool:
+    """Whether a piece of a card is written as it is printed, and not at an end of parentheses that are not printed."""
+    inside = all(place in kept for place in range(first, last))
+    opens = text[first - 1 : first] == "(" and first - 1 not in kept
+    closes = text[last : last + 1] == ")" and last not in kept
+    return inside and not opens and not closes
+
+
+class Places:
+    """Where the pieces of a printed statement stand in the source."""
+
+    def __init__(self, card: Card, told: str) -> None:
+        self.card, self.told = card, squeezed(told)
+        self.at = aligned(self.told, card.text)
+        self.kept = frozenset(self.at.values())
+
+    def whole(self) -> Span:
+        return self.between(0, len(self.card.text))
+
+    def between(self, first: int, last: int) -> Span:
+        line, column = self.card.places[last - 1]
+        return Span(self.card.places[first], (line, column + 1))
+
+    def of(self, change: Change) -> Span | None:
+        """Where the old piece stands; None where it is not written as it is printed."""
+        first = len(squeezed(change.front))
+        last = first + len(squeezed(change.old))
+        ends = self.at.get(first), self.at.get(last - 1)
+        if ends[0] is None or ends[1] is None:
+            return None
+        begin, end = ends[0], ends[1] + 1
+        is_same = self.card.text[begin:end] == squeezed(change.old)
+        return self.between(begin, end) if is_same and is_apart(self.card.text, begin, end, self.kept) else None
+
+
+def placed(places: Places, old: str, new: str) -> tuple[Span, str]:
+    """Where a mutant changes the source, and what stands there then: the piece, or else the whole statement."""
+    change = change_of(old, new)
+    span = places.of(change)
+    return (span, change.new) if span else (places.whole(), new)

@@ -1,0 +1,125 @@
+"""Calls of the program side by side, so many at once; they end together."""
+
+import os
+import queue
+import signal
+import subprocess
+import threading
+from collections.abc import Callable, Sequence
+from concurrent.futures import Future, ThreadPoolExecutor, wait
+from functools import partial
+
+from mutants.program.calling import Fault, failure_of
+from mutants.statuses import SUCCESS
+
+# The words of a call, and the job that is handed to it.
+Call = tuple[Sequence[str], bytes]
+Keep = Callable[[int, str], None]
+# What is told in the place of a fault of the call at a place.
+Refuse = Callable[[int, Fault], Exception]
+# So often, in seconds, it is asked whether there is something to tell.
+TICK = 0.5
+
+
+def processors() -> int:
+    """How many processors this process may use."""
+    return len(os.sched_getaffinity(0)) if hasattr(os, "sched_getaffinity") else os.cpu_count() or 1
+
+
+class Calls:
+    """The calls that are running: once they are stopped, no further one begins."""
+
+    def __init__(self, program: str) -> None:
+        self.program, self.lock, self.is_over = program, threading.Lock(), False
+        self.running: set["subprocess.Popen[bytes]"] = set()
+
+    def begin(self, words: Sequence[str]) -> "subprocess.Popen[bytes]":
+        pipe = subprocess.PIPE
+        with self.lock:
+            if self.is_over:
+                raise ValueError("it was stopped")
+            try:
+                begun = subprocess.Popen([self.program, *words], stdin=pipe, stdout=pipe, stderr=pipe)
+            except OSError as fault:
+                raise ValueError(f"{self.program} cannot be run: {fault.strerror}") from None
+            self.running.add(begun)
+            return begun
+
+    def answer(self, words: Sequence[str], job: bytes) -> str:
+        """The text that the program answers; a fault, refused words and a failure are a Fault with one line."""
+        begun = self.begin(words)
+        try:
+            out, _ = begun.communicate(job)
+        finally:
+            with self.lock:
+                self.running.discard(begun)
+        text, status = out.decode("utf-8", "replace"), begun.returncode
+        if status == -signal.SIGINT:
+            raise KeyboardInterrupt
+        if status != SUCCESS:
+            raise Fault(words[0], failure_of(text, status), status)
+        return text
+
+    def stop(self) -> None:
+        with self.lock:
+            self.is_over = True
+            for begun in self.running:
+                begun.kill()
+
+
+def as_it_is(place: int, fault: Fault) -> Exception:
+    return fault
+
+
+def first_failed(calls: "Sequence[Future[str]]", place: int) -> int:
+    """The place of the first call that fails, where the one at this place did: earlier ones have begun before it."""
+    earlier = [each for each in calls[:place] if not each.cancel()]
+    wait(earlier)
+    failed = [at for at, each in enumerate(calls[:place]) if not each.cancelled() and each.exception()]
+    return min([*failed, place])
+
+
+def put_place(ended: "queue.SimpleQueue[int]", place: int, _: "Future[str]") -> None:
+    ended.put(place)
+
+
+def keep_each(calls: "Sequence[Future[str]]", keep: Keep, tick: Callable[[], None], refuse: Refuse) -> None:
+    """Keeps what comes of each call as it ends."""
+    ended: queue.SimpleQueue[int] = queue.SimpleQueue()
+    for place, each in enumerate(calls):
+        each.add_done_callback(partial(put_place, ended, place))
+    left = len(calls)
+    while left:
+        tick()
+        try:
+            place = ended.get(timeout=TICK)
+        except queue.Empty:
+            continue
+        if calls[place].exception():
+            place = first_failed(calls, place)
+            fault = calls[place].exception()
+            raise refuse(place, fault) if isinstance(fault, Fault) else fault or ValueError("it was stopped")
+        keep(place, calls[place].result())
+        left -= 1
+
+
+def ask_many(
+    program: str,
+    calls: Sequence[Call],
+    at_once: int,
+    keep: Keep,
+    tick: Callable[[], None],
+    refuse: Refuse = as_it_is,
+) -> None:
+    """Makes these calls. `keep` is called with the place and the text of each as it ends, `tick` now and then.
+
+    The first fault ends all of them; so does Ctrl-C.
+    """
+    running = Calls(program)
+    with ThreadPoolExecutor(at_once) as pool:
+        begun = [pool.submit(running.answer, *call) for call in calls]
+        try:
+            keep_each(begun, keep, tick, refuse)
+        finally:
+            running.stop()
+            pool.shutdown(cancel_futures=True)

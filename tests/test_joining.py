@@ -1,0 +1,76 @@
+"""Reports written back, and joined: of batches of tests, and of groups of operators, byte for byte."""
+
+import json
+import subprocess
+import unittest
+
+import running
+from mutants.texts.joining import joined_batches, joined_operators
+from mutants.texts.report_lines import report_text
+from mutants.texts.reports import read_report
+from pieces import STORED, batch_of, group_of, stored
+
+def ran(suite: list[list[int]], *words: str, declared: tuple[str, ...] = ()) -> str:
+    """What the stand-in writes of a suite, which it runs in earnest."""
+    job = json.dumps({"source": running.LEAST, "suite": suite, "equivalent": declared}).encode()
+    return subprocess.run([str(running.STAND_IN), "run", *words], input=job, capture_output=True).stdout.decode()
+
+
+class Written(unittest.TestCase):
+    def test_what_is_read_is_written_back_byte_for_byte(self) -> None:
+        self.assertIn("triangle-full", STORED)
+        for text in [*map(stored, STORED), ran([]), ran([[1, 2, 0]], declared=("ROR 1", "SDL 1"))]:
+            self.assertEqual(report_text(read_report(text)), text)
+
+
+class Batches(unittest.TestCase):
+    def test_those_of_the_stored_reports(self) -> None:
+        for name in STORED:
+            whole = read_report(stored(name))
+            for cuts in ([0, whole.tests], [0, 1, whole.tests], [0, 2, 3, whole.tests], list(range(whole.tests + 1))):
+                with self.subTest(name, cuts=cuts):
+                    batches = [batch_of(whole, *pair) for pair in zip(cuts, cuts[1:])]
+                    self.assertEqual(report_text(joined_batches(batches)), stored(name))
+
+    def test_those_that_were_run_apart(self) -> None:
+        suite = [[5, n % 11, n] for n in range(23)]
+        for declared in ((), ("ROR 1", "SDL 2", "ROR 4")):
+            whole = ran(suite, declared=declared)
+            batches = [read_report(ran(suite[at : at + 5], declared=declared)) for at in range(0, 23, 5)]
+            self.assertEqual(report_text(joined_batches(batches)), whole)
+
+    def test_refuses_those_of_other_mutants(self) -> None:
+        whole = read_report(stored("euclid"))
+        one, other = batch_of(whole, 0, 4), batch_of(whole, 4, whole.tests)
+        for wrong in (
+            other._replace(unit="OTHER"),
+            other._replace(steps=1),
+            group_of(other, ["ABS"]),
+            other._replace(rows=[other.rows[0]._replace(status="E"), *other.rows[1:]]),
+            other._replace(survivors=[each._replace(text="K=1") for each in other.survivors]),
+        ):
+            with self.subTest(wrong=wrong[:4]), self.assertRaises(ValueError):
+                joined_batches([one, wrong])
+
+
+class Groups(unittest.TestCase):
+    def test_those_of_the_stored_reports(self) -> None:
+        for name in STORED:
+            whole = read_report(stored(name))
+            ops = list(whole.counts)
+            groups = [group_of(whole, part) for part in (ops[:1], ops[1:9], ops[9:])]
+            self.assertEqual(report_text(joined_operators(groups)), stored(name))
+            with self.assertRaises(ValueError):
+                joined_operators([groups[0], groups[1]._replace(unit="OTHER")])
+
+    def test_those_that_were_run_apart_in_batches(self) -> None:
+        suite = [[n % 3, n % 5, 9] for n in range(12)]
+        groups = []
+        for ops in ("AAR", "ROR,RSR", "SAN,SDL"):
+            batches = [read_report(ran(suite[at : at + 4], "--ops", ops)) for at in (0, 4, 8)]
+            groups.append(joined_batches(batches))
+        self.assertEqual(report_text(joined_operators(groups)), ran(suite))
+
+
+if __name__ == "__main__":
+    unittest.main()
