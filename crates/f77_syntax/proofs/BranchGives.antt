@@ -23,14 +23,14 @@ use Rattle.f77_tree.specs.Statement.{Statement, statement_of}
 use Rattle.f77_tree.specs.Grammar.{is_digit, is_number, is_name, word, past_word}
 use Rattle.f77_tree.specs.StatementGrammar.{label_number}
 use Rattle.f77_syntax.specs.Reading.{◌>>=◌, strip, after, close_at, reading, past_comma}
-use Rattle.f77_syntax.specs.Label.{label_at, last_label, labels_at}
-use Rattle.f77_syntax.specs.ComputedGoto.{computed_at}
+use Rattle.f77_syntax.specs.Label.{label_at, labels_at}
+use Rattle.f77_syntax.specs.Goto.{goto_at}
 use Rattle.f77_syntax.specs.Condition.{arithmetic_at, condition_at}
 use Rattle.f77_syntax.specs.DoLoop.{control_at, step_at, parameters_at, loop_at}
 use Rattle.f77_syntax.specs.Classification.{behind, class_of}
 use Rattle.f77_program.specs.Formed.{is_action}
 use Rattle.f77_syntax.specs.declared.classification.Class.TheVariants.{Keyword}
-use Rattle.f77_syntax.specs.Statement.{word_statement, without_expression, simple_at, actions_only, simple_action_at, action_at, begins_digit, branch_at, else_at, declared_at, dimension_at, preset_at, specification_at}
+use Rattle.f77_syntax.specs.Statement.{word_statement, simple_at, actions_only, simple_action_at, action_at, begins_digit, branch_at, else_at, declared_at, dimension_at, preset_at, specification_at}
 use Rattle.f77_tree.specs.Name.{cut}
 use Rattle.f77_tree.specs.View.{tree_of}
 use Rattle.f77_syntax.specs.View.{clip, clipped, Fails, Gives}
@@ -67,48 +67,18 @@ word_kept s u =
     (words_kept (bytes_eq s (codes "ENDIF")) Statement.EndIf _ u refl
     (words_kept (bytes_eq s (codes "END")) Statement.End None u refl (λ e. absurd (none-some u e))))))
 
--- an unconditional GO TO, or a statement of one keyword alone
-module _ (s : List ℕ) where
-  pub without_goto : strip (codes "GOTO") s ≡ None → without_expression s ≡ word_statement s
-  unfolding without_expression
-  without_goto h = rw h refl
-
-  pub goto_fails : (r : List ℕ) (e : ReadError) → strip (codes "GOTO") s ≡ Some r → Fails e (last_label r) → Fails e (without_expression s)
-  unfolding without_expression
-  goto_fails r e h f = rw h (fails_bind e (last_label r) (λ l. Some (Statement.Goto l)) f)
-
-  pub goto_whole : (r : List ℕ) (l : ℕ) → strip (codes "GOTO") s ≡ Some r → last_label r ≡ Some l → without_expression s ≡ Some (Statement.Goto l)
-  unfolding without_expression
-  goto_whole r l h read = rw (h, read) refl
-
-pub simple_computed : (s r : List ℕ) → strip (codes "GOTO(") s ≡ Some r → simple_at s ≡ computed_at r
+-- a GO TO, or a statement of one keyword alone
+pub simple_goto : (s r : List ℕ) → strip (codes "GOTO") s ≡ Some r → simple_at s ≡ goto_at r
 unfolding simple_at
-simple_computed s r e = rw e refl
+simple_goto s r e = rw e refl
 
-pub simple_without : (s : List ℕ) → strip (codes "GOTO(") s ≡ None → simple_at s ≡ without_expression s
+pub simple_word : (s : List ℕ) → strip (codes "GOTO") s ≡ None → simple_at s ≡ word_statement s
 unfolding simple_at
-simple_without s e = rw e refl
+simple_word s e = rw e refl
 
 action_clip : (u : Statement) → is_action (clip_statement u) ≡ is_action u
-action_clip (Statement.Subroutine name names) = refl
-action_clip (Statement.Declare kind ds) = refl
-action_clip (Statement.Dimension ds) = refl
-action_clip (Statement.Preset gs) = refl
-action_clip (Statement.Assign name items t) = refl
-action_clip (Statement.Goto label) = refl
-action_clip (Statement.ComputedGoto labels t) = refl
-action_clip (Statement.ArithIf t l m n) = refl
 action_clip (Statement.LogicalIf t s) = refl
-action_clip (Statement.BlockIf t) = refl
-action_clip (Statement.ElseIf t) = refl
-action_clip Statement.Else = refl
-action_clip Statement.EndIf = refl
-action_clip (Statement.Loop label name a b c) = refl
-action_clip Statement.Continue = refl
-action_clip Statement.Return = refl
-action_clip Statement.Stop = refl
-action_clip Statement.Trap = refl
-action_clip Statement.End = refl
+action_clip _ = refl
 
 same_action : (t : Stmt) (u : Statement) → statement_of t ≡ clip_statement u → is_action u ≡ is_action (statement_of t)
 same_action t u same = sym (action_clip u) ∙ ap is_action (sym same)

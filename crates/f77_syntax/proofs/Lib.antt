@@ -21,8 +21,8 @@ pub mod Outside
 pub mod AssignmentSound
 pub mod LabelTexts
 pub mod LabelGives
-pub mod ComputedGotoTexts
-pub mod ComputedGotoGives
+pub mod GotoTexts
+pub mod GotoGives
 pub mod StatementSound
 pub mod StatementComplete
 pub mod StatementGives

@@ -23,7 +23,7 @@ use Rattle.f77_syntax.specs.Label.{labels_at}
 use Rattle.f77_syntax.specs.Condition.{arithmetic_at, condition_at}
 use Rattle.f77_syntax.specs.DoLoop.{control_at, parameters_at, loop_at}
 use Rattle.f77_syntax.specs.Classification.{behind, begins_with, begins_if, class_of, statement_class}
-use Rattle.f77_syntax.specs.Statement.{word_statement, without_expression, simple_at, simple_action_at, action_at, begins_digit, branch_at, else_at, specification_at, keyword_at, statement_at}
+use Rattle.f77_syntax.specs.Statement.{word_statement, simple_at, simple_action_at, action_at, begins_digit, branch_at, else_at, specification_at, keyword_at, statement_at}
 use Rattle.f77_syntax.specs.declared.classification.Class.TheVariants.{Keyword}
 use Rattle.f77_tree.proofs.Tests.{and_true}
 use Rattle.f77_tree.proofs.Words.{word_front, past_word_front, name_words}
@@ -37,7 +37,7 @@ use Rattle.f77_tree.specs.Data.{SpellsGroups}
 use Rattle.f77_tree.specs.declared.tree.Kind.{Kind}
 use Rattle.f77_tree.specs.declared.tree.Kind.TheVariants.{Integer, Logical}
 use Rattle.f77_syntax.proofs.LabelTexts.{EndsDigits, label_read, last_label_read, label_comma_read}
-use Rattle.f77_syntax.proofs.ComputedGotoTexts.{computed_read, computed_class}
+use Rattle.f77_syntax.proofs.GotoTexts.{goto_read, goto_class, computed_read, computed_class}
 use Rattle.f77_syntax.proofs.DeclarationTexts.{name_read, declarations_read, declaration_no_equals}
 use Rattle.f77_syntax.proofs.DataTexts.{groups_read, data_no_equals}
 
@@ -154,22 +154,10 @@ letter_begins s b =
     let digit : is_digit b.first ≡ false = let l = b.letter in grind (arith, nat_tests) in
     rw b.is (other, digit)
 
--- GO TO and the statements of one keyword alone
-not_open : (row : List ℕ) → is_number row ≡ true → strip (codes "GOTO(") (codes "GOTO" ++ row) ≡ None
-not_open [] n = cc
-not_open (c ∷ row) n =
-    let digit = (and_true (is_digit c) (list_all is_digit row) n).0 in
-    let other : (c == 40) ≡ false = grind (arith, nat_tests) in
-    rw other refl
-
-goto_class : (row : List ℕ) → is_number row ≡ true → class_of (codes "GOTO" ++ row) ≡ Keyword
-goto_class row n =
-    keyword_class (codes "GOTO" ++ row) refl (ap (behind 61 0) (sym (append-nil (codes "GOTO" ++ row))) ∙ pass_quiet 61 refl equals_other (codes "GOTO" ++ row) [] 0 (quiet_number row n))
-
 action_read : {s : List ℕ} {u : Statement} → SpellsAction s u → action_at s ≡ Some u
-unfolding action_at simple_action_at class_of begins_if simple_at without_expression word_statement
+unfolding action_at simple_action_at class_of begins_if simple_at word_statement
 action_read (SpellsAction.assign r p) = rw (assign_class r p) (assign_read r p)
-action_read (SpellsAction.go_to row n) = rw (goto_class row n, not_open row n, last_label_read row n) refl
+action_read (SpellsAction.go_to row n) = rw (goto_class row n, goto_read row n) refl
 action_read (SpellsAction.computed_go_to comma l p) = rw (computed_class comma l p, computed_read comma l p) refl
 action_read (SpellsAction.arithmetic_if l m n p h i j) =
     rw (if_class p (l ++ (44 ∷ (m ++ (44 ∷ n)))) (row_begins l (44 ∷ (m ++ (44 ∷ n))) h).0, condition_read p (l ++ (44 ∷ (m ++ (44 ∷ n))))) (arithmetic_read _ l m n h i j)
@@ -179,7 +167,7 @@ action_read SpellsAction.stop = refl
 
 -- no such statement is the word THEN
 then_none : action_at (codes "THEN") ≡ None
-unfolding action_at simple_action_at class_of begins_if simple_at without_expression word_statement
+unfolding action_at simple_action_at class_of begins_if simple_at word_statement
 then_none = refl
 
 not_then : {s : List ℕ} {u : Statement} → SpellsAction s u → bytes_eq s (codes "THEN") ≡ false
@@ -302,9 +290,9 @@ preset_read p = rw (preset_class p, groups_read p) refl
 
 -- a statement that may stand in a logical IF, by itself
 alone_read : {s : List ℕ} {u : Statement} → SpellsAction s u → statement_at s ≡ Some u
-unfolding statement_at keyword_at specification_at class_of begins_if simple_at without_expression word_statement
+unfolding statement_at keyword_at specification_at class_of begins_if simple_at word_statement
 alone_read (SpellsAction.assign r p) = rw (assign_class r p) (assign_read r p)
-alone_read (SpellsAction.go_to row n) = rw (goto_class row n, not_open row n, last_label_read row n) refl
+alone_read (SpellsAction.go_to row n) = rw (goto_class row n, goto_read row n) refl
 alone_read (SpellsAction.computed_go_to comma l p) = rw (computed_class comma l p, computed_read comma l p) refl
 alone_read (SpellsAction.arithmetic_if l m n p h i j) =
     rw (if_class p (l ++ (44 ∷ (m ++ (44 ∷ n)))) (row_begins l (44 ∷ (m ++ (44 ∷ n))) h).0, condition_read p (l ++ (44 ∷ (m ++ (44 ∷ n))))) (arithmetic_branch _ l m n h i j)
@@ -314,7 +302,7 @@ alone_read SpellsAction.stop = refl
 
 -- what is spelled is read
 pub statement_read : {s : List ℕ} {u : Statement} → SpellsStatement s u → statement_at s ≡ Some u
-unfolding statement_at keyword_at specification_at else_at class_of begins_if simple_at without_expression word_statement branch_at
+unfolding statement_at keyword_at specification_at else_at class_of begins_if simple_at word_statement branch_at
 statement_read (SpellsStatement.action p) = alone_read p
 statement_read (SpellsStatement.subroutine {name = name} n) =
     subroutine_whole_read name (Statement.Subroutine name []) (words_no_equals name (name_words name n)) (subroutine_read name n)

@@ -149,46 +149,12 @@ statement_part SpellsStatement.end = refl
 
 -- A statement as it is kept has the form of the one that is spelled.
 keyword_kept : (s : Statement) → keyword_of (clip_statement s) ≡ keyword_of s
-keyword_kept (Statement.Subroutine name names) = refl
-keyword_kept (Statement.Declare kind ds) = refl
-keyword_kept (Statement.Dimension ds) = refl
-keyword_kept (Statement.Preset gs) = refl
-keyword_kept (Statement.Assign name items t) = refl
-keyword_kept (Statement.Goto label) = refl
-keyword_kept (Statement.ComputedGoto labels t) = refl
-keyword_kept (Statement.ArithIf t l m n) = refl
 keyword_kept (Statement.LogicalIf t s) = refl
-keyword_kept (Statement.BlockIf t) = refl
-keyword_kept (Statement.ElseIf t) = refl
-keyword_kept Statement.Else = refl
-keyword_kept Statement.EndIf = refl
-keyword_kept (Statement.Loop label name a b c) = refl
-keyword_kept Statement.Continue = refl
-keyword_kept Statement.Return = refl
-keyword_kept Statement.Stop = refl
-keyword_kept Statement.Trap = refl
-keyword_kept Statement.End = refl
+keyword_kept _ = refl
 
 ending_kept : (s : Statement) → ends_without_name (clip_statement s) ≡ ends_without_name s
-ending_kept (Statement.Subroutine name names) = refl
-ending_kept (Statement.Declare kind ds) = refl
-ending_kept (Statement.Dimension ds) = refl
-ending_kept (Statement.Preset gs) = refl
-ending_kept (Statement.Assign name items t) = refl
-ending_kept (Statement.Goto label) = refl
-ending_kept (Statement.ComputedGoto labels t) = refl
-ending_kept (Statement.ArithIf t l m n) = refl
 ending_kept (Statement.LogicalIf t s) = ending_kept s
-ending_kept (Statement.BlockIf t) = refl
-ending_kept (Statement.ElseIf t) = refl
-ending_kept Statement.Else = refl
-ending_kept Statement.EndIf = refl
-ending_kept (Statement.Loop label name a b c) = refl
-ending_kept Statement.Continue = refl
-ending_kept Statement.Return = refl
-ending_kept Statement.Stop = refl
-ending_kept Statement.Trap = refl
-ending_kept Statement.End = refl
+ending_kept _ = refl
 
 -- what the text of a statement says of the names, where it is cut by the statement that is kept
 pub names_told : (text : List ℕ) (kept s : Statement) → SpellsStatement text s → kept ≡ clip_statement s

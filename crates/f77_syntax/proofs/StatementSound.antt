@@ -22,7 +22,7 @@ use Rattle.f77_syntax.specs.Condition.{arithmetic_at, condition_at}
 use Rattle.f77_syntax.specs.DoLoop.{control_at, step_at, parameters_at, loop_at}
 use Rattle.f77_program.specs.Formed.{is_action}
 use Rattle.f77_syntax.specs.Classification.{class_of}
-use Rattle.f77_syntax.specs.Statement.{word_statement, goto_by, without_expression, computed_by, simple_at, actions_only, simple_action_at, action_by, action_at, begins_digit, branch_at, else_at, declared_at, dimension_at, preset_at, specification_by, specification_at, keyword_by, keyword_at, statement_by, statement_at}
+use Rattle.f77_syntax.specs.Statement.{word_statement, simple_by, simple_at, actions_only, simple_action_at, action_by, action_at, begins_digit, branch_at, else_at, declared_at, dimension_at, preset_at, specification_by, specification_at, keyword_by, keyword_at, statement_by, statement_at}
 use Rattle.f77_syntax.specs.declared.classification.Class.{Class}
 use Rattle.f77_syntax.specs.declared.classification.Class.TheVariants.{If, Loop, Assignment, Keyword}
 use Rattle.f77_syntax.proofs.Steps.{along, bind_ok, chosen, guarded, strip_is}
@@ -34,7 +34,7 @@ use Rattle.f77_syntax.specs.Data.{groups_at}
 use Rattle.f77_tree.specs.declared.tree.Kind.{Kind}
 use Rattle.f77_tree.specs.declared.tree.Kind.TheVariants.{Integer, Logical}
 use Rattle.f77_syntax.proofs.LabelTexts.{label_is, last_label_is, label_comma_is, past_comma_is}
-use Rattle.f77_syntax.proofs.ComputedGotoTexts.{computed_is}
+use Rattle.f77_syntax.proofs.GotoTexts.{goto_is}
 use Rattle.f77_syntax.proofs.DeclarationTexts.{names_is, declarations_is}
 use Rattle.f77_syntax.proofs.DataTexts.{groups_is}
 use Rattle.f77_syntax.proofs.AssignmentSound.{after_is, assign_is, ended_is}
@@ -144,26 +144,13 @@ word_statement_is s u =
     (words_are s (codes "ENDIF") Statement.EndIf _ u SpellsStatement.end_if
     (words_are s (codes "END") Statement.End None u SpellsStatement.end (λ e. absurd (none-some u e))))))
 
-without_is : (s : List ℕ) (u : Statement) → without_expression s ≡ Some u → SpellsStatement s u
-unfolding without_expression
-without_is s u e = by_goto (strip (codes "GOTO") s) refl e
-  where
-    by_goto : (o : Option (List ℕ)) → strip (codes "GOTO") s ≡ o → goto_by s o ≡ Some u → SpellsStatement s u
-    by_goto None is e = word_statement_is s u e
-    by_goto (Some r) is e =
-        let (l, found, end) = bind_ok (last_label r) (λ l. Some (Statement.Goto l)) u e in
-        let f = last_label_is r l found in
-        let whole : s ≡ codes "GOTO" ++ f.row = strip_is (codes "GOTO") s r is ∙ ap (λ z. codes "GOTO" ++ z) (f.is ∙ append-nil f.row) in
-        along (SpellsStatement s) (Statement.Goto l) u end (subst (λ z. SpellsStatement z (Statement.Goto l)) (sym whole)
-        (SpellsStatement.action (subst (λ z. SpellsAction (codes "GOTO" ++ f.row) (Statement.Goto z)) f.value (SpellsAction.go_to f.row f.number))))
-
 simple_is : (s : List ℕ) (u : Statement) → simple_at s ≡ Some u → SpellsStatement s u
 unfolding simple_at
-simple_is s u e = by_open (strip (codes "GOTO(") s) refl e
+simple_is s u e = by_goto (strip (codes "GOTO") s) refl e
   where
-    by_open : (o : Option (List ℕ)) → strip (codes "GOTO(") s ≡ o → computed_by s o ≡ Some u → SpellsStatement s u
-    by_open None is e = without_is s u e
-    by_open (Some r) is e = subst (λ z. SpellsStatement z u) (sym (strip_is (codes "GOTO(") s r is)) (SpellsStatement.action (computed_is r u e))
+    by_goto : (o : Option (List ℕ)) → strip (codes "GOTO") s ≡ o → simple_by s o ≡ Some u → SpellsStatement s u
+    by_goto None is e = word_statement_is s u e
+    by_goto (Some r) is e = subst (λ z. SpellsStatement z u) (sym (strip_is (codes "GOTO") s r is)) (SpellsStatement.action (goto_is r u e))
 
 -- a statement that may stand in a logical IF
 action_from : {s : List ℕ} {u : Statement} → SpellsStatement s u → is_action u ≡ true → SpellsAction s u

@@ -37,22 +37,9 @@ class_of text = if begins_if text then If else class_behind (behind 61 0 text)
 
 -- the class of each statement
 abbrev pub statement_class : Statement → Class
-statement_class (Statement.Subroutine name names) = Keyword
-statement_class (Statement.Declare kind ds) = Keyword
-statement_class (Statement.Dimension ds) = Keyword
-statement_class (Statement.Preset gs) = Keyword
 statement_class (Statement.Assign name items t) = Assignment
-statement_class (Statement.Goto label) = Keyword
-statement_class (Statement.ComputedGoto labels t) = Keyword
 statement_class (Statement.ArithIf t l m n) = If
 statement_class (Statement.LogicalIf t s) = If
 statement_class (Statement.BlockIf t) = If
-statement_class (Statement.ElseIf t) = Keyword
-statement_class Statement.Else = Keyword
-statement_class Statement.EndIf = Keyword
 statement_class (Statement.Loop label name a b c) = Loop
-statement_class Statement.Continue = Keyword
-statement_class Statement.Return = Keyword
-statement_class Statement.Stop = Keyword
-statement_class Statement.Trap = Keyword
-statement_class Statement.End = Keyword
+statement_class _ = Keyword

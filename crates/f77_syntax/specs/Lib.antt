@@ -8,7 +8,7 @@ pub mod StatementView
 pub mod Classification
 pub mod Assignment
 pub mod Label
-pub mod ComputedGoto
+pub mod Goto
 pub mod Condition
 pub mod Subroutine
 pub mod DoLoop

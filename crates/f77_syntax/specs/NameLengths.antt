@@ -25,43 +25,15 @@ keyword_of (Statement.Subroutine name names) = codes "SUBROUTINE"
 keyword_of (Statement.Declare kind ds) = kind_keyword kind
 keyword_of (Statement.Dimension ds) = codes "DIMENSION"
 keyword_of (Statement.Preset gs) = codes "DATA"
-keyword_of (Statement.Assign name items t) = []
-keyword_of (Statement.Goto label) = []
-keyword_of (Statement.ComputedGoto labels t) = []
-keyword_of (Statement.ArithIf t l m n) = []
-keyword_of (Statement.LogicalIf t s) = []
-keyword_of (Statement.BlockIf t) = []
-keyword_of (Statement.ElseIf t) = []
-keyword_of Statement.Else = []
-keyword_of Statement.EndIf = []
 keyword_of (Statement.Loop label name a b c) = codes "DO"
-keyword_of Statement.Continue = []
-keyword_of Statement.Return = []
-keyword_of Statement.Stop = []
-keyword_of Statement.Trap = []
-keyword_of Statement.End = []
+keyword_of _ = []
 
 -- its text ends in CONTINUE or in GOTO and a label, which have no name
 abbrev pub ends_without_name : Statement → Bool
-ends_without_name (Statement.Subroutine name names) = false
-ends_without_name (Statement.Declare kind ds) = false
-ends_without_name (Statement.Dimension ds) = false
-ends_without_name (Statement.Preset gs) = false
-ends_without_name (Statement.Assign name items t) = false
 ends_without_name (Statement.Goto label) = true
-ends_without_name (Statement.ComputedGoto labels t) = false
-ends_without_name (Statement.ArithIf t l m n) = false
 ends_without_name (Statement.LogicalIf t s) = ends_without_name s
-ends_without_name (Statement.BlockIf t) = false
-ends_without_name (Statement.ElseIf t) = false
-ends_without_name Statement.Else = false
-ends_without_name Statement.EndIf = false
-ends_without_name (Statement.Loop label name a b c) = false
 ends_without_name Statement.Continue = true
-ends_without_name Statement.Return = false
-ends_without_name Statement.Stop = false
-ends_without_name Statement.Trap = false
-ends_without_name Statement.End = false
+ends_without_name _ = false
 
 -- the part of the statement's text where its names stand
 abbrev pub names_part : Statement → List ℕ → List ℕ

@@ -7,8 +7,7 @@ use Rattle.f77_tree.specs.Statement.{Statement}
 use Rattle.f77_program.specs.Formed.{is_action}
 use Rattle.f77_syntax.specs.Reading.{◌>>=◌, strip}
 use Rattle.f77_syntax.specs.Assignment.{assign_at}
-use Rattle.f77_syntax.specs.Label.{last_label}
-use Rattle.f77_syntax.specs.ComputedGoto.{computed_at}
+use Rattle.f77_syntax.specs.Goto.{goto_at}
 use Rattle.f77_syntax.specs.Condition.{arithmetic_at, condition_at}
 use Rattle.f77_syntax.specs.Subroutine.{subroutine_at}
 use Rattle.f77_tree.specs.Declaration.{all_bounded}
@@ -31,20 +30,13 @@ word_statement s =
     else (if bytes_eq s (codes "END") then Some Statement.End
     else None))))
 
-abbrev pub goto_by : List ℕ → Option (List ℕ) → Option Statement
-goto_by s (Some r) = last_label r >>= λ l. Some (Statement.Goto l)
-goto_by s None = word_statement s
+abbrev pub simple_by : List ℕ → Option (List ℕ) → Option Statement
+simple_by s (Some r) = goto_at r
+simple_by s None = word_statement s
 
--- an unconditional GO TO, or a statement of one keyword alone
-unfoldable pub without_expression : List ℕ → Option Statement
-without_expression s = goto_by s (strip (codes "GOTO") s)
-
-abbrev pub computed_by : List ℕ → Option (List ℕ) → Option Statement
-computed_by s (Some r) = computed_at r
-computed_by s None = without_expression s
-
+-- a GO TO, or a statement of one keyword alone
 unfoldable pub simple_at : List ℕ → Option Statement
-simple_at s = computed_by s (strip (codes "GOTO(") s)
+simple_at s = simple_by s (strip (codes "GOTO") s)
 
 abbrev pub actions_only : Statement → Option Statement
 actions_only s = if is_action s then Some s else None

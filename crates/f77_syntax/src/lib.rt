@@ -3,7 +3,6 @@
 
 mod assignment;
 mod classification;
-mod computed_goto;
 mod condition;
 mod constants;
 mod data;
@@ -11,6 +10,7 @@ mod declaration;
 mod do_loop;
 mod expression;
 mod fault;
+mod goto;
 mod joined;
 mod label;
 pub mod law;

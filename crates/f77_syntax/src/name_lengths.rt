@@ -38,20 +38,7 @@ fn keyword_of(stmt: &Stmt) -> &'static str
         Stmt::Dimension { .. } => "DIMENSION",
         Stmt::Preset { .. } => "DATA",
         Stmt::Loop { .. } => "DO",
-        Stmt::Assign { .. }
-        | Stmt::Goto { .. }
-        | Stmt::ComputedGoto { .. }
-        | Stmt::ArithIf { .. }
-        | Stmt::LogicalIf { .. }
-        | Stmt::BlockIf { .. }
-        | Stmt::ElseIf { .. }
-        | Stmt::Else
-        | Stmt::EndIf
-        | Stmt::Continue
-        | Stmt::Return
-        | Stmt::Stop
-        | Stmt::Trap
-        | Stmt::End => "",
+        _ => "",
     }
 }
 

@@ -12,11 +12,10 @@ ghost use Rattle.f77_syntax.specs.StatementView.{IsStatement};
 
 use crate::assignment::assignment;
 use crate::classification::{Class, class_of};
-use crate::computed_goto::computed;
 use crate::condition::{arithmetic, condition};
 use crate::do_loop::loop_statement;
 use crate::fault::ReadError;
-use crate::label::last_label;
+use crate::goto::goto;
 use crate::specification::{declared, dimension, preset};
 use crate::subroutine::subroutine;
 use f77_program::is_action;
@@ -52,26 +51,15 @@ fn word_statement(text: &[u8]) -> Option<Stmt>
     None
 }
 
-/// Reads an unconditional GO TO, or a statement of one keyword alone.
-fn without_expression(text: &[u8]) -> Result<Stmt, ReadError>
-    ensures { Gives IsStatement result (reading.without_expression text.now) }
-{
-    let Some(rest) = text.strip_prefix(b"GOTO") else {
-        return word_statement(text).ok_or(ReadError::Unknown);
-    };
-    let label = last_label(rest)?;
-    Ok(Stmt::Goto { label })
-}
-
 /// Reads a GO TO, or a statement of one keyword alone.
 #[tactic(auto, unfolding(crate::specs::Statement::simple_at))]
 fn simple(alloc: Global, text: &[u8]) -> Result<Stmt, ReadError>
     ensures { Gives IsStatement result (simple_at text.now) }
 {
-    if let Some(rest) = text.strip_prefix(b"GOTO(") {
-        return computed(alloc, rest);
+    if let Some(rest) = text.strip_prefix(b"GOTO") {
+        return goto(alloc, rest);
     }
-    without_expression(text)
+    word_statement(text).ok_or(ReadError::Unknown)
 }
 
 /// Reads the same, where it may stand in a logical IF.

@@ -1,4 +1,4 @@
--- What the readers of a computed GO TO give, from what they call.
+-- What the readers of a GO TO give, from what they call.
 use Rattle.std.proofs.Common.{◌≡◌, ℕ, length, List, true, false, refl, Some, None, ◌∙◌}
 use Rattle.std.specs.Prelude.{◌==◌, Vec}
 use Rattle.std.specs.declared.alloc.Global.{Global}
@@ -7,11 +7,11 @@ use Rattle.f77_tree.specs.declared.tree.Expr.{Expr}
 use Rattle.f77_tree.specs.declared.statement.Stmt.TheVariants as forms
 use Rattle.f77_tree.specs.Tree.{Tree}
 use Rattle.f77_tree.specs.Statement.{Statement, statement_of}
-use Rattle.f77_syntax.specs.Reading.{◌>>=◌, close_at, past_comma, reading}
+use Rattle.f77_syntax.specs.Reading.{◌>>=◌, after, close_at, past_comma, reading}
 use Rattle.f77_syntax.specs.Assignment.{ended}
 use Rattle.f77_syntax.specs.Joined.{items_at}
-use Rattle.f77_syntax.specs.Label.{label_at}
-use Rattle.f77_syntax.specs.ComputedGoto.{selector_at, computed_at}
+use Rattle.f77_syntax.specs.Label.{label_at, last_label}
+use Rattle.f77_syntax.specs.Goto.{selector_at, computed_at, goto_at}
 use Rattle.f77_tree.specs.View.{tree_of}
 use Rattle.f77_syntax.specs.View.{clip, Fails}
 use Rattle.f77_syntax.specs.StatementView.{clip_statement}
@@ -48,3 +48,17 @@ module _ (s : List ℕ) where
       → computed_at s ≡ selector_at labels r
   unfolding computed_at
   computed_given x labels behind r read same at close = rw (read, ← same, ← at, close) refl
+
+-- what stands behind the keyword
+module _ (s : List ℕ) where
+  pub goto_open : (r : List ℕ) → after 40 s ≡ Some r → goto_at s ≡ computed_at r
+  unfolding goto_at
+  goto_open r h = rw h refl
+
+  pub goto_fails : (e : ReadError) → after 40 s ≡ None → Fails e (last_label s) → Fails e (goto_at s)
+  unfolding goto_at
+  goto_fails e h f = rw h (fails_bind e (last_label s) (λ l. Some (Statement.Goto l)) f)
+
+  pub goto_whole : (l : ℕ) → after 40 s ≡ None → last_label s ≡ Some l → goto_at s ≡ Some (Statement.Goto l)
+  unfolding goto_at
+  goto_whole l h read = rw (h, read) refl

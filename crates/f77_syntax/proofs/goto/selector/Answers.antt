@@ -2,8 +2,8 @@ use Rattle.std.proofs.Common.{◌≡◌, true, false, sym, ◌∙◌, ap, length
 use Rattle.std.specs.Prelude.{◌==◌}
 use Rattle.std.proofs.lemmas.Result.{err_from_is_err_and}
 use Rattle.f77_syntax.specs.Reading.{reading}
-use Rattle.f77_syntax.proofs.ComputedGotoGives.{selector_fails, selector_more, selector_whole}
-use Rattle.f77_syntax.proofs.computed_goto.selector.Goals as goal
+use Rattle.f77_syntax.proofs.GotoGives.{selector_fails, selector_more, selector_whole}
+use Rattle.f77_syntax.proofs.goto.selector.Goals as goal
 
 pub returns-in_err-value : goal.returns-in_err-value
 returns-in_err-value c =

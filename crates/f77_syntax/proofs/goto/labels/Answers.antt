@@ -3,7 +3,7 @@ use Rattle.std.proofs.lemmas.List.{map-id}
 use Rattle.f77_syntax.specs.Joined.{items_at}
 use Rattle.f77_syntax.specs.Label.{label_at}
 use Rattle.f77_syntax.proofs.JoinedItems.{gives_items, gives_as}
-use Rattle.f77_syntax.proofs.computed_goto.labels.Goals as goal
+use Rattle.f77_syntax.proofs.goto.labels.Goals as goal
 
 abbrev itself : ℕ → ℕ
 itself label = label

@@ -1,32 +1,35 @@
--- The computed GO TO: what is read is spelled so, what is spelled is read so, and its class.
-use Rattle.std.proofs.Common.{◌≡◌, ℕ, List, [], ◌∷◌, ◌++◌, Bool, true, false, cond, subst, refl, Some, None, ap, sym, ◌∙◌, append_assoc, append-nil}
+-- GO TO statements: what is read is spelled so, what is spelled is read so, and their class.
+use Rattle.std.proofs.Common.{arith, ◌≡◌, ℕ, List, [], ◌∷◌, ◌++◌, Bool, true, false, cond, subst, refl, Option, Some, None, ap, sym, ◌∙◌, append_assoc, append-nil}
 use Rattle.std.specs.Prelude.{◌==◌, codes, unwrap_or}
 use Rattle.std.proofs.lemmas.Option.{none-some}
+use Rattle.std.specs.List.{list_all}
 use Rattle.std.proofs.lemmas.Bool.{eqb-true}
+use Rattle.std.proofs.lemmas.Bool.Decides.{nat_tests}
 use Rattle.f77_tree.specs.Tree.{Tree}
 use Rattle.f77_tree.specs.Statement.{Statement}
-use Rattle.f77_tree.specs.Grammar.{Spells}
-use Rattle.f77_tree.specs.StatementGrammar.{SpellsLabel, SpellsAction, optional_comma}
-use Rattle.f77_syntax.specs.Reading.{◌>>=◌, close_at, past_comma, start_at, expr_at, reading}
+use Rattle.f77_tree.specs.Grammar.{Spells, is_digit, is_number}
+use Rattle.f77_tree.specs.StatementGrammar.{SpellsLabel, SpellsAction, optional_comma, label_number}
+use Rattle.f77_syntax.specs.Reading.{◌>>=◌, after, close_at, past_comma, start_at, expr_at, reading}
 use Rattle.f77_syntax.specs.Assignment.{ended}
 use Rattle.f77_tree.specs.Joined.{Joined}
 use Rattle.f77_syntax.specs.Joined.{items_at}
-use Rattle.f77_syntax.specs.Label.{label_at}
-use Rattle.f77_syntax.specs.ComputedGoto.{selector_at, computed_at}
+use Rattle.f77_syntax.specs.Label.{label_at, last_label}
+use Rattle.f77_syntax.specs.Goto.{selector_at, computed_at, goto_by, goto_at}
 use Rattle.f77_syntax.specs.Classification.{behind, class_of}
 use Rattle.f77_syntax.specs.declared.classification.Class.TheVariants.{Keyword}
-use Rattle.f77_syntax.proofs.Steps.{bind_ok}
+use Rattle.f77_syntax.proofs.Steps.{along, bind_ok}
+use Rattle.f77_tree.proofs.Tests.{and_true}
 use Rattle.f77_syntax.proofs.Sound.{sound_reading, close_is}
 use Rattle.f77_syntax.proofs.Agree.{reading_expr}
 use Rattle.f77_syntax.proofs.Complete.{whole}
 use Rattle.f77_syntax.proofs.Outside.{pass}
 use Rattle.f77_syntax.proofs.Outside.{keyword_class, pass_quiet, quiet_number, equals_other}
-use Rattle.f77_syntax.proofs.AssignmentSound.{ended_is}
+use Rattle.f77_syntax.proofs.AssignmentSound.{after_is, ended_is}
 use Rattle.f77_syntax.proofs.JoinedTexts.{items_is, items_read}
-use Rattle.f77_syntax.proofs.LabelTexts.{label_spelled, each_label_read, past_comma_is}
+use Rattle.f77_syntax.proofs.LabelTexts.{label_spelled, each_label_read, last_label_is, last_label_read, past_comma_is}
 
 -- What is read is spelled so.
-pub computed_is : (s : List ℕ) (u : Statement) → computed_at s ≡ Some u → SpellsAction (codes "GOTO(" ++ s) u
+computed_is : (s : List ℕ) (u : Statement) → computed_at s ≡ Some u → SpellsAction (codes "GOTO(" ++ s) u
 unfolding computed_at selector_at
 computed_is s u e =
     let (x, found, more) = bind_ok (items_at label_at s) (λ x. close_at x.1 >>= λ r. selector_at x.0 r) u e in
@@ -42,7 +45,34 @@ computed_is s u e =
     subst (λ z. SpellsAction (codes "GOTO(" ++ z) u) (sym is)
     (subst (λ z. SpellsAction (codes "GOTO(" ++ (f.text ++ (41 ∷ (optional_comma comma ++ g.text)))) z) same (SpellsAction.computed_go_to comma f.spells g.spells))
 
--- What is spelled is read so: no expression begins with a comma.
+unconditional_is : (s : List ℕ) (u : Statement) → (last_label s >>= λ l. Some (Statement.Goto l)) ≡ Some u → SpellsAction (codes "GOTO" ++ s) u
+unconditional_is s u e =
+    let (l, found, end) = bind_ok (last_label s) (λ l. Some (Statement.Goto l)) u e in
+    let f = last_label_is s l found in
+    let whole : s ≡ f.row = f.is ∙ append-nil f.row in
+    along (SpellsAction (codes "GOTO" ++ s)) (Statement.Goto l) u end (subst (λ z. SpellsAction (codes "GOTO" ++ z) (Statement.Goto l)) (sym whole)
+    (subst (λ z. SpellsAction (codes "GOTO" ++ f.row) (Statement.Goto z)) f.value (SpellsAction.go_to f.row f.number)))
+
+pub goto_is : (s : List ℕ) (u : Statement) → goto_at s ≡ Some u → SpellsAction (codes "GOTO" ++ s) u
+unfolding goto_at
+goto_is s u e = by_open (after 40 s) refl e
+  where
+    by_open : (o : Option (List ℕ)) → after 40 s ≡ o → goto_by s o ≡ Some u → SpellsAction (codes "GOTO" ++ s) u
+    by_open None is e = unconditional_is s u e
+    by_open (Some r) is e = subst (λ z. SpellsAction (codes "GOTO" ++ z) u) (sym (after_is 40 s r is)) (computed_is r u e)
+
+-- What is spelled is read so: no label begins with a parenthesis, and no expression with a comma.
+not_open : (row : List ℕ) → is_number row ≡ true → after 40 row ≡ None
+not_open [] n = refl
+not_open (c ∷ row) n =
+    let digit = (and_true (is_digit c) (list_all is_digit row) n).0 in
+    let other : (c == 40) ≡ false = grind (arith, nat_tests) in
+    rw other refl
+
+pub goto_read : (row : List ℕ) → is_number row ≡ true → goto_at row ≡ Some (Statement.Goto (label_number row))
+unfolding goto_at
+goto_read row n = rw (not_open row n, last_label_read row n) refl
+
 comma_none : (s : List ℕ) → reading.expr 1 (44 ∷ s) ≡ None
 unfolding expr_at start_at
 comma_none s = reading_expr 1 (44 ∷ s)
@@ -67,12 +97,16 @@ unfolding selector_at
 selector_read labels comma p = rw (past_optional comma p, whole p) refl
 
 pub computed_read : (comma : Bool) {x y labels : List ℕ} {t : Tree} → Joined SpellsLabel x labels → Spells 1 y t
-    → computed_at (x ++ (41 ∷ (optional_comma comma ++ y))) ≡ Some (Statement.ComputedGoto labels t)
-unfolding computed_at
+    → goto_at (40 ∷ (x ++ (41 ∷ (optional_comma comma ++ y)))) ≡ Some (Statement.ComputedGoto labels t)
+unfolding goto_at computed_at
 computed_read comma {y = y} {labels = labels} l p =
     rw (items_read label_at each_label_read l (41 ∷ (optional_comma comma ++ y)) refl refl) (selector_read labels comma p)
 
--- Its class: no equals sign stands in it.
+-- Their class: no equals sign stands in them.
+pub goto_class : (row : List ℕ) → is_number row ≡ true → class_of (codes "GOTO" ++ row) ≡ Keyword
+goto_class row n =
+    keyword_class (codes "GOTO" ++ row) refl (ap (behind 61 0) (sym (append-nil (codes "GOTO" ++ row))) ∙ pass_quiet 61 refl equals_other (codes "GOTO" ++ row) [] 0 (quiet_number row n))
+
 labels_pass : {x labels : List ℕ} → Joined SpellsLabel x labels → (rest : List ℕ) → behind 61 1 (x ++ rest) ≡ behind 61 1 rest
 labels_pass (Joined.last (SpellsLabel.digits row n)) rest = pass_quiet 61 refl equals_other row rest 1 (quiet_number row n)
 labels_pass (Joined.more {rest = others} (SpellsLabel.digits row n) q) rest =

@@ -1,15 +1,15 @@
-//! Computed GO TO statements read from texts.
+//! GO TO statements, unconditional and computed, read from texts (ANSI X3.9-1978, 11.1 and 11.2).
 
-ghost use Rattle.f77_syntax.specs.ComputedGoto.{selector_at, computed_at};
+ghost use Rattle.f77_syntax.specs.Goto.{selector_at, computed_at, goto_at};
 ghost use Rattle.f77_syntax.specs.Joined.{items_at};
 ghost use Rattle.f77_syntax.specs.Label.{label_at};
 ghost use Rattle.f77_syntax.specs.View.{Gives};
 ghost use Rattle.f77_syntax.specs.StatementView.{IsStatement, AreLabels};
 
-use crate::expression::{closed, expression, past_comma};
+use crate::expression::{after_byte, closed, expression, past_comma};
 use crate::fault::ReadError;
 use crate::joined::joined;
-use crate::label::label;
+use crate::label::{label, last_label};
 use f77_tree::Stmt;
 use std::alloc::Global;
 
@@ -32,9 +32,20 @@ fn selector(alloc: Global, labels: Vec<u32>, text: &[u8]) -> Result<Stmt, ReadEr
 }
 
 /// Reads what stands behind `GOTO(`.
-pub(crate) fn computed(alloc: Global, text: &[u8]) -> Result<Stmt, ReadError>
+fn computed(alloc: Global, text: &[u8]) -> Result<Stmt, ReadError>
     ensures { Gives IsStatement result (computed_at text.now) }
 {
     let (labels, behind) = labels(alloc, text)?;
     selector(alloc, labels, closed(behind)?)
+}
+
+/// Reads what stands behind `GOTO`.
+pub(crate) fn goto(alloc: Global, text: &[u8]) -> Result<Stmt, ReadError>
+    ensures { Gives IsStatement result (goto_at text.now) }
+{
+    if let Some(rest) = after_byte(text, b'(') {
+        return computed(alloc, rest);
+    }
+    let label = last_label(text)?;
+    Ok(Stmt::Goto { label })
 }

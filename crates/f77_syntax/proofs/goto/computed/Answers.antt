@@ -2,8 +2,8 @@ use Rattle.std.proofs.Common.{sym, ◌∙◌, ap, Some}
 use Rattle.std.proofs.lemmas.Result.{err_from_is_err_and}
 use Rattle.f77_syntax.specs.StatementView.{IsStatement}
 use Rattle.f77_syntax.proofs.Gives.{gives_along}
-use Rattle.f77_syntax.proofs.ComputedGotoGives.{computed_fails, computed_open, computed_given}
-use Rattle.f77_syntax.proofs.computed_goto.computed.Goals as goal
+use Rattle.f77_syntax.proofs.GotoGives.{computed_fails, computed_open, computed_given}
+use Rattle.f77_syntax.proofs.goto.computed.Goals as goal
 
 pub returns-in_err-labels : goal.returns-in_err-labels
 returns-in_err-labels c =
