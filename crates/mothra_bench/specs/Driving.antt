@@ -1,5 +1,6 @@
 -- What workers and feeders come to together.
-use Rattle.std.specs.Prelude.{◌≡◌, ◌⊎◌, ℕ, ◌≤◌, ⊤, Bool, true, List, [], length, Contains}
+use Rattle.std.specs.Prelude.{◌≡◌, ◌⊎◌, ℕ, ◌+◌, ◌≤◌, ⊤, Bool, true, List, [], ◌++◌, Vec, Result, IfOk, IfErr, length, Contains}
+use Rattle.std.specs.declared.alloc.Global.{Global}
 use Rattle.mothra_codes.specs.declared.op.Op.{Op}
 use Rattle.mothra_codes.specs.Op.{index}
 use Rattle.mothra_exchange.specs.Sharing.{MergesWell}
@@ -10,11 +11,14 @@ use Rattle.mothra_codes.specs.declared.ticket.Ticket.{Ticket}
 use Rattle.mothra_exchange.specs.declared.view.View.{View}
 use Rattle.mothra_exchange.specs.declared.word.Word.{Word}
 use Rattle.mothra_ops.specs.Plan.{PlanFields, edits_of}
+use Rattle.mothra_bench.specs.Bench.{BenchFields}
 use Rattle.mothra_bench.specs.Feeding.{AreCounts, IsFed}
+use Rattle.mothra_bench.specs.Gathered.{AreVerdicts, tickets_in}
 use Rattle.mothra_bench.specs.Verdict.{Has}
 use Rattle.mothra_bench.specs.Working.{AreOver, CountsPlan}
 use Rattle.mothra_bench.specs.declared.fault.BenchFault.{BenchFault}
 use Rattle.mothra_bench.specs.declared.fault.BenchFault.TheVariants as fault
+use Rattle.mothra_bench.specs.declared.verdict.Row.{Row}
 
 -- no ticket stands twice, and each is at most the number handed out of its operator
 abbrev pub AreHandedOnce : List Word → List Ticket → Type 0
@@ -60,6 +64,15 @@ pub record IsNew (counts : List ℕ) (view : View) : Type 0 where
   pub taken : view.taken ≡ []
   pub closings : view.closings ≡ []
 
+-- a pass that one thread was given: one share of the caller's, in which nothing was done
+pub record IsShare (parts keeps : Bool) (counts : List ℕ) (view : View) : Type 0 where
+  pub part : parts ≡ true → view.part ≡ 1
+  pub fresh : keeps ≡ true → IsNew counts view
+
+-- the pass has a share for each worker, for each of the two feeders, and for the caller
+abbrev pub HasShares : Bool → ℕ → View → Type 0
+HasShares parts workers view = parts ≡ true → workers + 3 ≤ view.part
+
 -- another pass was merged into this one
 pub record Joins (old other new : View) : Type 0 where
   pub united : new ≡ united_view old other
@@ -81,3 +94,11 @@ pub record IsDone (plan : PlanFields) (view : View) : Type 0 where
   pub part : view.part ≡ whole_part
   pub fed : (op : Op) → IsFed view op
   pub over : AreOver view
+
+-- What workers and two feeders come to: the pass into which all of theirs were merged, and all rows, or why there are none.
+pub record Drives (may keeps parts : Bool) (bench : BenchFields) (front back : List Op) (workers : ℕ) (old new : View)
+    (outcome : Result (Vec Row Global) BenchFault) : Type 0 where
+  pub verdicts : IfOk outcome (λ rows. AreVerdicts bench rows.items)
+  pub refused : IfErr outcome (IsNoDrive may keeps bench.plan old.counts)
+  pub records : keeps ≡ true → IfOk outcome (λ rows. new.taken ≡ old.taken ++ tickets_in rows.items)
+  pub done : parts ≡ true → keeps ≡ true → 1 ≤ workers → AreShared front back → IsWhole bench.plan old → IfOk outcome (λ _. IsDone bench.plan new)

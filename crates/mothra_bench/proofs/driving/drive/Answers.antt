@@ -14,7 +14,7 @@ returns-in-Ok-clause-records g c keeps op k =
     let old = (g.G.Gate.view c.args.pass).taken in
     let ends = c.finish-tally.ensures.records keeps op in
     let was = subst (λ outcome. IfOk outcome (λ rows. (g.G.Gate.view c.run_scope-pass.result.0).taken ≡ old ++ tickets_in rows.items)) c.in-Ok.is
-    (c.run_scope-pass.ensures.records keeps) in
+    (c.run_scope-pass.ensures.drives.records keeps) in
     let most = ends.taken k in
     let same = ap (times (index op) k) was in
     let parts = times-append (index op) k old (tickets_in c.in-Ok.rows.items) in
@@ -24,11 +24,11 @@ pub returns-in-Ok-clause-complete : goal.returns-in-Ok-clause-complete
 returns-in-Ok-clause-complete g c parts keeps whole =
     let view = g.G.Gate.view c.run_scope-pass.result.0 in
     let old = (g.G.Gate.view c.args.pass).taken in
-    let was = subst (λ outcome. IfOk outcome (λ rows. view.taken ≡ old ++ tickets_in rows.items)) c.in-Ok.is (c.run_scope-pass.ensures.records keeps) in
+    let was = subst (λ outcome. IfOk outcome (λ rows. view.taken ≡ old ++ tickets_in rows.items)) c.in-Ok.is (c.run_scope-pass.ensures.drives.records keeps) in
     let shared : AreShared c.split_at.result.0.now c.split_at.result.1.now =
     subst (λ (l : List Op). AreShared l c.split_at.result.1.now) (sym c.split_at.ensures.front)
     (subst (λ (l : List Op). AreShared (take 11 all_ops) l) (sym c.split_at.ensures.back) all_shared) in
     let done = subst (λ outcome. IfOk outcome (λ rows. IsDone c.args.bench.now.plan view)) c.in-Ok.is
-    (c.run_scope-pass.ensures.done parts keeps c.requires.workers.0 shared whole) in
+    (c.run_scope-pass.ensures.drives.done parts keeps c.requires.workers.0 shared whole) in
     all_complete g.G.Gate.bound c.args.bench.now.plan view _ (tickets_in c.in-Ok.rows.items) done (c.finish-tally.ensures.records keeps)
     (was ∙ ap (λ l. l ++ tickets_in c.in-Ok.rows.items) whole.taken)

@@ -1,6 +1,6 @@
-use Rattle.std.proofs.Common.{◌≡◌, ◌⊎◌, ◌++◌, [], true, None, length, ap, sym, ◌∙◌, ⊎_elim, arith, inl, inr}
+use Rattle.std.proofs.Common.{◌≡◌, ◌⊎◌, ◌++◌, [], None, length, ap, sym, ◌∙◌, ⊎_elim, arith, inl, inr}
 use Rattle.std.specs.Vec.Iter.{into_iter_items}
-use Rattle.mothra_bench.specs.Driving.{IsNew}
+use Rattle.mothra_bench.specs.Driving.{IsShare}
 use Rattle.mothra_bench.specs.Working.{AreOver}
 use Rattle.mothra_bench.proofs.JoinedPasses.{keeps_on, new_same}
 use Rattle.mothra_bench.proofs.WorkerRows.{answered_with, first_of_all, gathers, none_left, over_gathered, still_some}
@@ -9,21 +9,19 @@ use Rattle.mothra_bench.proofs.driving.join_workers.Goals as goal
 pub join_worker-outcome-requires-clause-own : goal.join_worker-outcome-requires-clause-own
 join_worker-outcome-requires-clause-own g c =
     let here = first_of_all (into_iter_items c.loop-worker.worker-iterator) c.in-Some.worker (into_iter_items c.next.new.self)
-    (λ worker. (worker.promise.gate.now ≡ c.args.gate.now) × (worker.promise.bench.now ≡ c.args.bench.now)
-    × (g.G.Gate.needs_parts ≡ true → (g.G.Gate.view worker.promise.pass.value).part ≡ 1)
-    × (g.G.Gate.keeps_records ≡ true → IsNew (g.G.Gate.view c.args.pass.now).counts (g.G.Gate.view worker.promise.pass.value)))
+    (λ worker. (worker.promise.gate.now ≡ c.args.crew.now.gate.now) × (worker.promise.bench.now ≡ c.args.crew.now.bench.now)
+    × IsShare g.G.Gate.needs_parts g.G.Gate.keeps_records (g.G.Gate.view c.args.pass.now).counts (g.G.Gate.view worker.promise.pass.value))
     c.in-Some.ensures.steps.0 c.loop-worker.invariant.3 in
     (c.loop-worker.invariant.2, here.0.0, here.0.1)
 
 pub join_worker-outcome-requires-clause-fresh : goal.join_worker-outcome-requires-clause-fresh
 join_worker-outcome-requires-clause-fresh g c keeps =
     let here = first_of_all (into_iter_items c.loop-worker.worker-iterator) c.in-Some.worker (into_iter_items c.next.new.self)
-    (λ worker. (worker.promise.gate.now ≡ c.args.gate.now) × (worker.promise.bench.now ≡ c.args.bench.now)
-    × (g.G.Gate.needs_parts ≡ true → (g.G.Gate.view worker.promise.pass.value).part ≡ 1)
-    × (g.G.Gate.keeps_records ≡ true → IsNew (g.G.Gate.view c.args.pass.now).counts (g.G.Gate.view worker.promise.pass.value)))
+    (λ worker. (worker.promise.gate.now ≡ c.args.crew.now.gate.now) × (worker.promise.bench.now ≡ c.args.crew.now.bench.now)
+    × IsShare g.G.Gate.needs_parts g.G.Gate.keeps_records (g.G.Gate.view c.args.pass.now).counts (g.G.Gate.view worker.promise.pass.value))
     c.in-Some.ensures.steps.0 c.loop-worker.invariant.3 in
     new_same (g.G.Gate.view c.loop-worker.pass).counts (g.G.Gate.view c.args.pass.now).counts (g.G.Gate.view c.in-Some.worker.promise.pass.value)
-    (c.loop-worker.invariant.7 keeps).counts (here.0.3 keeps)
+    (c.loop-worker.invariant.7 keeps).counts (here.0.2.fresh keeps)
 
 pub loop-worker-preserved : goal.loop-worker-preserved
 loop-worker-preserved g c =
@@ -33,13 +31,12 @@ loop-worker-preserved g c =
     let inv = c.loop-worker.invariant in
     let steps = c.in-Some.ensures.steps in
     let here = first_of_all (into_iter_items c.loop-worker.worker-iterator) c.in-Some.worker (into_iter_items c.next.new.self)
-    (λ worker. (worker.promise.gate.now ≡ c.args.gate.now) × (worker.promise.bench.now ≡ c.args.bench.now)
-    × (g.G.Gate.needs_parts ≡ true → (g.G.Gate.view worker.promise.pass.value).part ≡ 1)
-    × (g.G.Gate.keeps_records ≡ true → IsNew (g.G.Gate.view c.args.pass.now).counts (g.G.Gate.view worker.promise.pass.value)))
+    (λ worker. (worker.promise.gate.now ≡ c.args.crew.now.gate.now) × (worker.promise.bench.now ≡ c.args.crew.now.bench.now)
+    × IsShare g.G.Gate.needs_parts g.G.Gate.keeps_records (g.G.Gate.view c.args.pass.now).counts (g.G.Gate.view worker.promise.pass.value))
     steps.0 inv.3 in
-    let more = gathers c.args.bench.now g.G.Gate.may_give_up g.G.Gate.keeps_records (g.G.Gate.view c.in-Some.worker.promise.pass.value).counts old.counts old.taken
+    let more = gathers c.args.crew.now.bench.now g.G.Gate.may_give_up g.G.Gate.keeps_records (g.G.Gate.view c.in-Some.worker.promise.pass.value).counts old.counts old.taken
     between.taken new.taken c.loop-worker.gathered.fault c.loop-worker.gathered.rows.items c.join_worker-outcome.result c.add.new.self.fault c.add.new.self.rows.items
-    (λ keeps. (here.0.3 keeps).same) c.add.ensures.rows c.add.ensures.fault inv.4 inv.5 c.join_worker-outcome.ensures.verdicts c.join_worker-outcome.ensures.refused
+    (λ keeps. (here.0.2.fresh keeps).same) c.add.ensures.rows c.add.ensures.fault inv.4 inv.5 c.join_worker-outcome.ensures.verdicts c.join_worker-outcome.ensures.refused
     c.join_worker-outcome.ensures.records in (
       tt,
       tt,
@@ -48,7 +45,7 @@ loop-worker-preserved g c =
       more.0,
       more.1,
       (λ parts.
-          let one = here.0.2 parts in
+          let one = here.0.2.part parts in
           let sum = c.join_worker-outcome.ensures.part parts in
           let all = inv.6 parts in
           let long = ap (λ l. length l) steps.0 in

@@ -1,7 +1,7 @@
 use Rattle.std.proofs.Common.{◌≡◌, ◌⊎◌, ◌+◌, ◌++◌, true, All, IfSome, length}
 use Rattle.std.specs.Prelude.{IfNone}
 use Rattle.std.specs.Vec.Iter.{into_iter_items, into_iter_len}
-use Rattle.mothra_bench.specs.Driving.{IsNew, IsNoDrive, KeepsFed}
+use Rattle.mothra_bench.specs.Driving.{IsNoDrive, IsShare, KeepsFed}
 use Rattle.mothra_bench.specs.Gathered.{AreVerdicts, tickets_in}
 use Rattle.mothra_bench.specs.Working.{AreOver}
 use Rattle.mothra_bench.proofs.driving.join_workers.Given as goal
@@ -10,12 +10,11 @@ abbrev pub invariant-loop-worker : goal.invariant-loop-worker
 invariant-loop-worker g l =
     (goal.iterator-loop-worker g).can_next l.worker-iterator
     × (goal.iterator-loop-worker g).is_finite l.worker-iterator
-    × g.G.Gate.is_pass l.gate l.pass
-    × All (λ worker. (worker.promise.gate.now ≡ l.gate) × (worker.promise.bench.now ≡ l.bench)
-    × (g.G.Gate.needs_parts ≡ true → (g.G.Gate.view worker.promise.pass.value).part ≡ 1)
-    × (g.G.Gate.keeps_records ≡ true → IsNew (g.G.Gate.view l.fn.pass).counts (g.G.Gate.view worker.promise.pass.value))) (into_iter_items l.worker-iterator)
-    × IfSome l.gathered.fault (IsNoDrive g.G.Gate.may_give_up g.G.Gate.keeps_records l.bench.plan (g.G.Gate.view l.fn.pass).counts)
-    × IfNone l.gathered.fault (AreVerdicts l.bench l.gathered.rows.items
+    × g.G.Gate.is_pass l.crew.gate.now l.pass
+    × All (λ worker. (worker.promise.gate.now ≡ l.crew.gate.now) × (worker.promise.bench.now ≡ l.crew.bench.now)
+    × IsShare g.G.Gate.needs_parts g.G.Gate.keeps_records (g.G.Gate.view l.fn.pass).counts (g.G.Gate.view worker.promise.pass.value)) (into_iter_items l.worker-iterator)
+    × IfSome l.gathered.fault (IsNoDrive g.G.Gate.may_give_up g.G.Gate.keeps_records l.crew.bench.now.plan (g.G.Gate.view l.fn.pass).counts)
+    × IfNone l.gathered.fault (AreVerdicts l.crew.bench.now l.gathered.rows.items
     × (g.G.Gate.keeps_records ≡ true → (g.G.Gate.view l.pass).taken ≡ (g.G.Gate.view l.fn.pass).taken ++ tickets_in l.gathered.rows.items))
     × (g.G.Gate.needs_parts ≡ true
     → (g.G.Gate.view l.pass).part + length (into_iter_items l.worker-iterator) ≡ (g.G.Gate.view l.fn.pass).part + length l.fn.workers.items)

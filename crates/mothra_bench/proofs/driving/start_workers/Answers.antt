@@ -1,6 +1,6 @@
-use Rattle.std.proofs.Common.{◌≡◌, [], ◌∷◌, true, length, ap, sym, subst, ◌∙◌, arith}
+use Rattle.std.proofs.Common.{◌≡◌, [], ◌∷◌, length, ap, sym, subst, ◌∙◌, arith}
 use Rattle.std.proofs.lemmas.List.{length-append}
-use Rattle.mothra_bench.specs.Driving.{IsNew}
+use Rattle.mothra_bench.specs.Driving.{IsNew, IsShare}
 use Rattle.mothra_bench.proofs.JoinedPasses.{split_new, split_on, split_once}
 use Rattle.mothra_bench.proofs.WorkerRows.{all_push}
 use Rattle.mothra_bench.proofs.driving.start_workers.Goals as goal
@@ -16,14 +16,15 @@ loop-preserved g c =
     let more = c.in-Ok-push.ensures.items in (
       split.own.0,
       all_push c.push.new.self.items c.loop.started.items c.in-Some.worker
-          (λ worker. (worker.promise.gate.now ≡ c.args.gate.now) × (worker.promise.bench.now ≡ c.args.bench.now)
-          × (g.G.Gate.needs_parts ≡ true → (g.G.Gate.view worker.promise.pass.value).part ≡ 1)
-          × (g.G.Gate.keeps_records ≡ true → IsNew (g.G.Gate.view c.args.pass.now).counts (g.G.Gate.view worker.promise.pass.value))) more inv.1 (
+          (λ worker. (worker.promise.gate.now ≡ c.args.crew.now.gate.now) × (worker.promise.bench.now ≡ c.args.crew.now.bench.now)
+          × IsShare g.G.Gate.needs_parts g.G.Gate.keeps_records old.counts (g.G.Gate.view worker.promise.pass.value)) more inv.1 (
             told.0,
             told.1,
-            (λ parts. ap (λ p. (g.G.Gate.view p).part) told.2 ∙ (split.part parts).1),
-            (λ keeps. subst (λ p. IsNew old.counts (g.G.Gate.view p)) (sym told.2)
-                (split_new old.counts between (g.G.Gate.view c.split-own.result) (inv.3 keeps).counts (split.records keeps).1)),
+            record {
+              part = λ parts. ap (λ p. (g.G.Gate.view p).part) told.2 ∙ (split.part parts).1;
+              fresh = λ keeps. subst (λ p. IsNew old.counts (g.G.Gate.view p)) (sym told.2)
+                  (split_new old.counts between (g.G.Gate.view c.split-own.result) (inv.3 keeps).counts (split.records keeps).1);
+            },
           ),
       (λ parts. let sum = inv.2 parts in let one = (split.part parts).0 in omega arith),
       (λ keeps. split_on old between new (inv.3 keeps) (split_once between new (split.records keeps).0)),

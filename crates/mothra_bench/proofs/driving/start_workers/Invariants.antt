@@ -1,13 +1,12 @@
 use Rattle.std.proofs.Common.{◌≡◌, ◌+◌, true, All, length}
-use Rattle.mothra_bench.specs.Driving.{IsNew, OnlySplit}
+use Rattle.mothra_bench.specs.Driving.{IsShare, OnlySplit}
 use Rattle.mothra_bench.proofs.driving.start_workers.Given as goal
 
 abbrev pub invariant-loop : goal.invariant-loop
 invariant-loop g l =
-    g.G.Gate.is_pass l.gate l.pass
-    × All (λ worker. (worker.promise.gate.now ≡ l.gate) × (worker.promise.bench.now ≡ l.bench)
-    × (g.G.Gate.needs_parts ≡ true → (g.G.Gate.view worker.promise.pass.value).part ≡ 1)
-    × (g.G.Gate.keeps_records ≡ true → IsNew (g.G.Gate.view l.fn.pass).counts (g.G.Gate.view worker.promise.pass.value))) l.started.items
+    g.G.Gate.is_pass l.crew.gate.now l.pass
+    × All (λ worker. (worker.promise.gate.now ≡ l.crew.gate.now) × (worker.promise.bench.now ≡ l.crew.bench.now)
+    × IsShare g.G.Gate.needs_parts g.G.Gate.keeps_records (g.G.Gate.view l.fn.pass).counts (g.G.Gate.view worker.promise.pass.value)) l.started.items
     × (g.G.Gate.needs_parts ≡ true → (g.G.Gate.view l.pass).part + l.counter ≡ (g.G.Gate.view l.fn.pass).part)
     × (g.G.Gate.keeps_records ≡ true → OnlySplit (g.G.Gate.view l.fn.pass) (g.G.Gate.view l.pass))
     × (length l.started.items ≡ l.counter)
