@@ -23,7 +23,7 @@ use Rattle.f77_legal.specs.Names.{Symbol, kind_of, bounds_of}
 use Rattle.f77_check.specs.Resolved.{IsResolved, AreResolved}
 use Rattle.f77_check.specs.Slots.{slot_count}
 use Rattle.f77_run.specs.Evaluation.{number_within}
-use Rattle.f77_run.specs.Reach.{are_below, jump_within, action_within, resolved_within, all_within}
+use Rattle.f77_run.specs.Moves.{are_below, jump_within, action_within, resolved_within, all_within}
 use Rattle.f77_run.proofs.Within.{number_fits, element_fits, condition_fits}
 use Rattle.f77_run.proofs.Looping.{terminal_within}
 use Rattle.f77_run.proofs.Simulation.{statement_of, legal_fits, no_bounds}

@@ -16,14 +16,13 @@ use Rattle.f77_run.specs.declared.machine.Machine.{Machine}
 use Rattle.f77_run.specs.Control.{Comes}
 use Rattle.f77_run.specs.Endless.{Reaches}
 use Rattle.f77_run.specs.Machine.{KeepsLengths, config_of, next_of}
-use Rattle.f77_run.specs.Moves.{Cells, State, Move, state_of, move_of, moved}
+use Rattle.f77_run.specs.Moves.{Cells, State, Move, state_of, move_of, moved, all_within}
 use Rattle.f77_run.specs.Moves as moves
 use Rattle.f77_run.specs.Outcome.{IsOutcome}
 use Rattle.f77_run.specs.Running.{Site, IsRunning, ComesToEnd, values_at, config_at}
 use Rattle.f77_run.specs.Step.{Config, Step}
 use Rattle.f77_run.proofs.Endless.{joined, one_step, one_more as further, whole, limit_met, endless_before, comes_back, meets_limits}
 use Rattle.f77_run.proofs.NeverLost.{leads_on}
-use Rattle.f77_run.specs.Reach.{all_within}
 use Rattle.f77_run.proofs.Reaching.{reach}
 use Rattle.f77_run.proofs.Simulation.{simulates, moves_on}
 

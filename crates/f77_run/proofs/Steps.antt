@@ -15,9 +15,8 @@ use Rattle.f77_run.specs.declared.machine.Turn.{Turn}
 use Rattle.f77_run.specs.Evaluation.{number_within}
 use Rattle.f77_run.specs.declared.value.Value.{Value}
 use Rattle.f77_run.specs.declared.value.Value.TheVariants as held
-use Rattle.f77_run.specs.Moves.{Cells, Turns, state_of, moved, acted, begun, incremented, is_executed, is_loop, passing_at, turn_at}
+use Rattle.f77_run.specs.Moves.{Cells, Turns, state_of, moved, acted, begun, incremented, is_executed, is_loop, passing_at, turn_at, are_below, action_within, resolved_within, all_within}
 use Rattle.f77_run.specs.Number.{trip_count}
-use Rattle.f77_run.specs.Reach.{are_below, action_within, resolved_within, all_within}
 
 among : {A B : Type 0} (f : A → Option B) (xs : List A) (i : ℕ) → IsSome (option_and_then f (slice_get xs i)) → i < length xs
 among f [] i some = absurd (false≢true some)

@@ -1,6 +1,6 @@
 -- A statement that control does not come to may be another one of the same frame.
-use Rattle.std.proofs.Common.{arith, ◌≡◌, ◌≢◌, ◌∙◌, ◌+◌, ◌-◌, ◌<◌, ◌==◌, ◌&&◌, ℕ, zero, suc, inl, inr, Bool, true, false, true≢false, not, List, [], map, Option, Some, None, refl, sym, ap, subst, ℤ, pos, negsuc}
-use Rattle.std.specs.Prelude.{Result, Ok, Err, IsSome, MatchOption, ◌+ℤ◌, if◌then◌else◌, option_map, position, slice_get}
+use Rattle.std.proofs.Common.{arith, ◌≡◌, ◌≢◌, ◌∙◌, ◌+◌, ◌-◌, ◌&&◌, ℕ, zero, suc, inl, inr, Bool, true, false, not, List, [], map, Option, Some, None, refl, sym, ap, subst, ℤ, pos, negsuc}
+use Rattle.std.specs.Prelude.{Result, Ok, Err, MatchOption, ◌+ℤ◌, if◌then◌else◌, option_map, position, slice_get}
 use Rattle.std.specs.Option.{option_map_or}
 use Rattle.std.specs.Str.{bytes_eq}
 use Rattle.f77_program.specs.Program.{LineFields}
@@ -22,7 +22,7 @@ use Rattle.f77_run.specs.declared.outcome.Outcome.TheVariants as outcome
 use Rattle.f77_run.specs.declared.value.Value.{Value}
 use Rattle.f77_run.specs.declared.value.Value.TheVariants as held
 use Rattle.f77_run.specs.Choice.{by_sign, numbered}
-use Rattle.f77_run.specs.Interpreter.{AreFitting, AreArguments, IsOutcomeOf, Tells, values_in}
+use Rattle.f77_run.specs.Interpreter.{AreFitting, AreArguments, Tells, values_in}
 use Rattle.f77_run.specs.Number.{in_range, trip_count}
 use Rattle.f77_run.specs.Outcome.{IsOutcome}
 use Rattle.f77_run.specs.Reached.{number_of, IsReached, AreSameBut, MayBeAnother}

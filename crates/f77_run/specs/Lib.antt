@@ -8,7 +8,6 @@ pub mod Control
 pub mod Evaluation
 pub mod Machine
 pub mod Moves
-pub mod Reach
 pub mod Interpreter
 pub mod Typed
 pub mod Spans

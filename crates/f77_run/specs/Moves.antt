@@ -1,8 +1,9 @@
--- One step of a machine over slots: what it does to its place, its slots and its active DOs. Statements are numbered from 0 here.
-use Rattle.std.specs.Prelude.{◌+◌, ◌-◌, ◌∷◌, ◌+ℤ◌, if◌then◌else◌}
+-- One step of a machine over slots: what it does to its place, its slots and its active DOs, and which slots and statements it asks for.
+-- Statements are numbered from 0 here.
+use Rattle.std.specs.Prelude.{◌+◌, ◌-◌, ◌∷◌, ◌&&◌, ◌+ℤ◌, if◌then◌else◌, nat_lt}
 use Rattle.std.specs.Prelude.{ℕ, zero, suc, List, [], Option, Some, None, is_some, slice_get, slice_set}
 use Rattle.std.specs.Prelude.{ℤ, pos, negsuc, Bool, true, false, option_map, Result, Ok, Err}
-use Rattle.std.specs.List.{find}
+use Rattle.std.specs.List.{find, list_all}
 use Rattle.std.specs.Option.{option_and_then, option_map_or}
 use Rattle.f77_check.specs.declared.action.Action.{Action, Declaration, AssignNumber, AssignTruth, Goto, ComputedGoto, ArithmeticIf}
 use Rattle.f77_check.specs.declared.action.Action.{LogicalIf', Branch, Continue, Loop, Return, Stop, Trap}
@@ -21,7 +22,7 @@ use Rattle.f77_run.specs.declared.machine.Turn.{Turn}
 use Rattle.f77_run.specs.declared.value.Value.{Value}
 use Rattle.f77_run.specs.declared.value.Value.TheVariants as held
 use Rattle.f77_run.specs.Choice.{by_sign, numbered}
-use Rattle.f77_run.specs.Evaluation.{held_in, slot_in, number_in, truth_in}
+use Rattle.f77_run.specs.Evaluation.{held_in, slot_in, number_in, truth_in, element_within, number_within, condition_within}
 use Rattle.f77_run.specs.Number.{in_range, trip_count}
 use Rattle.f77_run.specs.Value.{whole}
 
@@ -158,3 +159,32 @@ moved statements s = at s.place
         option_and_then
         (λ r. if is_loop r.action then option_map (λ turn. incremented statements d r.action turn s.cells s.turns) (turn_at s.turns d) else None)
         (slice_get statements d)
+
+-- What statements name is there, of so many slots and so many statements: these numbers are below that one.
+abbrev pub are_below : ℕ → List ℕ → Bool
+are_below n numbers = list_all (λ k. nat_lt k n) numbers
+
+abbrev pub jump_within : ℕ → Jump → Bool
+jump_within n jump = are_below n jump.leaves.items
+
+abbrev pub action_within : ℕ → ℕ → Action → Bool
+action_within slots n Declaration = true
+action_within slots n (AssignNumber e x) = element_within slots e && number_within slots x
+action_within slots n (AssignTruth e x) = element_within slots e && condition_within slots x
+action_within slots n (Goto jump) = jump_within n jump
+action_within slots n (ComputedGoto x jumps) = number_within slots x && list_all (jump_within n) jumps.items
+action_within slots n (ArithmeticIf x a b c) = number_within slots x && (jump_within n a && (jump_within n b && jump_within n c))
+action_within slots n (LogicalIf' x p action) = condition_within slots x && action_within slots n action
+action_within slots n (Branch x otherwise) = condition_within slots x
+action_within slots n Continue = true
+action_within slots n (Loop variable first last step t) =
+    nat_lt variable slots && (number_within slots first && (number_within slots last && (number_within slots step && nat_lt t n)))
+action_within slots n Return = true
+action_within slots n Stop = true
+action_within slots n Trap = true
+
+abbrev pub resolved_within : ℕ → ℕ → Resolved → Bool
+resolved_within slots n r = action_within slots n r.action && are_below n r.ends.items
+
+abbrev pub all_within : ℕ → ℕ → List Resolved → Bool
+all_within slots n statements = list_all (resolved_within slots n) statements

@@ -2,7 +2,7 @@
 
 ghost use Rattle.std.specs.Prelude.{◌≡◌, ◌<◌, ◌*◌, [], ◌∷◌, true, length, Ok, IfOk, IfSome};
 ghost use Rattle.f77_run.specs.Evaluation as resolved;
-ghost use Rattle.f77_run.specs.Evaluation.{slot_in, number_in, truth_in, held_in, element_within, number_within, condition_within};
+ghost use Rattle.f77_run.specs.Evaluation.{slot_in, number_in, truth_in, element_within, number_within, condition_within};
 ghost use Rattle.f77_run.specs.Value as meaning;
 
 use crate::finish::Fault;

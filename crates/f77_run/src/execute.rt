@@ -10,8 +10,8 @@ ghost use Rattle.f77_run.specs.Evaluation.{element_within, number_within, condit
 ghost use Rattle.f77_run.specs.Machine.{KeepsLengths};
 ghost use Rattle.f77_run.specs.Moves as moves;
 ghost use Rattle.f77_run.specs.Moves.{Goes, state, state_of, move_of, used, chosen, jump_to};
+ghost use Rattle.f77_run.specs.Moves.{are_below, jump_within, action_within, all_within};
 ghost use Rattle.f77_run.specs.Moves.{passing, passing_at, begun, acted, incremented, is_executed, moved};
-ghost use Rattle.f77_run.specs.Reach.{are_below, jump_within, action_within, all_within};
 ghost use Rattle.f77_run.specs.Value.{given};
 
 use crate::evaluate::{holds, operand, target, truth};

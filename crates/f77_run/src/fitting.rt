@@ -1,6 +1,6 @@
 //! Which arguments fit dummy arguments.
 
-ghost use Rattle.std.specs.Prelude.{◌≡◌, ℕ, ◌+◌, ◌==◌, false, length, Some, Err, IfOk, IfSome, IfErr};
+ghost use Rattle.std.specs.Prelude.{◌≡◌, ◌+◌, ◌==◌, Some, Err, IfOk, IfSome, IfErr};
 ghost use Rattle.f77_run.specs.Interpreter as run;
 ghost use Rattle.f77_run.specs.Interpreter.{AreFitting, first_misfit, is_count, refusal};
 ghost use Rattle.f77_run.specs.declared.outcome.RunFault.TheVariants as fault;

@@ -3,7 +3,7 @@
 ghost use Rattle.std.specs.Prelude.{◌≡◌, ◌<◌, Some, Ok, true, length, slice_set, is_some, IfSome};
 ghost use Rattle.f77_run.specs.Evaluation.{held_in};
 ghost use Rattle.f77_run.specs.Moves as moves;
-ghost use Rattle.f77_run.specs.Reach.{are_below};
+ghost use Rattle.f77_run.specs.Moves.{are_below};
 ghost use Rattle.f77_run.specs.Value.{whole, logic};
 
 use crate::finish::Fault;

@@ -1,4 +1,4 @@
-use Rattle.std.proofs.Common.{◌≡◌, ◌++◌, ℤ, pos, to_z, of_z, w32, Some, length, take, drop, slice_set, rules, ap, sym, ◌∙◌}
+use Rattle.std.proofs.Common.{◌≡◌, ◌++◌, pos, to_z, of_z, w32, Some, length, take, drop, slice_set, rules, ap, sym, ◌∙◌}
 use Rattle.f77_run.specs.Moves.{passing_at}
 use Rattle.f77_run.specs.Number.{trip_count}
 use Rattle.f77_run.specs.declared.value.Value.TheVariants as held

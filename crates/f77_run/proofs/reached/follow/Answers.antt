@@ -1,11 +1,7 @@
-use Rattle.std.proofs.Common.{arith, ap, sym, ◌∙◌, length}
+use Rattle.std.proofs.Common.{arith, ap, ◌∙◌}
 use Rattle.std.specs.Prelude.{Some, Ok}
-use Rattle.std.proofs.Math.ListN.{length-set}
-use Rattle.f77_run.specs.Machine.{placed}
 use Rattle.f77_run.specs.Moves.{move_of, state_of}
-use Rattle.f77_run.specs.Reached.{number_of}
-use Rattle.f77_run.specs.Running.{config_at}
-use Rattle.f77_run.proofs.Following.{none_reached, one_noted, place_within}
+use Rattle.f77_run.proofs.Following.{place_within}
 use Rattle.f77_run.proofs.Followed.{noted_end, noted_length, noted_more}
 use Rattle.f77_run.proofs.Runs.{can_move, one_more, are_short, are_within}
 use Rattle.f77_run.proofs.reached.follow.Goals as goal

@@ -1,7 +1,6 @@
 use Rattle.std.proofs.Common.{◌≡◌, false, replicate, length, sym, ap, subst, ◌∙◌}
 use Rattle.std.proofs.lemmas.List.{length-map}
 use Rattle.f77_program.specs.Program.{line_of}
-use Rattle.f77_check.specs.declared.resolved.Resolved.{Resolved}
 use Rattle.f77_run.specs.Running.{Site, IsRunning}
 use Rattle.f77_run.specs.Site.{site_of}
 use Rattle.f77_run.proofs.reached.followed.Goals as goal

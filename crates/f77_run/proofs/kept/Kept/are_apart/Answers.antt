@@ -1,5 +1,4 @@
-use Rattle.std.proofs.Common.{refl, ap, ◌∙◌}
-use Rattle.std.specs.Prelude.{slice_get}
+use Rattle.std.proofs.Common.{refl}
 use Rattle.std.proofs.lemmas.Option.{slice_get_read}
 use Rattle.f77_run.proofs.KeptLists.{turned, apart}
 use Rattle.f77_run.proofs.kept.Kept.are_apart.Goals as goal
