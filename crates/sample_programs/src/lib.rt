@@ -4,9 +4,7 @@
 
 mod patches;
 mod programs;
-mod rows;
 mod samples;
-mod sources;
 mod suites;
 mod verdicts;
 mod words;
@@ -16,9 +14,8 @@ pub use patches::{
     verdict_on, whole_fault,
 };
 pub use programs::checked;
-pub use rows::parts;
+pub use sample_sources::{expect, parts, program, read, repeated, source};
 pub use samples::{ADD, LOOP, PRESET};
-pub use sources::{program, read, repeated, source};
 pub use suites::suite;
 pub use verdicts::verdict_of;
 pub use words::arguments;

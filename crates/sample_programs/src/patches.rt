@@ -1,9 +1,9 @@
 //! Changes of one statement of a checked program. A change is a number and a statement.
 
-use crate::sources::program;
 use crate::verdicts::verdict_of;
 use f77_check::{CheckFault, Checked, check};
 use f77_syntax::{Program, Stmt};
+use sample_sources::program;
 use std::alloc::Global;
 use std::test::Fail;
 
@@ -87,7 +87,8 @@ pub fn answer(
 ) -> Result<Option<Result<Checked, CheckFault>>, Fail> {
     let (number, text) = number_and_text(change)?;
     let holder = holder(rt, text)?;
-    Ok(patched(old, number, held(&holder, text)?))
+    let stmt = held(&holder, text)?;
+    Ok(patched(old, number, stmt))
 }
 
 /// The program with a change that is legal.

@@ -12,17 +12,27 @@ fn test(rt: &impl AllocGlobal, words: &str) -> Result<Values<Arg>, Fail> {
     Ok(Values::new(arguments(rt, words)?))
 }
 
+fn add_test(rt: &impl AllocGlobal, suite: &mut Vec<Values<Arg>>, words: &str) -> Result<(), Fail> {
+    let test = test(rt, words)?;
+    Ok(suite.push(test)?)
+}
+
 /// Tests, each ended by `;`, as `2 3 0; (1,2) true;`.
 pub fn suite(rt: &impl AllocGlobal, tests: &str) -> Result<Values<Values<Arg>>, Fail> {
-    let mut suite = Vec::new(rt.alloc());
     if tests.is_empty() {
-        return Ok(Values::new(suite));
+        return Ok(Values::new(Vec::new(rt.alloc())));
     }
-    let Some(tests) = tests.strip_suffix(';') else {
-        return Err(Fail::new("a test does not end"));
-    };
+    match tests.strip_suffix(';') {
+        Some(tests) => ended(rt, tests),
+        None => Err(Fail::new("a test does not end")),
+    }
+}
+
+/// Tests with `;` between them.
+fn ended(rt: &impl AllocGlobal, tests: &str) -> Result<Values<Values<Arg>>, Fail> {
+    let mut suite = Vec::new(rt.alloc());
     for words in tests.split(';') {
-        suite.push(test(rt, words.trim())?)?;
+        add_test(rt, &mut suite, words.trim())?;
     }
     Ok(Values::new(suite))
 }

@@ -11,18 +11,28 @@ fn truth(word: &str) -> Result<bool, Fail> {
     }
 }
 
+fn add_number(values: &mut Vec<i32>, word: &str) -> Result<(), Fail> {
+    let value = word.parse()?;
+    Ok(values.push(value)?)
+}
+
 fn numbers(rt: &impl AllocGlobal, words: &str) -> Result<Arg, Fail> {
     let mut values = Vec::new(rt.alloc());
     for word in words.split(',') {
-        values.push(word.parse::<i32>()?)?;
+        add_number(&mut values, word)?;
     }
     Ok(Arg::Ints(Values::new(values)))
+}
+
+fn add_truth(values: &mut Vec<bool>, word: &str) -> Result<(), Fail> {
+    let value = truth(word)?;
+    Ok(values.push(value)?)
 }
 
 fn truths(rt: &impl AllocGlobal, words: &str) -> Result<Arg, Fail> {
     let mut values = Vec::new(rt.alloc());
     for word in words.split(',') {
-        values.push(truth(word)?)?;
+        add_truth(&mut values, word)?;
     }
     Ok(Arg::Truths(Values::new(values)))
 }
@@ -50,11 +60,16 @@ fn argument(rt: &impl AllocGlobal, word: &str) -> Result<Arg, Fail> {
     }
 }
 
+fn add_argument(rt: &impl AllocGlobal, arguments: &mut Vec<Arg>, word: &str) -> Result<(), Fail> {
+    let argument = argument(rt, word)?;
+    Ok(arguments.push(argument)?)
+}
+
 /// The arguments with blanks between them.
 pub fn arguments(rt: &impl AllocGlobal, words: &str) -> Result<Vec<Arg>, Fail> {
     let mut arguments = Vec::new(rt.alloc());
     for word in words.split(' ') {
-        arguments.push(argument(rt, word)?)?;
+        add_argument(rt, &mut arguments, word)?;
     }
     Ok(arguments)
 }

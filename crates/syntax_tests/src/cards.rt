@@ -3,20 +3,36 @@
 use f77_source::Card;
 use f77_syntax::{Program, SyntaxFault, parse};
 
-/// A card without a label.
-fn card(rt: &impl AllocGlobal, line: u32, text: &str) -> Result<Card, SyntaxFault> {
-    Ok(Card::new(None, String::from_str(rt.alloc(), text)?, line))
+/// Adds a card without a label.
+fn add(
+    rt: &impl AllocGlobal,
+    cards: &mut Vec<Card>,
+    line: u32,
+    text: &str,
+) -> Result<(), SyntaxFault> {
+    let text = String::from_str(rt.alloc(), text)?;
+    Ok(cards.push(Card::new(None, text, line))?)
 }
 
-/// The program of this SUBROUTINE statement, this statement and END, on lines 1 to 3.
+/// The cards of this SUBROUTINE statement, this statement and END, on lines 1 to 3.
+fn cards(
+    rt: &impl AllocGlobal,
+    subroutine: &str,
+    statement: &str,
+) -> Result<Vec<Card>, SyntaxFault> {
+    let mut cards = Vec::new(rt.alloc());
+    add(rt, &mut cards, 1, subroutine)?;
+    add(rt, &mut cards, 2, statement)?;
+    add(rt, &mut cards, 3, "END")?;
+    Ok(cards)
+}
+
+/// The program of these cards.
 pub(crate) fn parsed(
     rt: &impl AllocGlobal,
     subroutine: &str,
     statement: &str,
 ) -> Result<Program, SyntaxFault> {
-    let mut cards = Vec::new(rt.alloc());
-    cards.push(card(rt, 1, subroutine)?)?;
-    cards.push(card(rt, 2, statement)?)?;
-    cards.push(card(rt, 3, "END")?)?;
+    let cards = cards(rt, subroutine, statement)?;
     parse(rt.alloc(), &cards)
 }

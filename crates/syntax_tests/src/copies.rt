@@ -4,10 +4,10 @@ ghost use Rattle.std.specs.Prelude.{◌≡◌, IfOk, IfErr, map};
 ghost use Rattle.f77_program.specs.Program.{line_of};
 ghost use Rattle.f77_tree.specs.Statement.{statement_of};
 
-use crate::lines::{assign, lines, lines_of, printed};
-use f77_syntax::{Expr, Program, Stmt, SyntaxFault};
-use sample_programs::{read, source};
-use std::process::Abort;
+use crate::lines::{assign, lines_of, lines_text, printed, reprinted};
+use f77_syntax::{Expr, Line, Program, Stmt, SyntaxFault};
+use sample_sources::{expect, read, source};
+use std::mem::replace;
 use std::test::Fail;
 
 /// A caller that answers with faults: it knows the lines of the copy, and the only fault.
@@ -31,28 +31,40 @@ const STATEMENTS: &str = "SUBROUTINE ALL(I,J,P); INTEGER I,M(2,3); LOGICAL P,Q; 
     GO TO 10; GO TO (10,20,10),I-J; IF (I-J) 10,20,30; IF (P) K(3)=IABS(L); IF (P) THEN; ELSE IF (I.GT.J) THEN; ELSE; \
     END IF; DO 20 I=1,9; DO 10 J=9,1,-2; 10 CONTINUE; 20 RETURN; 99999 STOP; END";
 
-/// The copy of a program in fixed form, printed when that is gone.
-fn copied(rt: &impl AllocGlobal, lines: &str) -> Result<String, Fail> {
+/// The copy of a program in fixed form, which is gone then.
+fn copy_of(rt: &impl AllocGlobal, lines: &str) -> Result<Program, Fail> {
     let program = read(rt, lines)?;
-    let copy = copy_program(&program)?;
-    drop(program);
-    printed(rt, lines_of(rt, &copy)?)
+    Ok(copy_program(&program)?)
+}
+
+/// That copy, printed.
+fn copied(rt: &impl AllocGlobal, lines: &str) -> Result<String, Fail> {
+    let copy = copy_of(rt, lines)?;
+    reprinted(rt, &copy)
 }
 
 #[test]
 fn copies_every_statement(rt: HostRuntime) -> Result<(), Fail> {
     let lines = source(&rt, STATEMENTS)?;
-    assert_eq!(rt; copied(&rt, lines.as_str())?.as_str(), lines.as_str());
-    Ok(())
+    expect(copied(&rt, lines.as_str()), lines.as_str(), STATEMENTS)
 }
 
-/// Compares the program of the copy of a statement, printed when the statement is gone.
-fn assert_copied(rt: &(impl AllocGlobal + Abort), stmt: Stmt, want: &str) -> Result<(), Fail> {
-    let copy = copy_statement(&stmt)?;
+/// The program of the copy of a statement, printed when the statement is gone.
+fn copied_statement(rt: &impl AllocGlobal, stmt: Stmt) -> Result<String, Fail> {
+    let copy = copy_statement(&stmt);
     drop(stmt);
-    let made = lines(rt, 0, None, copy)?;
-    assert_eq!(rt; printed(rt, made)?.as_str(), want);
-    Ok(())
+    lines_text(rt, 0, None, copy?)
+}
+
+/// K = ZPUSH(1)
+fn pushing(rt: &impl AllocGlobal) -> Result<Stmt, Fail> {
+    let one = Box::new(rt.alloc(), Expr::Number(1))?;
+    assign(rt, Expr::ZeroPush(one))
+}
+
+/// Compares the program of the copy of a statement.
+fn assert_copied(rt: &impl AllocGlobal, stmt: Stmt, want: &str) -> Result<(), Fail> {
+    expect(copied_statement(rt, stmt), want, "copy")
 }
 
 #[test]
@@ -62,33 +74,47 @@ fn copies_statements_of_mutants(rt: HostRuntime) -> Result<(), Fail> {
         Stmt::Trap,
         "      SUBROUTINE A\n      TRAP\n      END\n",
     )?;
-    let pushed = Expr::ZeroPush(Box::new(rt.alloc(), Expr::Number(1))?);
     assert_copied(
         &rt,
-        assign(&rt, pushed)?,
+        pushing(&rt)?,
         "      SUBROUTINE A\n      K=ZPUSH(1)\n      END\n",
     )
 }
 
+/// The lines of a copy of the program.
+fn copied_lines(rt: &impl AllocGlobal, program: &Program) -> Result<Vec<Line>, Fail> {
+    let copy = program.clone()?;
+    lines_of(rt, &copy)
+}
+
+/// Puts a trap in the place of the second statement.
+fn trap(lines: &mut [Line]) {
+    if let Some(line) = lines.get_mut(1) {
+        drop(replace(&mut line.stmt, Stmt::Trap));
+    }
+}
+
 /// A copy of the program whose second statement is a trap, printed.
 fn trapped(rt: &impl AllocGlobal, program: &Program) -> Result<String, Fail> {
-    let mut changed = lines_of(rt, &program.clone()?)?;
-    if let Some(line) = changed.get_mut(1) {
-        line.stmt = Stmt::Trap;
-    }
+    let mut changed = copied_lines(rt, program)?;
+    trap(&mut changed);
     printed(rt, changed)
+}
+
+const LABELLED: &str = "      SUBROUTINE A(I)\n   10 I=1\n      END\n";
+
+/// Compares the changed copy of a program, and then the program.
+fn assert_kept(rt: &impl AllocGlobal, program: &Program) -> Result<(), Fail> {
+    expect(
+        trapped(rt, program),
+        "      SUBROUTINE A(I)\n   10 TRAP\n      END\n",
+        "changed",
+    )?;
+    expect(reprinted(rt, program), LABELLED, "kept")
 }
 
 #[test]
 fn keeps_what_a_changed_copy_was_made_from(rt: HostRuntime) -> Result<(), Fail> {
-    let lines = "      SUBROUTINE A(I)\n   10 I=1\n      END\n";
-    let program = read(&rt, lines)?;
-    let changed = trapped(&rt, &program)?;
-    assert_eq!(rt;
-        changed.as_str(),
-        "      SUBROUTINE A(I)\n   10 TRAP\n      END\n"
-    );
-    let kept = printed(&rt, lines_of(&rt, &program)?)?;
-    assert_eq!(rt; kept.as_str(), lines);
-    Ok(())
+    let program = read(&rt, LABELLED)?;
+    assert_kept(&rt, &program)
 }

@@ -6,7 +6,7 @@ ghost use Rattle.f77_program.specs.Program.{line_of};
 use crate::cards::parsed;
 use f77_source::Card;
 use f77_syntax::{Expr, Line, Program, Stmt};
-use sample_programs::{parts, program};
+use sample_sources::{parts, program};
 use std::process::Abort;
 use std::test::Fail;
 
@@ -18,183 +18,202 @@ fn is_same(program: &Program, other: &Program) -> bool
     program == other
 }
 
-/// Compares the programs of the two statements of each row.
-fn assert_rows(rt: &(impl AllocGlobal + Abort), rows: &[&str], want: bool) -> Result<(), Fail> {
-    for row in rows {
-        let (left, right) = parts(row)?;
-        let program = parsed(rt, "SUBROUTINEA", left)?;
-        let other = parsed(rt, "SUBROUTINEA", right)?;
-        assert_eq!(rt; is_same(&program, &other), want, "{row}");
+/// Whether the programs of these two statements are the same.
+fn are_same(rt: &impl AllocGlobal, left: &str, right: &str) -> Result<bool, Fail> {
+    let program = parsed(rt, "SUBROUTINEA", left)?;
+    let other = parsed(rt, "SUBROUTINEA", right)?;
+    Ok(is_same(&program, &other))
+}
+
+/// Compares the programs of the two statements of a row.
+fn assert_row(rt: &(impl AllocGlobal + Abort), row: &str, want: bool) -> Result<(), Fail> {
+    let (left, right) = parts(row)?;
+    let same = are_same(rt, left, right)?;
+    assert_eq!(rt; same, want, "{row}");
+    Ok(())
+}
+
+/// The same for each row.
+fn assert_rows(rt: &(impl AllocGlobal + Abort), rows: &str, want: bool) -> Result<(), Fail> {
+    for row in rows.trim_matches('\n').lines() {
+        assert_row(rt, row, want)?;
     }
     Ok(())
 }
 
+/// Whether two values are the same, which are gone then.
+fn are_equal<T: PartialEq + Drop>(one: T, other: T) -> bool {
+    one == other
+}
+
 #[test]
 fn tells_expressions_apart(rt: HostRuntime) -> Result<(), Fail> {
-    assert_rows(
-        &rt,
-        &[
-            "K=1 => K=2",
-            "P=.TRUE. => P=.FALSE.",
-            "K=I => K=J",
-            "K=M(I) => K=M(J)",
-            "K=M(I) => K=M(I,I)",
-            "K=MIN0(I,J) => K=MAX0(I,J)",
-            "K=MOD(I,J) => K=MOD(I,I)",
-            "K=-I => K=+I",
-            "K=-I => K=-J",
-            "P=.NOT.P => P=.NOT.Q",
-            "K=I+J => K=I-J",
-            "K=I+J => K=J+J",
-            "K=I+J => K=I+I",
-            "K=I => K=1",
-        ],
-        false,
-    )
+    assert_rows(&rt, EXPRESSIONS, false)
 }
+
+const EXPRESSIONS: &str = "
+K=1 => K=2
+P=.TRUE. => P=.FALSE.
+K=I => K=J
+K=M(I) => K=M(J)
+K=M(I) => K=M(I,I)
+K=MIN0(I,J) => K=MAX0(I,J)
+K=MOD(I,J) => K=MOD(I,I)
+K=-I => K=+I
+K=-I => K=-J
+P=.NOT.P => P=.NOT.Q
+K=I+J => K=I-J
+K=I+J => K=J+J
+K=I+J => K=I+I
+K=I => K=1
+";
 
 #[test]
 fn tells_declarations_apart(rt: HostRuntime) -> Result<(), Fail> {
-    assert_rows(
-        &rt,
-        &[
-            "INTEGERI => LOGICALI",
-            "INTEGERI => INTEGERJ",
-            "INTEGERI => INTEGERI,J",
-            "DIMENSIONM(2) => DIMENSIONM(3)",
-            "DIMENSIONM(2) => DIMENSIONN(2)",
-            "DATAI/1/ => DATAJ/1/",
-            "DATAI/1/ => DATAI/2/",
-            "DATAI/1/ => DATAI/2*1/",
-            "DATAP/.TRUE./ => DATAP/.FALSE./",
-        ],
-        false,
-    )
+    assert_rows(&rt, DECLARATIONS, false)
 }
+
+const DECLARATIONS: &str = "
+INTEGERI => LOGICALI
+INTEGERI => INTEGERJ
+INTEGERI => INTEGERI,J
+DIMENSIONM(2) => DIMENSIONM(3)
+DIMENSIONM(2) => DIMENSIONN(2)
+DATAI/1/ => DATAJ/1/
+DATAI/1/ => DATAI/2/
+DATAI/1/ => DATAI/2*1/
+DATAP/.TRUE./ => DATAP/.FALSE./
+";
 
 #[test]
 fn tells_assignments_and_branches_apart(rt: HostRuntime) -> Result<(), Fail> {
-    assert_rows(
-        &rt,
-        &[
-            "K=1 => L=1",
-            "M(1)=1 => M(2)=1",
-            "GOTO10 => GOTO20",
-            "GOTO(10,20),I => GOTO(10,10),I",
-            "GOTO(10,20),I => GOTO(10,20),J",
-            "IF(I)10,20,30 => IF(J)10,20,30",
-            "IF(I)10,20,30 => IF(I)11,20,30",
-            "IF(I)10,20,30 => IF(I)10,21,30",
-            "IF(I)10,20,30 => IF(I)10,20,31",
-        ],
-        false,
-    )
+    assert_rows(&rt, BRANCHES, false)
 }
+
+const BRANCHES: &str = "
+K=1 => L=1
+M(1)=1 => M(2)=1
+GOTO10 => GOTO20
+GOTO(10,20),I => GOTO(10,10),I
+GOTO(10,20),I => GOTO(10,20),J
+IF(I)10,20,30 => IF(J)10,20,30
+IF(I)10,20,30 => IF(I)11,20,30
+IF(I)10,20,30 => IF(I)10,21,30
+IF(I)10,20,30 => IF(I)10,20,31
+";
 
 #[test]
 fn tells_conditions_and_loops_apart(rt: HostRuntime) -> Result<(), Fail> {
-    assert_rows(
-        &rt,
-        &[
-            "IF(P)K=1 => IF(Q)K=1",
-            "IF(P)K=1 => IF(P)K=2",
-            "IF(P)THEN => IF(Q)THEN",
-            "ELSEIF(P)THEN => ELSEIF(Q)THEN",
-            "DO10I=1,9 => DO20I=1,9",
-            "DO10I=1,9 => DO10J=1,9",
-            "DO10I=1,9 => DO10I=2,9",
-            "DO10I=1,9 => DO10I=1,8",
-            "DO10I=1,9 => DO10I=1,9,1",
-            "DO10I=1,9,1 => DO10I=1,9,2",
-        ],
-        false,
-    )
+    assert_rows(&rt, LOOPS, false)
 }
+
+const LOOPS: &str = "
+IF(P)K=1 => IF(Q)K=1
+IF(P)K=1 => IF(P)K=2
+IF(P)THEN => IF(Q)THEN
+ELSEIF(P)THEN => ELSEIF(Q)THEN
+DO10I=1,9 => DO20I=1,9
+DO10I=1,9 => DO10J=1,9
+DO10I=1,9 => DO10I=2,9
+DO10I=1,9 => DO10I=1,8
+DO10I=1,9 => DO10I=1,9,1
+DO10I=1,9,1 => DO10I=1,9,2
+";
 
 #[test]
 fn tells_forms_apart(rt: HostRuntime) -> Result<(), Fail> {
-    assert_rows(
-        &rt,
-        &[
-            "ELSE => ENDIF",
-            "ENDIF => ELSE",
-            "CONTINUE => RETURN",
-            "RETURN => STOP",
-            "STOP => CONTINUE",
-            "IF(P)THEN => ELSEIF(P)THEN",
-        ],
-        false,
-    )
+    assert_rows(&rt, FORMS, false)
 }
+
+const FORMS: &str = "
+ELSE => ENDIF
+ENDIF => ELSE
+CONTINUE => RETURN
+RETURN => STOP
+STOP => CONTINUE
+IF(P)THEN => ELSEIF(P)THEN
+";
 
 #[test]
 fn finds_equal_statements(rt: HostRuntime) -> Result<(), Fail> {
-    assert_rows(
-        &rt,
-        &[
-            "K=(I) => K=I",
-            "M(I,-J)=MOD(I,3) => M(I,-J)=MOD(I,3)",
-            "P=.NOT..TRUE. => P=.NOT..TRUE.",
-            "INTEGERI,M(2,3) => INTEGERI,M(2,3)",
-            "DIMENSIONM(2) => DIMENSIONM(2)",
-            "DATAI,J/1,-2/ => DATAI,J/1,-2/",
-            "GOTO10 => GOTO10",
-            "GOTO(10,20),I => GOTO(10,20),I",
-            "IF(I)10,20,30 => IF(I)10,20,30",
-        ],
-        true,
-    )
+    assert_rows(&rt, EQUAL_STATEMENTS, true)
 }
+
+const EQUAL_STATEMENTS: &str = "
+K=(I) => K=I
+M(I,-J)=MOD(I,3) => M(I,-J)=MOD(I,3)
+P=.NOT..TRUE. => P=.NOT..TRUE.
+INTEGERI,M(2,3) => INTEGERI,M(2,3)
+DIMENSIONM(2) => DIMENSIONM(2)
+DATAI,J/1,-2/ => DATAI,J/1,-2/
+GOTO10 => GOTO10
+GOTO(10,20),I => GOTO(10,20),I
+IF(I)10,20,30 => IF(I)10,20,30
+";
 
 #[test]
 fn finds_equal_conditions_and_loops(rt: HostRuntime) -> Result<(), Fail> {
-    assert_rows(
-        &rt,
-        &[
-            "IF(P)K=1 => IF(P)K=1",
-            "IF(P)THEN => IF(P)THEN",
-            "ELSEIF(P)THEN => ELSEIF(P)THEN",
-            "ELSE => ELSE",
-            "ENDIF => ENDIF",
-            "DO10I=1,9,2 => DO10I=1,9,2",
-            "CONTINUE => CONTINUE",
-            "RETURN => RETURN",
-            "STOP => STOP",
-        ],
-        true,
-    )
+    assert_rows(&rt, EQUAL_LOOPS, true)
+}
+
+const EQUAL_LOOPS: &str = "
+IF(P)K=1 => IF(P)K=1
+IF(P)THEN => IF(P)THEN
+ELSEIF(P)THEN => ELSEIF(P)THEN
+ELSE => ELSE
+ENDIF => ENDIF
+DO10I=1,9,2 => DO10I=1,9,2
+CONTINUE => CONTINUE
+RETURN => RETURN
+STOP => STOP
+";
+
+/// Whether the program of the statements of a row is this one.
+fn is_program(rt: &impl AllocGlobal, made: &Program, row: &str) -> Result<bool, Fail> {
+    let other = program(rt, row)?;
+    Ok(is_same(made, &other))
+}
+
+/// Whether a copy of the program is the same.
+fn is_same_as_copy(made: &Program) -> Result<bool, Fail> {
+    let copy = made.clone()?;
+    Ok(is_same(made, &copy))
+}
+
+/// The program of the statements of a row is another one.
+fn assert_other(rt: &(impl AllocGlobal + Abort), made: &Program, row: &str) -> Result<(), Fail> {
+    let same = is_program(rt, made, row)?;
+    assert!(rt; !same, "{row}");
+    Ok(())
 }
 
 /// Compares the program with each of the others, and with a copy of it.
 fn assert_others(
     rt: &(impl AllocGlobal + Abort),
-    statements: &str,
-    others: &[&str],
+    made: &Program,
+    others: &str,
 ) -> Result<(), Fail> {
-    let made = program(rt, statements)?;
-    for row in others {
-        let other = program(rt, row)?;
-        assert_eq!(rt; is_same(&made, &other), false, "{row}");
+    for row in others.trim_matches('\n').lines() {
+        assert_other(rt, made, row)?;
     }
-    let copy = made.clone()?;
-    assert_eq!(rt; is_same(&made, &copy), true);
+    let same = is_same_as_copy(made)?;
+    assert!(rt; same);
     Ok(())
 }
 
 #[test]
 fn compares_headings_and_lines(rt: HostRuntime) -> Result<(), Fail> {
-    assert_others(
-        &rt,
-        "SUBROUTINE ADD(I); 10 STOP; END",
-        &[
-            "SUBROUTINE SUB(I); 10 STOP; END",
-            "SUBROUTINE ADD(J); 10 STOP; END",
-            "SUBROUTINE ADD(I); 20 STOP; END",
-            "SUBROUTINE ADD(I); STOP; END",
-            "SUBROUTINE ADD(I); END",
-        ],
-    )
+    let made = program(&rt, "SUBROUTINE ADD(I); 10 STOP; END")?;
+    assert_others(&rt, &made, OTHERS)
 }
+
+const OTHERS: &str = "
+SUBROUTINE SUB(I); 10 STOP; END
+SUBROUTINE ADD(J); 10 STOP; END
+SUBROUTINE ADD(I); 20 STOP; END
+SUBROUTINE ADD(I); STOP; END
+SUBROUTINE ADD(I); END
+";
 
 /// END under this label, on the line of this number.
 fn end(label: Option<u32>, line: u32) -> Line {
@@ -205,12 +224,16 @@ fn end(label: Option<u32>, line: u32) -> Line {
     }
 }
 
+/// Whether END under this label, on the line of this number, is END under label 10 on line 3.
+fn is_end(label: Option<u32>, line: u32) -> bool {
+    are_equal(end(Some(10), 3), end(label, line))
+}
+
 #[test]
-fn compares_lines(rt: HostRuntime) -> Result<(), Fail> {
-    assert!(rt; end(Some(10), 3) == end(Some(10), 3));
-    assert!(rt; end(Some(10), 3) != end(None, 3));
-    assert!(rt; end(Some(10), 3) != end(Some(10), 4));
-    Ok(())
+fn compares_lines(rt: HostRuntime) {
+    assert!(rt; is_end(Some(10), 3));
+    assert!(rt; !is_end(None, 3));
+    assert!(rt; !is_end(Some(10), 4));
 }
 
 /// The value, to be told where it is zero.
@@ -218,23 +241,38 @@ fn pushed(rt: &impl AllocGlobal, value: u32) -> Result<Expr, Fail> {
     Ok(Expr::ZeroPush(Box::new(rt.alloc(), Expr::Number(value))?))
 }
 
+/// Whether this value and 1, both to be told where they are zero, are the same.
+fn is_pushed_one(rt: &impl AllocGlobal, value: u32) -> Result<bool, Fail> {
+    let one = pushed(rt, 1)?;
+    let other = pushed(rt, value)?;
+    Ok(are_equal(one, other))
+}
+
 #[test]
 fn compares_expressions_of_mutants(rt: HostRuntime) -> Result<(), Fail> {
-    let one = pushed(&rt, 1)?;
-    let other = pushed(&rt, 1)?;
-    let two = pushed(&rt, 2)?;
-    assert!(rt; one == other);
-    assert!(rt; one != two);
-    assert!(rt; one != Expr::Number(1));
+    let one = is_pushed_one(&rt, 1)?;
+    let two = is_pushed_one(&rt, 2)?;
+    let number = are_equal(pushed(&rt, 1)?, Expr::Number(1));
+    assert!(rt; one && !two && !number, "{one} {two} {number}");
     Ok(())
 }
 
 #[test]
-fn compares_statements_of_mutants(rt: HostRuntime) -> Result<(), Fail> {
-    assert!(rt; Stmt::Trap == Stmt::Trap);
-    assert!(rt; Stmt::Trap != Stmt::End);
-    assert!(rt; Stmt::End != Stmt::Stop);
-    Ok(())
+fn compares_statements_of_mutants(rt: HostRuntime) {
+    assert!(rt; are_equal(Stmt::Trap, Stmt::Trap));
+    assert!(rt; !are_equal(Stmt::Trap, Stmt::End));
+    assert!(rt; !are_equal(Stmt::End, Stmt::Stop));
+}
+
+/// A card of these parts.
+fn card(rt: &impl AllocGlobal, label: Option<u32>, text: &str, line: u32) -> Result<Card, Fail> {
+    Ok(Card::new(label, String::from_str(rt.alloc(), text)?, line))
+}
+
+/// Whether the card is that of STOP under label 10 on line 2.
+fn is_stop(rt: &impl AllocGlobal, other: &Card) -> Result<bool, Fail> {
+    let stop = card(rt, Some(10), "STOP", 2)?;
+    Ok(stop == *other)
 }
 
 /// Compares the card of STOP under label 10 on line 2 with a card of these parts.
@@ -245,9 +283,9 @@ fn assert_card(
     line: u32,
     want: bool,
 ) -> Result<(), Fail> {
-    let stop = Card::new(Some(10), String::from_str(rt.alloc(), "STOP")?, 2);
-    let other = Card::new(label, String::from_str(rt.alloc(), text)?, line);
-    assert_eq!(rt; stop == other, want);
+    let other = card(rt, label, text, line)?;
+    let same = is_stop(rt, &other)?;
+    assert_eq!(rt; same, want);
     Ok(())
 }
 

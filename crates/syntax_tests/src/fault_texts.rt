@@ -2,19 +2,17 @@
 
 use f77_source::FormFault;
 use f77_syntax::SyntaxFault;
+use sample_sources::expect;
 use std::fmt::Display;
-use std::process::Abort;
 use std::test::Fail;
 
+fn text_of(rt: &impl AllocGlobal, fault: &impl Display) -> Result<String, Fail> {
+    Ok(format!(in rt.alloc(); "{fault}")?)
+}
+
 /// Compares the text of a fault.
-fn assert_text(
-    rt: &(impl AllocGlobal + Abort),
-    fault: &impl Display,
-    want: &str,
-) -> Result<(), Fail> {
-    let text = format!(in rt.alloc(); "{fault}")?;
-    assert_eq!(rt; text.as_str(), want);
-    Ok(())
+fn assert_text(rt: &impl AllocGlobal, fault: &impl Display, want: &str) -> Result<(), Fail> {
+    expect(text_of(rt, fault), want, want)
 }
 
 #[test]

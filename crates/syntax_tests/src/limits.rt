@@ -1,59 +1,65 @@
 //! The limits on one statement.
 
-use crate::statements::shown;
-use sample_programs::{parts, repeated};
-use std::process::Abort;
+use crate::statements::assert_shown;
+use sample_sources::{parts, repeated};
 use std::test::Fail;
 
-/// Compares what is shown of K = I in so many parentheses.
-fn assert_depth(rt: &(impl AllocGlobal + Abort), depth: usize, want: &str) -> Result<(), Fail> {
+/// K = I in so many parentheses.
+fn nested(rt: &impl AllocGlobal, depth: usize) -> Result<String, Fail> {
     let front = repeated(rt, "K=", depth, "(", "I")?;
-    let deep = repeated(rt, front.as_str(), depth, ")", "")?;
-    assert_eq!(rt; shown(rt, deep.as_str())?.as_str(), want);
-    Ok(())
+    repeated(rt, front.as_str(), depth, ")", "")
+}
+
+/// Compares what is shown of a statement that could be made.
+fn assert_statement(
+    rt: &impl AllocGlobal,
+    made: Result<String, Fail>,
+    want: &str,
+) -> Result<(), Fail> {
+    let statement = made?;
+    assert_shown(rt, statement.as_str(), want)
 }
 
 #[test]
 fn limits_the_depth(rt: HostRuntime) -> Result<(), Fail> {
-    assert_depth(&rt, 40, "K=I")?;
-    assert_depth(&rt, 41, "TooDeep(2)")
+    assert_statement(&rt, nested(&rt, 40), "K=I")?;
+    assert_statement(&rt, nested(&rt, 41), "TooDeep(2)")
+}
+
+/// The sum of I and so many more.
+fn sum(rt: &impl AllocGlobal, more: usize) -> Result<String, Fail> {
+    repeated(rt, "K=I", more, "+I", "")
 }
 
 #[test]
 fn limits_the_nodes(rt: HostRuntime) -> Result<(), Fail> {
-    let many = repeated(&rt, "K=I", 98, "+I", "")?;
-    assert_eq!(rt; shown(&rt, many.as_str())?.as_str(), many.as_str());
-    let many = repeated(&rt, "K=I", 99, "+I", "")?;
-    assert_eq!(rt; shown(&rt, many.as_str())?.as_str(), "TooLong(2)");
-    Ok(())
+    assert_statement(&rt, sum(&rt, 99), "TooLong(2)")?;
+    let most = sum(&rt, 98)?;
+    assert_shown(&rt, most.as_str(), most.as_str())
+}
+
+/// A computed GO TO with so many labels more than one.
+fn computed(rt: &impl AllocGlobal, more: usize) -> Result<String, Fail> {
+    repeated(rt, "GOTO(1", more, ",1", ")I")
 }
 
 #[test]
 fn limits_the_labels_of_a_computed_go_to(rt: HostRuntime) -> Result<(), Fail> {
-    let most = repeated(&rt, "GOTO(1", 197, ",1", ")I")?;
+    assert_statement(&rt, computed(&rt, 198), "TooLong(2)")?;
     let want = repeated(&rt, "GO TO (1", 197, ",1", "),I")?;
-    assert_eq!(rt; shown(&rt, most.as_str())?.as_str(), want.as_str());
-    let more = repeated(&rt, "GOTO(1", 198, ",1", ")I")?;
-    assert_eq!(rt; shown(&rt, more.as_str())?.as_str(), "TooLong(2)");
-    Ok(())
+    assert_statement(&rt, computed(&rt, 197), want.as_str())
 }
 
 #[test]
 fn limits_the_length(rt: HostRuntime) -> Result<(), Fail> {
-    let long = repeated(&rt, "K=", 1317, "0", "1")?;
-    assert_eq!(rt; shown(&rt, long.as_str())?.as_str(), "K=1");
-    let long = repeated(&rt, "K=", 1318, "0", "1")?;
-    assert_eq!(rt; shown(&rt, long.as_str())?.as_str(), "TooLong(2)");
-    Ok(())
+    assert_statement(&rt, repeated(&rt, "K=", 1317, "0", "1"), "K=1")?;
+    assert_statement(&rt, repeated(&rt, "K=", 1318, "0", "1"), "TooLong(2)")
 }
 
 #[test]
 fn a_character_of_two_bytes_counts_once(rt: HostRuntime) -> Result<(), Fail> {
-    let most = repeated(&rt, "", 1320, "é", "")?;
-    assert_eq!(rt; shown(&rt, most.as_str())?.as_str(), "Unknown(2)");
-    let more = repeated(&rt, "", 1321, "é", "")?;
-    assert_eq!(rt; shown(&rt, more.as_str())?.as_str(), "TooLong(2)");
-    Ok(())
+    assert_statement(&rt, repeated(&rt, "", 1320, "é", ""), "Unknown(2)")?;
+    assert_statement(&rt, repeated(&rt, "", 1321, "é", ""), "TooLong(2)")
 }
 
 /// A statement with I in parentheses at its mark, in all so deep.
@@ -67,19 +73,16 @@ fn deep(rt: &impl AllocGlobal, place: &str, depth: usize) -> Result<String, Fail
 }
 
 /// Compares what is shown of a statement that is as deep as may be there, and too deep by one.
-fn assert_place(rt: &(impl AllocGlobal + Abort), place: &str, want: &str) -> Result<(), Fail> {
-    let most = deep(rt, place, 40)?;
-    assert_eq!(rt; shown(rt, most.as_str())?.as_str(), want, "{place}");
-    let over = deep(rt, place, 41)?;
-    assert_eq!(rt; shown(rt, over.as_str())?.as_str(), "TooDeep(2)", "{place}");
-    Ok(())
+fn assert_place(rt: &impl AllocGlobal, row: &str) -> Result<(), Fail> {
+    let (place, want) = parts(row)?;
+    assert_statement(rt, deep(rt, place, 40), want)?;
+    assert_statement(rt, deep(rt, place, 41), "TooDeep(2)")
 }
 
 #[test]
 fn limits_the_depth_in_each_place(rt: HostRuntime) -> Result<(), Fail> {
     for row in PLACES.trim_matches('\n').lines() {
-        let (place, want) = parts(row)?;
-        assert_place(&rt, place, want)?;
+        assert_place(&rt, row)?;
     }
     Ok(())
 }

@@ -1,19 +1,23 @@
 //! Programs in fixed form.
 
-use crate::lines::{lines_of, printed};
-use sample_programs::{parts, read};
-use std::process::Abort;
+use crate::lines::reprinted;
+use sample_sources::{expect, parts, read};
 use std::test::Fail;
 
 /// The program of a source, printed.
-fn reprinted(rt: &impl AllocGlobal, source: &str) -> Result<String, Fail> {
-    printed(rt, lines_of(rt, &read(rt, source)?)?)
+fn read_and_printed(rt: &impl AllocGlobal, source: &str) -> Result<String, Fail> {
+    let program = read(rt, source)?;
+    reprinted(rt, &program)
 }
 
-fn assert_printed(rt: &(impl AllocGlobal + Abort), rows: &[&str]) -> Result<(), Fail> {
+fn assert_row(rt: &impl AllocGlobal, row: &str) -> Result<(), Fail> {
+    let (source, want) = parts(row)?;
+    expect(read_and_printed(rt, source), want, row)
+}
+
+fn assert_printed(rt: &impl AllocGlobal, rows: &[&str]) -> Result<(), Fail> {
     for row in rows {
-        let (source, want) = parts(row)?;
-        assert_eq!(rt; reprinted(rt, source)?.as_str(), want, "{row:?}");
+        assert_row(rt, row)?;
     }
     Ok(())
 }

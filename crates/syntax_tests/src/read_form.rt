@@ -1,18 +1,21 @@
 //! Sources and their cards, from the rules of fixed form.
 
 use f77_source::{Card, read_form};
-use sample_programs::{parts, repeated};
-use std::process::Abort;
+use sample_sources::{expect, parts, repeated};
 use std::test::Fail;
 
-/// Cards as `line:label:text;`.
+/// A card as `line:label:text;`.
+fn show_card(text: &mut String, card: &Card) -> Result<(), Fail> {
+    let line = card.line();
+    let label = card.label().unwrap_or(0);
+    let statement = card.text();
+    Ok(write!(text, "{line}:{label}:{statement};")?)
+}
+
 fn cards_text(rt: &impl AllocGlobal, cards: &[Card]) -> Result<String, Fail> {
     let mut text = String::new(rt.alloc());
     for card in cards {
-        let line = card.line();
-        let label = card.label().unwrap_or(0);
-        let statement = card.text();
-        write!(text, "{line}:{label}:{statement};")?;
+        show_card(&mut text, card)?;
     }
     Ok(text)
 }
@@ -25,10 +28,14 @@ fn shown(rt: &impl AllocGlobal, source: &str) -> Result<String, Fail> {
     }
 }
 
-fn assert_cards(rt: &(impl AllocGlobal + Abort), rows: &[&str]) -> Result<(), Fail> {
+fn assert_row(rt: &impl AllocGlobal, row: &str) -> Result<(), Fail> {
+    let (source, want) = parts(row)?;
+    expect(shown(rt, source), want, row)
+}
+
+fn assert_cards(rt: &impl AllocGlobal, rows: &[&str]) -> Result<(), Fail> {
     for row in rows {
-        let (source, want) = parts(row)?;
-        assert_eq!(rt; shown(rt, source)?.as_str(), want, "{row:?}");
+        assert_row(rt, row)?;
     }
     Ok(())
 }
@@ -71,43 +78,38 @@ fn refuses_lines(rt: HostRuntime) -> Result<(), Fail> {
     )
 }
 
-/// Compares the cards of a source, or its fault.
-fn assert_shown(
-    rt: &(impl AllocGlobal + Abort),
-    source: &String,
-    want: &String,
+/// Compares the cards of a source that could be made, or its fault.
+fn assert_source(
+    rt: &impl AllocGlobal,
+    made: Result<String, Fail>,
+    want: &str,
 ) -> Result<(), Fail> {
-    assert_eq!(rt; shown(rt, source.as_str())?.as_str(), want.as_str());
-    Ok(())
+    let source = made?;
+    expect(shown(rt, source.as_str()), want, want)
 }
 
 #[test]
 fn ignores_columns_from_73_on(rt: HostRuntime) -> Result<(), Fail> {
-    let source = repeated(&rt, "      K=", 64, "1", "2\té\n")?;
-    assert_shown(&rt, &source, &repeated(&rt, "1:0:K=", 64, "1", ";")?)
+    let want = repeated(&rt, "1:0:K=", 64, "1", ";")?;
+    let source = repeated(&rt, "      K=", 64, "1", "2\té\n");
+    assert_source(&rt, source, want.as_str())
 }
 
 #[test]
 fn reads_nineteen_continuation_lines(rt: HostRuntime) -> Result<(), Fail> {
-    let source = repeated(&rt, "      K=1\n", 19, "     &+1\n", "")?;
-    assert_shown(&rt, &source, &repeated(&rt, "1:0:K=1", 19, "+1", ";")?)
+    let want = repeated(&rt, "1:0:K=1", 19, "+1", ";")?;
+    let source = repeated(&rt, "      K=1\n", 19, "     &+1\n", "");
+    assert_source(&rt, source, want.as_str())
 }
 
 #[test]
 fn refuses_twenty_continuation_lines(rt: HostRuntime) -> Result<(), Fail> {
-    let source = repeated(&rt, "      K=1\n", 20, "     &+1\n", "")?;
-    assert_eq!(rt;
-        shown(&rt, source.as_str())?.as_str(),
-        "TooManyContinuations(21)"
-    );
-    Ok(())
+    let source = repeated(&rt, "      K=1\n", 20, "     &+1\n", "");
+    assert_source(&rt, source, "TooManyContinuations(21)")
 }
 
 #[test]
 fn limits_the_source(rt: HostRuntime) -> Result<(), Fail> {
-    let most = repeated(&rt, "", 65_536, "\n", "")?;
-    assert_eq!(rt; shown(&rt, most.as_str())?.as_str(), "");
-    let over = repeated(&rt, "", 65_537, "\n", "")?;
-    assert_eq!(rt; shown(&rt, over.as_str())?.as_str(), "TooLarge");
-    Ok(())
+    assert_source(&rt, repeated(&rt, "", 65_536, "\n", ""), "")?;
+    assert_source(&rt, repeated(&rt, "", 65_537, "\n", ""), "TooLarge")
 }

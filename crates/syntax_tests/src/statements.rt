@@ -2,8 +2,7 @@
 
 use crate::cards::parsed;
 use f77_syntax::{Program, SyntaxFault, print_stmt};
-use sample_programs::parts;
-use std::process::Abort;
+use sample_sources::{expect, parts};
 use std::test::Fail;
 
 /// A fault by its name, and its line.
@@ -30,14 +29,20 @@ pub(crate) fn shown(rt: &impl AllocGlobal, statement: &str) -> Result<String, Fa
     }
 }
 
+/// Compares the canonical form of a statement, or its fault.
+pub(crate) fn assert_shown(rt: &impl AllocGlobal, statement: &str, want: &str) -> Result<(), Fail> {
+    expect(shown(rt, statement), want, statement)
+}
+
+fn assert_row(rt: &impl AllocGlobal, row: &str) -> Result<(), Fail> {
+    let (statement, want) = parts(row)?;
+    assert_shown(rt, statement, want)
+}
+
 /// Compares the canonical form of each statement, or its fault.
-pub(crate) fn assert_statements(
-    rt: &(impl AllocGlobal + Abort),
-    rows: &[&str],
-) -> Result<(), Fail> {
-    for row in rows {
-        let (statement, want) = parts(row)?;
-        assert_eq!(rt; shown(rt, statement)?.as_str(), want, "{row}");
+pub(crate) fn assert_statements(rt: &impl AllocGlobal, rows: &str) -> Result<(), Fail> {
+    for row in rows.trim_matches('\n').lines() {
+        assert_row(rt, row)?;
     }
     Ok(())
 }

@@ -1,13 +1,12 @@
 //! Cards and their lines, from the rules of fixed form.
 
 use f77_source::{Card, write_form};
-use sample_programs::repeated;
+use sample_sources::{expect, repeated};
 use std::test::Fail;
 
 /// The lines of a card, or its fault.
 fn written(rt: &impl AllocGlobal, card: Card) -> Result<String, Fail> {
-    let cards = vec![in rt.alloc(); card]?;
-    match write_form(rt.alloc(), cards.as_slice()) {
+    match write_form(rt.alloc(), &[card]) {
         Ok(lines) => Ok(lines),
         Err(fault) => Ok(format!(in rt.alloc(); "{fault:?}")?),
     }
@@ -29,10 +28,9 @@ fn writes_one_line(rt: HostRuntime) -> Result<(), Fail> {
 
 #[test]
 fn writes_a_continuation_line(rt: HostRuntime) -> Result<(), Fail> {
-    let lines = written_ones(&rt, None, 67)?;
-    let wanted = repeated(&rt, "      ", 66, "1", "\n     +1\n")?;
-    assert_eq!(rt; lines.as_str(), wanted.as_str());
-    Ok(())
+    let want = repeated(&rt, "      ", 66, "1", "\n     +1\n")?;
+    let lines = written_ones(&rt, None, 67);
+    expect(lines, want.as_str(), "67 ones")
 }
 
 #[test]
@@ -42,16 +40,22 @@ fn writes_nineteen_continuation_lines(rt: HostRuntime) -> Result<(), Fail> {
     Ok(())
 }
 
+/// Compares the fault of a card with this label and a text of so many ones.
+fn assert_refused(
+    rt: &impl AllocGlobal,
+    label: Option<u32>,
+    length: usize,
+    want: &str,
+) -> Result<(), Fail> {
+    expect(written_ones(rt, label, length), want, want)
+}
+
 #[test]
 fn refuses_cards(rt: HostRuntime) -> Result<(), Fail> {
-    let refused = written_ones(&rt, None, 1_321)?;
-    assert_eq!(rt; refused.as_str(), "TooManyContinuations(7)");
-    let refused = written_ones(&rt, Some(0), 1_321)?;
-    assert_eq!(rt; refused.as_str(), "BadLabel(7)");
-    let refused = written_ones(&rt, Some(100_000), 1)?;
-    assert_eq!(rt; refused.as_str(), "BadLabel(7)");
+    assert_refused(&rt, None, 1_321, "TooManyContinuations(7)")?;
+    assert_refused(&rt, Some(0), 1_321, "BadLabel(7)")?;
+    assert_refused(&rt, Some(100_000), 1, "BadLabel(7)")?;
     let text = String::from_str(rt.alloc(), "K=é")?;
-    let refused = written(&rt, Card::new(Some(0), text, 3))?;
-    assert_eq!(rt; refused.as_str(), "NotAscii(3)");
-    Ok(())
+    let refused = written(&rt, Card::new(Some(0), text, 3));
+    expect(refused, "NotAscii(3)", "K=é")
 }
