@@ -108,13 +108,18 @@ fn show_action(text: &mut String, action: &Action) -> Result<(), Fail> {
     }
 }
 
+/// The loops that end there, and the next statement.
+fn show_rest(text: &mut String, resolved: &Resolved) -> Result<(), Fail> {
+    for end in &resolved.ends {
+        write!(text, " ends {end}")?;
+    }
+    Ok(write!(text, " next {}", resolved.next)?)
+}
+
 /// A resolved statement: what it does, the loops that end there, and the next statement.
 pub(crate) fn shown(rt: &impl AllocGlobal, resolved: &Resolved) -> Result<String, Fail> {
     let mut text = String::new(rt.alloc());
     show_action(&mut text, &resolved.action)?;
-    for end in &resolved.ends {
-        write!(text, " ends {end}")?;
-    }
-    write!(text, " next {}", resolved.next)?;
+    show_rest(&mut text, resolved)?;
     Ok(text)
 }

@@ -2,18 +2,22 @@
 
 use f77_check::{Shape, Start};
 use f77_syntax::{Constant, print};
-use sample_programs::{checked, program};
+use sample_programs::{checked, expect, program};
 use std::test::Fail;
 
 const SHAPES: &str = "SUBROUTINE S(K,M,P); INTEGER M(3,4); LOGICAL P; P=K.GT.M(1,2); END";
+
+fn show_shape(text: &mut String, shape: &Shape) -> Result<(), Fail> {
+    let kind = shape.kind;
+    let elements = shape.elements;
+    Ok(write!(text, "{kind:?} {elements:?};")?)
+}
 
 /// The kind of each dummy argument, and its number of elements.
 fn shapes_text(rt: &impl AllocGlobal, shapes: &[Shape]) -> Result<String, Fail> {
     let mut text = String::new(rt.alloc());
     for shape in shapes {
-        let kind = shape.kind;
-        let elements = shape.elements;
-        write!(text, "{kind:?} {elements:?};")?;
+        show_shape(&mut text, shape)?;
     }
     Ok(text)
 }
@@ -21,26 +25,37 @@ fn shapes_text(rt: &impl AllocGlobal, shapes: &[Shape]) -> Result<String, Fail> 
 #[test]
 fn tells_the_shapes(rt: HostRuntime) -> Result<(), Fail> {
     let checked = checked(&rt, SHAPES)?;
-    assert_eq!(rt;
-        shapes_text(&rt, checked.arguments())?.as_str(),
-        "Integer None;Integer Some(12);Logical None;"
-    );
-    Ok(())
+    expect(
+        shapes_text(&rt, checked.arguments()),
+        "Integer None;Integer Some(12);Logical None;",
+        SHAPES,
+    )
+}
+
+/// The program of these statements in fixed form.
+fn given(rt: &impl AllocGlobal, statements: &str) -> Result<String, Fail> {
+    let program = program(rt, statements)?;
+    Ok(print(rt.alloc(), &program)?)
+}
+
+/// The program that is kept of these statements in fixed form.
+fn kept(rt: &impl AllocGlobal, statements: &str) -> Result<String, Fail> {
+    let checked = checked(rt, statements)?;
+    Ok(print(rt.alloc(), checked.program())?)
 }
 
 #[test]
 fn keeps_the_program(rt: HostRuntime) -> Result<(), Fail> {
-    let given = print(rt.alloc(), &program(&rt, SHAPES)?)?;
-    let kept = print(rt.alloc(), checked(&rt, SHAPES)?.program())?;
-    assert_eq!(rt; kept.as_str(), given.as_str());
-    Ok(())
+    let given = given(&rt, SHAPES)?;
+    expect(kept(&rt, SHAPES), given.as_str(), SHAPES)
 }
 
-fn value_text(rt: &impl AllocGlobal, value: Option<Constant>) -> Result<String, Fail> {
+/// The value of a slot, a blank before it.
+fn show_value(text: &mut String, value: Option<Constant>) -> Result<(), Fail> {
     match value {
-        Some(Constant::Number(number)) => Ok(format!(in rt.alloc(); "{number}")?),
-        Some(Constant::Truth(truth)) => Ok(format!(in rt.alloc(); "{truth}")?),
-        None => Ok(String::from_str(rt.alloc(), "none")?),
+        Some(Constant::Number(number)) => Ok(write!(text, " {number}")?),
+        Some(Constant::Truth(truth)) => Ok(write!(text, " {truth}")?),
+        None => Ok(text.push_str(" none")?),
     }
 }
 
@@ -48,8 +63,7 @@ fn value_text(rt: &impl AllocGlobal, value: Option<Constant>) -> Result<String, 
 fn initial(rt: &impl AllocGlobal, start: &Start) -> Result<String, Fail> {
     let mut text = String::new(rt.alloc());
     for value in start.initial.as_slice() {
-        text.push(' ')?;
-        text.push_str(value_text(rt, *value)?.as_str())?;
+        show_value(&mut text, *value)?;
     }
     Ok(text)
 }
@@ -63,9 +77,9 @@ fn starts_with_the_values_of_data(rt: HostRuntime) -> Result<(), Fail> {
     let start = checked.start();
     assert_eq!(rt; start.entry, 4);
     assert_eq!(rt; start.dummies.as_slice(), [0, 1].as_slice());
-    assert_eq!(rt;
-        initial(&rt, start)?.as_str(),
-        " none none none none -7 -7 5 5 true -7 4 none"
-    );
-    Ok(())
+    expect(
+        initial(&rt, start),
+        " none none none none -7 -7 5 5 true -7 4 none",
+        "DATA",
+    )
 }

@@ -1,31 +1,31 @@
 //! The texts of faults of programs.
 
 use f77_check::{CheckFault, check};
-use sample_programs::program;
-use std::process::Abort;
+use f77_syntax::Program;
+use sample_programs::{expect, program};
 use std::test::Fail;
 
+fn text_of(rt: &impl AllocGlobal, fault: &CheckFault) -> Result<String, Fail> {
+    Ok(format!(in rt.alloc(); "{fault}")?)
+}
+
 /// Compares the text of a fault.
-fn assert_text(
-    rt: &(impl AllocGlobal + Abort),
-    fault: &CheckFault,
-    want: &str,
-) -> Result<(), Fail> {
-    let text = format!(in rt.alloc(); "{fault}")?;
-    assert_eq!(rt; text.as_str(), want);
-    Ok(())
+fn assert_text(rt: &impl AllocGlobal, fault: &CheckFault, want: &str) -> Result<(), Fail> {
+    expect(text_of(rt, fault), want, want)
+}
+
+/// The fault of a program.
+fn fault_of(rt: &impl AllocGlobal, program: &Program) -> Result<CheckFault, Fail> {
+    match check(rt.alloc(), program).err() {
+        Some(fault) => Ok(fault),
+        None => Err(Fail::new("a legal program")),
+    }
 }
 
 /// Compares the text of the fault of a program.
-fn assert_refused(
-    rt: &(impl AllocGlobal + Abort),
-    statements: &str,
-    want: &str,
-) -> Result<(), Fail> {
-    match check(rt.alloc(), &program(rt, statements)?) {
-        Ok(_) => Err(Fail::new("a legal program")),
-        Err(fault) => assert_text(rt, &fault, want),
-    }
+fn assert_refused(rt: &impl AllocGlobal, statements: &str, want: &str) -> Result<(), Fail> {
+    let program = program(rt, statements)?;
+    assert_text(rt, &fault_of(rt, &program)?, want)
 }
 
 #[test]
