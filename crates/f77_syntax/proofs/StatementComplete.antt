@@ -12,7 +12,7 @@ use Rattle.f77_tree.specs.Tree.{Tree, Trees, DeclFields, GroupFields}
 use Rattle.f77_tree.specs.Statement.{Statement}
 use Rattle.f77_tree.specs.Grammar.{Spells, SpellsReference, is_letter, is_digit, is_word, is_number, is_name, word, past_word}
 use Rattle.f77_tree.specs.StatementGrammar.{SpellsAction, SpellsStatement, optional_comma, label_number, kind_keyword}
-use Rattle.f77_syntax.specs.Reading.{strip, reading, past_comma}
+use Rattle.f77_syntax.specs.Reading.{reading, past_comma}
 use Rattle.f77_syntax.specs.Assignment.{reference_at, assign_at}
 use Rattle.f77_syntax.specs.Names.{name_at, names_at}
 use Rattle.f77_tree.specs.Joined.{Joined}
@@ -22,7 +22,7 @@ use Rattle.f77_syntax.specs.Subroutine.{dummies_at, before_close, subroutine_at}
 use Rattle.f77_syntax.specs.Label.{labels_at}
 use Rattle.f77_syntax.specs.Condition.{arithmetic_at, condition_at}
 use Rattle.f77_syntax.specs.DoLoop.{control_at, parameters_at, loop_at}
-use Rattle.f77_syntax.specs.Classification.{behind, begins_with, begins_if, class_of, statement_class}
+use Rattle.f77_syntax.specs.Classification.{begins_with, begins_if, class_of, statement_class}
 use Rattle.f77_syntax.specs.Statement.{word_statement, simple_at, simple_action_at, action_at, begins_digit, branch_at, else_at, specification_at, keyword_at, statement_at}
 use Rattle.f77_syntax.specs.declared.classification.Class.TheVariants.{Keyword}
 use Rattle.f77_tree.proofs.Tests.{and_true}
@@ -30,7 +30,7 @@ use Rattle.f77_tree.proofs.Words.{word_front, past_word_front, name_words}
 use Rattle.f77_syntax.proofs.Shorter.{name_long}
 use Rattle.f77_syntax.proofs.Complete.{complete, complete_all, operand_read, ends_item, whole}
 use Rattle.f77_syntax.proofs.Outside.{pass}
-use Rattle.f77_syntax.proofs.Outside.{no_equals_sign, if_class, assign_class, loop_class, keyword_class, pass_quiet, quiet_number, equals_other}
+use Rattle.f77_syntax.proofs.Outside.{no_equals_sign, if_class, assign_class, loop_class, keyword_class, equals_other}
 use Rattle.f77_syntax.proofs.WordTexts.{is_equals, words_no_equals}
 use Rattle.f77_tree.specs.Declaration.{SpellsName, SpellsDecls, all_bounded}
 use Rattle.f77_tree.specs.Data.{SpellsGroups}
