@@ -15,7 +15,7 @@ use Rattle.f77_tree.specs.declared.tree.Kind.{Kind}
 use Rattle.f77_legal.specs.Blocks.{first_numbers}
 use Rattle.f77_legal.specs.Frames.{framed, framed_line, frame, HaveOneFrame}
 use Rattle.f77_legal.specs.Labels.{statement_at}
-use Rattle.f77_legal.specs.Legal.{is_array, IsLegal}
+use Rattle.f77_legal.specs.Legal.{IsLegal}
 use Rattle.f77_legal.specs.Names.{Symbol, kind_of, bounds_of}
 use Rattle.f77_legal.specs.Patches.{IsStock}
 use Rattle.f77_legal.specs.Presets.{elements, groups_of}

@@ -1,7 +1,7 @@
 -- When a changed statement stands alone, and what is told of it.
 use Rattle.std.proofs.Common.{arith, ◌≡◌, ◌≢◌, ◌<◌, ◌==◌, ◌∙◌, inl, inr, ℕ, Bool, true, false, true≢false, cond, List, [], ◌∷◌, length, get_or, set, map, filter, reverse, Option, Some, None, refl, sym, ap, subst}
 use Rattle.std.specs.Prelude.{is_some, option_map, IsNone}
-use Rattle.std.specs.List.{AllZip, find, list_all, slice_get}
+use Rattle.std.specs.List.{AllZip, find, slice_get}
 use Rattle.std.specs.Option.{option_and_then, option_map_or}
 use Rattle.std.proofs.lemmas.Bool.{cases_lt}
 use Rattle.std.proofs.lemmas.Bool.Decides.{nat_tests}
@@ -22,13 +22,13 @@ use Rattle.f77_check.specs.declared.checked.Shape.{Shape}
 use Rattle.f77_check.specs.declared.resolve.Resolver.{Resolver}
 use Rattle.f77_check.specs.declared.start.Start.{Start}
 use Rattle.f77_check.specs.declared.resolved.Resolved.{Resolved}
-use Rattle.f77_legal.specs.Blocks.{first_numbers, numbers}
+use Rattle.f77_legal.specs.Blocks.{numbers}
 use Rattle.f77_legal.specs.Frames.{framed, HaveOneFrame}
-use Rattle.f77_legal.specs.Labels.{place_of, statement_at, terminal_label, is_terminal}
+use Rattle.f77_legal.specs.Labels.{place_of, statement_at, terminal_label}
 use Rattle.f77_legal.specs.Legal.{IsLegal, faults, first_fault}
 use Rattle.f77_legal.specs.Loops.{terminal, ends_at, loops_ending}
 use Rattle.f77_legal.specs.NameTable.{has_name}
-use Rattle.f77_legal.specs.Names.{Symbol, name_in, mentions_of}
+use Rattle.f77_legal.specs.Names.{name_in}
 use Rattle.f77_legal.specs.Patches.{is_among, names_pass, IsStock, MayStandAt, NamesAmong}
 use Rattle.f77_legal.specs.declared.fault.CheckFault.{CheckFault}
 use Rattle.f77_legal.specs.declared.names.Names.{Names}

@@ -1,15 +1,18 @@
 -- The items of short lists of expressions, and what holds of each item.
-use Rattle.std.proofs.Common.{arith, zero, suc, ◌≡◌, ◌<◌, ◌≤◌, ◌∷◌, List, [], ◌&&◌, Bool, true, length, refl, get_or, ap, sym, ◌∙◌}
+use Rattle.std.proofs.Common.{arith, ◌≡◌, ◌<◌, ◌≤◌, ◌∷◌, List, [], true, false, length, refl, get_or, ap, sym, subst, ◌∙◌}
 use Rattle.std.specs.Prelude.{ℕ, map}
+use Rattle.std.specs.List.{All}
 use Rattle.std.proofs.lemmas.Bool.{and_parts}
+use Rattle.std.proofs.lemmas.List.Elements.{All-nil, All-cons, All-get_or}
 use Rattle.f77_tree.specs.Tree.{Tree, Trees}
 use Rattle.f77_tree.specs.View.{tree_of, trees}
+use Rattle.f77_tree.specs.declared.intrinsic.Intrinsic.{Intrinsic}
 use Rattle.f77_tree.specs.declared.tree.Expr.{Expr}
 use Rattle.f77_tree.specs.declared.tree.Kind.TheVariants.{Integer}
-use Rattle.f77_legal.specs.Dimensions.{fits, all_fit}
+use Rattle.f77_legal.specs.Dimensions.{count, takes, fits, all_fit}
 use Rattle.f77_check.specs.Kept.{tree_kept, items_kept}
 use Rattle.f77_legal.specs.Kinds.{is_of, are_integer}
-use Rattle.f77_check.specs.Lookup.{IsReadyNumber, AreReady}
+use Rattle.f77_check.specs.Lookup.{ServesNames, IsReadyTree}
 use Rattle.f77_legal.specs.NameTable.{kind_at, bounds_at}
 use Rattle.f77_check.specs.declared.resolve.Resolver.{Resolver}
 
@@ -31,24 +34,34 @@ one_item xs x some few e = only_one x xs some few ∙ ap (λ z. z ∷ []) (sym e
 pub two_items : (xs : List Expr) (x y : Expr) → 2 ≤ length xs → length xs < 3 → x ≡ get_or xs 0 x → y ≡ get_or xs 1 y → xs ≡ x ∷ (y ∷ [])
 two_items xs x y some few e f = only_two x y xs some few ∙ (λ i. sym e i ∷ (sym f i ∷ []))
 
--- what holds of every item holds of each
-at_all : (good : Tree → Bool) (every : Trees → Bool) → ((t : Tree) (ts : Trees) → every (Trees.Then t ts) ≡ (good t && every ts))
-    → (xs : List Expr) (i : ℕ) (x : Expr) → i < length xs → x ≡ get_or xs i x → every (trees (map tree_of xs)) ≡ true → good (tree_of x) ≡ true
-at_all good every cons [] i x below is h = absurd (omega (arith, below))
-at_all good every cons (y ∷ ys) zero x below is h =
-    rw is (and_parts (good (tree_of y)) (every (trees (map tree_of ys))) (sym (cons (tree_of y) (trees (map tree_of ys))) ∙ h)).0
-at_all good every cons (y ∷ ys) (suc i) x below is h =
-    at_all good every cons ys i x (omega (arith, below)) is (and_parts (good (tree_of y)) (every (trees (map tree_of ys))) (sym (cons (tree_of y) (trees (map tree_of ys))) ∙ h)).1
+-- the arguments of a call that can be looked up
+module _ (r : Resolver) (names : ServesNames r) where
+  each_ready : (xs : List Expr) → are_integer (kind_at r.tables.names) (trees (map tree_of xs)) ≡ true
+      → all_fit (bounds_at r.tables.names) (trees (map tree_of xs)) ≡ true → items_kept r.tables.names (trees (map tree_of xs)) ≡ true
+      → All (λ x. IsReadyTree r Integer (tree_of x)) xs
+  each_ready [] kinds bounds kept = All-nil (λ x. IsReadyTree r Integer (tree_of x))
+  each_ready (x ∷ xs) kinds bounds kept =
+      let kind = and_parts (is_of (kind_at r.tables.names) Integer (tree_of x)) (are_integer (kind_at r.tables.names) (trees (map tree_of xs))) kinds in
+      let fit = and_parts (fits (bounds_at r.tables.names) (tree_of x)) (all_fit (bounds_at r.tables.names) (trees (map tree_of xs))) bounds in
+      let have = and_parts (tree_kept r.tables.names (tree_of x)) (items_kept r.tables.names (trees (map tree_of xs))) kept in
+      All-cons (λ x. IsReadyTree r Integer (tree_of x)) x xs (record { names = names; kinds = kind.0; bounds = fit.0; kept = have.0 })
+      (each_ready xs kind.1 fit.1 have.1)
 
--- each of the items of a list whose names can be looked up
+pub some_items : (r : Resolver) (f : Intrinsic) (xs : List Expr) → takes f 0 ≡ false → IsReadyTree r Integer (Tree.Call f (trees (map tree_of xs)))
+    → 0 < length xs
+some_items r f [] none h =
+    let some = and_parts (takes f 0) (all_fit (bounds_at r.tables.names) Trees.None) h.bounds in
+    absurd (cc (none, some.0))
+some_items r f (x ∷ xs) none h = omega arith
+
+pub items_ready : (r : Resolver) (f : Intrinsic) (xs : List Expr) → IsReadyTree r Integer (Tree.Call f (trees (map tree_of xs)))
+    → All (λ x. IsReadyTree r Integer (tree_of x)) xs
+items_ready r f xs h =
+    each_ready r h.names xs h.kinds (and_parts (takes f (count (trees (map tree_of xs)))) (all_fit (bounds_at r.tables.names) (trees (map tree_of xs))) h.bounds).1
+    h.kept
+
 pub item_ready : (r : Resolver) (xs : List Expr) (i : ℕ) (x : Expr) → i < length xs → x ≡ get_or xs i x
-    → AreReady r (trees (map tree_of xs)) → IsReadyNumber r (tree_of x)
-item_ready r xs i x below is h =
-    let kinds = kind_at r.tables.names in
-    let bounds = bounds_at r.tables.names in
-    record {
-      names = h.names;
-      kinds = at_all (is_of kinds Integer) (are_integer kinds) (λ t ts. refl) xs i x below is h.kinds;
-      bounds = at_all (fits bounds) (all_fit bounds) (λ t ts. refl) xs i x below is h.bounds;
-      kept = at_all (tree_kept r.tables.names) (items_kept r.tables.names) (λ t ts. refl) xs i x below is h.kept;
-    }
+    → All (λ x. IsReadyTree r Integer (tree_of x)) xs → IsReadyTree r Integer (tree_of x)
+item_ready r xs i x below is all =
+    let ready : Expr → Type 0 = λ e. IsReadyTree r Integer (tree_of e) in
+    subst ready (sym is) (All-get_or ready xs i x below all)

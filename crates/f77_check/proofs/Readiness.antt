@@ -1,12 +1,12 @@
 -- What a statement, or a relation, whose names can be looked up gives its parts.
-use Rattle.std.proofs.Common.{rules, ◌≡◌, ◌∙◌, ℕ, List, true, Option, Some, ap, sym, subst}
-use Rattle.std.specs.Prelude.{Box, Vec}
+use Rattle.std.proofs.Common.{rules, ◌≡◌, ◌∙◌, ◌&&◌, ℕ, Bool, List, true, length, Option, Some, None, refl, ap, sym, subst}
+use Rattle.std.specs.Prelude.{◌==◌, Box, Vec, IfSome, option_map}
 use Rattle.std.specs.declared.alloc.Global.{Global}
 use Rattle.std.proofs.lemmas.Bool.{and_parts}
 use Rattle.f77_program.specs.Formed.{is_action}
 use Rattle.f77_program.specs.Program.{LineFields}
 use Rattle.f77_tree.specs.Statement.{statement_of, Statement, jumps_of}
-use Rattle.f77_tree.specs.Tree.{Tree}
+use Rattle.f77_tree.specs.Tree.{Tree, Trees}
 use Rattle.f77_tree.specs.View.{tree_of}
 use Rattle.f77_tree.specs.declared.tree.Expr.{Expr}
 use Rattle.f77_tree.specs.declared.statement.Stmt.{Stmt}
@@ -14,20 +14,30 @@ use Rattle.f77_tree.specs.declared.statement.Stmt.TheVariants as forms
 use Rattle.f77_tree.specs.declared.statement.Stmt.TheViews as boxed
 use Rattle.f77_tree.proofs.Views.{computed_view, logical_view}
 use Rattle.f77_check.specs.Expression.{relation_of}
-use Rattle.f77_legal.specs.Kinds.{same_kind, result_kind, is_of}
-use Rattle.f77_check.specs.Lookup.{IsReadyNumber, IsReadyCondition, IsReadyStep}
-use Rattle.f77_legal.specs.NameTable.{kind_at}
+use Rattle.f77_legal.specs.Dimensions.{count, fits, all_fit}
+use Rattle.f77_check.specs.Kept.{is_kept, tree_kept, items_kept}
+use Rattle.f77_legal.specs.Kinds.{same_kind, result_kind, is_of, are_integer}
+use Rattle.f77_check.specs.Lookup.{IsReadyTree}
+use Rattle.f77_legal.specs.NameTable.{kind_at, bounds_at}
 use Rattle.f77_tree.specs.declared.operator.Operator.{Operator}
-use Rattle.f77_tree.specs.declared.tree.Kind.TheVariants.{Logical}
+use Rattle.f77_tree.specs.declared.tree.Kind.{Kind}
+use Rattle.f77_tree.specs.declared.tree.Kind.TheVariants.{Integer, Logical}
 use Rattle.f77_check.specs.declared.expression.Relation.{Relation}
 use Rattle.f77_check.proofs.Operands.{relation_takes}
 use Rattle.f77_legal.specs.Names.{Symbol}
 use Rattle.f77_check.specs.Ready.{IsReady, AreFound, HasEnd}
 use Rattle.f77_check.specs.declared.resolve.Resolver.{Resolver}
 
+kind_itself : (kind : Kind) → same_kind kind kind ≡ true
+kind_itself Integer = refl
+kind_itself Logical = refl
+
+both : {a b : Bool} → a ≡ true → b ≡ true → (a && b) ≡ true
+both h k = λ i. h i && k i
+
 -- the operands of a relation
-pub related_ready : (r : Resolver) (op : Operator) (o : Relation) (a b : Tree) → relation_of op ≡ Some o → IsReadyCondition r (Tree.Binary op a b)
-    → IsReadyNumber r a × IsReadyNumber r b
+pub related_ready : (r : Resolver) (op : Operator) (o : Relation) (a b : Tree) → relation_of op ≡ Some o → IsReadyTree r Logical (Tree.Binary op a b)
+    → IsReadyTree r Integer a × IsReadyTree r Integer b
 related_ready r op o a b relation h =
     let takes = relation_takes op o relation in
     let kinds = and_parts _ _ (and_parts (same_kind (result_kind op) Logical) _ h.kinds).1 in
@@ -48,7 +58,7 @@ inner_ready r t s h = record {
 
 -- the parameters of a DO
 module _ (r : Resolver) (label : ℕ) (name : Symbol) (a b : Tree) (c : Option Tree) (h : IsReady r (Statement.Loop label name a b c)) where
-  pub first_ready : IsReadyNumber r a
+  pub first_ready : IsReadyTree r Integer a
   first_ready = record {
     names = h.names;
     kinds = search (rules, h.kinds);
@@ -56,7 +66,7 @@ module _ (r : Resolver) (label : ℕ) (name : Symbol) (a b : Tree) (c : Option T
     kept = search (rules, h.kept);
   }
 
-  pub last_ready : IsReadyNumber r b
+  pub last_ready : IsReadyTree r Integer b
   last_ready = record {
     names = h.names;
     kinds = search (rules, h.kinds);
@@ -64,13 +74,32 @@ module _ (r : Resolver) (label : ℕ) (name : Symbol) (a b : Tree) (c : Option T
     kept = search (rules, h.kept);
   }
 
-  pub step_ready : IsReadyStep r c
-  step_ready = record {
-    names = h.names;
-    kinds = search (rules, h.kinds);
-    bounds = search (rules, h.bounds);
-    kept = search (rules, h.kept);
-  }
+pub step_ready : (r : Resolver) (label : ℕ) (name : Symbol) (a b : Tree) (c : Option Expr) → IsReady r (Statement.Loop label name a b (option_map tree_of c))
+    → IfSome c (λ e. IsReadyTree r Integer (tree_of e))
+step_ready r label name a b None h = tt
+step_ready r label name a b (Some e) h = record {
+  names = h.names;
+  kinds = search (rules, h.kinds);
+  bounds = search (rules, h.bounds);
+  kept = search (rules, h.kept);
+}
+
+-- what is assigned to, by its kind
+pub target_ready : (r : Resolver) (name : Symbol) (items : Trees) (t : Tree) → IsReady r (Statement.Assign name items t)
+    → (kind : Kind) × IsReadyTree r kind (Tree.Reference name items)
+target_ready r name items t h =
+    let kinds = kind_at r.tables.names in
+    let bounds = bounds_at r.tables.names in
+    let sized = and_parts (count items == length (bounds name)) (all_fit bounds items && fits bounds t) h.bounds in
+    let have = and_parts (is_kept r.tables.names name) (items_kept r.tables.names items && tree_kept r.tables.names t) h.kept in (
+      kinds name,
+      record {
+        names = h.names;
+        kinds = both (kind_itself (kinds name)) (and_parts (are_integer kinds items) (is_of kinds (kinds name) t) h.kinds).0;
+        bounds = both sized.0 (and_parts (all_fit bounds items) (fits bounds t) sized.1).0;
+        kept = both have.0 (and_parts (items_kept r.tables.names items) (tree_kept r.tables.names t) have.1).0;
+      },
+    )
 
 -- what is known of a statement of the program, of its form
 module _ (r : Resolver) (p : List LineFields) (x : Stmt) (ready : IsReady r (statement_of x)) (found : AreFound p (jumps_of (statement_of x))) where

@@ -1,5 +1,5 @@
 -- Lists that a loop makes, entry by entry: of the variables of a table of names, and of the labels of statements.
-use Rattle.std.proofs.Common.{◌≡◌, ◌<◌, ◌+◌, ℕ, List, [], ◌∷◌, ◌++◌, Option, Some, None, take, get_or, sym, ap, ◌∙◌, append_assoc}
+use Rattle.std.proofs.Common.{◌≡◌, ◌<◌, ◌+◌, ℕ, List, [], ◌∷◌, ◌++◌, Some, None, take, get_or, sym, ap, ◌∙◌, append_assoc}
 use Rattle.std.specs.Prelude.{map, length}
 use Rattle.std.specs.List.{cons_option}
 use Rattle.std.proofs.lemmas.List.{append-nil, map-append}

@@ -14,7 +14,7 @@ use Rattle.f77_legal.specs.Kinds.{kinds_agree}
 use Rattle.f77_legal.specs.Labels.{place_of}
 use Rattle.f77_legal.specs.Legal.{IsLegal}
 use Rattle.f77_legal.specs.Loops.{terminal}
-use Rattle.f77_check.specs.Lookup.{ServesNames}
+use Rattle.f77_check.specs.Lookup.{ServesNames, by_tables}
 use Rattle.f77_legal.specs.NameTable.{bounds_at, kind_at}
 use Rattle.f77_check.specs.SlotTable.{IsSlotTable}
 use Rattle.f77_legal.specs.Names.{Symbol}
@@ -40,12 +40,10 @@ pub record IsReady (resolver : Resolver) (statement : Statement) : Type 0 where
 
 -- the action is what the statement does, by the tables
 abbrev pub Does : Resolver → List LineFields → ℕ → Statement → Action → Type 0
-Does resolver program i statement action =
-    IsAction (kind_at resolver.tables.names) (bounds_at resolver.tables.names) (keys resolver.tables.names.facts) program i statement action
+Does resolver = by_tables resolver (IsAction (kind_at resolver.tables.names))
 
 abbrev pub Assigns : Resolver → Symbol → Trees → Tree → Action → Type 0
-Assigns resolver name items tree action =
-    IsAssignment (kind_at resolver.tables.names) (bounds_at resolver.tables.names) (keys resolver.tables.names.facts) name items tree action
+Assigns resolver = by_tables resolver (IsAssignment (kind_at resolver.tables.names))
 
 -- each of these labels stands on a statement
 abbrev pub AreFound : List LineFields → List ℕ → Type 0

@@ -1,14 +1,17 @@
 //! Expressions of a legal program with their names looked up.
 
-ghost use Rattle.std.specs.Prelude.{◌≡◌, true, None, Some, map, option_map, IfOk, IfErr, List, ℕ};
+ghost use Rattle.std.specs.Prelude.{◌≡◌, ◌<◌, true, None, Some, length, map, option_map, IfOk, IfErr, IfSome, List, ℕ};
+ghost use Rattle.std.specs.List.{All};
 ghost use Rattle.f77_tree.specs.Tree.{Tree};
 ghost use Rattle.f77_tree.specs.View.{tree_of, trees};
 ghost use Rattle.f77_tree.specs.declared.intrinsic.Intrinsic.TheVariants.{Mod, Iabs};
+ghost use Rattle.f77_tree.specs.declared.tree.Kind.{Kind};
 ghost use Rattle.f77_tree.specs.declared.tree.Kind.TheVariants.{Integer, Logical};
-ghost use Rattle.f77_check.specs.Expression.{IsNumber, arithmetic_of, relation_of, connective_of};
+ghost use Rattle.f77_check.specs.Action.{IsStep};
+ghost use Rattle.f77_check.specs.Boxed.{HoldsNumber, HoldsCondition};
+ghost use Rattle.f77_check.specs.Expression.{IsElement, IsNumber, IsChosen, IsCondition, arithmetic_of, relation_of, connective_of};
 ghost use Rattle.f77_legal.specs.Kinds.{same_kind, result_kind};
-ghost use Rattle.f77_check.specs.Lookup.{IsReadyNumber, IsReadyCondition, IsReadyElement, IsReadyChoice, IsReadyStep};
-ghost use Rattle.f77_check.specs.Lookup.{IsElementOf, IsNumberOf, IsChosenOf, IsConditionOf, IsStepOf, HoldsNumberOf, HoldsConditionOf};
+ghost use Rattle.f77_check.specs.Lookup.{IsReadyTree, by_tables};
 ghost use Rattle.f77_legal.specs.Names.{Symbol};
 ghost use Rattle.f77_legal.specs.declared.fault.CheckFault.TheVariants.{Memory};
 
@@ -61,8 +64,8 @@ impl Resolver {
         name: &Name,
         subscripts: &[Expr],
     ) -> Result<Element, CheckFault>
-        requires { IsReadyElement self.now name.now (trees (map tree_of subscripts.now)) }
-        ensures element { IfOk result (IsElementOf self.now name.now (trees (map tree_of subscripts.now))) }
+        requires { (kind : Kind) × IsReadyTree self.now kind (Tree.Reference name.now (trees (map tree_of subscripts.now))) }
+        ensures element { IfOk result (by_tables self.now IsElement name.now (trees (map tree_of subscripts.now))) }
         ensures memory { IfErr result (λ fault. fault ≡ Memory) }
     {
         let names = &self.tables.names;
@@ -89,8 +92,8 @@ impl Resolver {
     #[cycle(numbers)]
     #[tactic(auto, using(crate::proofs::Operands::arithmetic_takes))]
     pub(crate) fn number(&self, alloc: Global, expr: &Expr) -> Result<Number, CheckFault>
-        requires { IsReadyNumber self.now (tree_of expr.now) }
-        ensures number { IfOk result (IsNumberOf self.now (tree_of expr.now)) }
+        requires { IsReadyTree self.now Integer (tree_of expr.now) }
+        ensures number { IfOk result (by_tables self.now IsNumber (tree_of expr.now)) }
         ensures memory { IfErr result (λ fault. fault ≡ Memory) }
     {
         match expr {
@@ -117,8 +120,8 @@ impl Resolver {
     #[cycle(numbers)]
     #[tactic(auto, unfolding(crate::specs::Boxed::HoldsNumber))]
     fn boxed(&self, alloc: Global, expr: &Expr) -> Result<Box<Number>, CheckFault>
-        requires { IsReadyNumber self.now (tree_of expr.now) }
-        ensures number { IfOk result (HoldsNumberOf self.now (tree_of expr.now)) }
+        requires { IsReadyTree self.now Integer (tree_of expr.now) }
+        ensures number { IfOk result (by_tables self.now HoldsNumber (tree_of expr.now)) }
         ensures memory { IfErr result (λ fault. fault ≡ Memory) }
     {
         Ok(Box::new(alloc, self.number(alloc, expr)?)?)
@@ -132,8 +135,8 @@ impl Resolver {
         function: Intrinsic,
         arguments: &[Expr],
     ) -> Result<Number, CheckFault>
-        requires { IsReadyNumber self.now (Tree.Call function (trees (map tree_of arguments.now))) }
-        ensures number { IfOk result (IsNumberOf self.now (Tree.Call function (trees (map tree_of arguments.now)))) }
+        requires { IsReadyTree self.now Integer (Tree.Call function (trees (map tree_of arguments.now))) }
+        ensures number { IfOk result (by_tables self.now IsNumber (Tree.Call function (trees (map tree_of arguments.now)))) }
         ensures memory { IfErr result (λ fault. fault ≡ Memory) }
     {
         match function {
@@ -148,8 +151,8 @@ impl Resolver {
     #[cycle(numbers)]
     #[tactic(auto, using(f77_legal::proofs::Counts::count_trees, crate::proofs::Items::two_items))]
     fn modulus(&self, alloc: Global, arguments: &[Expr]) -> Result<Number, CheckFault>
-        requires { IsReadyNumber self.now (Tree.Call Mod (trees (map tree_of arguments.now))) }
-        ensures number { IfOk result (IsNumberOf self.now (Tree.Call Mod (trees (map tree_of arguments.now)))) }
+        requires { IsReadyTree self.now Integer (Tree.Call Mod (trees (map tree_of arguments.now))) }
+        ensures number { IfOk result (by_tables self.now IsNumber (Tree.Call Mod (trees (map tree_of arguments.now)))) }
         ensures memory { IfErr result (λ fault. fault ≡ Memory) }
     {
         match arguments {
@@ -166,8 +169,8 @@ impl Resolver {
     #[cycle(numbers)]
     #[tactic(auto, using(f77_legal::proofs::Counts::count_trees, crate::proofs::Items::one_item))]
     fn absolute(&self, alloc: Global, arguments: &[Expr]) -> Result<Number, CheckFault>
-        requires { IsReadyNumber self.now (Tree.Call Iabs (trees (map tree_of arguments.now))) }
-        ensures number { IfOk result (IsNumberOf self.now (Tree.Call Iabs (trees (map tree_of arguments.now)))) }
+        requires { IsReadyTree self.now Integer (Tree.Call Iabs (trees (map tree_of arguments.now))) }
+        ensures number { IfOk result (by_tables self.now IsNumber (Tree.Call Iabs (trees (map tree_of arguments.now)))) }
         ensures memory { IfErr result (λ fault. fault ≡ Memory) }
     {
         match arguments {
@@ -178,15 +181,15 @@ impl Resolver {
 
     /// The least or the greatest of some numbers.
     #[cycle(numbers)]
-    #[tactic(auto, using(f77_legal::proofs::Counts::count_trees))]
     fn chosen(
         &self,
         alloc: Global,
         operation: Arithmetic,
         items: &[Expr],
     ) -> Result<Number, CheckFault>
-        requires { IsReadyChoice self.now (trees (map tree_of items.now)) }
-        ensures number { IfOk result (IsChosenOf self.now operation (trees (map tree_of items.now))) }
+        requires some { 0 < length items.now }
+        requires ready { All (λ item. IsReadyTree self.now Integer (tree_of item)) items.now }
+        ensures number { IfOk result (by_tables self.now IsChosen operation (trees (map tree_of items.now))) }
         ensures memory { IfErr result (λ fault. fault ≡ Memory) }
     {
         let last = items.len() - 1;
@@ -207,9 +210,9 @@ impl Resolver {
         left: &Expr,
         right: &Expr,
     ) -> Result<Condition, CheckFault>
-        requires ready { IsReadyCondition self.now (Tree.Binary operator (tree_of left.now) (tree_of right.now)) }
+        requires ready { IsReadyTree self.now Logical (Tree.Binary operator (tree_of left.now) (tree_of right.now)) }
         requires relation { relation_of operator ≡ Some relation }
-        ensures condition { IfOk result (IsConditionOf self.now (Tree.Binary operator (tree_of left.now) (tree_of right.now))) }
+        ensures condition { IfOk result (by_tables self.now IsCondition (Tree.Binary operator (tree_of left.now) (tree_of right.now))) }
         ensures memory { IfErr result (λ fault. fault ≡ Memory) }
     {
         Ok(Condition::Related(
@@ -223,8 +226,8 @@ impl Resolver {
     #[cycle(conditions)]
     #[tactic(auto, using(crate::proofs::Operands::connective_takes))]
     pub(crate) fn condition(&self, alloc: Global, expr: &Expr) -> Result<Condition, CheckFault>
-        requires { IsReadyCondition self.now (tree_of expr.now) }
-        ensures condition { IfOk result (IsConditionOf self.now (tree_of expr.now)) }
+        requires { IsReadyTree self.now Logical (tree_of expr.now) }
+        ensures condition { IfOk result (by_tables self.now IsCondition (tree_of expr.now)) }
         ensures memory { IfErr result (λ fault. fault ≡ Memory) }
     {
         match expr {
@@ -251,8 +254,8 @@ impl Resolver {
     #[cycle(conditions)]
     #[tactic(auto, unfolding(crate::specs::Boxed::HoldsCondition))]
     fn boxed_condition(&self, alloc: Global, expr: &Expr) -> Result<Box<Condition>, CheckFault>
-        requires { IsReadyCondition self.now (tree_of expr.now) }
-        ensures condition { IfOk result (HoldsConditionOf self.now (tree_of expr.now)) }
+        requires { IsReadyTree self.now Logical (tree_of expr.now) }
+        ensures condition { IfOk result (by_tables self.now HoldsCondition (tree_of expr.now)) }
         ensures memory { IfErr result (λ fault. fault ≡ Memory) }
     {
         Ok(Box::new(alloc, self.condition(alloc, expr)?)?)
@@ -260,8 +263,8 @@ impl Resolver {
 
     /// The incrementation parameter of a DO, 1 where none is written (11.10).
     pub(crate) fn step(&self, alloc: Global, step: &Option<Expr>) -> Result<Number, CheckFault>
-        requires { IsReadyStep self.now (option_map tree_of step.now) }
-        ensures step { IfOk result (IsStepOf self.now (option_map tree_of step.now)) }
+        requires { IfSome step.now (λ step. IsReadyTree self.now Integer (tree_of step)) }
+        ensures step { IfOk result (by_tables self.now IsStep (option_map tree_of step.now)) }
         ensures memory { IfErr result (λ fault. fault ≡ Memory) }
     {
         match step {

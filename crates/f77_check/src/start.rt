@@ -10,7 +10,7 @@ ghost use Rattle.f77_legal.specs.Blocks.{first_numbers};
 ghost use Rattle.f77_check.specs.Initial as given;
 ghost use Rattle.f77_check.specs.Initial.{HasSlots, slots_of, groups_kept};
 ghost use Rattle.f77_check.specs.Kept.{is_kept};
-ghost use Rattle.f77_legal.specs.NameTable.{bounds_at};
+ghost use Rattle.f77_check.specs.Lookup.{by_tables};
 ghost use Rattle.f77_legal.specs.Presets as presets;
 ghost use Rattle.f77_legal.specs.Presets.{elements};
 ghost use Rattle.f77_check.specs.Ready.{CanResolve};
@@ -100,8 +100,7 @@ impl Resolver {
     fn add_slots(&self, slots: &mut Vec<usize>, name: &Name) -> Result<(), CheckFault>
         requires slots { HasSlots self.now }
         requires kept { is_kept self.now.tables.names name.now ≡ true }
-        ensures slots { OnOk result (slots.new.items
-            ≡ slots.old.items ++ slots_of (bounds_at self.now.tables.names) (keys self.now.tables.names.facts) name.now) }
+        ensures slots { OnOk result (slots.new.items ≡ slots.old.items ++ by_tables self.now slots_of name.now) }
         ensures memory { IfErr result (λ fault. fault ≡ Memory) }
     {
         let names = &self.tables.names;
@@ -116,8 +115,7 @@ impl Resolver {
     fn slots_of(&self, alloc: Global, list: &[Name]) -> Result<Vec<usize>, CheckFault>
         requires slots { HasSlots self.now }
         requires kept { list_all (is_kept self.now.tables.names) list.now ≡ true }
-        ensures slots { IfOk result
-            (λ slots. slots.items ≡ flat_map (slots_of (bounds_at self.now.tables.names) (keys self.now.tables.names.facts)) list.now) }
+        ensures slots { IfOk result (λ slots. slots.items ≡ flat_map (by_tables self.now slots_of) list.now) }
         ensures memory { IfErr result (λ fault. fault ≡ Memory) }
     {
         let mut slots = Vec::new(alloc);
@@ -131,8 +129,7 @@ impl Resolver {
     fn first_slots(&self, alloc: Global, list: &[Name]) -> Result<Vec<usize>, CheckFault>
         requires slots { HasSlots self.now }
         requires kept { list_all (is_kept self.now.tables.names) list.now ≡ true }
-        ensures slots { IfOk result (λ slots. map (first_slot (bounds_at self.now.tables.names) (keys self.now.tables.names.facts)) list.now
-            ≡ map (λ slot. Some slot) slots.items) }
+        ensures slots { IfOk result (λ slots. map (by_tables self.now first_slot) list.now ≡ map (λ slot. Some slot) slots.items) }
         ensures memory { IfErr result (λ fault. fault ≡ Memory) }
     {
         let mut slots = Vec::new(alloc);
@@ -150,8 +147,7 @@ impl Resolver {
     ) -> Result<(), CheckFault>
         requires slots { HasSlots self.now }
         requires kept { groups_kept self.now.tables.names (map data_group_of groups.now) ≡ true }
-        ensures given { OnOk result (held.new
-            ≡ given.give_groups (bounds_at self.now.tables.names) (keys self.now.tables.names.facts) held.old (map data_group_of groups.now)) }
+        ensures given { OnOk result (held.new ≡ by_tables self.now given.give_groups held.old (map data_group_of groups.now)) }
         ensures memory { IfErr result (λ fault. fault ≡ Memory) }
     {
         for group in groups {

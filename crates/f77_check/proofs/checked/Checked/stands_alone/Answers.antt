@@ -1,5 +1,4 @@
 use Rattle.std.proofs.Common.{◌≡◌, ◌-◌, true, map, sym, ap, refl, subst, get_or, ◌∙◌}
-use Rattle.indexmap.specs.IndexMap.{keys}
 use Rattle.f77_program.specs.Program.{LineFields, line_of}
 use Rattle.f77_tree.specs.Statement.{statement_of}
 use Rattle.f77_legal.specs.Frames.{framed}

@@ -1,4 +1,4 @@
-use Rattle.std.proofs.Common.{◌≡◌, ◌<◌, arith, ap, length, map, refl, set, sym, subst, ◌∙◌}
+use Rattle.std.proofs.Common.{◌<◌, arith, ap, length, map, refl, set, sym, subst, ◌∙◌}
 use Rattle.std.proofs.lemmas.List.{length-map}
 use Rattle.indexmap.specs.IndexMap.{keys}
 use Rattle.f77_program.specs.Program.{line_of}

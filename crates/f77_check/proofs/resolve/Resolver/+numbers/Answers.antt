@@ -1,11 +1,11 @@
-use Rattle.std.proofs.Common.{rules, arith, refl, sym, ◌∙◌, ◌≡◌, ◌<◌, ◌≤◌, ◌+◌, ◌-◌, suc, length}
+use Rattle.std.proofs.Common.{rules, arith, refl, sym, ap, ◌∙◌, ◌≡◌, ◌<◌, ◌≤◌, ◌+◌, ◌-◌, suc, length}
 use Rattle.std.proofs.lemmas.Grind.{common_steps}
 use Rattle.f77_check.specs.Boxed.{HoldsNumber}
+use Rattle.f77_legal.specs.Dimensions.{takes}
 use Rattle.f77_legal.specs.NameTable.{bounds_at}
 use Rattle.indexmap.specs.IndexMap.{keys}
-use Rattle.f77_legal.proofs.Counts.{count_trees}
 use Rattle.f77_check.proofs.Deepest.{most_at}
-use Rattle.f77_check.proofs.Items.{only_one, only_two, one_item, two_items, item_ready}
+use Rattle.f77_check.proofs.Items.{only_one, only_two, one_item, two_items, some_items, items_ready, item_ready}
 use Rattle.f77_check.proofs.Chosen.{chosen_last, chosen_more}
 use Rattle.f77_check.proofs.Resolving.{constant_number, negated_number, pushed_number, binary_number}
 use Rattle.f77_check.proofs.resolve.Resolver.+numbers.Goals as goal
@@ -59,9 +59,7 @@ element-returns-in_ok-boxed-in-len2-len2-2-clause-element t c =
     (sym c.bounds.ensures ∙ only_two 0 0 _ some_bounds few_bounds, c.first-first.ensures, c.in_ok-boxed-in-len2-len2.ensures.number, c.in_ok-boxed-in-len2-len2-2.ensures.number)
 
 pub chosen-loop-i-init : goal.chosen-loop-i-init
-chosen-loop-i-init t c =
-    let some : 0 < length c.args.items.now = rw (count_trees c.args.items.now) at c.requires.some in
-    chosen_last _ _ c.args.operation c.args.items.now _ _ some c.index-items-last.is c.in_ok-chosen.ensures.number
+chosen-loop-i-init t c = chosen_last _ _ c.args.operation c.args.items.now _ _ c.requires.some c.index-items-last.is c.in_ok-chosen.ensures.number
 
 pub chosen-loop-i-preserved : goal.chosen-loop-i-preserved
 unfolding HoldsNumber
@@ -72,11 +70,22 @@ chosen-loop-i-preserved t c =
 
 pub chosen-number-requires : goal.chosen-number-requires
 chosen-number-requires t c =
-    let some : 0 < length c.args.items.now = rw (count_trees c.args.items.now) at c.requires.some in
-    let below : length c.args.items.now - 1 < length c.args.items.now = omega (arith, some) in
+    let below : length c.args.items.now - 1 < length c.args.items.now = omega (arith, c.requires.some) in
     (grind (arith, common_steps, most_at), item_ready _ _ _ _ below c.index-items-last.is c.requires.ready)
 
 pub chosen-boxed-requires : goal.chosen-boxed-requires
 chosen-boxed-requires t c =
     let below : c.loop-i.i - 1 < length c.args.items.now = search rules in
     (grind (arith, common_steps, most_at), item_ready _ _ _ _ below c.index-items-i.is c.requires.ready)
+
+pub call-chosen-requires : goal.call-chosen-requires
+call-chosen-requires t c = (
+  first_of (search rules, grind (arith, common_steps)),
+  (some_items _ _ _ (ap (λ f. takes f 0) c.in-Min0.is) c.requires, items_ready _ _ _ c.requires),
+)
+
+pub call-chosen-requires-in-Max0 : goal.call-chosen-requires-in-Max0
+call-chosen-requires-in-Max0 t c = (
+  first_of (search rules, grind (arith, common_steps)),
+  (some_items _ _ _ (ap (λ f. takes f 0) c.in-Max0.is) c.requires, items_ready _ _ _ c.requires),
+)

@@ -1,9 +1,10 @@
 use Rattle.std.proofs.Common.{drop}
 use Rattle.std.specs.Prelude.{map}
 use Rattle.f77_tree.specs.View.{tree_of, trees}
-use Rattle.f77_check.specs.Lookup.{IsChosenOf}
+use Rattle.f77_check.specs.Expression.{IsChosen}
+use Rattle.f77_check.specs.Lookup.{by_tables}
 use Rattle.f77_check.proofs.resolve.Resolver.+numbers.Given as goal
 
 -- of the items from here on
 abbrev pub invariant-chosen-loop-i : goal.invariant-chosen-loop-i
-invariant-chosen-loop-i l = IsChosenOf l.self l.operation (trees (map tree_of (drop l.i l.items))) l.chosen
+invariant-chosen-loop-i l = by_tables l.self IsChosen l.operation (trees (map tree_of (drop l.i l.items))) l.chosen
