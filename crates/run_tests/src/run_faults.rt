@@ -1,14 +1,16 @@
 //! The texts of faults of runs.
 
 use f77_run::RunFault;
-use std::process::Abort;
+use sample_programs::expect;
 use std::test::Fail;
 
+fn text_of(rt: &impl AllocGlobal, fault: &RunFault) -> Result<String, Fail> {
+    Ok(format!(in rt.alloc(); "{fault}")?)
+}
+
 /// Compares the text of a fault.
-fn assert_text(rt: &(impl AllocGlobal + Abort), fault: &RunFault, want: &str) -> Result<(), Fail> {
-    let text = format!(in rt.alloc(); "{fault}")?;
-    assert_eq!(rt; text.as_str(), want);
-    Ok(())
+fn assert_text(rt: &impl AllocGlobal, fault: &RunFault, want: &str) -> Result<(), Fail> {
+    expect(text_of(rt, fault), want, want)
 }
 
 #[test]
