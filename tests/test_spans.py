@@ -26,6 +26,10 @@ class Changes(unittest.TestCase):
             ("IF (P) K=1", "IF (.NOT.P) K=1", "IF ([P -> .NOT.P]) K=1"),
             ("K=M(I)", "K=M(I)+1", "K=[M(I) -> M(I)+1]"),
             ("K=I", "CONTINUE", "[K=I -> CONTINUE]"),
+            ("K=MOD(I,J)", "K=IABS(MOD(I,J))", "K=[MOD(I,J) -> IABS(MOD(I,J))]"),
+            ("K=(I+J)*L", "K=I*L", "K=[(I+J) -> I]*L"),
+            ("K=(I+J)*L", "K=(I-J)*L", "K=(I[+ -> -]J)*L"),
+            ("P=(A.OR.B).AND.C", "P=A.OR.B.OR.C", "P=[(A.OR.B).AND. -> A.OR.B.OR.]C"),
             ("DO 10 I=1,3", "DO 20 I=1,3", "DO [10 -> 20] I=1,3"),
         ):
             with self.subTest(new):

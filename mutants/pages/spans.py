@@ -45,12 +45,34 @@ def widened(olds: Sequence[str], front: int, back: int) -> tuple[int, int]:
     return (front - before, back) if before or not back else (front, back - 1)
 
 
+def depths_of(words: Sequence[str]) -> tuple[int, int]:
+    """How many parentheses words leave open, and how many they close that they have not opened."""
+    open_now = closed = 0
+    for word in words:
+        open_now += {"(": 1, ")": -1}.get(word, 0)
+        if open_now < 0:
+            open_now, closed = 0, closed + 1
+    return open_now, closed
+
+
+def balanced(olds: Sequence[str], front: int, back: int) -> tuple[int, int]:
+    """The same piece with so many words more that each of its parentheses has its partner in it."""
+    while True:
+        opened, closed = depths_of(olds[front : len(olds) - back])
+        if opened and back:
+            back -= 1
+        elif closed and front:
+            front -= 1
+        else:
+            return front, back
+
+
 def change_of(old: str, new: str) -> Change:
     """The change of a statement to that of a mutant, in whole words; what is changed has a word at least."""
     olds, news = WORD.findall(old), WORD.findall(new)
     front = common_front(olds, news)
     back = common_front(olds[front:][::-1], news[front:][::-1])
-    front, back = widened(olds, front, back)
+    front, back = balanced(olds, *widened(olds, front, back))
     parts = olds[:front], olds[front : len(olds) - back], news[front : len(news) - back], olds[len(olds) - back :]
     return Change(*map("".join, parts))
 
