@@ -9,7 +9,7 @@ import running
 from mutants import statuses
 from mutants.checks.choice import lines_within
 from room import DECLARED, TWO, Room, without_progress
-from running import LEAST, STAND_IN, has, refuses
+from running import LEAST, STAND_IN, has, refuses, run
 
 TOLD = """\
 LEAST of {program}: 2 tests
@@ -34,6 +34,12 @@ class Told(Room):
         self.assertEqual(self.check_by_calls(), (0, TOLD.format(program=self.program, page=page), ""))
         has(self, page.read_text(), "15 of 16 mutants killed", "IF (J<del>.LT.</del><ins>.LE.</ins>I) K=J")
         self.assertEqual(self.names(), ["least.f", "least.html", "tests.csv"])
+
+    def test_the_page_is_that_of_the_job(self) -> None:
+        job = self.put("job.json", run("job", self.program, self.tests)[1])
+        self.check()
+        page = run("page", "--mothra", STAND_IN, job)[1]
+        self.assertTrue((self.folder / "least.html").read_text() == page, "another page")
 
     def test_the_page_is_where_it_is_wanted(self) -> None:
         out = self.check("--page", self.folder / "other.html")[1]
@@ -72,6 +78,8 @@ class Statuses(Room):
             ended = self.check("--no-page", "--fail-under", least)
             self.assertEqual(ended[0], status, least)
             self.assertEqual("BELOW --fail-under" in ended[1], status != 0)
+        self.put("tests.csv", "")
+        self.assertEqual(self.check("--no-page", "--fail-under", "0.01")[0], statuses.BELOW)
         for wrong in ("101", "-1", "x", "1e1", ""):
             self.assertEqual(self.check("--no-page", f"--fail-under={wrong}")[0], statuses.WORDS, wrong)
 
@@ -135,7 +143,7 @@ class Settings(Room):
         self.assertEqual(status, statuses.BELOW)
         has(self, out, "9 of 10 mutants killed", f"Options are from {self.folder / 'mutants.ini'}, too.")
         self.assertIn("pages.html", self.names())
-        self.assertEqual(self.check("--fail-under", "0", "--no-page", "--ops", "SAN")[0], 0)
+        self.assertEqual(self.check("--fail-under", "0", "--no-page")[0], 0)
         self.assertIn("3 of 3 mutants killed", self.check("--ops", "SAN", "--no-page")[1])
         self.put("mutants.ini", "[others]\nx = 1\n[mutants]\nno-page = yes\n")
         (self.folder / "pages.html").unlink()

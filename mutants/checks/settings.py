@@ -93,6 +93,11 @@ def read_settings(path: Path, add_options: AddOptions) -> argparse.Namespace:
         raise ValueError(f"{path}: {fault}") from None
 
 
+def is_open(value: object) -> bool:
+    """Whether the command line left an option open."""
+    return value is None or value is False or value == []
+
+
 def with_settings(given: argparse.Namespace, add_options: AddOptions) -> Path | None:
     """Fills in what the command line left open, from the file beside the program; its path, where there is one."""
     path = file_beside(given.program)
@@ -100,6 +105,6 @@ def with_settings(given: argparse.Namespace, add_options: AddOptions) -> Path | 
         kept = vars(read_settings(path, add_options))
         overruled = {other for name, other in OVERRULES if getattr(given, name)}
         for name, value in kept.items():
-            if getattr(given, name) in (None, [], False) and name not in overruled:
+            if is_open(getattr(given, name)) and name not in overruled:
                 setattr(given, name, value)
     return path

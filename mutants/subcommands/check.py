@@ -123,19 +123,24 @@ def share_of(checked: Checked) -> Fraction | None:
     return Fraction(100 * count.killed, wanted) if wanted else None
 
 
+def is_below(given: argparse.Namespace, checked: Checked) -> bool:
+    """Whether the score is below what is asked for; where there is none, nothing is."""
+    share = share_of(checked)
+    return given.fail_under is not None and share is not None and share < given.fail_under
+
+
 def status_lines(given: argparse.Namespace, checked: Checked) -> Iterator[str]:
-    share, least = share_of(checked), given.fail_under
-    if least is not None and share is None:
+    if given.fail_under is not None and share_of(checked) is None:
         yield "There is no score, and --fail-under says nothing."
-    elif least is not None and share is not None and share < least:
-        yield f"BELOW --fail-under: the score is below {float(least):g} %."
+    if is_below(given, checked):
+        yield f"BELOW --fail-under: the score is below {float(given.fail_under):g} %."
 
 
 def status_of(given: argparse.Namespace, checked: Checked) -> int:
     """4 where the program does not do what is expected, else 3 where the score is below what is asked for."""
     if checked.unexpected:
         return UNEXPECTED
-    return BELOW if given.fail_under is not None and (share_of(checked) or given.fail_under) < given.fail_under else SUCCESS
+    return BELOW if is_below(given, checked) else SUCCESS
 
 
 def run(given: argparse.Namespace, name: str) -> int:
