@@ -41,6 +41,7 @@ class Expected(Room):
             status, out, errors = self.check("--no-page")
             self.assertEqual((status, errors), (statuses.SUCCESS, ""))
             self.assertNotIn("EXPECTED", out)
+            self.assertIn(f"As expected on {'1 test' if table == FIRST else '2 tests'}.\n", out)
 
     def test_a_job_is_made_of_a_table_with_the_column(self) -> None:
         job = run("job", self.program, self.put("tests.csv", FIRST))[1]

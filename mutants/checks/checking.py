@@ -41,7 +41,10 @@ class Asked(NamedTuple):
 
 
 class Checked(NamedTuple):
-    """What came of a check. The list and the report have the mutants that were asked about; `whole` has all that ran."""
+    """What came of a check. The list and the report have the mutants that were asked about; `whole` has all that ran.
+
+    Of so many tests as `expected` says it was said what the program has to do.
+    """
 
     job: Job
     printed: list[str]
@@ -54,6 +57,7 @@ class Checked(NamedTuple):
     unexpected: list[Difference]
     # The source as its file has it, the reasons of declared mutants, and what was told.
     said: Said = NOTHING
+    expected: int = 0
 
     @property
     def shown(self) -> str:
@@ -160,4 +164,5 @@ def check(asked: Asked, job: Job, expected: Expected, means: Means, name: str) -
     report = whole if is_whole else restricted(whole, choice.listed)
     left_out = ops_left_out(asked) + choice.left_out
     statements = statements_by_line(job.source, printed)
-    return Checked(job, printed, statements, choice.listed, report, whole, left_out, outcomes, unexpected)
+    number = sum(bool(text.strip()) for text in expected.texts.values())
+    return Checked(job, printed, statements, choice.listed, report, whole, left_out, outcomes, unexpected, expected=number)

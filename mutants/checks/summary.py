@@ -33,8 +33,10 @@ def outcome_lines(checked: Checked) -> Iterator[str]:
 
 
 def difference_lines(checked: Checked) -> Iterator[str]:
-    """The tests on which the program does not do what is expected."""
+    """The tests on which the program does not do what is expected; or on how many it does."""
     found = checked.unexpected
+    if checked.expected and not found:
+        yield f"As expected on {plural(checked.expected, 'test')}."
     if found:
         yield f"NOT AS EXPECTED: {plural(len(found), 'test')}. The score is that of a program that is wrong."
     for each in found:
