@@ -6,7 +6,9 @@ import running
 from mutants.texts.lines import Mutant
 from mutants.texts.reports import Report, Row, counted
 
-STORED = sorted(path.name.removesuffix(".report") for path in (running.ROOT / "examples").glob("*.report"))
+# That of the desk calculator is compared in tools/examples alone: to cut so long a report takes its time.
+FOUND = sorted(path.name.removesuffix(".report") for path in (running.ROOT / "examples").glob("*.report"))
+STORED = [name for name in FOUND if name != "desk"]
 
 
 def stored(name: str) -> str:

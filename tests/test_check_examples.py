@@ -63,11 +63,13 @@ class Examples(unittest.TestCase):
     def assert_is_joined(self, name: str, folder: Path) -> None:
         whole = read_report(stored(name))
         job = read_job(running.example(name, ".json").read_bytes())
-        names, report = folder / "names.json", folder / "report"
+        names, suite, report = folder / "names.json", folder / "suite.json", folder / "report"
         names.write_text(json.dumps(job.equivalent))
+        # The replay knows no outcomes, so nothing is expected of them.
+        suite.write_text(json.dumps(job.suite))
         words = ["--mothra", STAND_IN, "--no-page", "--report", report, "--equivalent", names]
         with self.replaying(Replay(job, whole)):
-            files = running.example(name.split("-")[0], ".f"), running.example(name, ".suite.json")
+            files = running.example(name.split("-")[0], ".f"), suite
             status, out, errors = run("check", *words, *files)
         # The replay has no texts of mutants that are not survivors, so they are declared by bare names.
         told = "are not tied to the program" if job.equivalent else ""

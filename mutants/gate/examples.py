@@ -2,8 +2,8 @@
 
     tools/examples MOTHRA
 
-A suite examples/NAME.suite.json is of the program examples/NAME.f, or of that whose name stands before a hyphen. Five
-things are compared:
+A suite examples/NAME.suite.json or examples/NAME.csv is of the program examples/NAME.f, or of that whose name stands
+before a hyphen. Five things are compared:
 
 - examples/NAME.json with the job that `mutants job` makes of program and suite, and of the mutants that
   examples/NAME.equivalent.csv declares, where that is there;
@@ -63,9 +63,13 @@ class Example(NamedTuple):
         return self.suite.with_name(self.name + ending)
 
 
+def suites() -> list[Path]:
+    return sorted([*ROOT.glob("examples/*.suite.json"), *(path.with_suffix(".csv") for path in ROOT.glob("examples/*.f"))])
+
+
 def examples() -> Iterator[Example]:
-    for suite in sorted(ROOT.glob("examples/*.suite.json")):
-        name = suite.name.removesuffix(".suite.json")
+    for suite in filter(Path.exists, suites()):
+        name = suite.name.removesuffix(".suite.json").removesuffix(".csv")
         names = suite.with_name(f"{name}.equivalent.csv")
         yield Example(name, suite.with_name(f"{name.split('-')[0]}.f"), suite, names if names.exists() else None)
 
