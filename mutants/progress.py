@@ -46,6 +46,7 @@ class Estimate:
         self.progress, self.what, self.whole, self.done = progress, what, whole, 0
         self.begun = time.monotonic()
         self.next = self.begun + (0 if progress.is_terminal else QUIET)
+        self.told = -1
 
     def add(self, part: int) -> None:
         self.done += part
@@ -60,6 +61,7 @@ class Estimate:
     def tick(self) -> None:
         """Tells it, where it is time to."""
         now = time.monotonic()
-        if now >= self.next:
-            self.next = now + (0 if self.progress.is_terminal else OFTEN)
+        if now >= self.next and (self.progress.is_terminal or self.done != self.told):
+            # Lines that stay, as in the log of a build, are told where something was done since.
+            self.next, self.told = now + (0 if self.progress.is_terminal else OFTEN), self.done
             self.progress.tell(self.text(now))

@@ -4,9 +4,11 @@ import os
 import sys
 import unittest
 from pathlib import Path
+from unittest import mock
 
 import running
 from mutants import statuses
+from mutants.checks import summary
 from mutants.checks.choice import lines_within
 from room import DECLARED, TWO, Room, without_progress
 from running import LEAST, STAND_IN, has, refuses, run
@@ -34,6 +36,12 @@ class Told(Room):
         self.assertEqual(self.check_by_calls(), (0, TOLD.format(program=self.program, page=page), ""))
         has(self, page.read_text(), "15 of 16 mutants killed", "IF (J<del>.LT.</del><ins>.LE.</ins>I) K=J")
         self.assertEqual(self.names(), ["least.f", "least.html", "tests.csv"])
+
+    def test_a_long_summary_has_its_score_at_the_end_too(self) -> None:
+        for longest, times in ((1000, 1), (1, 2)):
+            with mock.patch.object(summary, "LONG", longest):
+                out = self.check("--no-page")[1]
+            self.assertEqual(out.count("Score 93.75 %: 15 of 16 mutants killed.\n"), times)
 
     def test_the_page_is_that_of_the_job(self) -> None:
         job = self.put("job.json", run("job", self.program, self.tests)[1])

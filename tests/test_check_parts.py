@@ -1,6 +1,8 @@
 """The parts of a check: batches of tests, groups of operators, how far it is, other machines."""
 
+import io
 import os
+import sys
 import unittest
 from unittest import mock
 
@@ -54,6 +56,17 @@ class Parts(Room):
         self.assertRegex(errors, r"(?m)^mutants check: the program itself on 2 tests: 0 % done$")
         self.assertRegex(errors, r"(?m)^mutants check: 16 mutants, 2 tests: \d+ % done")
         self.assertEqual([progress.seconds_text(s) for s in (0.2, 99, 130, 7200)], ["1 s", "99 s", "2 minutes", "2.0 hours"])
+
+    def test_a_line_of_a_log_is_not_told_again_where_nothing_was_done(self) -> None:
+        errors = io.StringIO()
+        with mock.patch.object(sys, "stderr", errors), mock.patch.object(progress, "OFTEN", 0.0):
+            estimate = progress.Estimate(progress.Progress("check"), "work", 2)
+            estimate.next = 0.0
+            for part in (0, 0, 1, 0):
+                estimate.add(part)
+                estimate.tick()
+        told = "check: work: 0 % done\ncheck: work: 50 % done, about \\d+ s left\n"
+        self.assertRegex(errors.getvalue(), f"^{told}$")
 
     def test_parts_on_other_machines(self) -> None:
         elsewhere = self.folder / "elsewhere"

@@ -29,7 +29,8 @@ class Met(unittest.TestCase):
                 self.assertFalse(is_met(text, OUTCOME, NAMES))
 
     def test_what_is_no_expectation(self) -> None:
-        for text, told in (("1", "has 1 values, and the subroutine has 3"), ("N=1", "N is no dummy"), ("I=1 2", "2 values")):
+        short = "has 1 values, and the subroutine has 3 .*; an array is one value"
+        for text, told in (("1", short), ("N=1", "N is no dummy"), ("I=1 2", "2 values")):
             with self.subTest(text), self.assertRaisesRegex(ValueError, f"expected of test 1: .*{told}"):
                 differences({1: text}, [OUTCOME], NAMES)
 

@@ -110,7 +110,8 @@ def is_met(expected: str, outcome: str, names: Sequence[str]) -> bool:
     if all("=" in word for word in words):
         return all([is_word_met(word, outcome, names) for word in words])
     if len(words) != len(names):
-        raise ValueError(f"{expected!r} has {len(words)} values, and the subroutine has {len(names)} dummy arguments")
+        told = f"{expected!r} has {len(words)} values, and the subroutine has {len(names)} dummy arguments"
+        raise ValueError(told + ("" if "(" in expected else "; an array is one value, in parentheses: (1,2,3)"))
     return all(word in ("*", value) for word, value in zip(words, values_in(outcome)))
 
 

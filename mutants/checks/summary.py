@@ -14,6 +14,8 @@ from mutants.pages.spans import change_of
 
 # So many tests are shown with their outcomes, and so many survivors of an operator on a line.
 TESTS, ALIKE = 20, 8
+# Where more lines than these are told, the score is told at the end again.
+LONG = 60
 # So many declared mutants are shown that no test kills.
 DECLARED = 10
 
@@ -123,5 +125,7 @@ def summary(checked: Checked, program: object, more: Sequence[str]) -> str:
     lines = [f"{checked.report.unit} of {program}: {plural(len(checked.job.suite), 'test')}", *outcome_lines(checked)]
     lines += [*difference_lines(checked), "", *wrong_lines(checked), score_line(checked)]
     lines += [f"Left out: {each}." for each in checked.left_out]
-    lines += ["", *survivor_lines(checked), *unreached_lines(checked), *declared_lines(checked), "", *suite_lines(checked), *more]
+    lines += ["", *survivor_lines(checked), *unreached_lines(checked), *declared_lines(checked), "", *suite_lines(checked)]
+    lines += [score_line(checked)] if len(lines) > LONG else []
+    lines += more
     return "\n".join(lines).rstrip("\n") + "\n"
