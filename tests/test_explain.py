@@ -27,7 +27,7 @@ def page(name: str) -> str:
 def codes_of_pages() -> set[str]:
     """All codes that the pages and the sources have."""
     found = set(re.findall(rf"^\| ({CODE})\b", page("docs/PROFILE.md"), re.M))
-    for cell in re.findall(rf"^\| ({CODE}(?:, {CODE})*) \|", page("README.md"), re.M):
+    for cell in re.findall(rf"^\| ({CODE}(?:, {CODE})*) \|", page("docs/REFERENCE.md"), re.M):
         found |= set(cell.split(", "))
     found |= set(re.findall(rf"\b({CODE})(?: is|,) (?:want of|told|memory|a read|a write)", page("docs/PROFILE.md")))
     found |= set(re.findall(rf'"({CODE})"', page("crates/mothra_app/src/line.rt")))
@@ -36,7 +36,7 @@ def codes_of_pages() -> set[str]:
 
 
 def example_of(cell: str) -> str:
-    """The program of an example of the README: what stands as the second line of ADD, or as several lines there."""
+    """The program of an example of the reference: what stands as the second line of ADD, or as several lines there."""
     lines = re.findall(r"`([^`]*)`", cell)
     return "\n".join([FRONT, *(line if line[:1] in " \t" else statement(line) for line in lines), LAST]) + "\n"
 
@@ -47,8 +47,8 @@ def statement(text: str) -> str:
 
 
 def examples() -> Iterator[tuple[str, str, str]]:
-    """The rows of the table of faults in the README whose examples are lines of a program."""
-    for row in re.findall(r"^\| ([FSC]\d+) \| [^|]+ \| ([^|]+) \| `(FAULT [^`]*)` \|$", page("README.md"), re.M):
+    """The rows of the table of faults in the reference whose examples are lines of a program."""
+    for row in re.findall(r"^\| ([FSC]\d+) \| [^|]+ \| ([^|]+) \| `(FAULT [^`]*)` \|$", page("docs/REFERENCE.md"), re.M):
         if re.fullmatch(r"(`[^`]*`(, )?)+", row[1].strip()):
             yield row
 
@@ -70,13 +70,13 @@ class Codes(unittest.TestCase):
                     self.assertTrue(meaning.sections or "limit of this program" in meaning.rule)
 
     def test_the_details_are_those_of_the_lines(self) -> None:
-        for code, detail in re.findall(rf"`FAULT ({CODE})((?: \S+)*)`", page("README.md")):
+        for code, detail in re.findall(rf"`FAULT ({CODE})((?: \S+)*)`", page("docs/REFERENCE.md")):
             with self.subTest(code):
                 self.assertEqual(bool(detail), bool(MEANINGS[code].detail))
 
 
 class Marks(unittest.TestCase):
-    def test_the_examples_of_the_readme_have_marks(self) -> None:
+    def test_the_examples_of_the_reference_have_marks(self) -> None:
         rows = list(examples())
         self.assertGreater(len(rows), 15)
         for code, cell, line in rows:

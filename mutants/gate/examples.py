@@ -1,4 +1,4 @@
-"""Try the examples: the stored jobs and reports, and what the README and the guide show of them.
+"""Try the examples: the stored jobs and reports, and what the pages show of them.
 
     tools/examples MOTHRA
 
@@ -10,12 +10,12 @@ before a hyphen. Five things are compared:
 - examples/NAME.report with what `MOTHRA run` writes for that job, with no option;
 - the same report, and its score, with what `mutants check` joins and tells of program and suite;
 - the texts of programs, suites and reports in the test of the examples with the files;
-- what README.md and docs/GUIDE.md show behind each line `$ COMMAND` of a block ```console with what the command writes,
+- what README.md and the pages for users show behind each line `$ COMMAND` of a block ```console with what the command writes,
   run from the top of the repository with MOTHRA as `mothra`. A line `...` stands for any lines. tools/against-gfortran
   is not run.
 
 There is one line for each thing that is not the same. The last line counts both, and the exit status is 1 where there
-is one. It tests what the tests of the crates can not, since those read no files.
+is one. It tests what the tests of the crates cannot, since those read no files.
 """
 
 import argparse
@@ -36,7 +36,7 @@ from mutants.texts.reports import read_report, score_of, summed
 from mutants.words import whole_path
 
 TEST = ROOT / "crates" / "mothra_tests" / "src" / "example_reports.rt"
-PAGES = ["README.md", "docs/GUIDE.md"]
+PAGES = ["README.md", "docs/GUIDE.md", "docs/REFERENCE.md", "docs/RESULTS.md"]
 IN_TEST = "triangle.f triangle.suite.json triangle-more.suite.json euclid.f euclid.suite.json euclid.report".split()
 SECONDS = 120
 
