@@ -43,7 +43,7 @@ Place = tuple[str, str, str]
 Group = dict[Place | None, Path]
 LONGEST = 200
 PARTS = ("src/", "specs/", "proofs/")
-# What the check says of a file that it can not read, where a statement that is only false reads well.
+# What the check says of a file that it cannot read, where a statement that is only false reads well.
 UNREADABLE = "is not in scope|has no field|is no name|operand is missing|expected the end|cannot continue"
 # What it says of a proof that names what an edit has taken away, and of what cites that proof.
 TAKEN_AWAY = r"(note: )?(\./)?proofs/.*(has no field|is not in scope|has no `|was not admitted)"
@@ -131,7 +131,7 @@ def check(folder: Path) -> tuple[int, list[str]]:
 
 
 def is_unreadable(line: str, files: Container[str]) -> bool:
-    """Whether the line says that a definition, a clause or an edited file can not be read."""
+    """Whether the line says that a definition, a clause or an edited file cannot be read."""
     place = re.match(r"(?:\./)?(\S+?):\d+:\d+: error: (?:(`[^`]*`): )?(.*)", line)
     if not place or place[1] not in files and not place[1].startswith(("src/", "specs/")):
         return False
@@ -142,9 +142,9 @@ def judge(status: int, lines: Sequence[str], files: Container[str]) -> Tried:
     """Whether the prover has refused an edit of these files, and what is said of it."""
     unread = [line for line in lines if is_unreadable(line, files)]
     if unread:
-        return False, f"BAD EDIT: the edited text can not be read: {unread[0]}"
+        return False, f"BAD EDIT: the edited text cannot be read: {unread[0]}"
     if any("Run the lower steps again" in line for line in lines):
-        return False, "BAD EDIT: what earlier checks of a library left can not be used"
+        return False, "BAD EDIT: what earlier checks of a library left cannot be used"
     if status == 0:
         return False, "NOT REFUSED"
     if status != 1 or not lines[-1].startswith("logic=not-proved"):

@@ -25,7 +25,7 @@ class Ended(NamedTuple):
 
 FAULT = re.compile(rb"FAULT ([JFSCNOB][0-9]+)( [^\n]*)?\n")
 MOST_SECONDS = 60
-# Held while a program is begun or written: one that another thread has open for writing can not be begun.
+# Held while a program is begun or written: one that another thread has open for writing cannot be begun.
 BEGINNING = threading.Lock()
 
 

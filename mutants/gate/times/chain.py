@@ -51,7 +51,7 @@ def waits_for(task: Task, other: Task, below: dict[str, list[str]]) -> bool:
 def ended_last(task: Task, tasks: list[Task]) -> tuple[Task, Check] | None:
     """The check of these tasks that ended last before a task began, and its own task."""
     pairs = [(other, check) for other in tasks for check in other.checks]
-    # What began no earlier can not be gone on with, so that the chain has an end.
+    # What began no earlier cannot be gone on with, so that the chain has an end.
     pairs = [it for it in pairs if it[1].end <= task.begin and it[0].begin < task.begin]
     return max(pairs, key=lambda it: it[1].end) if pairs else None
 

@@ -78,7 +78,7 @@ def finish(watch: Watch, path: Path | None, status: int | None) -> None:
 def run_gate(words: list[str], path: Path | None) -> int:
     """The status of `rt ci`, which is run and watched, or of Ctrl-C."""
     begun = clock()
-    # A record that can not be kept is told before the run and not behind it.
+    # A record that cannot be kept is told before the run and not behind it.
     keep(path, Record(0.0, None, None, []))
     watch = Watch(0, begun)
     try:
