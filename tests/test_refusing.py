@@ -1,0 +1,94 @@
+"""The tools that make streams and memory fail, with small programs in the place of mothra."""
+
+import io
+import tempfile
+import unittest
+from argparse import Namespace
+from contextlib import redirect_stderr, redirect_stdout
+from pathlib import Path
+from types import ModuleType
+from unittest import mock
+
+import running  # noqa: F401
+from mutants.robustness import failing_streams, refused_memory
+from mutants.robustness.refusing import MARK
+from mutants.statuses import FAULT, SUCCESS
+
+# It writes its text where it has read all, and tells of what failed; or of nothing.
+READS = "#!/bin/sh\ntrap '' PIPE\ncat >/dev/null || exit 1\nprintf 'TEXT\\n' || exit 1\n"
+CARELESS = "#!/bin/sh\ncat >/dev/null\nprintf 'TEXT\\n'\nexit 0\n"
+# It asks for memory three times. What it does at which of them stands behind it, as in a program that rt builds.
+ASKS = """\
+#!/bin/sh
+set -- $(tail -c 20 "$0" | od -An -v -tu1)
+number=$(($3 + 256 * ($4 + 256 * ($5 + 256 * $6))))
+[ $number -gt 3 ] && { echo TEXT; exit 0; }
+[ $9 = 204 ] && kill -TRAP $$
+echo FAULT CODE
+exit 1
+"""
+PLACE = b"\x48\x3d" + MARK.to_bytes(4, "little") + b"\x75\x00\x31\xc0"
+
+
+class Tool(unittest.TestCase):
+    def call(self, module: ModuleType, **given: object) -> tuple[int, list[str]]:
+        out = io.StringIO()
+        with redirect_stdout(out), redirect_stderr(io.StringIO()):
+            status = module.run(Namespace(jobs=2, **given), "tools/it")
+        return status, out.getvalue().splitlines()
+
+
+class FailingStreams(Tool):
+    def sweep(self, text: str) -> tuple[int, list[str]]:
+        with tempfile.TemporaryDirectory() as folder:
+            program = Path(folder, "program")
+            program.write_text(text)
+            program.chmod(0o755)
+            with mock.patch.object(failing_streams, "CALLS", {"print": b"{}"}):
+                return self.call(failing_streams, mothra=str(program))
+
+    def test_tells_each_kind(self) -> None:
+        status, lines = self.sweep(READS)
+        told = "as it has to be"
+        self.assertEqual(
+            lines,
+            [
+                f"mothra print: reads that fail: 4 calls: {told} 4",
+                f"mothra print: writes that fail: 6 calls: {told} 6",
+                f"mothra print: other streams: 5 calls: {told} 5",
+            ],
+        )
+        self.assertEqual(status, SUCCESS)
+
+    def test_a_failure_that_the_program_does_not_tell_is_broken(self) -> None:
+        status, lines = self.sweep(CARELESS)
+        self.assertEqual(status, FAULT)
+        self.assertIn("BROKEN: status 0, 5 bytes 3", lines[0])
+
+
+class RefusedMemory(Tool):
+    def sweep(self, code: str) -> tuple[int, list[str]]:
+        def build(crate: Path, kept: Path, words: object, job: bytes) -> None:
+            kept.write_bytes(ASKS.replace("CODE", code).encode() + 2 * PLACE)
+
+        with mock.patch.object(refused_memory, "build_refusing", build):
+            return self.call(refused_memory, crates=["mothra"], keep=None)
+
+    def test_tells_each_call_and_round(self) -> None:
+        status, lines = self.sweep("J1")
+        wanted = []
+        for words in ("print", "exec --test 1", "list"):
+            wanted += [f"mothra {words}: 3 allocations, each refused {how}: J1 3" for how in ("alone", "with all behind it")]
+        told = "mothra run: 11 allocations, each refused"
+        wanted += [f"{told} {how}: J1 3, undisturbed 8" for how in ("alone", "with all behind it")]
+        self.assertEqual((status, lines), (SUCCESS, wanted))
+
+    def test_an_answer_that_may_not_be_is_told_with_its_allocation(self) -> None:
+        status, lines = self.sweep("C1")
+        self.assertEqual(status, FAULT)
+        self.assertEqual(lines[1], "  allocation 1: BROKEN: C1")
+        self.assertIn("mothra run: 11 allocations, each refused alone: C1 3, undisturbed 8", lines)
+
+
+if __name__ == "__main__":
+    unittest.main()
