@@ -9,7 +9,9 @@ from unittest import mock
 import running
 from mutants import progress
 from mutants.checks import batches, parts
+from mutants.checks import running as checks_running
 from mutants.checks.batches import MOST_BYTES, batch_text
+from mutants.checks.running import Means
 from mutants.texts.jobs import Job
 from room import DECLARED, Room
 from running import LEAST, TESTS
@@ -48,6 +50,13 @@ class Parts(Room):
         self.assertEqual(parts.groups_of(totals, 40), [["AAR", "ABS"], ["ACR", "AOR"]])
         found = parts.parts_of(totals, [["AAR", "ABS"], ["ACR", "AOR"]], [2, 1])
         self.assertEqual(found, [(0, 0, 106), (1, 0, 53), (0, 1, 18), (1, 1, 9)])
+
+    def test_a_part_that_is_most_of_a_job_has_several_threads(self) -> None:
+        found = [parts.Part(0, 0, 600), parts.Part(0, 1, 200)]
+        with mock.patch.object(checks_running, "processors", lambda: 4):
+            for means, threads in ((Means("mothra"), "31"), (Means("mothra", jobs=2), "11"), (Means("mothra", None, "7"), "77")):
+                calls = checks_running.part_calls(Job("", [[1]]), means, [["GLR"], ["ABS"]], found)
+                self.assertEqual("".join(words[-1] for words, _ in calls), threads)
 
     def test_a_long_job_tells_how_far_it_is(self) -> None:
         with mock.patch.object(progress, "QUIET", 0.0), mock.patch.object(progress, "OFTEN", 0.0):

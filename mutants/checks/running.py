@@ -41,10 +41,15 @@ def words_of(means: Means, ops: Sequence[str], threads: int) -> list[str]:
 
 
 def part_calls(job: Job, means: Means, groups: Sequence[Sequence[str]], parts: Sequence[Part]) -> list[Call]:
-    """The calls of the parts. Where there are fewer than processors a call has several threads."""
+    """The calls of the parts. A call has several threads where its part is more than the share of a processor."""
     texts = [batch_text(job, *ends) for ends in batches(job)]
-    threads = 1 if means.logins or means.jobs else min(32, max(1, processors() // len(parts)))
-    return [(words_of(means, groups[part.group], threads), texts[part.batch]) for part in parts]
+    whole = sum(part.runs for part in parts)
+    found: list[Call] = []
+    for part in parts:
+        share = 1 if means.logins or means.jobs else processors() * part.runs // max(whole, 1)
+        words = words_of(means, groups[part.group], min(32, max(1, share)))
+        found.append((words, texts[part.batch]))
+    return found
 
 
 def asked_in_parts(job: Job, totals: Mapping[str, int], means: Means, name: str) -> Report:
