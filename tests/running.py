@@ -173,13 +173,13 @@ def with_closed_pipe(tool: str, *words: object) -> str:
         return running.stderr.read().decode()
 
 
+def take_ctrl_c() -> None:
+    # What a shell begins in the background ignores Ctrl-C, and so do its children: these tests may be such.
+    signal.signal(signal.SIGINT, signal.SIG_DFL)
+
+
 def interrupted(folder: str, tool: str, *words: object) -> tuple[int, str]:
     """The status and the errors of a tool that gets Ctrl-C when its program has made the file `begun` in the folder."""
-
-    def take_ctrl_c() -> None:
-        # What a shell begins in the background ignores Ctrl-C, and so do its children: these tests may be such.
-        signal.signal(signal.SIGINT, signal.SIG_DFL)
-
     call, pipe = words_of(tool, words), subprocess.PIPE
     with subprocess.Popen(
         call, cwd=folder, stdout=pipe, stderr=pipe, start_new_session=True, preexec_fn=take_ctrl_c

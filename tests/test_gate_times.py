@@ -233,6 +233,7 @@ class Tool(unittest.TestCase):
 
     def test_ctrl_c_ends_the_run_and_prints_the_tables(self):
         how = {"cwd": self.folder, "stdout": subprocess.PIPE, "stderr": subprocess.PIPE, "start_new_session": True}
+        how["preexec_fn"] = running.take_ctrl_c
         path = {**os.environ, "PATH": f"{self.folder}:{os.environ['PATH']}"}
         with subprocess.Popen([str(running.TOOLS / "gate-times")], env=path, **how) as tool:
             pid = self.begun()
