@@ -25,7 +25,11 @@ def add_subcommand(add: Callable[..., argparse.ArgumentParser], command: Subcomm
         return
     module = command.module()
     parser = add(
-        command.name, help=command.line, description=text_of_help(module.__doc__), epilog=statuses.told(), formatter_class=RAW
+        command.name,
+        help=command.line,
+        description=text_of_help(module.__doc__),
+        epilog=statuses.told(),
+        formatter_class=RAW,
     )
     add_version(parser)
     module.add_words(parser)
@@ -40,7 +44,9 @@ def asked_name(words: Sequence[str]) -> str | None:
 def parser_for(words: Sequence[str]) -> argparse.ArgumentParser:
     """The parser of the command, for these words."""
     usage, told = f"{NAME} [--help] [--version] SUBCOMMAND ..", text_of_help(__doc__).rpartition("\n\n")[2]
-    parser = argparse.ArgumentParser(prog=NAME, usage=usage, description=told, epilog=statuses.told(), formatter_class=RAW)
+    parser = argparse.ArgumentParser(
+        prog=NAME, usage=usage, description=told, epilog=statuses.told(), formatter_class=RAW
+    )
     add_version(parser)
     kind = parser.add_subparsers(metavar="SUBCOMMAND", required=True, prog=NAME)
     asked = asked_name(words)

@@ -18,7 +18,9 @@ def text_of_help(told: str | None) -> str:
 
 
 def add_version(parser: argparse.ArgumentParser) -> None:
-    parser.add_argument("--version", action="version", version=f"mutants {__version__}", help="show the version and exit")
+    parser.add_argument(
+        "--version", action="version", version=f"mutants {__version__}", help="show the version and exit"
+    )
 
 
 def read_by(read: Callable[[str], Read]) -> Callable[[str], Read]:

@@ -141,7 +141,12 @@ class Choices(Room):
 
     def test_the_page_says_what_was_left_out(self) -> None:
         self.check("--lines", "3")
-        has(self, (self.folder / "least.html").read_text(), "Left out: 13 mutants of other lines", "3 of 3 mutants killed")
+        has(
+            self,
+            (self.folder / "least.html").read_text(),
+            "Left out: 13 mutants of other lines",
+            "3 of 3 mutants killed",
+        )
 
 
 class Settings(Room):
@@ -192,7 +197,9 @@ class Ends(Room):
         self.assertEqual(self.names(), ["least.f", "names.json", "tests.csv"])
 
     def test_a_part_that_fails_ends_it(self) -> None:
-        fails = self.put("fails", f'#!/bin/sh\n[ "$1" = run ] && {{ echo FAULT B5 1; exit 1; }}\nexec {STAND_IN} "$@"\n')
+        fails = self.put(
+            "fails", f'#!/bin/sh\n[ "$1" = run ] && {{ echo FAULT B5 1; exit 1; }}\nexec {STAND_IN} "$@"\n'
+        )
         fails.chmod(0o755)
         names = self.put("names.csv", DECLARED)
         ended = self.check_by_calls("--equivalent", names, program=fails)

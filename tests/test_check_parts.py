@@ -54,7 +54,11 @@ class Parts(Room):
     def test_a_part_that_is_most_of_a_job_has_several_threads(self) -> None:
         found = [parts.Part(0, 0, 600), parts.Part(0, 1, 200)]
         with mock.patch.object(checks_running, "processors", lambda: 4):
-            for means, threads in ((Means("mothra"), "31"), (Means("mothra", jobs=2), "11"), (Means("mothra", None, "7"), "77")):
+            for means, threads in (
+                (Means("mothra"), "31"),
+                (Means("mothra", jobs=2), "11"),
+                (Means("mothra", None, "7"), "77"),
+            ):
                 calls = checks_running.part_calls(Job("", [[1]]), means, [["GLR"], ["ABS"]], found)
                 self.assertEqual("".join(words[-1] for words, _ in calls), threads)
 
@@ -64,7 +68,9 @@ class Parts(Room):
         self.assertEqual(status, 0)
         self.assertRegex(errors, r"(?m)^mutants check: the program itself on 2 tests: 0 % done$")
         self.assertRegex(errors, r"(?m)^mutants check: 16 mutants, 2 tests: \d+ % done")
-        self.assertEqual([progress.seconds_text(s) for s in (0.2, 99, 130, 7200)], ["1 s", "99 s", "2 minutes", "2.0 hours"])
+        self.assertEqual(
+            [progress.seconds_text(s) for s in (0.2, 99, 130, 7200)], ["1 s", "99 s", "2 minutes", "2.0 hours"]
+        )
 
     def test_a_line_of_a_log_is_not_told_again_where_nothing_was_done(self) -> None:
         errors = io.StringIO()
@@ -87,7 +93,9 @@ class Parts(Room):
             status, out, errors = self.check_by_calls(*words)
         self.assertEqual((status, errors), (0, ""))
         self.assertIn("Score 93.75 %", out)
-        self.assertEqual(report.read_bytes(), running.call_stand_in("run", batch_text(Job(LEAST, [[1, 2, 0], [2, 1, 0]]))))
+        self.assertEqual(
+            report.read_bytes(), running.call_stand_in("run", batch_text(Job(LEAST, [[1, 2, 0], [2, 1, 0]])))
+        )
         self.assertEqual(list(elsewhere.iterdir()), [])
 
 

@@ -98,7 +98,11 @@ class OneProgram(Class):
         has(self, page, "<td><code>[2, 1, 0]</code></td><td>anna and emil</td>")
         has(self, page, '<a href="jobs/emil.html">emil</a>')
         jobs = self.folder / "out" / "jobs"
-        has(self, (jobs / "emil.html").read_text(), "<td><code>[5, 4, 9]</code></td><td><code>RETURNED 5 4 4</code></td>")
+        has(
+            self,
+            (jobs / "emil.html").read_text(),
+            "<td><code>[5, 4, 9]</code></td><td><code>RETURNED 5 4 4</code></td>",
+        )
         self.assertEqual((jobs / "emil.outcomes").read_text(), "RETURNED 5 4 4\nRETURNED 2 1 1\n")
         self.assertLess(page.index("anna.html"), page.index("emil.html"))
         self.assertLess(page.index("emil.html"), page.index("bert.html"))

@@ -36,10 +36,16 @@ def changes(op: str, statement: str) -> Iterator[str]:
     """What stands there in the mutants of a statement: relations, constants, and an operator that doubles a text."""
     if op == "ROR":
         for found in re.finditer(r"\.[A-Z]{2}\.", statement):
-            yield from (statement[: found.start()] + other + statement[found.end() :] for other in RELATIONS if other != found[0])
+            yield from (
+                statement[: found.start()] + other + statement[found.end() :]
+                for other in RELATIONS
+                if other != found[0]
+            )
     elif op == "CRP":
         for found in re.finditer(r"\d+", statement):
-            yield from (statement[: found.start()] + str(int(found[0]) + by) + statement[found.end() :] for by in (1, -1))
+            yield from (
+                statement[: found.start()] + str(int(found[0]) + by) + statement[found.end() :] for by in (1, -1)
+            )
     elif op == "SDL":
         yield "CONTINUE"
 
@@ -87,7 +93,9 @@ class Inserted(unittest.TestCase):
         found = settled(self.entries, present_of(["IF (D.EQ.0) D=1", *DAYS, "N=N+1"]))
         self.assertEqual({entry.before for entry, _ in found.refused}, {"K=Y/100", "N=N/5"})
         for (entry, _), remark in zip(found.refused, found.remarks()[1:], strict=True):
-            self.assertRegex(remark, rf"^{entry.name} is not declared: its texts stand on lines \d+ and \d+, and before and behind ")
+            self.assertRegex(
+                remark, rf"^{entry.name} is not declared: its texts stand on lines \d+ and \d+, and before and behind "
+            )
         changed = settled(self.entries, present_of([text.replace("13", "14") for text in DAYS]))
         self.assertEqual({entry.before for entry, _ in changed.refused}, {"N=13*M-27"})
 
@@ -156,8 +164,14 @@ class Settling(unittest.TestCase):
             (Entry("SDL", 1, "K=N", "CONTINUE"), "no statement is K=N any more"),
             (Entry("CRP", 1, "K=J", "K=J+1"), "K=J stands on line 3, but no mutant of CRP makes K=J+1 of it"),
             (Entry("SDL", 1, "K=I", "CONTINUE"), "its texts stand on lines 2 and 4, and which is meant is not said"),
-            (Entry("SDL", 1, "K=I", "CONTINUE", where="2:a:b"), "lines 2 and 4, and before and behind them the program has changed"),
-            (Entry("SDL", 2, "K=J", "CONTINUE", where="2:a:b"), "line 3, and before and behind them the program has changed"),
+            (
+                Entry("SDL", 1, "K=I", "CONTINUE", where="2:a:b"),
+                "lines 2 and 4, and before and behind them the program has changed",
+            ),
+            (
+                Entry("SDL", 2, "K=J", "CONTINUE", where="2:a:b"),
+                "line 3, and before and behind them the program has changed",
+            ),
             (Entry("SDL", 1, "K=I", "CONTINUE", where="wrong"), "declare it again"),
             (Entry("SDL", 1, "K=I", "CONTINUE", where=present.where(2, 3)), "declare it again"),
         ):
@@ -175,7 +189,10 @@ class Settling(unittest.TestCase):
 
 
 class Files(unittest.TestCase):
-    entries = [Entry("ROR", 1, "IF (MIN0(I,J).LE.0) RETURN", "RETURN", 'a "reason", of two parts'), Entry("SDL", 12, "K=1", "CONTINUE")]
+    entries = [
+        Entry("ROR", 1, "IF (MIN0(I,J).LE.0) RETURN", "RETURN", 'a "reason", of two parts'),
+        Entry("SDL", 12, "K=1", "CONTINUE"),
+    ]
 
     def test_entries_are_read_as_they_were_written(self) -> None:
         text = entries_text(self.entries)
@@ -190,7 +207,9 @@ class Files(unittest.TestCase):
         self.assertEqual(read_entries(text), [entry])
         whole = appended(text, self.entries[:1])
         self.assertEqual(whole.splitlines()[0], ",".join(COLUMNS))
-        self.assertEqual([each._replace(row=0) for each in read_entries(whole)], [entry._replace(row=0), self.entries[0]])
+        self.assertEqual(
+            [each._replace(row=0) for each in read_entries(whole)], [entry._replace(row=0), self.entries[0]]
+        )
 
     def test_what_is_no_file_of_entries_is_refused(self) -> None:
         for text, told in (
@@ -229,7 +248,6 @@ class Pages(unittest.TestCase):
         has(self, page, "Killed by tests 1 and 3.", "no reason is given", "it &lt;is&gt;", "<del>9</del><ins>1</ins>")
         self.assertNotIn("ROR 2", page)
         self.assertEqual(declared_part(listed[1:2], rows[1:2], {3: "K=9"}, {}), "")
-
 
     def test_the_source_is_shown_as_its_file_has_it_and_what_is_told_stands_at_the_top(self) -> None:
         job = json.dumps({"source": LEAST, "suite": [[1, 2, 0]], "equivalent": ["ROR 1"]}).encode()
@@ -278,11 +296,15 @@ class Commands(unittest.TestCase):
         self.assertNotIn("equivalent", run("job", "--undeclared", self.program, self.tests)[1])
 
     def test_what_does_not_stand_there_any_more_is_told_and_not_declared(self) -> None:
-        self.file.write_text(entries_text([Entry("ROR", 1, "IF (J.LT.I) K=J", "IF (J.LE.I) K=J"), Entry("SDL", 5, "K=I", "CONTINUE")]))
+        self.file.write_text(
+            entries_text([Entry("ROR", 1, "IF (J.LT.I) K=J", "IF (J.LE.I) K=J"), Entry("SDL", 5, "K=I", "CONTINUE")])
+        )
         self.program.write_text(LEAST.replace("LEAST", "GREAT").replace(".LT.", ".GT."))
         status, out, errors = run("job", "--mothra", STAND_IN, self.program, self.tests)
         self.assertEqual((status, json.loads(out)["equivalent"]), (0, ["SDL 1"]))
-        self.assertIn(f"warning: {self.file}: 1 declared mutant found by the texts under a new number: SDL 5 is now SDL 1", errors)
+        self.assertIn(
+            f"warning: {self.file}: 1 declared mutant found by the texts under a new number: SDL 5 is now SDL 1", errors
+        )
         self.assertIn("ROR 1 is not declared: no statement is IF (J.LT.I) K=J any more", errors)
         status, out, errors = self.declare("--renew")
         self.assertEqual((status, out), (0, f"{self.file}: 1 of 2 entries with a new number\n"))

@@ -126,7 +126,11 @@ class Judging(unittest.TestCase):
         for status, lines, wanted in (
             (0, ["logic=proved"], (False, "NOT REFUSED")),
             (1, [goal, "logic=not-proved"], (True, "refused: src/a.rt:1:1: it is not proved that this holds")),
-            (1, ["src/a.rt:1:1: error: expected the end", "logic=not-proved"], (False, "BAD EDIT: the edited text can")),
+            (
+                1,
+                ["src/a.rt:1:1: error: expected the end", "logic=not-proved"],
+                (False, "BAD EDIT: the edited text can"),
+            ),
             (2, ["error: no room", "logic=none"], (False, "BAD EDIT: no goal was tried: error: no room")),
             (1, ["Run the lower steps again", "logic=not-proved"], (False, "BAD EDIT: what earlier checks")),
             (1, [f"{gone} is not in scope", "logic=not-proved"], (True, "refused: only because a proof")),

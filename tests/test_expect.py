@@ -53,16 +53,28 @@ class Expected(Room):
         for least in ("0", "100"):
             status, out, _ = self.check("--fail-under", least)
             self.assertEqual(status, statuses.UNEXPECTED)
-            has(self, out, "NOT AS EXPECTED: 1 test.", "  test 2  [2, 1, 0]: RETURNED 2 1 1, expected K=2", "Score 93.75 %")
+            has(
+                self,
+                out,
+                "NOT AS EXPECTED: 1 test.",
+                "  test 2  [2, 1, 0]: RETURNED 2 1 1, expected K=2",
+                "Score 93.75 %",
+            )
         page = (self.folder / "least.html").read_text()
         has(self, page, "<b>Test 2: the program does not do what is expected.</b>")
         has(self, page, '<code>RETURNED 2 1 1</code> <span class="live">expected K=2</span>')
 
     def test_a_file(self) -> None:
-        for name, text in (("e.txt", "1 2 1\nRETURNED 2 1 1\n"), ("e.json", '["", "K=1"]'), ("e.txt", "\n\n\n2 1 1\n"[2:])):
+        for name, text in (
+            ("e.txt", "1 2 1\nRETURNED 2 1 1\n"),
+            ("e.json", '["", "K=1"]'),
+            ("e.txt", "\n\n\n2 1 1\n"[2:]),
+        ):
             ended = self.check("--no-page", "--expect", self.put(name, text))
             self.assertEqual(ended[0], statuses.SUCCESS, ended)
-        self.assertEqual(self.check("--no-page", "--expect", self.put("e.txt", "1 2 1\n2 1 2\n"))[0], statuses.UNEXPECTED)
+        self.assertEqual(
+            self.check("--no-page", "--expect", self.put("e.txt", "1 2 1\n2 1 2\n"))[0], statuses.UNEXPECTED
+        )
         self.put("tests.csv", GOOD.replace("K=1", "K=2").replace("3,3,0,\n", ""))
         self.assertEqual(self.check("--no-page", "--expect", self.put("e.txt", "1 2 1\n2 1 1\n"))[0], statuses.SUCCESS)
 

@@ -48,7 +48,9 @@ def statement(text: str) -> str:
 
 def examples() -> Iterator[tuple[str, str, str]]:
     """The rows of the table of faults in the reference whose examples are lines of a program."""
-    for row in re.findall(r"^\| ([FSC]\d+) \| [^|]+ \| ([^|]+) \| `(FAULT [^`]*)` \|$", page("docs/REFERENCE.md"), re.M):
+    for row in re.findall(
+        r"^\| ([FSC]\d+) \| [^|]+ \| ([^|]+) \| `(FAULT [^`]*)` \|$", page("docs/REFERENCE.md"), re.M
+    ):
         if re.fullmatch(r"(`[^`]*`(, )?)+", row[1].strip()):
             yield row
 

@@ -59,7 +59,10 @@ class Reports(Exports):
     def test_the_statuses(self) -> None:
         names = self.put("names.csv", DECLARED)
         found = self.mutants("--equivalent", names)
-        self.assertEqual((found["ROR 1"]["status"], found["ROR 1"]["statusReason"]), ("Ignored", "declared equivalent: J and I are the same then"))
+        self.assertEqual(
+            (found["ROR 1"]["status"], found["ROR 1"]["statusReason"]),
+            ("Ignored", "declared equivalent: J and I are the same then"),
+        )
         self.assertEqual((found["SDL 2"]["status"], found["SDL 2"]["killedBy"]), ("Killed", ["2"]))
         self.assertIn("a test kills it", found["SDL 2"]["statusReason"])
         self.assertEqual(self.mutants()["ROR 1"]["status"], "Survived")

@@ -10,7 +10,16 @@ from pathlib import Path
 
 import running
 from mutants.fortran.comparing import compare_tests
-from mutants.fortran.mutants import Mutant, Outcome, compare_mutants, judged, mutants_of, refusals, source_of, with_calls
+from mutants.fortran.mutants import (
+    Mutant,
+    Outcome,
+    compare_mutants,
+    judged,
+    mutants_of,
+    refusals,
+    source_of,
+    with_calls,
+)
 from mutants.fortran.unit import driver_of, lines_of, read_unit, written_by
 from mutants.texts.cards import cards_of
 from running import LEAST, STAND_IN
@@ -34,7 +43,13 @@ class Units(unittest.TestCase):
 
     def test_the_driver_sets_and_prints_each_argument(self) -> None:
         driver = driver_of(["s"], read_unit(ARRAYS)[1], [[1, [1, 2, 3, 4, 5, 6], True]])
-        for line in ("arg_1 = 1", "arg_2(6) = 6", "arg_3 = .True.", "call s(arg_1, arg_2, arg_3)", "logical, target :: arg_3"):
+        for line in (
+            "arg_1 = 1",
+            "arg_2(6) = 6",
+            "arg_3 = .True.",
+            "call s(arg_1, arg_2, arg_3)",
+            "logical, target :: arg_3",
+        ):
             self.assertIn(line, driver.split("\n"))
 
     def test_a_command_that_fails_is_one_line(self) -> None:
@@ -56,7 +71,9 @@ class Mutants(unittest.TestCase):
     def test_a_mutant_has_one_statement_changed_and_another_name(self) -> None:
         cards = cards_of(LEAST)
         lines = source_of(cards, "unit_1", Mutant("SDL 1", 3, "CONTINUE", "10"))
-        self.assertEqual([line.strip() for line in lines], ["SUBROUTINE unit_1(I,J,K)", "CONTINUE", "IF(J.LT.I)K=J", "END"])
+        self.assertEqual(
+            [line.strip() for line in lines], ["SUBROUTINE unit_1(I,J,K)", "CONTINUE", "IF(J.LT.I)K=J", "END"]
+        )
         self.assertIn("      K=I", source_of(cards, "unit_0", None))
 
     def test_finds_the_unit_that_gfortran_refuses(self) -> None:

@@ -118,7 +118,9 @@ class Tables(unittest.TestCase):
 
 class Chains(unittest.TestCase):
     def test_goes_by_the_proofs_below(self):
-        found = chain_in(("low", "proof", 1, 50), ("middle", "proof", 51, 90), ("side", "proof", 0, 80), ("low", "tests", 0, 85))
+        found = chain_in(
+            ("low", "proof", 1, 50), ("middle", "proof", 51, 90), ("side", "proof", 0, 80), ("low", "tests", 0, 85)
+        )
         self.assertEqual(found, [("middle proof", 90, 0.0), ("low proof", 50, 0.0)])
 
     def test_five_seconds_are_no_wait(self):
@@ -140,7 +142,9 @@ class Chains(unittest.TestCase):
         self.assertEqual(chain_in(), [])
 
     def test_reads_the_crates_of_the_repository(self):
-        self.assertEqual(below_in(CRATES), {"low": ["thiserror"], "middle": ["low"], "top": ["low", "middle"], "side": []})
+        self.assertEqual(
+            below_in(CRATES), {"low": ["thiserror"], "middle": ["low"], "top": ["low", "middle"], "side": []}
+        )
         self.assertIn("f77_tree", read_below(running.ROOT)["f77_syntax"])
 
 
@@ -149,8 +153,8 @@ class Kinds(unittest.TestCase):
         base = "/kit/rattle build src/lib.rt --crate-name low --jobs 1"
         rows = {
             ("proof", base, "/r/crates/low"), ("tests", base + " --test", "/r/crates/low"),
-            ("edit", base.replace("build", "check") + " --incremental /k", "/tmp/rt-edit-7-x"),
-            ("edit", base + " --test", "/tmp/rt-edit-7-x"), ("compile", base + " --crate-checked /c", "/r/crates/low"),
+            ("edit", base.replace("build", "check") + " --incremental /k", "copies/rt-edit-7-x"),
+            ("edit", base + " --test", "copies/rt-edit-7-x"), ("compile", base + " --crate-checked /c", "/r/crates/low"),
         }  # fmt: skip
         for kind, words, folder in rows:
             self.assertEqual(kind_of(words.split(), folder), ("low", kind), words)
@@ -269,7 +273,9 @@ class Tool(unittest.TestCase):
         return b"/rattle\0check\0" in Path(f"/proc/{pid}/cmdline").read_bytes()
 
     def test_checks_crates_with_the_time_of_each_line(self):
-        status, out, errors = running.run("gate-times", "--check", "f77_tree", "--logs", self.folder / "logs", path=self.folder)
+        status, out, errors = running.run(
+            "gate-times", "--check", "f77_tree", "--logs", self.folder / "logs", path=self.folder
+        )
         self.assertEqual((status, errors), (1, "tools/gate-times: rt check of f77_tree ended with status 4\n"), out)
         self.assertIn("low::one", out)
         log = (self.folder / "logs" / "f77_tree.log").read_text(encoding="utf-8")

@@ -10,6 +10,7 @@ from mutants.texts.report_lines import report_text
 from mutants.texts.reports import read_report
 from pieces import STORED, batch_of, group_of, stored
 
+
 def ran(suite: list[list[int]], *words: str, declared: tuple[str, ...] = ()) -> str:
     """What the stand-in writes of a suite, which it runs in earnest."""
     job = json.dumps({"source": running.LEAST, "suite": suite, "equivalent": declared}).encode()

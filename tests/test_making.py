@@ -64,7 +64,9 @@ class Bytes(Room):
         self.assertEqual((page[0], page[2]), (0, ""))
 
     def test_a_source_over_the_limit_is_told(self) -> None:
-        with self.assertRaisesRegex(ValueError, r"program.f: the source has 66,\d+ bytes, and a job takes 65,536: leave out"):
+        with self.assertRaisesRegex(
+            ValueError, r"program.f: the source has 66,\d+ bytes, and a job takes 65,536: leave out"
+        ):
             self.made("C\n" * 33_000 + LEAST)
         # What is left out of other units does not count.
         whole = LEAST + "C" * 70 + "\n" + TWO.replace("C     two\n", "C     two\n" * 7000)
@@ -76,13 +78,17 @@ class Bytes(Room):
         self.assertEqual(len(made.suite), 257)
         with self.assertRaisesRegex(ValueError, "257 tests, and a job takes 256"):
             whole_text(made)
-        made = self.made("      SUBROUTINE A(M)\n      INTEGER M(9999)\n      END\n", ("-2147483648 " * 2500 + "\n") * 36)
+        made = self.made(
+            "      SUBROUTINE A(M)\n      INTEGER M(9999)\n      END\n", ("-2147483648 " * 2500 + "\n") * 36
+        )
         with self.assertRaisesRegex(ValueError, "the job has 1,.* bytes, and 1,048,576 are the limit"):
             whole_text(made)
 
     def test_batches_of_a_suite(self) -> None:
         made = self.made(LEAST, "1,2,0\n2,1,0\n")
-        self.assertEqual(json.loads(made.text([], made.suite[1:])), {"source": LEAST, "suite": [[2, 1, 0]], "equivalent": []})
+        self.assertEqual(
+            json.loads(made.text([], made.suite[1:])), {"source": LEAST, "suite": [[2, 1, 0]], "equivalent": []}
+        )
 
 
 class Tabs(Room):
@@ -144,7 +150,9 @@ class Units(Room):
 
     def test_a_unit_with_tabs_is_found(self) -> None:
         source = TWO.replace("      ", "\t")
-        self.assertEqual(self.made(source, wish=Wish("TWO", expands_tabs=True)).source.text.split("\n")[6], "      SUBROUTINE TWO(I)")
+        self.assertEqual(
+            self.made(source, wish=Wish("TWO", expands_tabs=True)).source.text.split("\n")[6], "      SUBROUTINE TWO(I)"
+        )
         with self.assertRaisesRegex(ValueError, r"line 7 \(and 2 more\) has a tab"):
             self.made(source, wish=Wish("TWO"))
 
@@ -168,10 +176,21 @@ class Sizes(Room):
         self.assertEqual(found[1:3], ["      INTEGERN,X(8),JPNTR(9),LAST(9),K", ""])
         self.assertEqual(found[4], "      DIMENSIONMAT(16,3)")
         self.assertEqual(len(found), len(SUM.split("\n")))
-        self.assertEqual([(line, bound.text) for line, bound in unsized(SUM)], [(2, "N"), (2, "N+1"), (5, "2*N"), (5, "*")])
+        self.assertEqual(
+            [(line, bound.text) for line, bound in unsized(SUM)], [(2, "N"), (2, "N+1"), (5, "2*N"), (5, "*")]
+        )
 
     def test_expressions_are_those_of_the_language(self) -> None:
-        for text, wanted in (("N", 7), ("(N+1)*2", 16), ("N/2", 3), ("N-3*2", 1), ("2*N-(-1)", 15), ("-N+08", 1), ("1:N", 7), ("007", None)):
+        for text, wanted in (
+            ("N", 7),
+            ("(N+1)*2", 16),
+            ("N/2", 3),
+            ("N-3*2", 1),
+            ("2*N-(-1)", 15),
+            ("-N+08", 1),
+            ("1:N", 7),
+            ("007", None),
+        ):
             source = f"      SUBROUTINE A(X)\n      INTEGER X({text})\n      END\n"
             with self.subTest(text):
                 found = sized(source, {"N": 7}).split("\n")[1] if wanted else ""
@@ -206,7 +225,10 @@ class Sizes(Room):
         self.assertEqual(made.suite[1], [3, [1, 2, 3], [1, 2, 3, 4], [1, 2], 0])
         self.assertEqual(made.source.shown, SUM)
         for table, told in (
-            (row.replace("1 2 3,", "1 2,", 1), r"tests.csv: row 1: X has 2 elements, and its bounds with --size take 3"),
+            (
+                row.replace("1 2 3,", "1 2,", 1),
+                r"tests.csv: row 1: X has 2 elements, and its bounds with --size take 3",
+            ),
             (row + row.replace("1 2,0", "1,0"), "row 2: LAST has 1 elements, and its bounds with --size take 2"),
             (row.replace("3", "4", 1), "row 1: N is 4, above the 3 of --size"),
         ):
@@ -216,7 +238,9 @@ class Sizes(Room):
     def test_a_bound_without_a_value_is_told_with_the_option(self) -> None:
         told = self.made(SUM).remarks
         self.assertIn("line 2: no number is the bound N of X and N+1 of JPNTR: --size N=.. gives values", told[0])
-        self.assertIn("line 5: no number is the bound 2*N of MAT and * of MAT: --size N=..,MAT=.. gives values", told[1])
+        self.assertIn(
+            "line 5: no number is the bound 2*N of MAT and * of MAT: --size N=..,MAT=.. gives values", told[1]
+        )
         self.assertEqual(len(told), 2)
 
     def test_arrays_of_one_element_are_told_with_the_size_that_the_tests_have(self) -> None:
@@ -252,7 +276,10 @@ class Tables(Room):
         for text, told in (
             ("7,T,1 2\n7,x,1 2\n", "row 2, column 2 (P): 'x' is no number and no truth value"),
             ("7,T,1 2\n\n7,,1 2\n", "row 3, column 2 (P): the cell is empty"),
-            ("2147483648,T,1\n", "row 1, column 1 (I): 2147483648 is out of range: a value is from -2147483648 to 2147483647"),
+            (
+                "2147483648,T,1\n",
+                "row 1, column 1 (I): 2147483648 is out of range: a value is from -2147483648 to 2147483647",
+            ),
             ("-99999999999999,T,1\n", "row 1, column 1 (I): -99999999999999 is out of range"),
             ("1.5,T,1\n", "row 1, column 1 (I): '1.5' is no whole number"),
             ("7;8,T,1\n", "row 1, column 1 (I): '7;8' has a semicolon: cells are separated by commas"),
@@ -288,14 +315,25 @@ class Tables(Room):
 
     def test_a_row_that_becomes_one_array_is_told_once(self) -> None:
         found = self.table("3 4 5\n6 7 8\n", dummies=("M",))
-        self.assertEqual((found.tests, found.remarks), ([[[3, 4, 5]], [[6, 7, 8]]], ["row 1: '3 4 5' is one array of 3 elements, for M"]))
+        self.assertEqual(
+            (found.tests, found.remarks),
+            ([[[3, 4, 5]], [[6, 7, 8]]], ["row 1: '3 4 5' is one array of 3 elements, for M"]),
+        )
 
     def test_what_is_not_strict_may_be_ragged(self) -> None:
         path = self.put("tests.csv", "1,2\n1,2,3,4\n")
         self.assertEqual(read_table(path, ["I", "J", "K"], is_strict=False).tests, [[1, 2], [1, 2, 3, 4]])
 
     def test_cells(self) -> None:
-        for cell, value in ((" +7 ", 7), ("-0", 0), ("0007", 7), ("t", True), (".", None), (" 1  2 ", [1, 2]), ("false F", [False, False])):
+        for cell, value in (
+            (" +7 ", 7),
+            ("-0", 0),
+            ("0007", 7),
+            ("t", True),
+            (".", None),
+            (" 1  2 ", [1, 2]),
+            ("false F", [False, False]),
+        ):
             with self.subTest(cell):
                 if value is None:
                     self.assertRaises(ValueError, read_cell, cell)
@@ -343,11 +381,17 @@ class Jobs(Room):
         program = self.put("least.f", LEAST.replace("      K=I\n", "      K=I".ljust(72) + "+J\n"))
         status, out, errors = run("job", program, self.put("t.csv", "K,J,I\n0,2,1\n"))
         self.assertEqual((status, json.loads(out)["suite"]), (0, [[1, 2, 0]]))
-        self.assertEqual(errors, f"mutants job: warning: {program}: line 3: '+J' stands behind column 72 and is not read\n")
+        self.assertEqual(
+            errors, f"mutants job: warning: {program}: line 3: '+J' stands behind column 72 and is not read\n"
+        )
 
     def test_a_table_that_does_not_serve_is_one_line(self) -> None:
         table = self.put("t.csv", "1,2,0\n1,2\n")
-        refuses(self, run("job", self.put("least.f", LEAST), table), f"{table}: row 2 has 2 cells, and 3 are wanted: I, J, K")
+        refuses(
+            self,
+            run("job", self.put("least.f", LEAST), table),
+            f"{table}: row 2 has 2 cells, and 3 are wanted: I, J, K",
+        )
 
 
 if __name__ == "__main__":

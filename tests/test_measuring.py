@@ -53,7 +53,9 @@ class Widest(Tool):
         status, lines = self.call(widest, WIDEST)
         self.assertEqual(status, SUCCESS)
         self.assertEqual(sum(line.startswith("a step, ") for line in lines), len(widest.LOOPS))
-        self.assertRegex(lines[-6], r"^a mutant with 0 tests: -?\d+ microseconds, -?\d+ bytes of memory, 0 of the report$")
+        self.assertRegex(
+            lines[-6], r"^a mutant with 0 tests: -?\d+ microseconds, -?\d+ bytes of memory, 0 of the report$"
+        )
         self.assertIn("22 times 1048575 mutants, 256 tests: 5905574400 runs, 5905574400000000 steps at most", lines)
 
     def test_a_program_that_fails_is_told(self) -> None:

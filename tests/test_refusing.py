@@ -78,7 +78,9 @@ class RefusedMemory(Tool):
         status, lines = self.sweep("J1")
         wanted = []
         for words in ("print", "exec --test 1", "list"):
-            wanted += [f"mothra {words}: 3 allocations, each refused {how}: J1 3" for how in ("alone", "with all behind it")]
+            wanted += [
+                f"mothra {words}: 3 allocations, each refused {how}: J1 3" for how in ("alone", "with all behind it")
+            ]
         told = "mothra run: 11 allocations, each refused"
         wanted += [f"{told} {how}: J1 3, undisturbed 8" for how in ("alone", "with all behind it")]
         self.assertEqual((status, lines), (SUCCESS, wanted))

@@ -18,7 +18,11 @@ def spliced(card: Card, span: Span, new: str) -> str:
 class Changes(unittest.TestCase):
     def test_a_change_has_a_word_at_least(self) -> None:
         for old, new, wanted in (
-            ("IF (MIN0(I,J).LE.0) RETURN", "IF (MIN0(I,J)-1.LE.0) RETURN", "IF ([MIN0(I,J) -> MIN0(I,J)-1].LE.0) RETURN"),
+            (
+                "IF (MIN0(I,J).LE.0) RETURN",
+                "IF (MIN0(I,J)-1.LE.0) RETURN",
+                "IF ([MIN0(I,J) -> MIN0(I,J)-1].LE.0) RETURN",
+            ),
             ("IF (MIN0(I,J).LE.0) RETURN", "IF (MIN0(I-1,J).LE.0) RETURN", "IF (MIN0([I -> I-1],J).LE.0) RETURN"),
             ("K=I", "K=-I", "K=[I -> -I]"),
             ("K=I-J", "K=IABS(I)-J", "K=[I -> IABS(I)]-J"),

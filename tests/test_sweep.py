@@ -101,7 +101,9 @@ class Sweeps(unittest.TestCase):
 
     def test_names_are_not_looked_for_where_a_declaration_is_gone(self) -> None:
         faults = iter([("S4", "2"), ("C5", "3")])
-        found, is_all = all_faults("      SUBROUTINE A\n      INTEGER M(0)\n      M(1)=1\n      END\n", lambda source: next(faults))
+        found, is_all = all_faults(
+            "      SUBROUTINE A\n      INTEGER M(0)\n      M(1)=1\n      END\n", lambda source: next(faults)
+        )
         self.assertEqual((found, is_all), ([Found("S4", "2")], False))
 
 
@@ -128,7 +130,9 @@ class Notes(unittest.TestCase):
     def test_names_that_are_neither_arrays_nor_functions(self) -> None:
         arrays = declared_arrays(["INTEGERA(3),B", "REAL*8C(4)", "DIMENSIOND(2)", "COMMON/X/E(5)", "F(1)=2"])
         self.assertEqual(arrays, {"A", "C", "D", "E"})
-        self.assertEqual(called_names("IF(A(1).EQ.MIN(K,MOD(I,J)))G=ISIGN(1,MIN(2,3))", arrays), [("MIN", 11), ("ISIGN", 29)])
+        self.assertEqual(
+            called_names("IF(A(1).EQ.MIN(K,MOD(I,J)))G=ISIGN(1,MIN(2,3))", arrays), [("MIN", 11), ("ISIGN", 29)]
+        )
 
     def test_a_fault_is_told_with_its_line_and_its_text(self) -> None:
         line, told = told_fault(Found("C2", "Z"), SOURCE)
@@ -136,7 +140,9 @@ class Notes(unittest.TestCase):
         # On a line that is none of a statement, one may begin in the copy.
         self.assertEqual(told_fault(Found("S2", "8"), SOURCE)[1].split("\n")[0], "  line 8, S2: 2)")
         line, told = told_fault(Found("S2", "7"), SOURCE)
-        self.assertEqual(told, "  line 7, S2: CALL SUB(K,\n      CALL is a statement of FORTRAN 77, but not one of the subset.")
+        self.assertEqual(
+            told, "  line 7, S2: CALL SUB(K,\n      CALL is a statement of FORTRAN 77, but not one of the subset."
+        )
 
 
 ASKED = """\
@@ -163,12 +169,16 @@ class Tool(unittest.TestCase):
         return run("explain", "--mothra", self.mothra, *words)
 
     def test_all_that_is_in_the_way_of_a_program_is_told(self) -> None:
-        self.program.write_text("      SUBROUTINE A(I)\n      CALL X\n      I=1\n      CALL Y\n      CALL Z\n      END\n")
+        self.program.write_text(
+            "      SUBROUTINE A(I)\n      CALL X\n      I=1\n      CALL Y\n      CALL Z\n      END\n"
+        )
         status, out, errors = self.explain(self.program)
         self.assertEqual((status, errors), (0, ""))
         self.assertTrue(out.startswith("FAULT S2 2\n"))
         told = out.partition("What else keeps the unit from being read (2), the first fault taken out:\n")[2]
-        self.assertEqual([line for line in told.split("\n") if "line" in line], ["  line 4, S2: CALL Y", "  line 5, S2: CALL Z"])
+        self.assertEqual(
+            [line for line in told.split("\n") if "line" in line], ["  line 4, S2: CALL Y", "  line 5, S2: CALL Z"]
+        )
         self.assertNotIn("beyond these", out)
 
     def test_the_lines_are_those_of_the_file_whatever_the_job_has(self) -> None:
@@ -193,7 +203,9 @@ class Tool(unittest.TestCase):
         free = self.room / "a.f90"
         free.write_text(LEAST)
         running.refuses(self, self.explain(free), "free form is not read")
-        running.refuses(self, self.explain(self.mothra), "it is no job in JSON, and the name of a program ends in .f, .for")
+        running.refuses(
+            self, self.explain(self.mothra), "it is no job in JSON, and the name of a program ends in .f, .for"
+        )
         self.program.write_text("SUBROUTINE A(I)\n")
         told = self.explain(self.program, "FAULT", "F5", "1")[1]
         self.assertIn("It begins in column 1, as in free form", told)

@@ -165,4 +165,6 @@ def check(asked: Asked, job: Job, expected: Expected, means: Means, name: str) -
     left_out = ops_left_out(asked) + choice.left_out
     statements = statements_by_line(job.source, printed)
     number = sum(bool(text.strip()) for text in expected.texts.values())
-    return Checked(job, printed, statements, choice.listed, report, whole, left_out, outcomes, unexpected, expected=number)
+    return Checked(
+        job, printed, statements, choice.listed, report, whole, left_out, outcomes, unexpected, expected=number
+    )

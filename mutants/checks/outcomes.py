@@ -60,7 +60,9 @@ def asked_outcomes(job: Job, means: Means, name: str | None) -> list[str]:
         progress.end()
     for number, outcome in enumerate(found, 1):
         if outcome.split(" ")[0] not in ENDS:
-            raise ValueError(f"test {number}: the program itself ends as {outcome}; it has to return or stop on each test")
+            raise ValueError(
+                f"test {number}: the program itself ends as {outcome}; it has to return or stop on each test"
+            )
     return found
 
 

@@ -42,7 +42,9 @@ def parts_of(totals: Mapping[str, int], groups: Sequence[Sequence[str]], sizes: 
     """All parts of a job whose batches have these numbers of tests, the longest first."""
     mutants = [sum(totals[op] for op in group) for group in groups]
     found = [
-        Part(batch, group, count * max(size, 1)) for batch, size in enumerate(sizes) for group, count in enumerate(mutants)
+        Part(batch, group, count * max(size, 1))
+        for batch, size in enumerate(sizes)
+        for group, count in enumerate(mutants)
     ]
     return sorted(found, key=lambda part: (-part.runs, part))
 

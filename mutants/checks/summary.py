@@ -125,7 +125,14 @@ def summary(checked: Checked, program: object, more: Sequence[str]) -> str:
     lines = [f"{checked.report.unit} of {program}: {plural(len(checked.job.suite), 'test')}", *outcome_lines(checked)]
     lines += [*difference_lines(checked), "", *wrong_lines(checked), score_line(checked)]
     lines += [f"Left out: {each}." for each in checked.left_out]
-    lines += ["", *survivor_lines(checked), *unreached_lines(checked), *declared_lines(checked), "", *suite_lines(checked)]
+    lines += [
+        "",
+        *survivor_lines(checked),
+        *unreached_lines(checked),
+        *declared_lines(checked),
+        "",
+        *suite_lines(checked),
+    ]
     lines += [score_line(checked)] if len(lines) > LONG else []
     lines += more
     return "\n".join(lines).rstrip("\n") + "\n"

@@ -82,7 +82,9 @@ def scores_part(results: Sequence[Reported]) -> str:
 def refused_part(results: Sequence[Result]) -> str:
     if not results:
         return ""
-    rows: list[list[Cell]] = [[("", text(result.name)), ("", f"<code>{text(result.refusal)}</code>")] for result in results]
+    rows: list[list[Cell]] = [
+        [("", text(result.name)), ("", f"<code>{text(result.refusal)}</code>")] for result in results
+    ]
     told = "<p><code>mutants explain</code> with the job in <code>out/jobs</code> says what a fault means.</p>\n"
     return f"<h3>Without a report</h3>\n{table([('', 'Name'), ('', 'Why')], rows)}{told}"
 
@@ -138,14 +140,16 @@ def overview(programs: Mapping[str, Sequence[Result]], classes: Mapping[str, Cla
     for place, (name, results) in enumerate(programs.items(), 1):
         whole = classes[name]
         count = class_count(whole) if whole else Count(0, 0, 0)
-        rows.append([
-            ("", f'<a href="#program-{place}">{text(name or "-")}</a>'),
-            ("n", len(results)),
-            ("n", count.killed),
-            ("n", count.total - count.equivalent),
-            ("n", f"<b>{score_of(count)}</b>"),
-            ("bar", bar(count.killed, count.total - count.equivalent, f"{count.killed} of {count.total}")),
-        ])
+        rows.append(
+            [
+                ("", f'<a href="#program-{place}">{text(name or "-")}</a>'),
+                ("n", len(results)),
+                ("n", count.killed),
+                ("n", count.total - count.equivalent),
+                ("n", f"<b>{score_of(count)}</b>"),
+                ("bar", bar(count.killed, count.total - count.equivalent, f"{count.killed} of {count.total}")),
+            ]
+        )
     head: list[Cell] = [("", "Program"), *[("n", word) for word in ("Jobs", "Killed", "Of", "Score")], ("bar", "")]
     return table(head, rows)
 
@@ -174,7 +178,9 @@ def course_page(title: str, results: Sequence[Result], known: Mapping[str, View]
     reported = {name: reported_of(ours) for name, ours in programs.items()}
     classes = {name: class_of(ours) if ours else None for name, ours in reported.items()}
     done = len(reported_of(results))
-    head = f"<h1>{text(title)}: what the suites kill</h1>\n<p>{plural(len(results), 'job')}, {done} with a report.</p>\n"
+    head = (
+        f"<h1>{text(title)}: what the suites kill</h1>\n<p>{plural(len(results), 'job')}, {done} with a report.</p>\n"
+    )
     sections = [
         program_section(place, name, ours, classes[name], known.get(name))
         for place, (name, ours) in enumerate(programs.items(), 1)

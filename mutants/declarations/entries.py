@@ -49,7 +49,9 @@ def entry_of(cells: Mapping[str, str], row: int) -> Entry:
     if found[1] not in NAMES:
         raise ValueError(f"row {row}: there is no operator {found[1]}")
     if not cells["before"].strip() or not cells["after"].strip():
-        raise ValueError(f"row {row}: {found[0]} has not both texts, that of the line before the change and that after it")
+        raise ValueError(
+            f"row {row}: {found[0]} has not both texts, that of the line before the change and that after it"
+        )
     before, after, reason, where = (cells.get(column, "").strip() for column in COLUMNS[1:])
     return Entry(found[1], int(found[2]), before, after, reason, where, row)
 

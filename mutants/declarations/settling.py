@@ -33,7 +33,9 @@ class Present(NamedTuple):
         lines = sorted(self.statements)
         at = lines.index(line)
         parts = lines[: at + 1], lines[at:]
-        front, rest = (hashlib.sha256("\n".join(self.statements[each] for each in part).encode()).hexdigest() for part in parts)
+        front, rest = (
+            hashlib.sha256("\n".join(self.statements[each] for each in part).encode()).hexdigest() for part in parts
+        )
         return front[:DIGITS], rest[:DIGITS]
 
     def where(self, line: int, count: int) -> str:
@@ -128,7 +130,9 @@ class Settling:
             alike = [mutant for mutant in alike if mutant.line in lines_meant]
         # On one line these are one program, whichever of them is taken.
         free = [mutant for mutant in at_number if mutant in alike] + alike
-        return next((mutant for mutant in free if mutant not in self.taken), "an earlier entry declares the same mutant")
+        return next(
+            (mutant for mutant in free if mutant not in self.taken), "an earlier entry declares the same mutant"
+        )
 
     def lines_meant(self, entry: Entry, lines: Sequence[int]) -> list[int]:
         """Those of the lines where the statements on one side at least are what they were."""

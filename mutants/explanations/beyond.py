@@ -23,7 +23,10 @@ PIECES = (
     (r"'", "A text in apostrophes stands here: there is no CHARACTER in the subset."),
     (r"!", "A comment has its C in column 1: behind ! nothing is a comment here."),
     (r"==|/=|<|>", "Relations are written .EQ., .NE., .LT., .LE., .GT. and .GE."),
-    (r"(?<![A-Z0-9])(\d+\.\d*|\.\d+)(?![A-Z]{2,4}\.)([ED][+-]?\d+)?", "A number with a point is REAL, which the subset has not."),
+    (
+        r"(?<![A-Z0-9])(\d+\.\d*|\.\d+)(?![A-Z]{2,4}\.)([ED][+-]?\d+)?",
+        "A number with a point is REAL, which the subset has not.",
+    ),
     (r"%", "There are no parts of variables in FORTRAN 77."),
     (r"::", "Two colons are of later FORTRAN: INTEGER I, without them."),
     (r"//", "Texts are joined by //: there is no CHARACTER in the subset."),

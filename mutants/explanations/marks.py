@@ -30,7 +30,9 @@ def form_marks(code: str, number: int, lines: Sequence[str]) -> Marked:
         return bytes_mark(line, number, lambda c: c == "\t")
     if code == "F5":
         is_free = re.match(r"[A-Za-z]{2}", line) is not None
-        notes = ["It begins in column 1, as in free form: in fixed form a statement begins in column 7."] if is_free else []
+        notes = (
+            ["It begins in column 1, as in free form: in fixed form a statement begins in column 7."] if is_free else []
+        )
         return [Mark(number, 1, min(max(len(line), 1), 5))], notes
     return [Mark(number, 6, 6)], []
 

@@ -19,6 +19,8 @@ class Mark(NamedTuple):
 Marked = tuple[list[Mark], list[str]]
 
 KEYWORDS = "SUBROUTINE INTEGER LOGICAL DIMENSION DATA".split()
+
+
 def span(card: Card, begin: int, end: int) -> list[Mark]:
     """The marks under characters of a statement: one for each line that has some."""
     columns: dict[int, list[int]] = {}

@@ -41,9 +41,7 @@ from mutants.statuses import FAULT, SUCCESS
 STEPS = "1000000"
 # The number of a test, mothra's line and gfortran's.
 Difference = tuple[int, str, str]
-WITHOUT_VALUES = (
-    "OVERFLOW DIVIDEBYZERO ZEROPOWER BADSUBSCRIPT ZEROSTEP UNDEFINED TRAPPED STEPLIMIT".split()
-)
+WITHOUT_VALUES = "OVERFLOW DIVIDEBYZERO ZEROPOWER BADSUBSCRIPT ZEROSTEP UNDEFINED TRAPPED STEPLIMIT".split()
 
 
 def mothra_line(mothra: str, job: bytes, number: int) -> str:

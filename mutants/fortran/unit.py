@@ -38,7 +38,8 @@ def read_items(texts: Iterable[str]) -> list[tuple[str, str, str]]:
     declarations = [re.fullmatch("(INTEGER|LOGICAL|DIMENSION)(.*)", text) for text in texts]
     return [
         (declaration[1], name, bounds)
-        for declaration in declarations if declaration
+        for declaration in declarations
+        if declaration
         for name, bounds in re.findall(r"([A-Z][A-Z0-9]*)(?:\(([0-9,]+)\))?", declaration[2])
     ]
 
@@ -116,7 +117,9 @@ def driver_of(
     return "\n".join([*lines, "call print_values('RETURNED')", "end", ""])
 
 
-def written_by(words: Sequence[str | Path], folder: Path | None = None, given: bytes = b"", seconds: int = SECONDS) -> str:
+def written_by(
+    words: Sequence[str | Path], folder: Path | None = None, given: bytes = b"", seconds: int = SECONDS
+) -> str:
     """What a command writes; where it fails, one line that begins with "status"."""
     try:
         ended = subprocess.run(words, cwd=folder, input=given, capture_output=True, timeout=seconds)

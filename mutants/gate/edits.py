@@ -111,9 +111,7 @@ def read_edit(path: Path, folder: Path) -> dict[str, str]:
 def copy(source: Path, target: Path, crates: Crates, names: Sequence[str]) -> None:
     (target / "crates").mkdir(parents=True)
     for name in names:
-        subprocess.run(
-            ["cp", "-r", "--reflink=auto", source / "crates" / name, target / "crates" / name], check=True
-        )
+        subprocess.run(["cp", "-r", "--reflink=auto", source / "crates" / name, target / "crates" / name], check=True)
     (target / "crates.txt").write_text("".join(crates[name][0] + "\n" for name in names))
     if (source / "HANDLES").exists():
         (target / "HANDLES").write_bytes((source / "HANDLES").read_bytes())

@@ -65,7 +65,9 @@ class Example(NamedTuple):
 
 
 def suites() -> list[Path]:
-    return sorted([*ROOT.glob("examples/*.suite.json"), *(path.with_suffix(".csv") for path in ROOT.glob("examples/*.f"))])
+    return sorted(
+        [*ROOT.glob("examples/*.suite.json"), *(path.with_suffix(".csv") for path in ROOT.glob("examples/*.f"))]
+    )
 
 
 def examples() -> Iterator[Example]:

@@ -25,7 +25,6 @@ class Row(NamedTuple):
     definitions: list[Definition]
 
 
-
 def cells_of(line: str) -> list[str]:
     return [cell.strip() for cell in line.strip().strip("|").split("|")]
 

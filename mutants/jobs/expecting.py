@@ -27,7 +27,7 @@ def expected_in_file(path: Path, tests: int) -> Expected:
     except ValueError as fault:
         raise ValueError(f"{path}: {fault}") from None
     if not isinstance(texts, list) or not all(isinstance(each, str) for each in texts):
-        raise ValueError(f"{path}: it is no list of texts, as [\"RETURNED 1 2 1\"]")
+        raise ValueError(f'{path}: it is no list of texts, as ["RETURNED 1 2 1"]')
     if len(texts) != tests:
         raise ValueError(f"{path}: it has {len(texts)} outcomes for {tests} tests")
     return Expected(path, [], dict(enumerate(texts, 1)))
@@ -36,4 +36,6 @@ def expected_in_file(path: Path, tests: int) -> Expected:
 def assert_header(header: Sequence[str], names: Sequence[str], path: Path) -> None:
     """The columns of a table with a header are the dummy arguments, in order."""
     if header and list(header) != list(names):
-        raise ValueError(f"{path}: its columns are {','.join(header)}, and the dummy arguments {','.join(names) or 'none'}")
+        raise ValueError(
+            f"{path}: its columns are {','.join(header)}, and the dummy arguments {','.join(names) or 'none'}"
+        )

@@ -27,16 +27,16 @@ def of_job(path: Path, equivalent: Path | None, mothra: Callable[[], str | None]
     """A job as it is stored; a file of declarations gives the reasons of those that the job has."""
     job = path.read_bytes()
     if path.suffix.lower() in FREE:
-        raise ValueError(f"{path}: free form is not read; in fixed form statements stand in columns 7 to 72, in a file named .f")
+        raise ValueError(
+            f"{path}: free form is not read; in fixed form statements stand in columns 7 to 72, in a file named .f"
+        )
     if path.suffix.lower() != ".json" and not job.lstrip().startswith(b"{"):
         raise ValueError(f"{path}: it is no job in JSON, and the name of a program ends in {', '.join(SUFFIXES)}")
     meant = meant_by(read_declarations(equivalent), mothra(), job) if equivalent else NONE_MEANT
     return Given(job, Said(None, meant.reasons, meant.remarks), meant.remarks)
 
 
-def of_program(
-    given: argparse.Namespace, program: Path, tests: Path | None, mothra: Callable[[], str | None]
-) -> Given:
+def of_program(given: argparse.Namespace, program: Path, tests: Path | None, mothra: Callable[[], str | None]) -> Given:
     """The job that is made of a program and a table."""
     made = made_of(program, tests, wish_of(given))
     meant: Meant = meant_for(made, program, given.equivalent, mothra, looks_beside=not given.undeclared)
@@ -46,9 +46,7 @@ def of_program(
     return Given(text.encode(), Said(made.source.shown, meant.reasons, told), told, rows)
 
 
-def given_job(
-    given: argparse.Namespace, path: Path, tests: Path | None, mothra: Callable[[], str | None]
-) -> Given:
+def given_job(given: argparse.Namespace, path: Path, tests: Path | None, mothra: Callable[[], str | None]) -> Given:
     """What the words name: a program in fixed form, by the ending of its name or with a table behind it; else a job."""
     if tests is not None or is_program(path):
         return of_program(given, path, tests, mothra)

@@ -70,7 +70,9 @@ def check_sizes(source: Source, table: Table, sizes: Mapping[str, int]) -> None:
             if name in changed and elements is not None:
                 count = len(value) if isinstance(value, list) else 1
                 if count != elements:
-                    raise ValueError(f"row {row}: {name} has {count} elements, and its bounds with --size take {elements}")
+                    raise ValueError(
+                        f"row {row}: {name} has {count} elements, and its bounds with --size take {elements}"
+                    )
             elif name in sizes and elements is None and isinstance(value, int) and value > sizes[name]:
                 raise ValueError(f"row {row}: {name} is {value}, above the {sizes[name]} of --size")
 
@@ -86,7 +88,9 @@ def ones_told(source: Source, table: Table) -> list[str]:
     if not sizes:
         return []
     words = ",".join(f"{name}={size}" for name, size in sizes.items())
-    return [f"{joined_words(sizes)} {'has' if len(sizes) == 1 else 'have'} one element, and the tests more: --size {words}"]
+    return [
+        f"{joined_words(sizes)} {'has' if len(sizes) == 1 else 'have'} one element, and the tests more: --size {words}"
+    ]
 
 
 def made_of(program: Path, tests: Path | None = None, wish: Wish = Wish(), is_strict: bool = True) -> Made:
@@ -124,7 +128,9 @@ def whole_text(made: Made, equivalent: Sequence[str] | None = None) -> str:
     if len(made.suite) > TESTS:
         raise ValueError(f"the table has {len(made.suite)} tests, and a job takes {TESTS}")
     if len(text.encode()) > BYTES:
-        raise ValueError(f"the job has {len(text.encode()):,} bytes, and {BYTES:,} are the limit: leave out tests or comments")
+        raise ValueError(
+            f"the job has {len(text.encode()):,} bytes, and {BYTES:,} are the limit: leave out tests or comments"
+        )
     return text
 
 

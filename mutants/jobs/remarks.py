@@ -67,10 +67,16 @@ def listed(lines: Sequence[tuple[int, str]], one: str, many: str) -> Iterator[st
 
 def behind_72(lines: Sequence[str]) -> Iterator[str]:
     """What is told of text behind column 72. Numbers of cards are told in one sentence."""
-    found = [(number, line[72:].strip()) for number, line in enumerate(lines, 1) if line[72:].strip() and not is_comment(line)]
+    found = [
+        (number, line[72:].strip())
+        for number, line in enumerate(lines, 1)
+        if line[72:].strip() and not is_comment(line)
+    ]
     numbers = [(number, text) for number, text in found if CARD_NUMBER.fullmatch(text.upper())]
     others = [(number, text) for number, text in found if not CARD_NUMBER.fullmatch(text.upper())]
-    yield from listed(others, "{!r} stands behind column 72 and is not read", "text behind column 72 is not read, as {!r}")
+    yield from listed(
+        others, "{!r} stands behind column 72 and is not read", "text behind column 72 is not read, as {!r}"
+    )
     if numbers:
         told = f"{plural(len(numbers), 'line')} with what looks like the number of a card"
         yield f"{told} behind column 72, which is not read: the first is line {numbers[0][0]}, {numbers[0][1]!r}"

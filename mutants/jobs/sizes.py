@@ -128,7 +128,9 @@ def with_bounds(card: Card, sizes: Mapping[str, int]) -> tuple[str, set[str]]:
         if value is None:
             continue
         if value < 1:
-            raise ValueError(f"line {card.line}: the bound {bound.text} of {bound.array} becomes {value}, and is 1 at least")
+            raise ValueError(
+                f"line {card.line}: the bound {bound.text} of {bound.array} becomes {value}, and is 1 at least"
+            )
         used |= {bound.array} & set(sizes) if bound.is_last else set()
         used |= set(names_in(bound)) & set(sizes)
         text, at = text + card.text[at : bound.begin] + str(value), bound.end
@@ -172,4 +174,6 @@ def sized(source: str, sizes: Mapping[str, int]) -> str:
 
 def unsized(source: str) -> list[tuple[int, Bound]]:
     """The bounds that are no numbers, each with the line of its statement."""
-    return [(card.line, bound) for card in cards_of(source) for bound in bounds_of(card.text) if not bound.text.isdecimal()]
+    return [
+        (card.line, bound) for card in cards_of(source) for bound in bounds_of(card.text) if not bound.text.isdecimal()
+    ]

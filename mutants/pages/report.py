@@ -138,13 +138,15 @@ def report_page(
     source = job.source if said.shown is None else said.shown
     listing = program_part(source, statements, counts, by_line(survivors), declared, True, said.reasons)
     reasons = declared_part(listed, report.rows, statements, said.reasons)
-    links, bodies = sections([
-        ("program", "The program", program_key() + listing),
-        *([("declared", "Declared equivalent", reasons)] if reasons else []),
-        ("operators", "The operators", operators_part(report.counts)),
-        ("tests", "The tests", tests_part(job.suite, report.rows, *outcomes)),
-        ("matrix", "The kill matrix", matrix_part(report.rows, report.tests)),
-    ])
+    links, bodies = sections(
+        [
+            ("program", "The program", program_key() + listing),
+            *([("declared", "Declared equivalent", reasons)] if reasons else []),
+            ("operators", "The operators", operators_part(report.counts)),
+            ("tests", "The tests", tests_part(job.suite, report.rows, *outcomes)),
+            ("matrix", "The kill matrix", matrix_part(report.rows, report.tests)),
+        ]
+    )
     head = f"<h1>{text(report.unit)}: which mutants the tests kill</h1>\n" + remark_part(remark)
     head += unexpected_part(outcomes.unexpected) + score_part(summed(report.counts.values()))
     head += facts_of(report) + wrong_part(report.rows)

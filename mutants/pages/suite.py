@@ -88,9 +88,16 @@ def tests_part(
     if not suite:
         return "<p>The suite has no test.</p>\n"
     kills, alone = kills_of(rows, len(suite)), alone_of(rows, len(suite))
-    head: list[Cell] = [("n", "Test"), ("", "Values"), ("n", "Kills"), ("n", "It alone"), ("bar", "Share of all mutants")]
+    head: list[Cell] = [
+        ("n", "Test"),
+        ("", "Values"),
+        ("n", "Kills"),
+        ("n", "It alone"),
+        ("bar", "Share of all mutants"),
+    ]
     shown = [
-        test_cells(number, test, kills[number - 1], alone[number - 1], len(rows)) for number, test in enumerate(suite, 1)
+        test_cells(number, test, kills[number - 1], alone[number - 1], len(rows))
+        for number, test in enumerate(suite, 1)
     ]
     if outcomes:
         head.insert(2, ("", "The program"))

@@ -116,7 +116,9 @@ def made(call: Call) -> str:
 
 
 KINDS: dict[str, Callable[[Sequence[str], bytes, bytes], Iterator[Call]]] = {
-    "reads that fail": failing_reads, "writes that fail": failing_writes, "other streams": other_streams
+    "reads that fail": failing_reads,
+    "writes that fail": failing_writes,
+    "other streams": other_streams,
 }
 
 

@@ -88,7 +88,9 @@ def run(given: argparse.Namespace, name: str) -> int:
     print(f"a mutant that is left out: {seconds * 1e6 / (kept * 1_000_000):.2f} microseconds at most")
     for count in (0, TESTS):
         spent, memory, text = a_mutant(mothra, [[1]] * count)
-        print(f"a mutant with {count} tests: {spent:.0f} microseconds, {memory:.0f} bytes of memory, {text:.0f} of the report")
+        print(
+            f"a mutant with {count} tests: {spent:.0f} microseconds, {memory:.0f} bytes of memory, {text:.0f} of the report"
+        )
     tell_widest(steps, memory)
     return SUCCESS
 
@@ -99,4 +101,6 @@ def tell_widest(steps: Mapping[str, float], memory: float) -> None:
         runs = operators * MUTANTS * TESTS
         times = [runs * STEPS * spent / 1e9 / YEAR for spent in (min(steps.values()), max(steps.values()))]
         print(f"{operators} times {MUTANTS} mutants, {TESTS} tests: {runs} runs, {runs * STEPS} steps at most")
-        print(f"  {times[0]:.1f} to {times[1]:.1f} years on one processor, {operators * MUTANTS * memory / 2**30:.1f} GiB")
+        print(
+            f"  {times[0]:.1f} to {times[1]:.1f} years on one processor, {operators * MUTANTS * memory / 2**30:.1f} GiB"
+        )

@@ -105,7 +105,9 @@ def expected_of(given: argparse.Namespace, made: Made) -> Expected:
 def declared_of(given: argparse.Namespace, made: Made, means: Means) -> Meant:
     """What is declared; where the source has a fault, that is told by the check."""
     try:
-        return meant_for(made, given.program, given.equivalent, lambda: means.program, looks_beside=not given.undeclared)
+        return meant_for(
+            made, given.program, given.equivalent, lambda: means.program, looks_beside=not given.undeclared
+        )
     except Fault:
         return NONE_MEANT
 

@@ -50,7 +50,9 @@ def names_in(words: Iterable[str]) -> list[Name]:
         found = re.fullmatch(r"(?:([A-Za-z]{3})[-:#]?)?(\d{1,10})|([A-Za-z]{3})", part)
         op = (found[1] or found[3] or op).upper() if found else ""
         if not found or op not in NAMES:
-            raise ValueError(f"{part!r} is neither a code of an operator nor a number behind one, as in ROR 1 or ABS 7 9 12")
+            raise ValueError(
+                f"{part!r} is neither a code of an operator nor a number behind one, as in ROR 1 or ABS 7 9 12"
+            )
         if found[2]:
             names.append((op, int(found[2])))
     return list(dict.fromkeys(names))

@@ -17,9 +17,11 @@ class Module(Protocol):
 
     __doc__: str | None
 
-    def add_words(self, parser: argparse.ArgumentParser) -> None: ...
+    def add_words(self, parser: argparse.ArgumentParser) -> None:
+        ...
 
-    def run(self, given: argparse.Namespace, name: str) -> int: ...
+    def run(self, given: argparse.Namespace, name: str) -> int:
+        ...
 
 
 class Subcommand(NamedTuple):
