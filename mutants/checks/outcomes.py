@@ -7,6 +7,7 @@ from typing import NamedTuple
 from mutants.checks.batches import batch_text
 from mutants.checks.faults import said_of
 from mutants.checks.running import Means, calls_at_once
+from mutants.pages.suite import values_of
 from mutants.program.calling import Fault
 from mutants.program.many import Call, ask_many
 from mutants.progress import Estimate, Progress
@@ -60,9 +61,8 @@ def asked_outcomes(job: Job, means: Means, name: str | None) -> list[str]:
         progress.end()
     for number, outcome in enumerate(found, 1):
         if outcome.split(" ")[0] not in ENDS:
-            raise ValueError(
-                f"test {number}: the program itself ends as {outcome}; it has to return or stop on each test"
-            )
+            told = f"test {number}: the program itself ends as {outcome} on {values_of(job.suite[number - 1])}"
+            raise ValueError(f"{told}; it has to return or stop on each test")
     return found
 
 

@@ -1,37 +1,34 @@
-"""What a check tells on the terminal: the program on the tests, the score, the survivors by line, tests that add nothing."""
+"""What a check tells on the terminal: the program on the tests, the score, the survivors by line,
+tests that add nothing."""
 
 from collections.abc import Iterable, Iterator, Sequence
 from itertools import groupby
+from textwrap import wrap
 
 from mutants.checks.checking import Checked
 from mutants.pages.declared import NO_REASON
 from mutants.pages.frame import joined_words, plural
 from mutants.pages.report import by_line, counts_by_line
-from mutants.pages.suite import alone_of, needless_text, values_of
+from mutants.pages.suite import NUMBERS, alone_of, needless_text, values_of
 from mutants.texts.lines import Mutant
 from mutants.texts.reports import score_of, summed
 from mutants.pages.spans import change_of
 
-# So many tests are shown with their outcomes, and so many survivors of an operator on a line.
-TESTS, ALIKE = 20, 8
-# Where more lines than these are told, the score is told at the end again.
-LONG = 60
-# So many declared mutants are shown that no test kills.
-DECLARED = 10
+# So many survivors of an operator are shown on a line.
+ALIKE = 8
+# Where more lines than these are told, the score is told at the end again; and so wide is a long sentence.
+LONG, WIDTH = 60, 118
 
 
 def outcome_lines(checked: Checked) -> Iterator[str]:
     """What the program itself does on each test."""
-    shown = [(values_of(test), outcome) for test, outcome in zip(checked.job.suite, checked.outcomes)][:TESTS]
+    shown = [(values_of(test), outcome) for test, outcome in zip(checked.job.suite, checked.outcomes)]
     if not shown:
         return
     yield "The program on the tests:"
     wide = max(len(values) for values, _ in shown)
     for number, (values, outcome) in enumerate(shown, 1):
         yield f"  {number:>3}  {values:<{wide}}  {outcome}"
-    rest = len(checked.outcomes) - len(shown)
-    if rest:
-        yield f"  and {plural(rest, 'further test')}"
 
 
 def difference_lines(checked: Checked) -> Iterator[str]:
@@ -66,16 +63,14 @@ def declared_lines(checked: Checked) -> Iterator[str]:
     """The declared mutants with their texts and reasons, those first that a test kills."""
     pairs = [(mutant, row) for mutant, row in zip(checked.listed, checked.report.rows) if row.status in "WE"]
     pairs.sort(key=lambda pair: pair[1].status != "W")
-    wrong = sum(row.status == "W" for _, row in pairs)
     if pairs:
         yield f"{plural(len(pairs), 'mutant')} declared equivalent:"
-    for mutant, row in pairs[: wrong + DECLARED]:
+    for mutant, row in pairs:
         name = f"{mutant.op} {mutant.place}"
+        told = changed_text(checked.statements[mutant.line], mutant.text)
         killed = "KILLED, " if row.status == "W" else ""
         reason = checked.said.reasons.get(name) or NO_REASON
-        yield f"  {name:<8}  line {mutant.line}: {changed_text(checked.statements[mutant.line], mutant.text)}: {killed}{reason}"
-    if len(pairs) > wrong + DECLARED:
-        yield f"  and {len(pairs) - wrong - DECLARED} more"
+        yield f"  {name:<8}  line {mutant.line}: {told}: {killed}{reason}"
 
 
 def changed_text(old: str, new: str) -> str:
@@ -114,10 +109,27 @@ def unreached_lines(checked: Checked) -> Iterator[str]:
         yield f"No test comes to {'line' if len(found) == 1 else 'lines'} {joined_words(sorted(found))}."
 
 
+def ranges_text(numbers: Sequence[int]) -> str:
+    """Numbers in ascending order, those in a row as a range: 1, 3 to 9 and 12."""
+    rows: list[list[int]] = []
+    for number in numbers:
+        if rows and rows[-1][-1] == number - 1:
+            rows[-1] = [rows[-1][0], number]
+        else:
+            rows.append([number])
+    return joined_words(" to ".join(map(str, row)) for row in rows)
+
+
 def suite_lines(checked: Checked) -> Iterator[str]:
+    """The tests that add nothing; where these are too many for one sentence, their numbers stand behind it."""
     tests = len(checked.job.suite)
-    if tests and checked.report.rows:
-        yield needless_text(alone_of(checked.report.rows, tests))
+    if not tests or not checked.report.rows:
+        return
+    alone = alone_of(checked.report.rows, tests)
+    yield needless_text(alone)
+    numbers = [number for number, count in enumerate(alone, 1) if not count]
+    if len(numbers) > NUMBERS:
+        yield from wrap(f"They are {ranges_text(numbers)}.", WIDTH, subsequent_indent="  ")
 
 
 def summary(checked: Checked, program: object, more: Sequence[str]) -> str:
