@@ -1,11 +1,34 @@
 """Files that are written as a whole or not at all."""
 
 import os
+import sys
 from pathlib import Path
 
 
+def is_standard_output(path: Path) -> bool:
+    """Whether a path names what standard output is, whatever that is."""
+    try:
+        return os.path.samestat(path.stat(), os.fstat(sys.stdout.fileno()))
+    except (OSError, ValueError):
+        return False
+
+
 def written(path: Path, data: bytes) -> None:
-    """Writes a file under another name and then renames it, so that it is there as a whole or not at all."""
+    """Writes a file under another name and then renames it, so that it is there as a whole or not at all.
+
+    A link is followed. A pipe or a terminal, such as /dev/stdout, takes the bytes as they are.
+    """
+    if is_standard_output(path):
+        sys.stdout.flush()
+        sys.stdout.buffer.write(data)
+    elif path.exists() and not path.is_file():
+        path.write_bytes(data)
+    else:
+        replaced(path.resolve(), data)
+
+
+def replaced(path: Path, data: bytes) -> None:
+    """Writes a file that is none yet, or takes the place of one."""
     part = path.with_name(path.name + ".part")
     try:
         part.write_bytes(data)

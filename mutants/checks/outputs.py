@@ -1,6 +1,7 @@
 """The files that a check writes."""
 
 import argparse
+import os
 from collections.abc import Callable, Sequence
 from pathlib import Path
 from typing import NamedTuple
@@ -41,8 +42,33 @@ def page_text(shown: Shown) -> str:
     return report_page(checked.job, checked.printed, checked.listed, checked.report, told, outcomes, checked.said)
 
 
+def read_files(given: argparse.Namespace) -> list[Path]:
+    """The files that the check reads, and that lie on a disk."""
+    found = [given.program, given.tests, given.expect, given.changed, given.equivalent]
+    return [path for path in found if path is not None and path.is_file()]
+
+
+def assert_free(outputs: Sequence[Output], reads: Sequence[Path]) -> None:
+    """Each file has a folder, and takes the place neither of another one nor of one that is read."""
+    for place, output in enumerate(outputs):
+        path, folder = output.path, output.path.parent
+        if not folder.is_dir():
+            raise ValueError(f"{path}: there is no folder {folder}")
+        if path.is_dir():
+            raise ValueError(f"{path}: it is a folder, and the {output.what} is a file")
+        if path.exists() and not path.is_file():
+            # A pipe or a terminal takes whatever comes.
+            continue
+        if not os.access(path.resolve().parent, os.W_OK):
+            raise ValueError(f"{path}: nothing may be written in the folder {folder}")
+        if path.exists() and any(path.samefile(read) for read in reads):
+            raise ValueError(f"{path}: the check reads it, and the {output.what} would take its place")
+        if any(path.resolve() == other.path.resolve() for other in outputs[:place]):
+            raise ValueError(f"{path}: two files are to be written there")
+
+
 def outputs_of(given: argparse.Namespace) -> list[Output]:
-    """The files that are asked for. That each has a folder is seen before anything is run."""
+    """The files that are asked for. That each can be written is seen before anything is run."""
     page = None if given.no_page else given.page or given.program.with_suffix(".html")
     asked: list[tuple[str, Path | None, Callable[[Shown], str], bool]] = [
         ("page", page, page_text, False),
@@ -52,9 +78,7 @@ def outputs_of(given: argparse.Namespace) -> list[Output]:
         ("report of tests", given.junit, lambda shown: junit_text(shown.checked, shown.program), False),
     ]
     found = [Output(what, path, text, needs) for what, path, text, needs in asked if path]
-    for output in found:
-        if not output.path.parent.is_dir():
-            raise ValueError(f"{output.path}: there is no folder {output.path.parent}")
+    assert_free(found, read_files(given))
     return found
 
 

@@ -1,0 +1,72 @@
+"""Files that a check writes: as a whole or not at all, through links and pipes, never in the place of what it reads."""
+
+import json
+import os
+import unittest
+from pathlib import Path
+from unittest import mock
+
+from mutants import files
+from mutants.checks import outputs
+from room import DECLARED, TWO, Room
+from running import LEAST, refuses
+
+
+class Written(Room):
+    def test_a_file_is_there_as_a_whole_and_a_link_stays_one(self) -> None:
+        path, link = self.folder / "a.json", self.folder / "latest.json"
+        link.symlink_to(path)
+        for text in (b"one", b"two"):
+            files.written(link, text)
+            self.assertEqual((path.read_bytes(), link.is_symlink()), (text, True))
+        with mock.patch.object(os, "replace", side_effect=KeyboardInterrupt), self.assertRaises(KeyboardInterrupt):
+            files.written(path, b"three")
+        self.assertEqual(path.read_bytes(), b"two")
+        self.assertEqual(self.names(), ["a.json", "latest.json", "least.f", "tests.csv"])
+
+    def test_a_pipe_takes_the_bytes(self) -> None:
+        source, target = os.pipe()
+        files.written(Path(f"/dev/fd/{target}"), b"all of it")
+        os.close(target)
+        with open(source, "rb") as pipe:
+            self.assertEqual(pipe.read(), b"all of it")
+        files.written(Path(os.devnull), b"gone")
+        self.assertFalse(Path(os.devnull).is_file())
+
+    def test_standard_output_has_it_before_the_summary(self) -> None:
+        status, out, errors = self.check("--no-page", "--json", "/dev/stdout")
+        self.assertEqual((status, errors), (0, ""))
+        report, _, rest = out.partition("\n")
+        self.assertEqual(len(json.loads(report)["files"][str(self.program)]["mutants"]), 16)
+        self.assertTrue(rest.startswith("LEAST of "), rest[:60])
+
+
+class Refused(Room):
+    def test_what_is_read_is_never_written(self) -> None:
+        names, expect = self.put("names.csv", DECLARED), self.put("expect.txt", "\n\n")
+        old, link = self.put("old.f", LEAST), self.folder / "link"
+        link.symlink_to(self.tests)
+        words = ["--equivalent", names, "--expect", expect, "--changed", old]
+        for option, path in (
+            ("--csv", self.tests), ("--page", self.program), ("--json", names), ("--junit", expect), ("--report", old),
+            ("--csv", link),
+        ):  # fmt: skip
+            with self.subTest(option, path=path):
+                refuses(self, self.check(*words, option, path), f"{path}: the check reads it")
+        self.assertEqual((self.tests.read_text(), self.program.read_text()), (TWO, LEAST))
+
+    def test_two_files_of_one_name_and_a_folder(self) -> None:
+        one = self.folder / "x"
+        refuses(self, self.check("--json", one, "--csv", one), "x: two files are to be written there")
+        refuses(self, self.check("--json", self.folder), "it is a folder, and the mutants in JSON is a file")
+        with mock.patch.object(outputs.os, "access", return_value=False):
+            refuses(self, self.check(), f"least.html: nothing may be written in the folder {self.folder}")
+        self.assertEqual(self.names(), ["least.f", "tests.csv"])
+
+    def test_what_is_no_file_on_a_disk_may_be_named_twice(self) -> None:
+        ended = self.check("--no-page", "--json", os.devnull, "--csv", os.devnull)
+        self.assertEqual((ended[0], ended[2]), (0, ""))
+
+
+if __name__ == "__main__":
+    unittest.main()
