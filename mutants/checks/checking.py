@@ -43,7 +43,8 @@ class Asked(NamedTuple):
 class Checked(NamedTuple):
     """What came of a check. The list and the report have the mutants that were asked about; `whole` has all that ran.
 
-    Of so many tests as `expected` says it was said what the program has to do.
+    Of so many tests as `expected` says it was said what the program has to do. `file` is the text of the file that the
+    source is from, with its tabs and its other units.
     """
 
     job: Job
@@ -55,14 +56,19 @@ class Checked(NamedTuple):
     left_out: list[str]
     outcomes: list[str]
     unexpected: list[Difference]
-    # The source as its file has it, the reasons of declared mutants, and what was told.
+    # The source as it is shown, the reasons of declared mutants, and what was told.
     said: Said = NOTHING
     expected: int = 0
+    file: str = ""
 
     @property
     def shown(self) -> str:
-        """The source as it is shown."""
-        return self.job.source if self.said.shown is None else self.said.shown
+        return shown_of(self.job, self.said)
+
+
+def shown_of(job: Job, said: Said) -> str:
+    """The source as it is shown."""
+    return job.source if said.shown is None else said.shown
 
 
 def dummies_of(printed: Sequence[str]) -> list[str]:
@@ -75,11 +81,12 @@ def source_alone(job: Job) -> bytes:
     return batch_text(Job(job.source, []))
 
 
-def printed_of(program: str, path: Path, job: Job) -> list[str]:
+def printed_of(program: str, path: Path, job: Job, shown: str) -> list[str]:
+    """The printed text of each statement. A fault is told with the line as it is shown."""
     try:
         return asked_print(program, source_alone(job))
     except Fault as fault:
-        raise told_of_program(path, job.source, fault) from None
+        raise told_of_program(path, shown, fault) from None
 
 
 def ops_of(asked: Asked) -> list[str]:
@@ -98,8 +105,9 @@ def words_of_ops(asked: Asked) -> list[str]:
 def changed_of(program: str, asked: Asked, job: Job, printed: Sequence[str]) -> tuple[set[int], str]:
     """The lines that the older version has not, and why the others are left out."""
     assert asked.old
-    old = Job(made_of(asked.old, None, asked.wish).source.text, [])
-    lines = lines_changed(job.source, printed, old.source, printed_of(program, asked.old, old))
+    source = made_of(asked.old, None, asked.wish).source
+    old = printed_of(program, asked.old, Job(source.text, []), source.shown)
+    lines = lines_changed(job.source, printed, source.text, old)
     return lines, f"of statements that are the same in {asked.old}"
 
 
@@ -114,11 +122,11 @@ def chosen(program: str, asked: Asked, job: Job, printed: Sequence[str], listed:
     return choice
 
 
-def listed_of(program: str, asked: Asked, job: Job) -> tuple[dict[str, int], list[Mutant]]:
+def listed_of(program: str, asked: Asked, job: Job, shown: str) -> tuple[dict[str, int], list[Mutant]]:
     try:
         return asked_list(program, words_of_ops(asked), source_alone(job))
     except Fault as fault:
-        raise told_of_program(asked.program, job.source, fault) from None
+        raise told_of_program(asked.program, shown, fault) from None
 
 
 def ops_left_out(asked: Asked) -> list[str]:
@@ -149,13 +157,14 @@ def named(path: Path, find: Callable[[], Found]) -> Found:
         raise ValueError(f"{path}: {fault}") from None
 
 
-def check(asked: Asked, job: Job, expected: Expected, means: Means, name: str) -> Checked:
-    """Asks the program for all of it. What keeps the program or a test from being run is told before mutants are run."""
-    program = means.program
-    printed = printed_of(program, asked.program, job)
+def check(asked: Asked, job: Job, said: Said, expected: Expected, means: Means, name: str) -> Checked:
+    """Asks the program for all of it. What keeps the program or a test from being run is told before mutants are
+    run."""
+    program, shown = means.program, shown_of(job, said)
+    printed = printed_of(program, asked.program, job, shown)
     names = dummies_of(printed)
     assert_header(expected.header, names, asked.tests)
-    totals, listed = listed_of(program, asked, job)
+    totals, listed = listed_of(program, asked, job, shown)
     choice = chosen(program, asked, job, printed, listed)
     outcomes = named(asked.tests, lambda: asked_outcomes(job, means, name))
     unexpected = named(expected.path, lambda: differences(expected.texts, outcomes, names))
@@ -165,6 +174,5 @@ def check(asked: Asked, job: Job, expected: Expected, means: Means, name: str) -
     left_out = ops_left_out(asked) + choice.left_out
     statements = statements_by_line(job.source, printed)
     number = sum(bool(text.strip()) for text in expected.texts.values())
-    return Checked(
-        job, printed, statements, choice.listed, report, whole, left_out, outcomes, unexpected, expected=number
-    )
+    found = job, printed, statements, choice.listed, report, whole, left_out, outcomes, unexpected
+    return Checked(*found, said=said, expected=number)

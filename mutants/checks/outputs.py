@@ -42,6 +42,10 @@ def page_text(shown: Shown) -> str:
     return report_page(checked.job, checked.printed, checked.listed, checked.report, told, outcomes, checked.said)
 
 
+def json_text(shown: Shown) -> str:
+    return mutation_report_text(shown.checked, shown.covered, shown.program, shown.tests, shown.remark)
+
+
 def read_files(given: argparse.Namespace) -> list[Path]:
     """The files that the check reads, and that lie on a disk."""
     found = [given.program, given.tests, given.expect, given.changed, given.equivalent]
@@ -73,9 +77,9 @@ def outputs_of(given: argparse.Namespace) -> list[Output]:
     asked: list[tuple[str, Path | None, Callable[[Shown], str], bool]] = [
         ("page", page, page_text, False),
         ("report", given.report, lambda shown: report_text(shown.checked.whole), False),
-        ("mutants in JSON", given.json, lambda s: mutation_report_text(s.checked, s.covered, s.program, s.tests), True),
+        ("mutants in JSON", given.json, json_text, True),
         ("table of mutants", given.csv, lambda shown: table_text(shown.checked, shown.covered), True),
-        ("report of tests", given.junit, lambda shown: junit_text(shown.checked, shown.program), False),
+        ("report of tests", given.junit, lambda s: junit_text(s.checked, s.program, s.remark), False),
     ]
     found = [Output(what, path, text, needs) for what, path, text, needs in asked if path]
     assert_free(found, read_files(given))

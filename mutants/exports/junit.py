@@ -1,4 +1,5 @@
-"""A check as a report of tests in the XML of JUnit: a test case for each line with mutants, failed where some survive."""
+"""A check as a report of tests in the XML of JUnit:
+a test case for each line with mutants, failed where some survive."""
 
 from collections.abc import Mapping, Sequence
 from pathlib import Path
@@ -27,7 +28,13 @@ def test_case(program: Path, line: int, statement: str, inner: str) -> str:
     return f"  <testcase{attributes(told)}>\n{inner}  </testcase>\n" if inner else f"  <testcase{attributes(told)}/>\n"
 
 
-def junit_text(checked: Checked, program: Path) -> str:
+def remark_part(remark: str) -> str:
+    """A remark on the whole report, as a property of it."""
+    told = attributes({"name": "remark", "value": remark})
+    return f"  <properties>\n    <property{told}/>\n  </properties>\n" if remark else ""
+
+
+def junit_text(checked: Checked, program: Path, remark: str = "") -> str:
     """The whole report."""
     counts, survivors = counts_by_line(checked.listed, checked.report.rows), by_line(checked.report.survivors)
     cases = []
@@ -35,5 +42,6 @@ def junit_text(checked: Checked, program: Path) -> str:
         inner = failure(survivors[line], counts[line]) if line in survivors else ""
         cases.append(test_case(program, line, checked.statements[line], inner))
     totals = {"name": checked.report.unit, "tests": len(cases), "failures": len(survivors), "errors": 0, "skipped": 0}
-    suite = f"<testsuite{attributes({**totals, 'time': 0})}>\n{''.join(cases)}</testsuite>\n"
+    inside = remark_part(remark) + "".join(cases)
+    suite = f"<testsuite{attributes({**totals, 'time': 0})}>\n{inside}</testsuite>\n"
     return f'<?xml version="1.0" encoding="UTF-8"?>\n<testsuites>\n{suite}</testsuites>\n'

@@ -1,7 +1,8 @@
 """The mutants of a check in the JSON format that tools of mutation testing share for their reports."""
 
 import json
-from collections.abc import Mapping, Sequence
+from collections.abc import Callable, Mapping, Sequence
+from functools import partial
 from pathlib import Path
 from typing import Any
 
@@ -11,12 +12,24 @@ from mutants.exports.rows import Told, told_of
 from mutants.operators import NAMES
 from mutants.pages.spans import Places, Span, placed
 from mutants.pages.suite import values_of
-from mutants.texts.cards import Place, cards_of
+from mutants.texts.cards import Place, cards_of, source_lines
+from mutants.texts.tabs import written_column
 
 SCHEMA_VERSION = "2"
 # From this score on, in percent, a file is shown as good, and below that one as bad.
 HIGH, LOW = 80, 60
 EQUIVALENT = "declared equivalent"
+
+
+# The span in the file of a span of the source as it is shown.
+InFile = Callable[[Span], Span]
+
+
+def in_file(lines: Sequence[str], span: Span) -> Span:
+    """A span of the source as a span of the file, of which these are the lines: they may have tabs."""
+    (first, begin), (last, end) = span
+    # The end stands behind a character, and not before one.
+    return Span((first, written_column(lines[first - 1], begin)), (last, written_column(lines[last - 1], end - 1) + 1))
 
 
 def position(place: Place) -> dict[str, int]:
@@ -27,14 +40,14 @@ def location(span: Span) -> dict[str, dict[str, int]]:
     return {"start": position(span.start), "end": position(span.end)}
 
 
-def mutant_object(told: Told, places: Places, reason: str) -> dict[str, Any]:
+def mutant_object(told: Told, places: Places, reason: str, written: InFile) -> dict[str, Any]:
     span, new = placed(places, told.before, told.mutant.text)
     found: dict[str, Any] = {
         "id": told.name,
         "mutatorName": told.mutant.op,
         "description": f"{NAMES.get(told.mutant.op, told.mutant.op)}: {told.mutant.text}",
         "replacement": new,
-        "location": location(span),
+        "location": location(written(span)),
         "status": told.status,
         "killedBy": list(map(str, told.killed_by)),
         "coveredBy": list(map(str, told.covered_by)),
@@ -49,22 +62,31 @@ def tests_object(suite: Sequence[Any]) -> dict[str, Any]:
     return {"tests": [{"id": str(number), "name": values_of(test)} for number, test in enumerate(suite, 1)]}
 
 
-def mutation_report(checked: Checked, covered: Mapping[int, str], program: Path, tests: Path) -> dict[str, Any]:
-    """The whole report, as an object of JSON."""
+def mutant_objects(checked: Checked, covered: Mapping[int, str]) -> list[dict[str, Any]]:
     cards = {card.line: card for card in cards_of(checked.shown)}
     places = {line: Places(cards[line], checked.statements[line]) for line in covered}
-    reasons = checked.said.reasons
-    mutants = [
-        mutant_object(told, places[told.mutant.line], reasons.get(told.name, "")) for told in told_of(checked, covered)
+    reasons, written = checked.said.reasons, partial(in_file, source_lines(checked.file))
+    return [
+        mutant_object(told, places[told.mutant.line], reasons.get(told.name, ""), written)
+        for told in told_of(checked, covered)
     ]
+
+
+def mutation_report(
+    checked: Checked, covered: Mapping[int, str], program: Path, tests: Path, remark: str = ""
+) -> dict[str, Any]:
+    """The whole report, as an object of JSON. A remark stands beside the name of what made it."""
+    source = {"language": "fortran", "source": checked.file, "mutants": mutant_objects(checked, covered)}
     return {
         "schemaVersion": SCHEMA_VERSION,
         "thresholds": {"high": HIGH, "low": LOW},
-        "files": {program.as_posix(): {"language": "fortran", "source": checked.shown, "mutants": mutants}},
+        "files": {program.as_posix(): source},
         "testFiles": {tests.as_posix(): tests_object(checked.job.suite)},
-        "framework": {"name": "mutants", "version": __version__},
+        "framework": {"name": f"mutants. {remark}" if remark else "mutants", "version": __version__},
     }
 
 
-def mutation_report_text(checked: Checked, covered: Mapping[int, str], program: Path, tests: Path) -> str:
-    return json.dumps(mutation_report(checked, covered, program, tests), ensure_ascii=False) + "\n"
+def mutation_report_text(
+    checked: Checked, covered: Mapping[int, str], program: Path, tests: Path, remark: str = ""
+) -> str:
+    return json.dumps(mutation_report(checked, covered, program, tests, remark), ensure_ascii=False) + "\n"

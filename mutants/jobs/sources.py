@@ -27,15 +27,17 @@ class Wish(NamedTuple):
 
 
 class Source(NamedTuple):
-    """A source: the text that the job has, the text as its file has it, line for line, and what is told of it.
+    """A source: the text that the job has, the text as it is shown, line for line, and what is told of it.
 
-    The unit is the name of the one that was picked among several; else it is empty.
+    The unit is the name of the one that was picked among several; else it is empty. `file` is the whole text of the
+    file, with its tabs and its other units.
     """
 
     text: str
     shown: str
     unit: str
     remarks: list[str]
+    file: str
 
 
 def is_program(path: Path) -> bool:
@@ -44,7 +46,8 @@ def is_program(path: Path) -> bool:
 
 
 def decoded(data: bytes) -> str:
-    """The text of a file. What is no UTF-8 is Latin-1, as comments of old programs are; an end of file of DOS is left out."""
+    """The text of a file. What is no UTF-8 is Latin-1, as comments of old programs are;
+    an end of file of DOS is left out."""
     try:
         text = data.decode("utf-8-sig")
     except UnicodeDecodeError:
@@ -58,8 +61,8 @@ def tabs_told(source: str) -> str:
     if not lines:
         return ""
     many = f" (and {len(lines) - 1} more)" if len(lines) > 1 else ""
-    told = f"line {lines[0]}{many} has a tab, which FORTRAN 77 does not know: --expand-tabs reads the first tab of a line as the"
-    return f"{told} way to column 7, or to column 6 before a digit from 1 to 9, and any other tab as a blank"
+    told = f"line {lines[0]}{many} has a tab, which FORTRAN 77 does not know: --expand-tabs reads the first tab of"
+    return f"{told} a line as the way to column 7, or to column 6 before a digit from 1 to 9, and any other as a blank"
 
 
 def unit_in(source: str, name: str | None) -> tuple[str, str, list[str]]:
@@ -104,4 +107,4 @@ def source_of(data: bytes, wish: Wish) -> Source:
     if size > LARGEST:
         advice = "leave out comments" if unit else "leave out comments, or pick a unit by --unit"
         raise ValueError(f"the source has {size:,} bytes, and a job takes {LARGEST:,}: {advice}")
-    return Source(kept, shown, unit, remarks + bounds_told(kept) + remarks_on_text(kept))
+    return Source(kept, shown, unit, remarks + bounds_told(kept) + remarks_on_text(shown), text)

@@ -157,7 +157,7 @@ def run(given: argparse.Namespace, name: str) -> int:
     job = Job(made.source.text, made.suite, meant.names)
     said = Said(made.source.shown, meant.reasons, made.remarks + meant.remarks)
     asked = Asked(given.program, given.tests, given.ops, given.without or [], given.lines, given.changed, wish)
-    checked = check(asked, job, expected, means, name)._replace(said=said)
+    checked = check(asked, job, said, expected, means, name)._replace(file=made.source.file)
     remark = remark_on(means.program)
     covered = covering(checked, means, name) if any(output.needs_cover for output in outputs) else {}
     shown = Shown(checked, given.program, given.tests, remark, covered)
