@@ -12,7 +12,7 @@ from collections.abc import Callable, Sequence
 from mutants import __version__, statuses
 from mutants.ending import run_tool
 from mutants.subcommands.registry import SUBCOMMANDS, Subcommand
-from mutants.words import add_version, text_of_help
+from mutants.words import add_version, text_of_help, with_whole_lists
 
 NAME = "mutants"
 RAW = argparse.RawDescriptionHelpFormatter
@@ -57,7 +57,7 @@ def parser_for(words: Sequence[str]) -> argparse.ArgumentParser:
 
 def main(words: Sequence[str] | None = None) -> int:
     """Does what the words say, and gives the exit status."""
-    given_words = sys.argv[1:] if words is None else list(words)
+    given_words = with_whole_lists(sys.argv[1:] if words is None else words)
     # A fault is told by the name of the subcommand, and words that are refused by the parser.
     named = asked_name(given_words)
     name = f"{NAME} {named}" if named else NAME

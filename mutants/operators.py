@@ -34,8 +34,8 @@ def code_of(word: str) -> str:
     if word.upper() in NAMES:
         return word.upper()
     near = difflib.get_close_matches(word.upper(), NAMES, 1, 0.3)
-    hint = f"is {near[0]} meant, {NAMES[near[0]]}? " if near else ""
-    raise ValueError(f"{word!r} is no code of an operator; {hint}The codes are {', '.join(NAMES)}")
+    hint = f"is {near[0]} meant, {NAMES[near[0]]}? The" if near else "the"
+    raise ValueError(f"{word!r} is no code of an operator; {hint} codes are {', '.join(NAMES)}")
 
 
 def codes_in(text: str) -> list[str]:

@@ -3,7 +3,7 @@
 import argparse
 import re
 import sys
-from collections.abc import Callable, Iterable
+from collections.abc import Callable, Iterable, Sequence
 from fractions import Fraction
 from pathlib import Path
 from typing import TypeVar
@@ -11,6 +11,10 @@ from typing import TypeVar
 from mutants import __version__
 
 Read = TypeVar("Read")
+# Options whose value is a list with commas, and what may stand in one behind a comma: codes, lines, or sizes.
+LISTS = ("--ops", "--except", "--lines", "--size")
+ITEM = r"(?:[A-Za-z]{3}|\d+(?:-\d+)?|[A-Za-z]\w*=\d+)"
+FURTHER = re.compile(rf",?{ITEM}(?:,{ITEM})*,?|,")
 
 
 def text_of_help(told: str | None) -> str:
@@ -21,6 +25,24 @@ def add_version(parser: argparse.ArgumentParser) -> None:
     parser.add_argument(
         "--version", action="version", version=f"mutants {__version__}", help="show the version and exit"
     )
+
+
+def is_list_open(words: Sequence[str]) -> bool:
+    """Whether the last of some words is of a list."""
+    option, sign, _ = words[-1].partition("=")
+    return bool(sign) and option in LISTS or words[-2:-1] in [[option] for option in LISTS]
+
+
+def with_whole_lists(words: Iterable[str]) -> list[str]:
+    """The words, with those together that are one list with blanks beside its commas: --ops ABS, UOI."""
+    found: list[str] = []
+    for word in words:
+        is_further = found and (found[-1].endswith(",") or word.startswith(",")) and FURTHER.fullmatch(word)
+        if is_further and is_list_open(found):
+            found[-1] += word
+        else:
+            found.append(word)
+    return found
 
 
 def read_by(read: Callable[[str], Read]) -> Callable[[str], Read]:
@@ -43,6 +65,11 @@ def percent(word: str) -> Fraction:
     if found > 100:
         raise argparse.ArgumentTypeError(f"{word} is above 100 percent")
     return found
+
+
+def percent_text(share: Fraction) -> str:
+    """A share in percent with all the digits that it was given with."""
+    return f"{float(share):.9f}".rstrip("0").rstrip(".")
 
 
 def number_from_1(word: str) -> int:

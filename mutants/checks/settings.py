@@ -16,7 +16,13 @@ SECTION = "mutants"
 INI, TOML = "mutants.ini", "mutants.toml"
 AddOptions = Callable[[argparse.ArgumentParser], None]
 # An option of the command line, and one of the file that is passed over then.
-OVERRULES = (("ops", "without"), ("page", "no_page"), ("no_page", "page"))
+OVERRULES = (
+    ("ops", "without"),
+    ("page", "no_page"),
+    ("no_page", "page"),
+    ("equivalent", "undeclared"),
+    ("undeclared", "equivalent"),
+)
 TRUE, FALSE = ("1", "yes", "true", "on"), ("0", "no", "false", "off")
 
 
@@ -33,13 +39,18 @@ def parser_of(add_options: AddOptions) -> Parser:
     return parser
 
 
+def no_section() -> NoReturn:
+    # To pass it over would leave out options that a build relies on, without a word.
+    raise ValueError(f"it has no section [{SECTION}]")
+
+
 def read_ini(path: Path) -> dict[str, str]:
     found = configparser.ConfigParser(interpolation=None)
     try:
         found.read_string(path.read_text(encoding="utf-8-sig"), str(path))
     except configparser.Error as fault:
         raise ValueError(" ".join(str(fault).split())) from None
-    return dict(found[SECTION]) if SECTION in found else {}
+    return dict(found[SECTION]) if SECTION in found else no_section()
 
 
 def toml_text(value: object) -> str:
@@ -54,8 +65,8 @@ def read_toml(path: Path) -> dict[str, str]:
         loads: Callable[[str], dict[str, object]] = import_module("tomllib").loads
     except ImportError:
         raise ValueError(f"Python reads toml from 3.11 on; {INI} is read by all") from None
-    section = loads(path.read_text(encoding="utf-8")).get(SECTION, {})
-    return {key: toml_text(value) for key, value in section.items()} if isinstance(section, dict) else {}
+    section = loads(path.read_text(encoding="utf-8")).get(SECTION)
+    return {key: toml_text(value) for key, value in section.items()} if isinstance(section, dict) else no_section()
 
 
 def words_for(action: argparse.Action, option: str, value: str, folder: Path) -> list[str]:

@@ -8,22 +8,33 @@ from collections.abc import Sequence
 from pathlib import Path
 from typing import NamedTuple
 
+from mutants.jobs.sources import decoded
+
 COLUMN = "expect"
 
 
 class Expected(NamedTuple):
-    """Where it is from, the header of the table without the column, if it has one, and what is expected by test, from 1."""
+    """Where it is from, the header of the table without the column, if it has one,
+    and what is expected by test, from 1."""
 
     path: Path
     header: list[str]
     texts: dict[int, str]
 
 
+def lines_for(text: str, tests: int) -> list[str]:
+    """The lines of a text, one for each test. A blank one expects nothing; behind the last test they do not count."""
+    lines = text.removesuffix("\n").split("\n")
+    while len(lines) > tests and not lines[-1].strip():
+        lines.pop()
+    return lines
+
+
 def expected_in_file(path: Path, tests: int) -> Expected:
     """What a file expects: a list of texts in JSON, or a line for each test."""
-    text = path.read_text(encoding="utf-8-sig")
+    text = decoded(path.read_bytes())
     try:
-        texts = json.loads(text) if path.suffix.lower() == ".json" else text.rstrip().split("\n")
+        texts = json.loads(text) if path.suffix.lower() == ".json" else lines_for(text, tests)
     except ValueError as fault:
         raise ValueError(f"{path}: {fault}") from None
     if not isinstance(texts, list) or not all(isinstance(each, str) for each in texts):

@@ -113,7 +113,8 @@ def made_of(program: Path, tests: Path | None = None, wish: Wish = Wish(), is_st
 def meant_for(
     made: Made, program: Path, equivalent: Path | None, mothra: Callable[[], str | None], looks_beside: bool = True
 ) -> Meant:
-    """What is declared for a job: by a file that is named, else by the one beside the program. Mothra is asked if needed."""
+    """What is declared for a job: by a file that is named, else by the one beside the program.
+    Mothra is asked if needed."""
     path = equivalent or (found_beside(program, made.source.unit) if looks_beside else None)
     if path is None:
         return NONE_MEANT
@@ -162,9 +163,10 @@ def add_reading_options(parser: argparse.ArgumentParser) -> None:
 def add_making_options(parser: argparse.ArgumentParser) -> None:
     """The options that say how a program is read, and what is declared."""
     add_reading_options(parser)
+    declared = parser.add_mutually_exclusive_group()
     told = "the mutants declared equivalent, .csv or a list in .json; else those of PROGRAM.equivalent.csv"
-    parser.add_argument("--equivalent", metavar="FILE", type=Path, help=told)
-    parser.add_argument("--undeclared", action="store_true", help="declare no mutant")
+    declared.add_argument("--equivalent", metavar="FILE", type=Path, help=told)
+    declared.add_argument("--undeclared", action="store_true", help="declare no mutant")
 
 
 def wish_of(given: argparse.Namespace) -> Wish:

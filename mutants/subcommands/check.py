@@ -11,10 +11,10 @@ the program, or FILE of --page.
 --json, --csv and --junit write the mutants for other programs: in the JSON that Stryker, Infection and PIT share for
 mutation reports, as a table, and as test cases by line.
 
-A table in CSV may have a column `expect`, with a header that names the other columns. It says what the program has to do
-on the test: the outcome as `mothra exec` writes it, the word RETURNED left out at will and * for any value (3 4 5 *), or
-the values of some arguments (ITYPE=1); an empty cell expects nothing. --expect FILE has a line for each test in place of
-it. An outcome that is not as expected is told, and the exit status is 4.
+A table in CSV may have a column `expect`, with a header that names the other columns. It says what the program has to
+do on the test: the outcome as `mothra exec` writes it, the word RETURNED left out at will and * for any value, such as
+3 4 5 *, or the values of some arguments, such as ITYPE=1; an empty cell expects nothing. --expect FILE has a line for
+each test in place of it. An outcome that is not as expected is told, and the exit status is 4.
 
 Options that are always the same can stand in mutants.ini beside the program (or mutants.toml), in its section
 [mutants], by the same names: `fail-under = 80`. What the command line says comes first.
@@ -44,7 +44,7 @@ from mutants.program.unproved import remark_on
 from mutants.statuses import BELOW, SUCCESS, UNEXPECTED
 from mutants.texts.jobs import Job
 from mutants.texts.reports import summed
-from mutants.words import add_mothra_options, number_from_1, percent, read_by, tell_remarks
+from mutants.words import add_mothra_options, number_from_1, percent, percent_text, read_by, tell_remarks
 
 
 def add_choices(parser: argparse.ArgumentParser) -> None:
@@ -98,7 +98,8 @@ def add_words(parser: argparse.ArgumentParser) -> None:
 def expected_of(given: argparse.Namespace, made: Made) -> Expected:
     """What is expected of each test: what a file says comes before the column of the table."""
     column = made.table.others.get(COLUMN.upper(), []) if made.table else []
-    table = Expected(given.tests, [], {number: str(text) for number, text in enumerate(column, 1)})
+    texts = {number: "" if text is None else str(text) for number, text in enumerate(column, 1)}
+    table = Expected(given.tests, [], texts)
     return expected_in_file(given.expect, len(made.suite)) if given.expect else table
 
 
@@ -135,7 +136,7 @@ def status_lines(given: argparse.Namespace, checked: Checked) -> Iterator[str]:
     if given.fail_under is not None and share_of(checked) is None:
         yield "There is no score, and --fail-under says nothing."
     if is_below(given, checked):
-        yield f"BELOW --fail-under: the score is below {float(given.fail_under):g} %."
+        yield f"BELOW --fail-under: the score is below {percent_text(given.fail_under)} %."
 
 
 def status_of(given: argparse.Namespace, checked: Checked) -> int:
