@@ -10,10 +10,24 @@ import tempfile
 import threading
 from collections.abc import Callable, Iterable, Sequence
 
-from mutants.classes.running import BEGIN, BLOCK, END, answers_in, feed_lines, find_parallel, on_one_line, stop
+from mutants.classes.running import (
+    BEGIN,
+    BLOCK,
+    END,
+    answers_in,
+    feed_lines,
+    find_parallel,
+    last_line,
+    on_one_line,
+    stop,
+)
+from mutants.pages.frame import plural
 from mutants.program.calling import Fault, failure_of
 from mutants.program.many import Call, Keep
 from mutants.statuses import SUCCESS
+
+# So much of what parallel says of a failure is told.
+LONGEST = 200
 
 
 def command_of(program: str) -> str:
@@ -41,6 +55,7 @@ def keep_answers(
 ) -> int:
     """Keeps what comes of each part; how many parts have come."""
     assert running.stdout
+    tick()
     count = 0
     lines = (line.decode("utf-8", "replace") for line in running.stdout)
     for place, text, status in answers_in(lines):
@@ -69,6 +84,5 @@ def ask_machines(
                 feeder.join()
         if count == len(calls):
             return
-        errors.seek(0)
-        told = errors.read().decode("utf-8", "replace").strip().splitlines()
-    raise ValueError(f"{len(calls) - count} parts of the job have no answer{': ' + told[-1][:200] if told else ''}")
+        told = last_line(errors)[:LONGEST]
+    raise ValueError(f"{plural(len(calls) - count, 'part')} of the job without an answer{f': {told}' if told else ''}")

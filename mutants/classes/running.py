@@ -16,6 +16,7 @@ from mutants.program.calling import failure_of
 from mutants.program.unproved import MARK
 
 BEGIN, END = "JOB ", "STATUS "
+MISSING = "GNU parallel is not found: it runs the jobs side by side (Debian's package parallel)"
 # More than a job may have, so that one job is one block.
 BLOCK = "2M"
 
@@ -25,7 +26,7 @@ def find_parallel() -> None:
     try:
         told = subprocess.run(["parallel", "--version"], capture_output=True, text=True, errors="replace")
     except OSError:
-        raise ValueError("GNU parallel is not found: it runs the jobs side by side") from None
+        raise ValueError(MISSING) from None
     if not told.stdout.startswith("GNU parallel"):
         raise ValueError("the program parallel is not GNU parallel")
 
@@ -88,6 +89,15 @@ def stop(running: "subprocess.Popen[bytes]") -> None:
     running.wait()
 
 
+def last_line(errors: IO[bytes]) -> str:
+    """The last line of what parallel and its jobs say of a failure."""
+    errors.seek(0)
+    lines = errors.read().decode("utf-8", "replace").splitlines()
+    # An unproved build says at each call what it is, which is no failure.
+    told = [line.strip() for line in lines if line.strip() and not line.startswith(MARK)]
+    return told[-1] if told else ""
+
+
 def collect(running: "subprocess.Popen[bytes]", jobs: Sequence[bytes], keep: Callable[[int, str], None]) -> None:
     """Hands the jobs to parallel, and keeps what comes of each."""
     assert running.stdin and running.stdout
@@ -116,8 +126,4 @@ def run_all(
     with tempfile.TemporaryFile() as errors:
         with subprocess.Popen(call, stdin=pipe, stdout=pipe, stderr=errors) as running:
             collect(running, jobs, keep)
-        errors.seek(0)
-        told = errors.read().decode("utf-8", "replace").splitlines()
-    # An unproved build says at each call what it is, which is no failure.
-    told = [line for line in told if line.strip() and not line.startswith(MARK)]
-    return told[-1].strip() if told else ""
+        return last_line(errors)
