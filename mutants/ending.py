@@ -25,7 +25,8 @@ def takes_any_text() -> None:
 
 
 def status_of(main: Callable[[], int]) -> int:
-    """The status of what is done, with all of its output written. Help and refused words end by an exit of their own."""
+    """The status of what is done, with all of its output written.
+    Help and refused words end by an exit of their own."""
     try:
         status = main()
     except SystemExit as end:
@@ -34,18 +35,36 @@ def status_of(main: Callable[[], int]) -> int:
     return status
 
 
+def leave_closed_pipes() -> None:
+    """Lets what is kept back for a pipe that nobody reads go nowhere:
+    else Python would write it, and tell that this failed."""
+    for stream in (sys.stdout, sys.stderr):
+        try:
+            stream.flush()
+        except BrokenPipeError:
+            os.dup2(os.open(os.devnull, os.O_WRONLY), stream.fileno())
+
+
 def run_tool(name: str, main: Callable[[], int]) -> int:
-    """Does it, and gives its exit status. A fault is told on standard error; Ctrl-C and a closed pipe end it without more."""
+    """Does it, and gives its exit status. A fault is told on standard error;
+    Ctrl-C and a closed pipe end it without more."""
     takes_any_text()
+    try:
+        return told_status(name, main)
+    except BrokenPipeError:
+        leave_closed_pipes()
+        return FAULT
+
+
+def told_status(name: str, main: Callable[[], int]) -> int:
+    """The status of what is done, with a line on standard error for what ends it before."""
     try:
         return status_of(main)
     except KeyboardInterrupt:
         sys.stderr.write("\n")
         return INTERRUPTED
     except BrokenPipeError:
-        # Else Python would write what it keeps back once more, and tell that this failed.
-        os.dup2(os.open(os.devnull, os.O_WRONLY), sys.stdout.fileno())
-        return FAULT
+        raise
     except NoProgram as fault:
         sys.stderr.write(f"{name}: {fault}\n")
         return FAULT
