@@ -14,18 +14,21 @@ from typing import NamedTuple
 from mutants.declarations.files import NONE_MEANT, Meant, found_beside
 from mutants.files import written
 from mutants.jobs.making import Made, made_of, meant_for
-from mutants.jobs.sources import is_program
+from mutants.jobs.sources import Wish, is_program
 from mutants.program.calling import Fault
 
 
 class Task(NamedTuple):
-    """A job of the class: its name, the program's file, its text, or why there is none, and what is declared."""
+    """A job of the class: its name, the program's file, its text, or why there is none; the source as it is shown, what
+    is declared, and what is told of program and table."""
 
     name: str
     program: Path | None
     text: bytes | None
     refusal: str | None
+    shown: str = ""
     meant: Meant = NONE_MEANT
+    remarks: Sequence[str] = ()
 
     @property
     def program_name(self) -> str:
@@ -66,10 +69,10 @@ def program_of(name: str, programs: Sequence[Path]) -> Path | None:
     return max(fitting, key=lambda path: len(path.stem)) if fitting else None
 
 
-def declared_for(program: Path, programs: Sequence[Path]) -> Path | None:
+def declared_for(program: Path, unit: str, programs: Sequence[Path]) -> Path | None:
     """The file of the mutants of a program that are declared equivalent, or None."""
     common = [program.with_name(f"equivalent{ending}") for ending in (".csv", ".json")] if len(programs) == 1 else []
-    return found_beside(program) or next((path for path in common if path.exists()), None)
+    return found_beside(program, unit) or next((path for path in common if path.exists()), None)
 
 
 class Declaring:
@@ -81,7 +84,7 @@ class Declaring:
 
     def meant(self, program: Path, made: Made) -> Meant:
         if program not in self.known:
-            file = declared_for(program, self.programs)
+            file = declared_for(program, made.source.unit, self.programs)
             try:
                 self.known[program] = meant_for(made, program, file, lambda: self.mothra, looks_beside=False)
             except Fault:
@@ -90,20 +93,20 @@ class Declaring:
         return self.known[program]
 
 
-def task_of(name: str, program: Path | None, table: Path, declaring: Declaring) -> Task:
+def task_of(name: str, program: Path | None, table: Path, wish: Wish, declaring: Declaring) -> Task:
     """The job of a table. What does not fit is left to the program to tell."""
     try:
         if program is None:
             raise ValueError(f"{table}: there is no program of this name")
-        made = made_of(program, table, is_strict=False)
+        made = made_of(program, table, wish, is_strict=False)
         meant = declaring.meant(program, made)
         text = made.text(meant.names if meant.is_of_file else None)
-        return Task(name, program, text.encode(), None, meant)
+        return Task(name, program, text.encode(), None, made.source.shown, meant, made.remarks + meant.remarks)
     except ValueError as fault:
         return Task(name, program, None, " ".join(str(fault).split()).replace(f"{table.parent}/", ""))
 
 
-def tasks_in(folder: Path, mothra: str) -> list[Task]:
+def tasks_in(folder: Path, mothra: str, wish: Wish) -> list[Task]:
     """The jobs that a folder asks for, by name: one for each table, and for each program without one of its own."""
     if not folder.is_dir():
         raise ValueError(f"{folder}: there is no such folder")
@@ -118,7 +121,7 @@ def tasks_in(folder: Path, mothra: str) -> list[Task]:
     if not wanted:
         raise ValueError(f"{folder}: there is no table of tests, a file that ends in .json or .csv")
     declaring = Declaring(programs, mothra)
-    return [task_of(name, *wanted[name], declaring) for name in sorted(wanted)]
+    return [task_of(name, *wanted[name], wish, declaring) for name in sorted(wanted)]
 
 
 class Results:

@@ -1,12 +1,13 @@
 """Run the suites of a class, and make a table and a page of what they kill.
 
-    mutants course [--mothra MOTHRA] [--jobs N] [--sshlogin LOGIN].. [--ops A,B] [--every Q] [--steps N] FOLDER
+    mutants course [OPTION..] FOLDER
 
 The folder has programs in fixed form, NAME.f (or .for, .ftn, .f77), and tables of tests as mutants job takes them,
 NAME.json or NAME.csv (or NAME.suite.json). With one program each table is a suite of it: a file for each student. With
 several a table is of the program whose name it has, or has before a hyphen (sort-anna.csv is of sort.f); a table named
 suite is of each program without a table of its own. NAME.equivalent.csv, or equivalent.csv with one program, has the
-mutants that are declared equivalent, as mutants declare writes them; a bare list in .json is read too.
+mutants that are declared equivalent, as mutants declare writes them; a bare list in .json is read too. --unit, --size
+and --expand-tabs are those of mutants job, for each program of the folder.
 
 Each table becomes a job. The jobs are run side by side by GNU parallel, N at once (else one for each processor), each
 with one thread; --sshlogin is handed to parallel, and MOTHRA is then the name of the program on all the machines. Jobs
@@ -35,6 +36,7 @@ from mutants.classes.page import View, course_page
 from mutants.classes.results import COLUMNS, Result, csv_row, only_here, reported_of
 from mutants.classes.running import find_parallel, run_all
 from mutants.files import written
+from mutants.jobs.making import add_reading_options, wish_of
 from mutants.pages.declared import Said
 from mutants.pages.program import statements_by_line
 from mutants.pages.report import Outcomes, report_page
@@ -62,6 +64,7 @@ def add_words(parser: argparse.ArgumentParser) -> None:
     parser.add_argument("--jobs", metavar="N", type=number_from_1, help="how many jobs at once, on each machine")
     told = "a machine, as parallel takes it; may be given again"
     parser.add_argument("--sshlogin", metavar="LOGIN", action="append", default=[], help=told)
+    add_reading_options(parser)
     add_mothra_options(parser, "ops", "every", "steps")
 
 
@@ -122,10 +125,9 @@ def known_programs(given: argparse.Namespace, program: str, tasks: list[Task]) -
     return {name: known for name, known in found.items() if known}
 
 
-def view_of(text: bytes, known: Known) -> View:
+def view_of(text: bytes, shown: str, known: Known) -> View:
     """What the page of the class shows of a program."""
-    source = read_job(text).source
-    return View(source, statements_by_line(source, known[0]), known[1])
+    return View(shown, statements_by_line(read_job(text).source, known[0]), known[1])
 
 
 def outcomes_of(task: Task, means: Means, results: Results) -> Outcomes:
@@ -146,9 +148,9 @@ def write_pages(
     for task, result in zip(tasks, found):
         if task.text is None or task.program_name not in known:
             continue
-        views[task.program_name] = view_of(task.text, known[task.program_name])
+        views[task.program_name] = view_of(task.text, task.shown, known[task.program_name])
         if result.report is not None:
-            said = Said(None, task.meant.reasons, task.meant.remarks)
+            said = Said(task.shown, task.meant.reasons, task.remarks)
             outcomes = outcomes_of(task, means, results)
             text = report_page(read_job(task.text), *known[task.program_name], result.report, remark, outcomes, said)
             written(results.path(task.name, ".html"), text.encode())
@@ -170,8 +172,8 @@ def write_table(out: Path, found: list[Result]) -> None:
 
 def run(given: argparse.Namespace, name: str) -> int:
     program = find_program(given.mothra)
-    tasks = tasks_in(given.folder, program)
-    tell_remarks(name, dict.fromkeys(remark for task in tasks for remark in task.meant.remarks))
+    tasks = tasks_in(given.folder, program, wish_of(given))
+    tell_remarks(name, dict.fromkeys(remark for task in tasks for remark in task.remarks))
     known = known_programs(given, program, tasks)
     out = given.folder / "out"
     results = Results(out / "jobs", asked_words(given, "ops", "every", "steps"))

@@ -1,0 +1,36 @@
+"""A class whose program is read with options: one of several units, tabs; and what is told of programs and tables."""
+
+import unittest
+
+from running import LEAST, has
+from test_course import GREAT, SUITES, Class
+
+TWO = (LEAST + GREAT).replace("      ", "\t")
+DECLARED = "mutant,before,after,reason\nROR 5,IF (J.GT.I) K=J,IF (J.GE.I) K=J,the same\n"
+
+
+class Reading(Class):
+    def test_a_unit_with_tabs(self) -> None:
+        self.put({"two.f": TWO, "anna.json": SUITES["anna.json"], "two.great.equivalent.csv": DECLARED})
+        self.assertEqual(self.course("--unit", "GREAT")[0], 0)
+        self.assertIn("two.f: line 7 (and 3 more) has a tab", self.table()["anna"]["told"])
+        status, _, errors = self.course("--unit", "GREAT", "--expand-tabs")
+        self.assertEqual((status, "warning" in errors), (0, False), errors)
+        row = self.table()["anna"]
+        self.assertEqual((row["unit"], row["equivalent"], row["score"]), ("GREAT", "1", "100.00"))
+        page = (self.folder / "out" / "jobs" / "anna.html").read_text()
+        has(self, page, '<span class="number">9</span>', "the same</span>")
+        self.assertNotIn("SUBROUTINE LEAST", page)
+
+    def test_what_may_be_meant_otherwise_is_told_once(self) -> None:
+        program = LEAST.replace("      K=I\n", "      K=I".ljust(72) + "+J\n")
+        self.put({"least.f": program, "anna.json": SUITES["anna.json"], "bert.csv": SUITES["bert.csv"]})
+        status, _, errors = self.course()
+        self.assertEqual(status, 0)
+        told = "least.f: line 3: '+J' stands behind column 72 and is not read"
+        self.assertEqual(errors.count(told), 1, errors)
+        has(self, (self.folder / "out" / "jobs" / "anna.html").read_text(), "stands behind column 72")
+
+
+if __name__ == "__main__":
+    unittest.main()
