@@ -8,8 +8,9 @@ from unittest import mock
 
 from mutants import files
 from mutants.checks import outputs
+from mutants.declarations.entries import read_entries
 from room import DECLARED, TWO, Room
-from running import LEAST, refuses
+from running import LEAST, STAND_IN, refuses, run
 
 
 class Written(Room):
@@ -39,6 +40,17 @@ class Written(Room):
         report, _, rest = out.partition("\n")
         self.assertEqual(len(json.loads(report)["files"][str(self.program)]["mutants"]), 16)
         self.assertTrue(rest.startswith("LEAST of "), rest[:60])
+
+
+class Declared(Room):
+    def test_a_file_of_a_spreadsheet_is_read_and_written(self) -> None:
+        path = self.folder / "least.equivalent.csv"
+        path.write_bytes(DECLARED.replace("a mistake", "f\u00fcr nichts").replace("\n", "\r\n").encode("latin-1"))
+        self.assertIn("KILLED, f\u00fcr nichts\n", self.check("--no-page")[1])
+        ended = run("declare", "--mothra", STAND_IN, self.program, "ROR", "2", "--reason", "none")
+        self.assertEqual((ended[0], ended[2]), (0, ""))
+        found = read_entries(path.read_bytes().decode())
+        self.assertEqual([entry.reason for entry in found], ["J and I are the same then", "f\u00fcr nichts", "none"])
 
 
 class Refused(Room):

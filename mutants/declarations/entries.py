@@ -12,6 +12,7 @@ from collections.abc import Iterable, Mapping, Sequence
 from pathlib import Path
 from typing import NamedTuple
 
+from mutants.jobs.sources import decoded
 from mutants.operators import NAMES
 
 COLUMNS = ["mutant", "before", "after", "reason", "where"]
@@ -107,4 +108,4 @@ def appended(text: str, entries: Sequence[Entry]) -> str:
 
 def written_entries(path: Path) -> list[Entry]:
     """The entries of a file; none where there is no such file."""
-    return read_entries(path.read_text(encoding="utf-8-sig")) if path.exists() else []
+    return read_entries(decoded(path.read_bytes())) if path.exists() else []

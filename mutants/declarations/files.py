@@ -11,11 +11,15 @@ from typing import NamedTuple
 
 from mutants.declarations.entries import Entry, read_entries
 from mutants.declarations.settling import Present, Settled, settled
+from mutants.jobs.sources import decoded
 from mutants.pages.program import statements_by_line
 from mutants.program.asking import asked_list, asked_print
 from mutants.texts.jobs import read_job
 
-BARE = "the bare numbers of {} are not tied to the program: once it changes they mean other mutants (mutants declare ties them)"
+BARE = (
+    "the bare numbers of {} are not tied to the program: once it changes they mean other mutants"
+    " (mutants declare ties them)"
+)
 
 
 class Declarations(NamedTuple):
@@ -64,7 +68,7 @@ def read_names(text: str) -> list[str]:
 def read_declarations(path: Path) -> Declarations:
     """The declarations of a file; ValueError names the file, and why it cannot be read."""
     try:
-        text = path.read_text(encoding="utf-8-sig")
+        text = decoded(path.read_bytes())
         if path.suffix.lower() == ".csv":
             return Declarations(path, read_entries(text))
         return Declarations(path, [], read_names(text))

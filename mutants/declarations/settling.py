@@ -59,7 +59,8 @@ class Declared(NamedTuple):
 
 
 class Settled(NamedTuple):
-    """The declared mutants in the order of the entries; entries with a new number; entries that are refused, and why."""
+    """The declared mutants in the order of the entries; entries with a new number;
+    entries that are refused, and why."""
 
     declared: list[Declared]
     moved: list[tuple[Entry, Mutant]]

@@ -9,6 +9,7 @@ from pathlib import Path
 from typing import Any, NamedTuple
 
 from mutants.jobs.cells import LONGEST, TRUTHS, checked_value, read_cell
+from mutants.jobs.sources import decoded
 from mutants.pages.frame import joined_words, plural
 
 NAME = re.compile(r"[A-Za-z][A-Za-z0-9]*")
@@ -27,7 +28,8 @@ class Table(NamedTuple):
 
 
 class Cell(NamedTuple):
-    """Where a cell stands: its row and its column, from 1, and the dummy argument that it is for, where that is known."""
+    """Where a cell stands: its row and its column, from 1, and the dummy argument that it is for,
+    where that is known."""
 
     row: int
     column: int
@@ -141,12 +143,9 @@ class Reading:
 def read_table(
     path: Path, dummies: Sequence[str] | None = None, is_strict: bool = True, others: Collection[str] = OTHERS
 ) -> Table:
-    """The table of a file for these dummy arguments; None where they are not known. What is not strict may be ragged."""
-    data = path.read_bytes()
-    try:
-        text = data.decode("utf-8-sig")
-    except UnicodeDecodeError:
-        text = data.decode("latin-1")
+    """The table of a file for these dummy arguments; None where they are not known.
+    What is not strict may be ragged."""
+    text = decoded(path.read_bytes())
     reading = Reading(dummies, others, is_strict)
     if path.suffix.lower() == ".csv":
         return reading.take(rows_of_csv(text), read_cell, True)

@@ -3,12 +3,13 @@
     mutants declare [OPTION..] PROGRAM.f MUTANT.. --reason TEXT
     mutants declare [OPTION..] PROGRAM.f --renew
 
-A mutant is a code and a number, as pages and reports name it; further numbers are of the same operator: ABS 7 9 12 ROR 1.
-An entry is put behind those of PROGRAM.equivalent.csv beside the program (PROGRAM.UNIT.equivalent.csv of a unit that is
-picked among several): the mutant, its line before and after the change as mothra writes them, and the reason. Later calls
-look for an entry by these texts. Where they stand on one line alone the entry means that mutant, whatever its number has
-become; where they stand on several, the statements before or behind tell which is meant. Else it is refused, and named. So
-a changed program has no declared mutant that nobody looked at. With --renew the numbers of now are written into the file.
+A mutant is a code and a number, as pages and reports name it; further numbers are of the same operator:
+ABS 7 9 12 ROR 1. An entry is put behind those of PROGRAM.equivalent.csv beside the program (of a unit that is picked
+among several, PROGRAM.UNIT.equivalent.csv): the mutant, its line before and after the change as mothra writes them, and
+the reason. Later calls look for an entry by these texts. Where they stand on one line alone the entry means that
+mutant, whatever its number has become; where they stand on several, the statements before or behind tell which is
+meant. Else it is refused, and named. So a changed program has no declared mutant that nobody looked at. With --renew
+the numbers of now are written into the file.
 """
 
 import argparse
@@ -22,6 +23,7 @@ from mutants.declarations.files import asked_present, path_beside
 from mutants.declarations.settling import Present, Settled, entry_for, settled
 from mutants.files import written
 from mutants.jobs.making import add_reading_options, made_of, told_of, wish_of
+from mutants.jobs.sources import decoded
 from mutants.operators import NAMES
 from mutants.pages.frame import plural
 from mutants.program.finding import add_mothra_option, find_program
@@ -97,7 +99,7 @@ def run(given: argparse.Namespace, name: str) -> int:
         written(path, entries_text(renewed(entries, found, present)).encode())
         told = f"{len(found.moved)} of {len(entries)} entries with a new number"
     else:
-        text = path.read_text(encoding="utf-8-sig") if path.exists() else ""
+        text = decoded(path.read_bytes()) if path.exists() else ""
         written(path, appended(text, new_entries(given, names, found, present)).encode())
         told = f"{plural(len(names), 'mutant')} declared, and {len(found.declared)} before"
     for remark in found.remarks() if not given.renew else [f"{entry.name}: {why}" for entry, why in found.refused]:
