@@ -35,7 +35,8 @@ def size_of(value: Any) -> int:
 
 
 def batches(job: Job) -> list[tuple[int, int]]:
-    """The batches of the tests of a job: the place of the first of each, and that behind its last. There is one at least."""
+    """The batches of the tests of a job: the place of the first of each, and that behind its last.
+    There is one at least."""
     room = MOST_BYTES - FRAME - size_of(job.source) - size_of(job.equivalent)
     ends = list(ends_of([size_of(test) for test in job.suite], room))
     return list(zip([0, *ends], ends))

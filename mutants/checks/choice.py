@@ -1,4 +1,5 @@
-"""Which mutants are asked about: those of some operators, of some lines, of statements that differ from another version."""
+"""Which mutants are asked about: those of some operators, of some lines,
+of statements that differ from another version."""
 
 import re
 from collections.abc import Collection, Iterable, Mapping, Sequence

@@ -1,8 +1,8 @@
 """Which tests come to which statement, asked of the program.
 
-A trap in the place of a statement (operator SAN) is sprung by the tests that come to it. A block IF, ELSE IF or DO has no
-such mutant. So 1-0 is put into each of them in a way that changes nothing, and the mutant that has 1/0 there (operator
-AOR) is killed by the tests that come to it.
+A trap in the place of a statement (operator SAN) is sprung by the tests that come to it. A block IF, ELSE IF or DO has
+no such mutant. So 1-0 is put into each of them in a way that changes nothing, and the mutant that has 1/0 there
+(operator AOR) is killed by the tests that come to it.
 """
 
 import re

@@ -37,7 +37,8 @@ class ClassTest(NamedTuple):
 
 
 class Class(NamedTuple):
-    """Tests, the rows of the mutants with the tests that kill each as bits, and those that the set of fewest tests has."""
+    """Tests, the rows of the mutants with the tests that kill each as bits,
+    and those that the set of fewest tests has."""
 
     tests: list[ClassTest]
     rows: list[Row]

@@ -49,7 +49,8 @@ def told_fault(found: Found, source: str) -> tuple[int, str]:
 
 
 def also_told(program: str, source: str, shown: str) -> str:
-    """The faults behind the first one, by line, as text; empty where there are none. `shown` is the source as it is told."""
+    """The faults behind the first one, by line, as text; empty where there are none.
+    `shown` is the source as it is told."""
     found, is_all = all_faults(source, lambda text: asked_fault(program, text))
     if not found[1:] and is_all:
         return ""

@@ -76,7 +76,8 @@ def declared_arrays(texts: Iterable[str]) -> set[str]:
 
 
 def called_names(text: str, arrays: Collection[str]) -> list[tuple[str, int]]:
-    """The names in a statement with a parenthesis behind them that are neither arrays nor functions, and where they stand."""
+    """The names in a statement with a parenthesis behind them that are neither arrays nor functions,
+    and where they stand."""
     front = re.match(r"(?:ELSE)?IF(?=\()|GOTO(?=\()|DO\d+,?(?=[A-Z]+\d*=)", text)
     found: list[tuple[str, int]] = []
     for match in re.finditer(r"([A-Z][A-Z0-9]*)\(", text):

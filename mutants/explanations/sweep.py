@@ -64,7 +64,8 @@ class Sweep:
         lay(self.lines, card.line, text)
 
     def soften(self, card: Card) -> bool:
-        """Whether a declaration could be made one of the subset: another type is INTEGER, a bound that is none a number."""
+        """Whether a declaration could be made one of the subset:
+        another type is INTEGER, a bound that is none a number."""
         kind = OTHER_TYPE.match(card.text)
         text = f"{kind[1] or 'INTEGER'}{card.text[kind.end():]}" if kind else card.text
         for bound in reversed([bound for bound in bounds_of(text) if not bound.text.isdecimal()]):

@@ -13,7 +13,8 @@ COLUMNS = "mutant operator line status declared before after killed_by covered_b
 
 
 class Told(NamedTuple):
-    """A mutant, its statement, its status, whether it is declared equivalent, and the tests that kill it and come to it."""
+    """A mutant, its statement, its status, whether it is declared equivalent,
+    and the tests that kill it and come to it."""
 
     mutant: Mutant
     before: str
@@ -42,7 +43,8 @@ def status_of(row: Row, covered: str) -> str:
 
 
 def told_of(checked: Checked, covered: Mapping[int, str]) -> Iterator[Told]:
-    """What is told of each mutant, in the order of the report; `covered` has for each line the tests that come to it."""
+    """What is told of each mutant, in the order of the report;
+    `covered` has for each line the tests that come to it."""
     for mutant, row in zip(checked.listed, checked.report.rows):
         bits = covered[mutant.line]
         before, status = checked.statements[mutant.line], status_of(row, bits)

@@ -186,7 +186,8 @@ def try_edit(path: Path, folder: Path) -> Tried:
 
 
 def place_of(path: Path, folder: Path) -> Place | None:
-    """The module, the function whose body is all that an edit changes, and what is proved with it, None where there is no such."""
+    """The module, the function whose body is all that an edit changes, and what is proved with it,
+    None where there is no such."""
     files = {line[5:].strip() for line in path.read_text(encoding="utf-8").split("\n") if line.startswith("file:")}
     olds = [line[5:] for line in path.read_text(encoding="utf-8").split("\n") if line.startswith("old: ")]
     if len(files) != 1 or not min(files).startswith("src/"):
@@ -265,7 +266,8 @@ def try_group(group: Group, name: str, folder: Path) -> dict[Path, str]:
 
 
 def try_on_copy(folder: Path, name: str, waiting: deque[Group]) -> list[bool]:
-    """Tries groups of edits while some wait: whether each edit was refused; none counts where the crate is not proved at last."""
+    """Tries groups of edits while some wait: whether each edit was refused;
+    none counts where the crate is not proved at last."""
     refused = []
     while waiting:
         try:

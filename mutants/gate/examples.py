@@ -10,9 +10,9 @@ before a hyphen. Five things are compared:
 - examples/NAME.report with what `MOTHRA run` writes for that job, with no option;
 - the same report, and its score, with what `mutants check` joins and tells of program and suite;
 - the texts of programs, suites and reports in the test of the examples with the files;
-- what README.md and the pages for users show behind each line `$ COMMAND` of a block ```console with what the command writes,
-  run from the top of the repository with MOTHRA as `mothra`. A line `...` stands for any lines. tools/against-gfortran
-  is not run.
+- what README.md and the pages for users show behind each line `$ COMMAND` of a block ```console with what the command
+  writes, run from the top of the repository with MOTHRA as `mothra`. A line `...` stands for any lines.
+  tools/against-gfortran is not run.
 
 There is one line for each thing that is not the same. The last line counts both, and the exit status is 1 where there
 is one. It tests what the tests of the crates cannot, since those read no files.

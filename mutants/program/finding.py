@@ -11,14 +11,17 @@ from mutants.program.unproved import find_unproved, is_unproved, said
 BUILT = ROOT / "crates" / "mothra" / "out" / "mothra"
 VARIABLE = "MOTHRA"
 OPTION = "--mothra"
-HELP = f"the program mothra; else that of the environment's {VARIABLE}, the one built in the repository, or that of the path"
+HELP = (
+    f"the program mothra; else that of the environment's {VARIABLE}, the one built in the repository,"
+    " or that of the path"
+)
 
 # What is told where there is none: how one comes to it, and how long that takes.
 MISSING = f"""\
-the program mothra is not found: {OPTION} and {VARIABLE} name none, none is built beside the package, none is on the path.
+the program mothra is not found: {OPTION} and {VARIABLE} name none, none is built here, and the path has none.
   Prove and build it, from the top of the repository; from nothing that takes most of an hour, later seconds:
     (cd crates/mothra && rt run -- run < ../../examples/triangle.json)
-  For a first look make an unproved build once, in a minute or two; it is kept, and all that is said with it is unproved:
+  For a first look make an unproved build once, in a minute or two; it is kept, and all that it says is unproved:
     bin/mutants unproved"""
 
 

@@ -67,7 +67,8 @@ def ended_on(
 
 
 def answer_of(ended: Ended) -> str:
-    """What a call came to, in a word or two: `report`, a fault's code, `nothing`, `words`, or what no call may come to."""
+    """What a call came to, in a word or two: `report`, a fault's code, `nothing`, `words`,
+    or what no call may come to."""
     fault = FAULT.fullmatch(ended.text)
     if ended.status == 0 and ended.text.endswith(b"\n"):
         return "report"

@@ -2,14 +2,15 @@
 
     tools/failing-streams [--jobs N] MOTHRA
 
-The commands print, exec, list and run (two workers) are called on a small job each. Of the reads: the job comes one byte a
-read, and the read behind each number of bytes fails; nothing may be written then, with status 1. Where none fails the text
-is the undisturbed one. Of the writes: the text goes into a file that may have so many bytes and no more, for each number
-below its length. So one write is short, and the next one fails; that front of the text has to stand there, with status 1.
-And there are streams that fail at once: a directory, a device that is full, a pipe that nobody reads, none at all.
+The commands print, exec, list and run (two workers) are called on a small job each. Of the reads: the job comes one
+byte a read, and the read behind each number of bytes fails; nothing may be written then, with status 1. Where none
+fails the text is the undisturbed one. Of the writes: the text goes into a file that may have so many bytes and no more,
+for each number below its length. So one write is short, and the next one fails; that front of the text has to stand
+there, with status 1. And there are streams that fail at once: a directory, a device that is full, a pipe that nobody
+reads, none at all.
 
-There is a line for each call and kind: how many calls gave which answer. The exit status is 1 where one gave another. It uses
-sockets and limits of Linux, and works with any build of the program.
+There is a line for each call and kind: how many calls gave which answer. The exit status is 1 where one gave another.
+It uses sockets and limits of Linux, and works with any build of the program.
 """
 
 import argparse

@@ -2,13 +2,13 @@
 
     tools/hostile [--seconds N] [--mib N] [--jobs N] MOTHRA
 
-Fronts of three jobs, all of them; each byte of one job replaced by 0, 10, 34, 92, 128 and 255; texts of JSON that nest, are
-long, have many items, or escapes and numbers that are none; sources as long, as deep and as wide as they may be, and
-beyond. An answer is a report or a fault with a name; where the answer is known it has to be that one. Each call has to end
-within so many seconds (60), and have at most so much memory (200 MiB).
+Fronts of three jobs, all of them; each byte of one job replaced by 0, 10, 34, 92, 128 and 255; texts of JSON that nest,
+are long, have many items, or escapes and numbers that are none; sources as long, as deep and as wide as they may be,
+and beyond. An answer is a report or a fault with a name; where the answer is known it has to be that one. Each call has
+to end within so many seconds (60), and have at most so much memory (200 MiB).
 
-There is a line for each group: how many calls had which answer, the longest time, and the most memory. The exit status is 1
-where an answer is another. A program that `rt try` builds has checks that take three times the time and memory.
+There is a line for each group: how many calls had which answer, the longest time, and the most memory. The exit status
+is 1 where an answer is another. A program that `rt try` builds has checks that take three times the time and memory.
 """
 
 import argparse

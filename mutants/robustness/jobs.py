@@ -6,7 +6,8 @@ from typing import Any, NamedTuple
 
 
 class Case(NamedTuple):
-    """A call: its name, its words, the bytes of its job, and the line of its answer: `report`, a fault, or None for either."""
+    """A call: its name, its words, the bytes of its job, and the line of its answer:
+    `report`, a fault, or None for either."""
 
     name: str
     words: str

@@ -2,12 +2,14 @@
 
     tools/little-memory MOTHRA
 
-The report of a small job is asked for with 1, 2, 8 and 32 workers, under many limits on the memory that a process may have
-(address space, from 2 MB to 4 GB). Threads cannot begin then, or memory runs out: each call has to give the undisturbed
-report, a fault of want of memory, B2, or nothing with status 1. Below some limit no program begins; such calls are left out.
-A program that `rt try` builds asks for too much address space to be called so: one of `rt run` is needed.
+The report of a small job is asked for with 1, 2, 8 and 32 workers, under many limits on the memory that a process may
+have (address space, from 2 MB to 4 GB). Threads cannot begin then, or memory runs out: each call has to give the
+undisturbed report, a fault of want of memory, B2, or nothing with status 1. Below some limit no program begins; such
+calls are left out. A program that `rt try` builds asks for too much address space to be called so: one of `rt run` is
+needed.
 
-There is a line for each number of workers: how many limits gave which answer. The exit status is 1 where one gave another.
+There is a line for each number of workers: how many limits gave which answer. The exit status is 1 where one gave
+another.
 """
 
 import argparse

@@ -9,9 +9,9 @@ with status 1. Of a crate of tests the tests that are about refused memory are r
 was none for what the test itself is made of. Without a name the crates are mothra, exchange_tests, worker_tests and
 mothra_tests.
 
-Programs are built by `rt try --fail-alloc`, which proves nothing and takes a minute or two a crate; with --keep they stay
-in a folder, and one that is there is not built again. How many allocations a call makes is found by programs that stop at
-one. With threads that differs from call to call, so a few more are refused than were found.
+Programs are built by `rt try --fail-alloc`, which proves nothing and takes a minute or two a crate; with --keep they
+stay in a folder, and one that is there is not built again. How many allocations a call makes is found by programs that
+stop at one. With threads that differs from call to call, so a few more are refused than were found.
 
 There is a line for each call and round: how many calls gave which answer. The exit status is 1 where one gave another.
 """

@@ -3,8 +3,9 @@
     tools/widest MOTHRA
 
 It measures what a step takes, for a jump and for statements of 200 nodes; what each mutant takes that is looked at and
-left out by --every; and what each mutant takes that is kept, in time and memory, with no tests and with 256. With that it
-computes, for the limits on mutants, tests and steps, the time of all runs on one processor and the memory of a report.
+left out by --every; and what each mutant takes that is kept, in time and memory, with no tests and with 256. With that
+it computes, for the limits on mutants, tests and steps, the time of all runs on one processor and the memory of a
+report.
 """
 
 import argparse
@@ -31,7 +32,8 @@ LOOPS = {
 
 
 def answered(mothra: str, words: str, job: bytes) -> tuple[Ended, int]:
-    """The call with the front of its text, and how long that is; it has to be a report. A text that is kept takes memory."""
+    """The call with the front of its text, and how long that is; it has to be a report.
+    A text that is kept takes memory."""
     with tempfile.TemporaryFile() as source, tempfile.TemporaryFile() as target:
         source.write(job)
         source.seek(0)
@@ -89,7 +91,8 @@ def run(given: argparse.Namespace, name: str) -> int:
     for count in (0, TESTS):
         spent, memory, text = a_mutant(mothra, [[1]] * count)
         print(
-            f"a mutant with {count} tests: {spent:.0f} microseconds, {memory:.0f} bytes of memory, {text:.0f} of the report"
+            f"a mutant with {count} tests: {spent:.0f} microseconds, {memory:.0f} bytes of memory,"
+            f" {text:.0f} of the report"
         )
     tell_widest(steps, memory)
     return SUCCESS

@@ -11,8 +11,8 @@ option. A rule of the language is told with its sections of ANSI X3.9-1978. For 
 does on the test, or how many mutants there are, where there is a program.
 
 Of a program and its tests a job is made, as by mutants job and with its options. Where the program cannot be read, all
-that keeps it from being read is told, each with its line: what is told first is taken out of a copy, and mothra is asked
-again.
+that keeps it from being read is told, each with its line: what is told first is taken out of a copy, and mothra is
+asked again.
 
 The exit status is 0 where a fault was explained, or where there is none.
 """

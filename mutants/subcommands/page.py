@@ -4,15 +4,15 @@
     mutants page [OPTION..] PROGRAM.f [TESTS.json|TESTS.csv] > page.html
     mutants page --print FILE --list FILE --report FILE [--outcomes FILE] JOB > page.html
 
-Of a program and its tests a job is made, as by mutants job and with its options. Declared mutants stand on the page with
-their texts and reasons; of a job the reasons are those of the file that --equivalent names.
+Of a program and its tests a job is made, as by mutants job and with its options. Declared mutants stand on the page
+with their texts and reasons; of a job the reasons are those of the file that --equivalent names.
 
-The program is asked for `print`, `list` and `run` with the job, and for `exec` with each test. Any of these texts can be
-given as a file instead, as the program wrote it, the outcomes a line each; with the first three the program is not
+The program is asked for `print`, `list` and `run` with the job, and for `exec` with each test. Any of these texts can
+be given as a file instead, as the program wrote it, the outcomes a line each; with the first three the program is not
 needed. The page is one file with no script, and nothing in it is loaded from elsewhere.
 
 `run` is asked for a few operators at a time, so that a line on standard error can say how far it is; the reports are
-joined. A text that is no such text, is cut short or is not of this job is refused with one line, and the exit status is 1.
+joined. A text that is no such text, is cut short or is not of this job is refused with one line and status 1.
 """
 
 import argparse
