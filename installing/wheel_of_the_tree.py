@@ -14,8 +14,9 @@ NAME = "mutants"
 VERSION = re.findall(r'^__version__ = "(.*)"$', (ROOT / NAME / "__init__.py").read_text(encoding="utf-8"), re.M)[0]
 SUMMARY = "From a program in FORTRAN 77 and its tests to what the tests kill, with the proved program mothra"
 INFO = f"{NAME}-{VERSION}.dist-info"
+FACTS = {"Name": NAME, "Version": VERSION, "Summary": SUMMARY, "Requires-Python": ">=3.10"}
 INFOS = {
-    "METADATA": f"Metadata-Version: 2.1\nName: {NAME}\nVersion: {VERSION}\nSummary: {SUMMARY}\nRequires-Python: >=3.10\n",
+    "METADATA": "Metadata-Version: 2.1\n" + "".join(f"{name}: {value}\n" for name, value in FACTS.items()),
     "WHEEL": "Wheel-Version: 1.0\nGenerator: wheel_of_the_tree\nRoot-Is-Purelib: true\nTag: py3-none-any\n",
     "entry_points.txt": "[console_scripts]\nmutants = mutants.command:main\n",
 }

@@ -24,7 +24,7 @@ TOOLS, MUTANTS = ROOT / "tools", ROOT / "bin" / "mutants"
 STAND_IN = TESTS / "stand_in"
 EXAMPLES = ["triangle", "triangle-more", "sort", "euclid", "closure"]
 
-# What a test starts finds the Python that runs the test first: a front of it on the path would take longer than most tests.
+# What a test starts finds the Python that runs the test first: a front of it would take longer than most tests.
 os.environ["PATH"] = f"{Path(sys.executable).parent}:{os.environ['PATH']}"
 
 # The modules of the package are imported where they lie, and leave no files there.

@@ -25,7 +25,7 @@ pub fn twice(x: u32) -> u32 {
     x + x
 }
 """
-# It proves what has no `wrong` in a body, cannot read what has `unreadable`, and goes by the function's name for the rest.
+# It proves what has no `wrong` in a body, and cannot read what has `unreadable`.
 RT = """\
 #!/usr/bin/env python3
 import re, sys

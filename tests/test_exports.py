@@ -1,4 +1,4 @@
-"""What other programs read: the mutation report and its schema, the table, the report of tests; which tests come where."""
+"""What other programs read: the mutation report and its schema, the table, the report of tests; who comes where."""
 
 import copy
 import csv

@@ -22,9 +22,9 @@ from mutants.gate.times.tables import tables_of
 CRATES = "low: thiserror\nmiddle may_wait=1: low # it waits\ntop: low middle\nside:\n"
 # Two processors: the wrong bodies of low take what the proofs leave free.
 ROWS = [
-    ("low", "proof", 0, 120, 110), ("side", "proof", 2, 60, 58), ("low", "edit", 60, 90, 30), ("low", "edit", 91, 150, 59),
-    ("low", "edit", 150, 240, 80), ("middle", "proof", 150, 300, 140), ("top", "proof", 301, 420, 100),
-    ("top", "compile", 421, 480, 50), ("low", "tests", 240, 250, 10),
+    ("low", "proof", 0, 120, 110), ("side", "proof", 2, 60, 58), ("low", "edit", 60, 90, 30),
+    ("low", "edit", 91, 150, 59), ("low", "edit", 150, 240, 80), ("middle", "proof", 150, 300, 140),
+    ("top", "proof", 301, 420, 100), ("top", "compile", 421, 480, 50), ("low", "tests", 240, 250, 10),
 ]  # fmt: skip
 TABLES = """\
 Tasks, in minutes since the run began:
@@ -54,7 +54,8 @@ task          began  until  why then
 top compile     7.0    8.0  top proof had ended
 top proof       5.0    7.0  middle proof had ended
 middle proof    2.5    5.0  ready at 2.0 by low proof, waited 0.5 for a processor: low edit freed one
-low edit        1.0    2.5  ready at 0.0, waited 1.0 for a processor: side proof freed one (a check of it ended; the task went on until 4.0)
+low edit        1.0    2.5  ready at 0.0, waited 1.0 for a processor: side proof freed one \
+(a check of it ended; the task went on until 4.0)
 side proof      0.0    1.0  the run began
 """
 LOG = """\
@@ -154,7 +155,8 @@ class Kinds(unittest.TestCase):
         rows = {
             ("proof", base, "/r/crates/low"), ("tests", base + " --test", "/r/crates/low"),
             ("edit", base.replace("build", "check") + " --incremental /k", "copies/rt-edit-7-x"),
-            ("edit", base + " --test", "copies/rt-edit-7-x"), ("compile", base + " --crate-checked /c", "/r/crates/low"),
+            ("edit", base + " --test", "copies/rt-edit-7-x"),
+            ("compile", base + " --crate-checked /c", "/r/crates/low"),
         }  # fmt: skip
         for kind, words, folder in rows:
             self.assertEqual(kind_of(words.split(), folder), ("low", kind), words)
@@ -286,8 +288,9 @@ class Tool(unittest.TestCase):
     def test_words_that_are_refused(self):
         for words, told in {
             "low": "unrecognized", "--read a --watch 1": "do not go together", "--check a": "--check and --logs",
-            "--logs a": "--check and --logs", "--read a -- low": "words for rt ci", "--functions a -- low": "words for rt ci",
-            "--read a --record b": "--record is", "--functions a --record b": "--record is", "--watch x": "invalid int",
+            "--logs a": "--check and --logs", "--read a -- low": "words for rt ci",
+            "--functions a -- low": "words for rt ci", "--read a --record b": "--record is",
+            "--functions a --record b": "--record is", "--watch x": "invalid int",
             "--functions a --watch 1": "--functions goes",
         }.items():  # fmt: skip
             status, out, errors = running.run("gate-times", *words.split(), path=self.folder)
@@ -295,8 +298,9 @@ class Tool(unittest.TestCase):
             self.assertIn(told, errors)
         missing = self.folder / "missing"
         for words, told in {
-            ("--read", missing): "No such file", ("--functions", missing): "No such file", ("--watch", "0"): "no process 0",
-            ("--read", self.folder / "rt"): "rt: ", ("--functions", self.folder / "rt"): "line 1 has no time in front",
+            ("--read", missing): "No such file", ("--functions", missing): "No such file",
+            ("--watch", "0"): "no process 0", ("--read", self.folder / "rt"): "rt: ",
+            ("--functions", self.folder / "rt"): "line 1 has no time in front",
             ("--check", "gone", "--logs", missing): "no crate gone", ("--record", missing / "a"): "No such file",
         }.items():  # fmt: skip
             running.refuses(self, running.run("gate-times", *words, path=self.folder), "tools/gate-times: ", told)

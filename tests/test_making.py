@@ -26,7 +26,17 @@ C     NOTHING ELSE
       K=X(1)
       END
 """
-TWO = "C     one\n      SUBROUTINE ONE(I)\n      I=1\n      END\n\nC     two\n      SUBROUTINE TWO(I)\n      I=2\n      END\n"
+TWO = """\
+C     one
+      SUBROUTINE ONE(I)
+      I=1
+      END
+
+C     two
+      SUBROUTINE TWO(I)
+      I=2
+      END
+"""
 
 
 class Room(unittest.TestCase):
@@ -123,7 +133,8 @@ class Units(Room):
         self.assertEqual(self.made(TWO, wish=Wish("ONE")).source.text, TWO.partition("\n\n")[0] + "\n")
 
     def test_without_a_name_several_subroutines_are_refused(self) -> None:
-        told = r"2 units, and --unit NAME says which is meant: SUBROUTINE ONE \(lines 1 to 4\); SUBROUTINE TWO \(lines 5 to 9\)"
+        one, two = r"SUBROUTINE ONE \(lines 1 to 4\)", r"SUBROUTINE TWO \(lines 5 to 9\)"
+        told = f"2 units, and --unit NAME says which is meant: {one}; {two}"
         with self.assertRaisesRegex(ValueError, told):
             self.made(TWO)
         with self.assertRaisesRegex(ValueError, "no unit has the name THREE: SUBROUTINE ONE"):
@@ -355,16 +366,20 @@ class Remarks(unittest.TestCase):
         self.assertEqual(told, ["lines 1, 2, 3, 4, 5 and 4 more: text behind column 72 is not read, as '+J'"])
 
     def test_comments_that_look_like_statements(self) -> None:
-        for line in ("CONTINUE", "CALL SUB(K)", "COUNT=COUNT+1", "*     K=K+1", "C     K = M(I) + 1", "C  10 GO TO 20",
-                     "C     IF (K.GT.0) GO TO 10", "COMMON A", "c     RETURN", "C     K=(I+J)*M(I,N(J))", "C     DO 10 I=1,N",
-                     "*     IF ((K).GT.0) THEN", "C     GO TO (10,20),I", "C     INTEGER M(5), N"):  # fmt: skip
+        for line in (
+            "CONTINUE", "CALL SUB(K)", "COUNT=COUNT+1", "*     K=K+1", "C     K = M(I) + 1", "C  10 GO TO 20",
+            "C     IF (K.GT.0) GO TO 10", "COMMON A", "c     RETURN", "C     K=(I+J)*M(I,N(J))", "C     DO 10 I=1,N",
+            "*     IF ((K).GT.0) THEN", "C     GO TO (10,20),I", "C     INTEGER M(5), N",
+        ):  # fmt: skip
             with self.subTest(line):
                 self.assertTrue(hidden_statement(line))
-        for line in ("C", "C     K BECOMES THE LESSER OF I AND J.", "C     Return the lesser.", "* * * * *", "C-----", "*****",
-                     "CCCCCC", "C     N = NUMBER OF SIDES", "C     CALLED BY NOBODY", "C     DO NOT ENTER", "      K=1",
-                     "C     (G. J. Myers, 1979).", "C     If the sides are equal, ITYPE=1.", "C Copyright = none of it", "C     IF RETURN", "C" + " A(B)+" * 11 + "!", "C     DO 10 TIMES",
-                     "C" + "(" * 70, "C     (A)", "C     K=", "C     INTEGER VALUES",
-                     "C     CALL ME"):  # fmt: skip
+        for line in (
+            "C", "C     K BECOMES THE LESSER OF I AND J.", "C     Return the lesser.", "* * * * *", "C-----", "*****",
+            "CCCCCC", "C     N = NUMBER OF SIDES", "C     CALLED BY NOBODY", "C     DO NOT ENTER", "      K=1",
+            "C     (G. J. Myers, 1979).", "C     If the sides are equal, ITYPE=1.", "C Copyright = none of it",
+            "C     IF RETURN", "C" + " A(B)+" * 11 + "!", "C     DO 10 TIMES", "C" + "(" * 70, "C     (A)", "C     K=",
+            "C     INTEGER VALUES", "C     CALL ME",
+        ):  # fmt: skip
             with self.subTest(line):
                 self.assertFalse(hidden_statement(line))
         told = remarks_on_text("      SUBROUTINE A\nCOUNT=1\n      END\n")

@@ -68,9 +68,9 @@ class Sweeps(unittest.TestCase):
             self.assertTrue(sweep.mended(*fault))
         kept = [(card.line, card.label, card.text) for card in cards_of(sweep.text())]
         self.assertEqual(kept, [
-            (1, "", "SUBROUTINEBAD(N,X,K)"), (3, "", "INTEGERZ"), (4, "", "INTEGERN,X(9),TOOLON,LONGER"), (5, "", "INTEGERY(10)"),
-            (8, "7", "CONTINUE"), (10, "", "K=1"), (12, "", "IF(.TRUE.)THEN"), (13, "", "K=TOOLON"), (14, "", "ENDIF"),
-            (16, "", "END"),
+            (1, "", "SUBROUTINEBAD(N,X,K)"), (3, "", "INTEGERZ"), (4, "", "INTEGERN,X(9),TOOLON,LONGER"),
+            (5, "", "INTEGERY(10)"), (8, "7", "CONTINUE"), (10, "", "K=1"), (12, "", "IF(.TRUE.)THEN"),
+            (13, "", "K=TOOLON"), (14, "", "ENDIF"), (16, "", "END"),
         ])  # fmt: skip
 
     def test_it_ends_where_nothing_can_be_taken_out(self) -> None:

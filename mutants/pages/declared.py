@@ -1,4 +1,4 @@
-"""The declared mutants of a page: each with its change and its reason, and first those that a test kills all the same."""
+"""The declared mutants of a page: each with its change and its reason, and first those that a test kills anyway."""
 
 from collections.abc import Iterable, Mapping, Sequence
 from types import MappingProxyType

@@ -103,7 +103,7 @@ def sections(parts: Sequence[tuple[str, str, str]]) -> tuple[str, str]:
 
 
 class Outcomes(NamedTuple):
-    """What the program itself does on each test, and by test, from 1, what was expected where that is something else."""
+    """What the program itself does on each test, and by test, from 1, what was expected where it is something else."""
 
     lines: Sequence[str] = ()
     unexpected: Mapping[int, str] = {}

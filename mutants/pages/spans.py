@@ -25,7 +25,7 @@ class Span(NamedTuple):
 
 
 def operand_before(words: Sequence[str]) -> int:
-    """How many words at the end of these are an operand: a name or a number, or what stands in parentheses and its name."""
+    """How many words at the end of these are an operand: a name, a number, or what is in parentheses and its name."""
     depth = count = 0
     for word in reversed(words):
         depth += {")": 1, "(": -1}.get(word, 0)
