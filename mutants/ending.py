@@ -7,7 +7,7 @@ from collections.abc import Callable
 
 from mutants.program.calling import Fault
 from mutants.program.finding import NoProgram
-from mutants.statuses import FAULT, INTERRUPTED
+from mutants.statuses import FAULT, INTERRUPTED, SUCCESS
 
 
 def one_line(fault: BaseException) -> str:
@@ -30,7 +30,7 @@ def status_of(main: Callable[[], int]) -> int:
     try:
         status = main()
     except SystemExit as end:
-        status = end.code if isinstance(end.code, int) else 0 if end.code is None else FAULT
+        status = end.code if isinstance(end.code, int) else SUCCESS if end.code is None else FAULT
     sys.stdout.flush()
     return status
 

@@ -5,7 +5,9 @@ FAULT = 1
 WORDS = 2
 BELOW = 3
 UNEXPECTED = 4
-INTERRUPTED = 130
+# A command that a signal ends has in a shell this and the number of the signal; Ctrl-C is signal 2.
+BY_SIGNAL = 128
+INTERRUPTED = BY_SIGNAL + 2
 
 MEANINGS = {
     SUCCESS: "done, or help was asked for",

@@ -14,6 +14,7 @@ from typing import IO
 
 from mutants.program.calling import failure_of
 from mutants.program.unproved import MARK
+from mutants.statuses import SUCCESS
 
 BEGIN, END = "JOB ", "STATUS "
 MISSING = "GNU parallel is not found: it runs the jobs side by side (Debian's package parallel)"
@@ -69,7 +70,7 @@ def answers_in(lines: Iterable[str]) -> Iterator[tuple[int, str, int]]:
 
 def text_of_answer(text: str, status: int) -> str:
     """What is kept of a job: the report, or the line that says why there is none."""
-    return text if status == 0 and text.startswith("REPORT ") else failure_of(text, status) + "\n"
+    return text if status == SUCCESS and text.startswith("REPORT ") else failure_of(text, status) + "\n"
 
 
 def feed_lines(pipe: IO[bytes], lines: Iterable[bytes]) -> None:

@@ -12,6 +12,7 @@ from pathlib import Path
 from typing import NamedTuple
 
 from mutants.fortran.unit import compile_in, driver_of, lines_of, read_unit, written_by
+from mutants.statuses import SUCCESS
 from mutants.texts.cards import Card, action_at, cards_of
 
 # So many mutants stand in one file. Each run takes at most so many microseconds of a processor.
@@ -164,7 +165,7 @@ def compile_units(folder: Path, sources: Sequence[list[str]]) -> dict[int, str]:
         (folder / "units.f").write_text("".join(f"{line}\n" for lines in empty for line in lines))
         words = ["gfortran", "-std=legacy", "-w", "-O0", *CHECKS, "-c", "units.f"]
         said = subprocess.run(words, cwd=folder, capture_output=True, text=True, timeout=LONGEST)
-        if said.returncode == 0:
+        if said.returncode == SUCCESS:
             break
         found = refusals(said.stderr, empty)
         if not found:
@@ -182,7 +183,7 @@ def ending_of(program: Path, unit: int, test: int) -> Outcome:
     """What comes of one run."""
     ended = subprocess.run([program, str(unit), str(test)], capture_output=True, text=True, timeout=LONGEST)
     fault = re.search("Fortran runtime error: (.*)", ended.stderr)
-    if ended.returncode == 0:
+    if ended.returncode == SUCCESS:
         return Outcome(ended.stdout.removesuffix("\n"), None)
     if ended.returncode == TRAPPED:
         return Outcome("TRAPPED", None)

@@ -9,6 +9,7 @@ import subprocess
 from collections.abc import Iterable, Sequence
 from pathlib import Path
 
+from mutants.statuses import SUCCESS
 from mutants.texts.cards import cards_of
 from mutants.texts.jobs import Value
 
@@ -125,7 +126,7 @@ def written_by(
         ended = subprocess.run(words, cwd=folder, input=given, capture_output=True, timeout=seconds)
     except subprocess.TimeoutExpired:
         return f"status unknown: no end within {seconds} seconds"
-    if ended.returncode == 0:
+    if ended.returncode == SUCCESS:
         return ended.stdout.decode(errors="replace").removesuffix("\n")
     lines = (ended.stdout or ended.stderr).decode(errors="replace").split("\n")
     errors = [line for line in lines if line.startswith(("Error", "Fatal Error"))]

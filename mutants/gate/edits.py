@@ -143,9 +143,9 @@ def judge(status: int, lines: Sequence[str], files: Container[str]) -> Tried:
         return False, f"BAD EDIT: the edited text cannot be read: {unread[0]}"
     if any("Run the lower steps again" in line for line in lines):
         return False, "BAD EDIT: what earlier checks of a library left cannot be used"
-    if status == 0:
+    if status == SUCCESS:
         return False, "NOT REFUSED"
-    if status != 1 or not lines[-1].startswith("logic=not-proved"):
+    if status != FAULT or not lines[-1].startswith("logic=not-proved"):
         faults = [line for line in lines if "error" in line] or lines
         return False, f"BAD EDIT: no goal was tried: {faults[0]}"
     # A message goes on in the lines behind it that begin with blanks.
@@ -166,9 +166,9 @@ def put_back(folder: Path, kept: Mapping[str, bytes]) -> None:
 
 def is_proved(name: str, folder: Path) -> bool:
     status, lines = check(folder)
-    if status:
+    if status != SUCCESS:
         print(f"{name}: it is not proved without an edit, so its edits show nothing: {lines[-1]}", flush=True)
-    return status == 0
+    return status == SUCCESS
 
 
 def try_edit(path: Path, folder: Path) -> Tried:
@@ -248,7 +248,8 @@ def try_group(group: Group, name: str, folder: Path) -> dict[Path, str]:
                 (folder / file).write_text(text, encoding="utf-8")
                 texts[file] = text
         status, lines = check(folder)
-        if status != 1 or not lines[-1].startswith("logic=not-proved") or any(is_unreadable(it, texts) for it in lines):
+        is_tried = status == FAULT and lines[-1].startswith("logic=not-proved")
+        if not is_tried or any(is_unreadable(it, texts) for it in lines):
             return {}
         unproved = [line for line in lines if re.match(r"fn \S+: (not proved|no proof)", line)]
         said = {}

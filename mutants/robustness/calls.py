@@ -10,6 +10,8 @@ import time
 from collections.abc import Callable, Sequence
 from typing import IO, NamedTuple
 
+from mutants.statuses import FAULT, SUCCESS, WORDS
+
 
 class Ended(NamedTuple):
     """How a call ended: its text, its exit status (that of a signal below 0), seconds, and the most memory in KiB.
@@ -23,7 +25,7 @@ class Ended(NamedTuple):
     memory: int
 
 
-FAULT = re.compile(rb"FAULT ([JFSCNOB][0-9]+)( [^\n]*)?\n")
+FAULT_LINE = re.compile(rb"FAULT ([JFSCNOB][0-9]+)( [^\n]*)?\n")
 MOST_SECONDS = 60
 # Held while a program is begun or written: one that another thread has open for writing cannot be begun.
 BEGINNING = threading.Lock()
@@ -67,22 +69,21 @@ def ended_on(
 
 
 def answer_of(ended: Ended) -> str:
-    """What a call came to, in a word or two: `report`, a fault's code, `nothing`, `words`,
-    or what no call may come to."""
-    fault = FAULT.fullmatch(ended.text)
-    if ended.status == 0 and ended.text.endswith(b"\n"):
+    """What a call came to: `report`, a fault's code, `nothing`, `words`, or BROKEN and what no call may come to."""
+    fault = FAULT_LINE.fullmatch(ended.text)
+    if ended.status == SUCCESS and ended.text.endswith(b"\n"):
         return "report"
-    if ended.status == 1 and fault:
+    if ended.status == FAULT and fault:
         return fault[1].decode()
-    if ended.status == 1 and not ended.text:
+    if ended.status == FAULT and not ended.text:
         return "nothing"
-    if ended.status == 2 and ended.text:
+    if ended.status == WORDS and ended.text:
         return "words"
     return f"BROKEN: status {ended.status}, {len(ended.text)} bytes"
 
 
 def line_of(ended: Ended) -> str:
     """The first line that was written, where it is a fault; else the answer."""
-    if FAULT.fullmatch(ended.text):
+    if FAULT_LINE.fullmatch(ended.text):
         return ended.text.decode("ascii", "replace").rstrip("\n")
     return answer_of(ended)

@@ -34,6 +34,8 @@ from mutants.words import whole_path
 
 # A call that is still to be made, and gives what came of it.
 Call = Callable[[], str]
+# In the place of a status that was not told.
+NO_STATUS = b"-1"
 CALLS = {
     "print": job_of(SUM),
     "exec --test 1": job_of(LOOP, [[3, 0]]),
@@ -88,28 +90,28 @@ def told(ended: Ended, text: bytes, status: int) -> str:
 
 def failing_reads(words: Sequence[str], job: bytes, text: bytes) -> Iterator[Call]:
     for given in range(len(job) + 1):
-        yield partial(lambda front: told(call_trickled(words, front, True), b"", 1), job[:given])
-    yield lambda: told(call_trickled(words, job, False), text, 0)
+        yield partial(lambda front: told(call_trickled(words, front, True), b"", FAULT), job[:given])
+    yield lambda: told(call_trickled(words, job, False), text, SUCCESS)
 
 
 def failing_writes(words: Sequence[str], job: bytes, text: bytes) -> Iterator[Call]:
     for most in range(len(text)):
-        yield partial(lambda most: told(call_limited(words, job, most), text[:most], 1), most)
-    yield lambda: told(call_limited(words, job, len(text)), text, 0)
+        yield partial(lambda most: told(call_limited(words, job, most), text[:most], FAULT), most)
+    yield lambda: told(call_limited(words, job, len(text)), text, SUCCESS)
 
 
 def other_streams(words: Sequence[str], job: bytes, _: bytes) -> Iterator[Call]:
     for how in ("<&-", "</", ">&-", ">/dev/full"):
         shell = ["sh", "-c", f'exec "$@" {how}', "sh", *words]
-        yield partial(lambda shell: told(called(shell, job), b"", 1), shell)
-    yield lambda: told(call_unread(words, job), b"", 1)
+        yield partial(lambda shell: told(called(shell, job), b"", FAULT), shell)
+    yield lambda: told(call_unread(words, job), b"", FAULT)
 
 
 def call_unread(words: Sequence[str], job: bytes) -> Ended:
     """Calls a command whose output goes into a pipe that nobody reads any more."""
     shell = '{ { sleep 0.2; "$@"; echo $? >&3; } | true; } 3>&1'
     ended = called(["sh", "-c", shell, "sh", *words], job)
-    return ended._replace(text=b"", status=int(ended.text or b"-1"))
+    return ended._replace(text=b"", status=int(ended.text or NO_STATUS))
 
 
 def made(call: Call) -> str:

@@ -35,7 +35,7 @@ def answer(words: Sequence[str], limit: int, report: bytes) -> str | None:
     ended = called(words, JOB, begin=partial(resource.setrlimit, resource.RLIMIT_AS, (limit * 1024, limit * 1024)))
     if ended.status == NOT_BEGUN:
         return None
-    return "undisturbed" if ended.text == report and ended.status == 0 else answer_of(ended)
+    return "undisturbed" if ended.text == report and ended.status == SUCCESS else answer_of(ended)
 
 
 def add_words(parser: argparse.ArgumentParser) -> None:

@@ -17,6 +17,7 @@ There is a line for each call and round: how many calls gave which answer. The e
 """
 
 import argparse
+import signal
 import tempfile
 from collections import Counter
 from collections.abc import Iterator
@@ -41,7 +42,7 @@ CALLS: dict[str, tuple[list[str], list[Any], str]] = {
     "run": (SUM, [[2, 3, 0]], "J1 F1 S1 C1 O1 B1 B2"),
 }
 # By a trap, or by the checks that tell of it.
-STOPPED = (-5, -6)
+STOPPED = (-signal.SIGTRAP, -signal.SIGABRT)
 # How many more allocations a call with threads may make than were found.
 SPARE = 8
 # Of a test that ends with an error of its own, and not by an assertion: there was no memory for what it is made of.

@@ -39,7 +39,7 @@ def answered(mothra: str, words: str, job: bytes) -> tuple[Ended, int]:
         source.seek(0)
         ended = ended_on([mothra, *words.split()], source, target, 600, 4096)
         length = target.seek(0, 2)
-    if ended.status:
+    if ended.status != SUCCESS:
         raise ValueError(f"mothra {words}: status {ended.status}, {ended.text[:80]!r}")
     return ended, length
 

@@ -9,6 +9,8 @@ from collections.abc import Iterator
 from contextlib import contextmanager
 from pathlib import Path
 
+from mutants.statuses import BY_SIGNAL
+
 # How the command is asked to end, and how many seconds it has for it: rt removes its folders first.
 ASKED = ((signal.SIGINT, 20.0), (signal.SIGTERM, 5.0), (signal.SIGKILL, 5.0))
 
@@ -50,6 +52,6 @@ def is_running(child: subprocess.Popen[bytes], seconds: float) -> bool:
 
 
 def status_of(child: subprocess.Popen[bytes]) -> int:
-    """The status as a shell has it: 128 and the number of the signal that ended the command."""
+    """The status as a shell has it, also where a signal ended the command."""
     status = child.wait()
-    return status if status >= 0 else 128 - status
+    return BY_SIGNAL - status if status < 0 else status

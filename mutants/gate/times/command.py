@@ -41,7 +41,7 @@ from mutants.gate.times.sampling import INTERVAL, Watch, begin_of, clock, is_the
 from mutants.gate.times.tables import tables_of
 from mutants.program.calling import read_as, text_of
 from mutants.program.roots import ROOT
-from mutants.statuses import INTERRUPTED, told
+from mutants.statuses import FAULT, INTERRUPTED, SUCCESS, told
 from mutants.words import add_version, text_of_help
 
 NAME = "tools/gate-times"
@@ -96,7 +96,7 @@ def run_gate(words: list[str], path: Path | None) -> int:
 def watch_gate(pid: int, path: Path | None) -> int:
     """Watches a run until its end, or until Ctrl-C."""
     begun = begin_of(pid)
-    watch, status = Watch(pid, begun), 0
+    watch, status = Watch(pid, begun), SUCCESS
 
     def goes_on() -> bool:
         time.sleep(INTERVAL)
@@ -117,14 +117,14 @@ def check_crates(names: list[str], logs: Path) -> int:
     if unknown:
         raise ValueError(f"there is no crate {unknown[0]}")
     logs.mkdir(parents=True, exist_ok=True)
-    status, made = 0, []
+    status, made = SUCCESS, []
     try:
         for name in names:
             made.append(logs / f"{name}.log")
             ended = check_crate(ROOT / "crates" / name, made[-1])
-            if ended:
+            if ended != SUCCESS:
                 sys.stderr.write(f"{NAME}: rt check of {name} ended with status {ended}\n")
-                status = 1
+                status = FAULT
     except KeyboardInterrupt:
         status = INTERRUPTED
     say(table_of_functions(read_functions([log for log in made if log.exists()])))
@@ -138,7 +138,7 @@ def show(read: Path | None, logs: list[Path]) -> int:
         record = read_as(str(read), read_record, text_of(read))
         lines = [*tables_of(record, read_below(ROOT)), *([""] if lines else []), *lines]
     say(lines)
-    return 0
+    return SUCCESS
 
 
 def words_of(parser: argparse.ArgumentParser) -> tuple[argparse.Namespace, list[str]]:
