@@ -47,6 +47,9 @@ class Tags(HTMLParser):
         self.texts.append(data)
 
 
+CONTINUED = LEAST.replace("      IF (J.LT.I) K=J\n", "      IF (J\nC     THE REST\n     &   .LT.\n*\n     & I) K=J\n")
+
+
 def job_of(source: str = LEAST, suite: Iterable[object] = ((1, 2, 0), (2, 1, 0)), **more: object) -> bytes:
     return json.dumps({"source": source, "suite": list(suite), **more}).encode()
 
@@ -78,6 +81,16 @@ class Pages(unittest.TestCase):
         has(self, page, "relational operator replacement")
         self.assertRegex(plain(page), r"4\s+IF \(J\.LT\.I\) K=J12 of 131 survives")
         self.assertRegex(plain(page), r"3\s+K=I3 of 3all killed")
+
+    def test_mutants_stand_behind_the_last_line_of_their_statement(self) -> None:
+        for declared, class_name in (([], "mutants"), (["ROR 1"], "mutants declared")):
+            page = page_of(job_of(source=CONTINUED, equivalent=declared))[1]
+            texts = ["IF (J</span>", "C     THE REST</span>", "&amp;   .LT.</span>", "*</span>", "&amp; I) K=J</span>"]
+            texts += [f'<div class="{class_name}">', "<del>.LT.</del><ins>.LE.</ins>", "      END</span>"]
+            places = [page.index(text) for text in texts]
+            self.assertEqual(places, sorted(places))
+            self.assertRegex(plain(page), r"4 +IF \(J\d+ of 13")
+            has(self, page, '<div class="line" id="line-4">')
 
     def test_the_tests_and_what_they_add(self) -> None:
         page = plain(page_of(job_of(suite=[[1, 2, 0], [2, 1, 0], [3, 3, 0]]))[1])

@@ -9,7 +9,7 @@ from collections.abc import Iterable
 import running
 from mutants.pages.cover import smallest_set
 from mutants.pages.differences import pieces
-from mutants.texts.cards import cards_of
+from mutants.texts.cards import cards_of, last_lines
 from mutants.operators import NAMES
 from mutants.texts.reports import read_report
 
@@ -75,6 +75,15 @@ class Cards(unittest.TestCase):
         card = cards_of("c x\n   10 k = i\n     &  +j" + " " * 62 + "x\n")[0]
         self.assertEqual(card[:3], (2, "10", "K=I+J"))
         self.assertEqual(card.places, ((2, 7), (2, 9), (2, 11), (3, 9), (3, 10)))
+
+    def test_the_last_line_of_a_statement(self) -> None:
+        for source, wanted in (
+            ("      K=I\nC\n     &+J\n     &\n\n      END\n", {1: 4, 6: 6}),
+            ("     &+J\nc\n      K=I\n     0K=J\r\n     1+1\r\n", {3: 3, 4: 5}),
+            ("", {}),
+        ):
+            with self.subTest(source):
+                self.assertEqual(last_lines(source), wanted)
 
 
 class Names(unittest.TestCase):

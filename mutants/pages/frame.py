@@ -1,7 +1,7 @@
 """What all pages share: the frame with its style, bars, tables, and texts that are safe in HTML.
 
-A page is one file: it loads no script, font or image. It is read without colour, since each colour has a word or a form
-beside it; bars and pictures are drawn, so that they are printed too.
+A page is one file: it loads no script, font or image. One can read it without colours, since each colour has a word or
+a form beside it. Bars and pictures are drawn, so that they are printed too.
 """
 
 from collections.abc import Iterable
@@ -51,8 +51,9 @@ td.bar svg, .marks svg { width: 100%; height: .8rem }
 .mutants { margin: .1rem .6rem .5rem 16.4rem; padding-left: .7rem; border-left: .25rem solid var(--live) }
 .mutants.declared { border-left: .25rem double var(--line) }
 .mutants ul { margin: 0; padding: 0; list-style: none; max-width: none }
-.mutants li { padding: .05rem 0 .05rem 4.4rem; text-indent: -4.4rem; line-height: 1.4 }
-.mutants li b { display: inline-block; min-width: 4.4rem; padding-right: .4rem; text-indent: 0; font-size: .85rem }
+.mutants li { display: flex; align-items: baseline; padding: .05rem 0; line-height: 1.4 }
+.mutants li > b { flex: 0 0 auto; min-width: 4.4rem; padding-right: .4rem; font-size: .85rem }
+.mutants li > span { flex: 1 1 0; min-width: 0 }
 .mutants code { font-size: .85rem }
 abbr { text-decoration: none }
 summary { cursor: pointer; font-size: .85rem }
@@ -77,8 +78,7 @@ figure text { font: 9px system-ui, Arial, sans-serif; fill: var(--ink) }
   thead th { font-size: .72rem }
   .line > .marks:empty { display: none }
   .mutants { margin: .1rem .4rem .5rem 2.1rem }
-  .mutants li { padding-left: 0; text-indent: 0 }
-  .mutants li b { min-width: 3.8rem; font-size: .78rem }
+  .mutants li > b { min-width: 3.8rem; font-size: .78rem }
   .mutants code { font-size: .72rem }
 }
 @media print {

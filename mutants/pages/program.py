@@ -1,4 +1,4 @@
-"""The program on a page: each line of the source with its marks, and under it the survivors with what they change."""
+"""The program on a page: each line with its marks, and under each statement its survivors with what they change."""
 
 import re
 from collections.abc import Iterable, Mapping, Sequence
@@ -8,7 +8,7 @@ from types import MappingProxyType
 from mutants.operators import NAMES
 from mutants.pages.differences import pieces
 from mutants.pages.frame import bar, plural, text
-from mutants.texts.cards import cards_of, is_comment, source_lines
+from mutants.texts.cards import cards_of, is_comment, last_lines, source_lines
 from mutants.texts.lines import Mutant
 from mutants.texts.reports import Count
 
@@ -39,7 +39,7 @@ def difference(old: str, new: str) -> str:
 def survivor_item(mutant: Mutant, statement: str, reason: str = "") -> str:
     why = f' <span class="soft">{text(reason)}</span>' if reason else ""
     name = f'<abbr title="{text(NAMES.get(mutant.op, mutant.op))}">{text(mutant.op)}</abbr> {mutant.place}'
-    return f"<li><b>{name}</b><code>{difference(statement, mutant.text)}</code>{why}</li>\n"
+    return f"<li><b>{name}</b><span><code>{difference(statement, mutant.text)}</code>{why}</span></li>\n"
 
 
 def items(mutants: Iterable[Mutant], statement: str, reasons: Mapping[str, str] = NO_REASONS) -> str:
@@ -101,11 +101,17 @@ def program_part(
     has_links: bool = False,
     reasons: Mapping[str, str] = NO_REASONS,
 ) -> str:
-    """The whole program: counts of mutants, survivors and declared mutants are by line number."""
-    parts = []
+    """The whole program: counts of mutants, survivors and declared mutants are by the statement's initial line.
+
+    The mutants of a statement stand behind its last line, so that its lines stay together.
+    """
+    ends, parts = last_lines(source), []
+    initial = {ends.get(line, line): line for line in {*survivors, *declared}}
     for number, line in numbered_lines(source):
-        found, others = survivors.get(number, []), declared.get(number, [])
-        parts.append(line_part(number, line, counts.get(number), len(found), has_links))
-        parts += [survivors_part(found, statements[number])] if found else []
-        parts += [declared_part(others, statements[number], reasons)] if others else []
+        parts.append(line_part(number, line, counts.get(number), len(survivors.get(number, [])), has_links))
+        if number in initial:
+            first = initial[number]
+            found, others = survivors.get(first, []), declared.get(first, [])
+            parts += [survivors_part(found, statements[first])] if found else []
+            parts += [declared_part(others, statements[first], reasons)] if others else []
     return '<div class="program">\n' + "".join(parts) + "</div>\n"
