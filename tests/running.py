@@ -1,6 +1,7 @@
 """What the tests share: where the command and the tools lie, and how one is run."""
 
 import atexit
+import io
 import os
 import runpy
 import signal
@@ -12,6 +13,7 @@ import traceback
 import unittest
 from collections.abc import Callable, Iterable, Sequence
 from contextlib import ExitStack
+from functools import cache
 from importlib.machinery import ModuleSpec, SourceFileLoader
 from importlib.util import module_from_spec, spec_from_loader
 from pathlib import Path
@@ -56,20 +58,62 @@ def words_of(tool: str, words: Iterable[object]) -> list[str]:
 def run(tool: str, *words: object, given: bytes = b"", path: Path | None = None) -> Ended:
     """What comes of a tool: its exit status, its output and its errors. `path` is a folder before those of the path.
 
-    It is run in a copy of this process, which has read the modules of the tools already: so it begins at once.
+    It is run in this process, whose standard streams, words and path it has for so long.
     """
-    with tempfile.TemporaryFile() as source, tempfile.TemporaryFile() as out, tempfile.TemporaryFile() as errors:
-        source.write(given)
-        source.seek(0)
+    files = [io.BytesIO(text) for text in (given, b"", b"")]
+    streams = [io.TextIOWrapper(file, encoding="utf-8") for file in files]
+    with ExitStack() as patches:
+        for name, stream in zip(("stdin", "stdout", "stderr"), streams):
+            patches.enter_context(mock.patch.object(sys, name, stream))
+        patches.enter_context(mock.patch.object(sys, "argv", words_of(tool, words)))
+        patches.enter_context(mock.patch.object(sys, "path", [*sys.path]))
+        if path:
+            patches.enter_context(mock.patch.dict(os.environ, {"PATH": f"{path}:{os.environ['PATH']}"}))
+        status = status_of(sys.argv[0])
         sys.stdout.flush()
         sys.stderr.flush()
-        child = os.fork()
-        if child == 0:
-            become(tool, words, path, (source, out, errors))
-        _, status = os.waitpid(child, 0)
-        out.seek(0)
-        errors.seek(0)
-        return os.waitstatus_to_exitcode(status), out.read().decode(), errors.read().decode()
+    return status, files[1].getvalue().decode(), files[2].getvalue().decode()
+
+
+def status_of(file: str) -> int:
+    """The exit status of a file of Python that is run as a program."""
+    try:
+        runpy.run_path(file, run_name="__main__")
+    except SystemExit as end:
+        if isinstance(end.code, str):
+            sys.stderr.write(end.code + "\n")
+        return 1 if isinstance(end.code, str) else int(end.code or 0)
+    return 0
+
+
+
+class Copy:
+    """A copy of this process that is a tool. It has read the modules of the tools already: so it begins at once."""
+
+    def __init__(self, tool: str, words: Iterable[object], given: bytes = b"", path: Path | None = None) -> None:
+        self.files = [tempfile.TemporaryFile() for _ in range(3)]
+        self.files[0].write(given)
+        self.files[0].seek(0)
+        sys.stdout.flush()
+        sys.stderr.flush()
+        self.pid = os.fork()
+        if self.pid == 0:
+            become(tool, words, path, self.files)
+
+    def ended(self) -> Ended:
+        """What came of it, once it has ended."""
+        _, status = os.waitpid(self.pid, 0)
+        for file in self.files:
+            file.seek(0)
+        _, out, errors = (file.read().decode() for file in self.files)
+        for file in self.files:
+            file.close()
+        return os.waitstatus_to_exitcode(status), out, errors
+
+
+def run_apart(tool: str, *words: object, path: Path | None = None) -> Ended:
+    """What comes of a tool that is run in a copy of this process: where it is about signals, or writes by others."""
+    return Copy(tool, words, path=path).ended()
 
 
 def become(tool: str, words: Iterable[object], path: Path | None, files: Iterable[IO[bytes]]) -> NoReturn:
@@ -81,12 +125,7 @@ def become(tool: str, words: Iterable[object], path: Path | None, files: Iterabl
         sys.argv = words_of(tool, words)
         if path:
             os.environ["PATH"] = f"{path}:{os.environ['PATH']}"
-        runpy.run_path(sys.argv[0], run_name="__main__")
-        status = 0
-    except SystemExit as end:
-        if isinstance(end.code, str):
-            sys.stderr.write(end.code + "\n")
-        status = 1 if isinstance(end.code, str) else int(end.code or 0)
+        status = status_of(sys.argv[0])
     except BaseException:
         traceback.print_exc()
     finally:
@@ -134,10 +173,8 @@ def refuses(case: unittest.TestCase, ended: Ended, *told: str) -> None:
         case.assertIn(word, errors)
 
 
-def call_stand_in(command: str, job: bytes, *words: str) -> bytes:
-    return subprocess.run([str(STAND_IN), command, *words], input=job, capture_output=True).stdout
 
-
+@cache
 def stand_in_module() -> Any:
     """The stand-in as a module: what it answers without a process."""
     loader = SourceFileLoader("stand_in", str(STAND_IN))
@@ -146,22 +183,37 @@ def stand_in_module() -> Any:
     return found
 
 
+def call_stand_in(command: str, job: bytes, *words: str) -> bytes:
+    """What the stand-in writes for these words and a job, without a process."""
+    text, _ = stand_in_module().answer([command, *words], job)
+    return str(text).encode()
+
+
 def without_processes() -> ContextManager[object]:
     """While it holds, what is asked of the stand-in is answered by it as a module, so that a test takes less time."""
-    module = stand_in_module()
+    module, call_process, answer_of_process = stand_in_module(), calling.call, many.Calls.answer
 
     def call(program: str, words: Sequence[str], job: bytes) -> tuple[str, int]:
-        assert program == str(STAND_IN), program
+        if program != str(STAND_IN):
+            return call_process(program, words, job)
         text, status = module.answer(words, job)
         return str(text), int(status)
 
     def answer(calls: many.Calls, words: Sequence[str], job: bytes) -> str:
+        if calls.program != str(STAND_IN):
+            return answer_of_process(calls, words, job)
         return calling.answer(calls.program, words, job)
 
     patches = ExitStack()
     patches.enter_context(mock.patch.object(calling, "call", call))
     patches.enter_context(mock.patch.object(many.Calls, "answer", answer))
     return patches
+
+
+def holds(case: unittest.TestCase, patches: ContextManager[object]) -> None:
+    """Makes patches hold until a test has ended."""
+    patches.__enter__()
+    case.addCleanup(patches.__exit__, None, None, None)
 
 
 def with_closed_pipe(tool: str, *words: object) -> str:
@@ -171,6 +223,16 @@ def with_closed_pipe(tool: str, *words: object) -> str:
         assert running.stdout and running.stderr
         running.stdout.close()
         return running.stderr.read().decode()
+
+
+def waited_for(happens: Callable[[], object], seconds: float = 20.0) -> bool:
+    """Whether something happens within so many seconds; it is waited for no longer than it takes."""
+    until = time.monotonic() + seconds
+    while not happens():
+        if time.monotonic() > until:
+            return False
+        time.sleep(0.005)
+    return True
 
 
 def take_ctrl_c() -> None:
@@ -185,8 +247,6 @@ def interrupted(folder: str, tool: str, *words: object) -> tuple[int, str]:
         call, cwd=folder, stdout=pipe, stderr=pipe, start_new_session=True, preexec_fn=take_ctrl_c
     ) as running:
         assert running.stderr
-        until = time.monotonic() + 20
-        while not Path(folder, "begun").exists() and time.monotonic() < until:
-            time.sleep(0.02)
+        waited_for(Path(folder, "begun").exists)
         os.killpg(running.pid, signal.SIGINT)
         return running.wait(20), running.stderr.read().decode()

@@ -46,7 +46,8 @@ class Told(Room):
     def test_the_page_is_that_of_the_job(self) -> None:
         job = self.put("job.json", run("job", self.program, self.tests)[1])
         self.check()
-        page = run("page", "--mothra", STAND_IN, job)[1]
+        with running.without_processes():
+            page = run("page", "--mothra", STAND_IN, job)[1]
         self.assertTrue((self.folder / "least.html").read_text() == page, "another page")
 
     def test_the_page_is_where_it_is_wanted(self) -> None:

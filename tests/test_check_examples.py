@@ -26,6 +26,7 @@ class Replay:
 
     def __init__(self, job: Job, report: Report) -> None:
         self.job, self.report = job, report
+        self.batches: dict[tuple[int, int], Report] = {}
 
     def answer(self, words: Sequence[str], text: bytes) -> str:
         command, options = words[0], dict(zip(words[1::2], words[2::2]))
@@ -51,7 +52,10 @@ class Replay:
 
     def ran(self, suite: list[object], ops: Sequence[str]) -> str:
         at = next(at for at in range(len(self.job.suite)) if self.job.suite[at : at + len(suite)] == suite)
-        return report_text(group_of(batch_of(self.report, at, at + len(suite)), ops))
+        ends = at, at + len(suite)
+        if ends not in self.batches:
+            self.batches[ends] = batch_of(self.report, *ends)
+        return report_text(group_of(self.batches[ends], ops))
 
 
 class Examples(unittest.TestCase):

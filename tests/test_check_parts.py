@@ -26,7 +26,7 @@ class Parts(Room):
         report = self.folder / "report"
         words = ["--equivalent", names, "--report", report, "--no-page"]
         with mock.patch.object(batches, "MOST_TESTS", 3), mock.patch.object(parts, "LEAST", 4):
-            status, _, errors = self.check_by_calls(*words)
+            status, _, errors = self.check(*words)
         self.assertEqual((status, errors), (0, ""))
         self.assertEqual(report.read_bytes(), wanted)
         report.unlink()

@@ -259,7 +259,9 @@ class Pages(unittest.TestCase):
         self.assertNotIn("      K=I</span>", page)
 
 
-class Commands(unittest.TestCase):
+class Declaring(unittest.TestCase):
+    """A program, a table of two tests, and the file of declarations, which is still to be made."""
+
     def setUp(self) -> None:
         room = tempfile.TemporaryDirectory()
         self.addCleanup(room.cleanup)
@@ -271,6 +273,25 @@ class Commands(unittest.TestCase):
 
     def declare(self, *words: object) -> running.Ended:
         return run("declare", "--mothra", STAND_IN, self.program, *words)
+
+
+class Processes(Declaring):
+    """Here the program is called as it is."""
+
+    def test_a_unit_that_is_picked_has_a_file_of_its_own(self) -> None:
+        self.program.write_text(LEAST + LEAST.replace("LEAST", "GREAT").replace(".LT.", ".GT."))
+        own = self.file.with_name("least.great.equivalent.csv")
+        ended = self.declare("SDL", "1", "--unit", "GREAT", "--reason", "none")
+        self.assertEqual(ended, (0, f"{own}: 1 mutant declared, and 0 before\n", ""))
+        job = json.loads(run("job", "--mothra", STAND_IN, "--unit", "great", self.program)[1])
+        self.assertEqual(job["equivalent"], ["SDL 1"])
+        self.assertNotIn("equivalent", run("job", "--unit", "LEAST", self.program)[1])
+
+
+class Commands(Declaring):
+    def setUp(self) -> None:
+        super().setUp()
+        running.holds(self, running.without_processes())
 
     def test_an_entry_has_its_texts_and_its_reason(self) -> None:
         ended = self.declare("ror", "1", "--reason", "J and I are the same then")
@@ -310,15 +331,6 @@ class Commands(unittest.TestCase):
         self.assertEqual((status, out), (0, f"{self.file}: 1 of 2 entries with a new number\n"))
         self.assertIn("ROR 1: no statement is", errors)
         self.assertIn("\nSDL 1,K=I,CONTINUE,,\n", self.file.read_text())
-
-    def test_a_unit_that_is_picked_has_a_file_of_its_own(self) -> None:
-        self.program.write_text(LEAST + LEAST.replace("LEAST", "GREAT").replace(".LT.", ".GT."))
-        own = self.file.with_name("least.great.equivalent.csv")
-        ended = self.declare("SDL", "1", "--unit", "GREAT", "--reason", "none")
-        self.assertEqual(ended, (0, f"{own}: 1 mutant declared, and 0 before\n", ""))
-        job = json.loads(run("job", "--mothra", STAND_IN, "--unit", "great", self.program)[1])
-        self.assertEqual(job["equivalent"], ["SDL 1"])
-        self.assertNotIn("equivalent", run("job", "--unit", "LEAST", self.program)[1])
 
     def test_more_tests_than_a_job_takes_do_not_matter_to_declarations(self) -> None:
         self.declare("ROR", "1", "--reason", "none")

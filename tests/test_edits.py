@@ -27,11 +27,11 @@ pub fn twice(x: u32) -> u32 {
 """
 # It proves what has no `wrong` in a body, and cannot read what has `unreadable`.
 RT = """\
-#!/usr/bin/env python3
+#!/usr/bin/env -S python3 -S
 import re, sys
-from pathlib import Path
 assert sys.argv[1:] == ["check", "--jobs", "1"], sys.argv
-text = Path("src/sum.rt").read_text()
+with open("src/sum.rt", encoding="utf-8") as file:
+    text = file.read()
 if "unreadable" in text:
     sys.exit("src/sum.rt:4:5: error: expected the end\\nlogic=not-read")
 bad = [name for name, body in re.findall(r"fn (\\w+)(.*?)^}", text, re.M | re.S) if "wrong" in body]

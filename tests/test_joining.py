@@ -1,7 +1,6 @@
 """Reports written back, and joined: of batches of tests, and of groups of operators, byte for byte."""
 
 import json
-import subprocess
 import unittest
 
 import running
@@ -14,7 +13,7 @@ from pieces import STORED, batch_of, group_of, stored
 def ran(suite: list[list[int]], *words: str, declared: tuple[str, ...] = ()) -> str:
     """What the stand-in writes of a suite, which it runs in earnest."""
     job = json.dumps({"source": running.LEAST, "suite": suite, "equivalent": declared}).encode()
-    return subprocess.run([str(running.STAND_IN), "run", *words], input=job, capture_output=True).stdout.decode()
+    return running.call_stand_in("run", job, *words).decode()
 
 
 class Written(unittest.TestCase):

@@ -44,6 +44,7 @@ class Room(unittest.TestCase):
         room = tempfile.TemporaryDirectory()
         self.addCleanup(room.cleanup)
         self.room = Path(room.name)
+        running.holds(self, running.without_processes())
 
     def put(self, name: str, text: str | bytes) -> Path:
         path = self.room / name

@@ -10,6 +10,7 @@ from html.parser import HTMLParser
 from pathlib import Path
 
 import running
+from mutants import statuses
 from room import without_progress
 from running import LEAST, STAND_IN, has, refuses, run
 from mutants.pages.matrix import MOST, matrix_part, thinned
@@ -176,8 +177,8 @@ class Refusals(unittest.TestCase):
         refuses(self, run("page", "--mothra", "true", EUCLID), "cut short")
 
     def test_help_and_words(self) -> None:
-        self.assertEqual(run("page", "--help")[0], 0)
-        self.assertEqual(run("page")[0], 2)
+        self.assertEqual(run("page", "--help")[0], statuses.SUCCESS)
+        self.assertEqual(run("page")[0], statuses.WORDS)
 
     def test_ctrl_c_ends_it_without_more(self) -> None:
         with tempfile.TemporaryDirectory() as folder:
@@ -185,12 +186,12 @@ class Refusals(unittest.TestCase):
             slow.write_text("#!/bin/sh\ntouch begun\nexec sleep 20\n")
             slow.chmod(0o755)
             ended = running.interrupted(folder, "page", "--mothra", slow, EUCLID)
-            self.assertEqual(ended, (130, "\n"))
+            self.assertEqual(ended, (statuses.INTERRUPTED, "\n"))
 
     def test_a_closed_pipe_ends_it_without_more(self) -> None:
         with tempfile.TemporaryDirectory() as folder:
             path = Path(folder, "job.json")
-            path.write_bytes(job_of(suite=[[n, 3, 0] for n in range(9)]))
+            path.write_bytes(job_of())
             self.assertEqual(without_progress(running.with_closed_pipe("page", "--mothra", STAND_IN, path)), "")
 
 

@@ -164,6 +164,7 @@ class Tool(unittest.TestCase):
         self.mothra = self.room / "mothra"
         self.mothra.write_text(ASKED)
         self.mothra.chmod(0o755)
+        running.holds(self, running.without_processes())
 
     def explain(self, *words: object) -> running.Ended:
         return run("explain", "--mothra", self.mothra, *words)
