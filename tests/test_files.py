@@ -6,8 +6,8 @@ import unittest
 from pathlib import Path
 from unittest import mock
 
+import running
 from mutants import files
-from mutants.checks import outputs
 from mutants.declarations.entries import read_entries
 from room import DECLARED, TWO, Room
 from running import LEAST, STAND_IN, refuses, run
@@ -35,7 +35,9 @@ class Written(Room):
         self.assertFalse(Path(os.devnull).is_file())
 
     def test_standard_output_has_it_before_the_summary(self) -> None:
-        status, out, errors = self.check("--no-page", "--json", "/dev/stdout")
+        words = ["--mothra", STAND_IN, "--no-page", "--json", "/dev/stdout", self.program, self.tests]
+        with running.without_processes():
+            status, out, errors = running.run_apart("check", *words)
         self.assertEqual((status, errors), (0, ""))
         report, _, rest = out.partition("\n")
         self.assertEqual(len(json.loads(report)["files"][str(self.program)]["mutants"]), 16)
@@ -71,7 +73,7 @@ class Refused(Room):
         one = self.folder / "x"
         refuses(self, self.check("--json", one, "--csv", one), "x: two files are to be written there")
         refuses(self, self.check("--json", self.folder), "it is a folder, and the mutants in JSON is a file")
-        with mock.patch.object(outputs.os, "access", return_value=False):
+        with mock.patch.object(os, "access", return_value=False):
             refuses(self, self.check(), f"least.html: nothing may be written in the folder {self.folder}")
         self.assertEqual(self.names(), ["least.f", "tests.csv"])
 
