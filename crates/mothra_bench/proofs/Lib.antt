@@ -16,6 +16,7 @@ mod PassSteps
 mod Looking
 mod FeederSteps
 mod FeederRounds
+mod ClosedOperators
 mod JoinedPasses
 mod SharedOperators
 mod WorkerSteps

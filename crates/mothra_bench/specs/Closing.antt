@@ -1,5 +1,5 @@
 -- How an operator is closed.
-use Rattle.std.specs.Prelude.{◌≡◌, ◌⊎◌, ◌≤◌, ℕ, true, false, ◌∷◌, [], ◌++◌, slice_index}
+use Rattle.std.specs.Prelude.{◌≡◌, ◌⊎◌, ◌≤◌, ℕ, true, false, List, ◌∷◌, [], ◌++◌, All, slice_index}
 use Rattle.mothra_codes.specs.declared.op.Op.{Op}
 use Rattle.mothra_codes.specs.Op.{index}
 use Rattle.mothra_exchange.specs.declared.view.View.{View}
@@ -14,6 +14,10 @@ count_of view op = slice_index view.counts (index op)
 
 abbrev pub seen_of : View → Op → Word
 seen_of view op = (look_at view (index op)).seen
+
+-- the pass has seen each of the operators closed
+abbrev pub AreClosed : List Op → View → Type 0
+AreClosed ops view = All (λ op. (seen_of view op).closed ≡ true) ops
 
 -- the pass looked at the operator, and neither offered nor closed
 pub record LooksOnly (op : Op) (old new : View) : Type 0 where

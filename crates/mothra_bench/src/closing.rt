@@ -1,7 +1,7 @@
 //! Closing operators.
 
 ghost use Rattle.std.specs.Prelude.{◌≡◌, true, false};
-ghost use Rattle.mothra_bench.specs.Closing.{Closes};
+ghost use Rattle.mothra_bench.specs.Closing.{AreClosed, Closes};
 ghost use Rattle.mothra_bench.specs.Feeding.{OnlyGave};
 
 use mothra_codes::Op;
@@ -33,6 +33,7 @@ pub(crate) fn close_each<G: Gate, R: Wait>(rt: &R, gate: &G, pass: &mut G::Pass,
     ensures own { G.is_pass gate.now pass.new }
     ensures part { G.needs_parts ≡ true → (G.view pass.new).part ≡ (G.view pass.old).part }
     ensures records { G.keeps_records ≡ true → OnlyGave (G.view pass.old) (G.view pass.new) }
+    ensures closed { G.keeps_records ≡ true → G.may_give_up ≡ false → AreClosed ops.now (G.view pass.new) }
 {
     for op in ops {
         close_one(rt, gate, pass, *op);

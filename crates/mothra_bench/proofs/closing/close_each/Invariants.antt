@@ -1,4 +1,5 @@
-use Rattle.std.proofs.Common.{◌≡◌, true}
+use Rattle.std.proofs.Common.{◌≡◌, true, false, take}
+use Rattle.mothra_bench.specs.Closing.{AreClosed}
 use Rattle.mothra_bench.specs.Feeding.{OnlyGave}
 use Rattle.mothra_bench.proofs.closing.close_each.Given as goal
 
@@ -7,3 +8,4 @@ invariant-loop-op g l =
     g.G.Gate.is_pass l.gate l.pass
     × (g.G.Gate.needs_parts ≡ true → (g.G.Gate.view l.pass).part ≡ (g.G.Gate.view l.fn.pass).part)
     × (g.G.Gate.keeps_records ≡ true → OnlyGave (g.G.Gate.view l.fn.pass) (g.G.Gate.view l.pass))
+    × (g.G.Gate.keeps_records ≡ true → g.G.Gate.may_give_up ≡ false → AreClosed (take l.op-index l.ops) (g.G.Gate.view l.pass))
