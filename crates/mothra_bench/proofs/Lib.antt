@@ -19,6 +19,7 @@ mod FeederRounds
 mod ClosedOperators
 mod JoinedPasses
 mod SharedOperators
+mod TakenTickets
 mod WorkerSteps
 mod WorkerRows
 mod ReportEntries

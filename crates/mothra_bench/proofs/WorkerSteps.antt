@@ -26,12 +26,13 @@ use Rattle.mothra_bench.specs.Bench.{BenchFields}
 use Rattle.mothra_bench.specs.Feeding.{AreCounts}
 use Rattle.mothra_bench.specs.Gathered.{AddsRow, AreVerdicts, IsOwn, tickets_in}
 use Rattle.mothra_bench.specs.Verdict.{Has, IsNoVerdict}
-use Rattle.mothra_bench.specs.Working.{Adds, AreFresh, IsNoWork, OnlyTook, TookRows, Went}
+use Rattle.mothra_bench.specs.Working.{Adds, AreFresh, IsNoWork, NamesTaken, OnlyTook, Takes, TookRows, Went}
 use Rattle.mothra_bench.specs.declared.fault.BenchFault.{BenchFault}
 use Rattle.mothra_bench.specs.declared.fault.BenchFault.TheVariants as fault
 use Rattle.mothra_bench.specs.declared.gathered.Gathered.{Gathered}
 use Rattle.mothra_bench.specs.declared.verdict.Row.{Row}
 use Rattle.mothra_bench.proofs.PassSteps.{take_only}
+use Rattle.mothra_bench.proofs.TakenTickets.{named_taken, takes_none, takes_on, takes_one, takes_stalled}
 
 -- no rows, and nothing taken
 took_none : (old new : View) → new.taken ≡ old.taken → TookRows old new []
@@ -89,6 +90,10 @@ none_first : (A : Type 0) (B : Type 0) (g : Option BenchFault) → IfNone g (A �
 none_first A B None p = p.0
 none_first A B (Some e) p = tt
 
+none_second : (A : Type 0) (B : Type 0) (g : Option BenchFault) → IfNone g (A × B) → IfNone g B
+none_second A B None p = p.1
+none_second A B (Some e) p = tt
+
 rows_more : (bench : BenchFields) (keeps : Bool) (old between new : View) (rows more most : List Row) (f g h : Option BenchFault)
     → IfNone g ((f ≡ None) × Adds bench keeps old between rows more) → IfNone h ((g ≡ None) × Adds bench keeps between new more most)
     → IfNone h ((f ≡ None) × Adds bench keeps old new rows most)
@@ -105,6 +110,8 @@ went_on bench may keeps old between new h i j p q = record {
       (none_first (h.fault ≡ None) (Adds bench keeps old between h.rows.items i.rows.items) i.fault p.rows);
   rows = rows_more bench keeps old between new h.rows.items i.rows.items j.rows.items h.fault i.fault j.fault p.rows q.rows;
   pass = λ k. only_more old between new (p.pass k) (q.pass k);
+  takes = λ k. takes_on (IsNoWork may keeps bench.plan between.counts) bench.plan old between new h.fault i.fault j.fault q.fault
+      (none_first (i.fault ≡ None) (Adds bench keeps between new i.rows.items j.rows.items) j.fault q.rows) (p.takes k) (q.takes k);
 }
 
 same_fault : (P : BenchFault → Type 0) (f : Option BenchFault) → IfSome f (λ e. MatchOption f (P e) (λ d. e ≡ d))
@@ -131,6 +138,7 @@ went_idle bench may keeps old new h only e = record {
   fault = same_fault (IsNoWork may keeps bench.plan old.counts) h.fault;
   rows = same_rows bench keeps old new h.rows.items h.fault e;
   pass = only;
+  takes = λ k. takes_none bench.plan old new h.fault (e k);
 }
 
 -- nothing was done
@@ -148,11 +156,13 @@ stalled_rows X (Some d) g e = subst (λ o. IfNone o X) (sym e) tt
 
 -- the gate gave up
 pub went_stalled : (bench : BenchFields) (may keeps : Bool) (old new : View) (h i : Gathered) → may ≡ true
-    → MatchOption h.fault (i.fault ≡ Some fault.Stalled) (λ first. i.fault ≡ Some first) → (keeps ≡ true → OnlyTook old new) → Went bench may keeps old new h i
-went_stalled bench may keeps old new h i m e only = record {
+    → MatchOption h.fault (i.fault ≡ Some fault.Stalled) (λ first. i.fault ≡ Some first) → (keeps ≡ true → OnlyTook old new) → (keeps ≡ true → new.taken ≡ old.taken)
+    → Went bench may keeps old new h i
+went_stalled bench may keeps old new h i m e only none = record {
   fault = stalled_fault may keeps bench.plan old.counts h.fault i.fault m e;
   rows = stalled_rows ((h.fault ≡ None) × Adds bench keeps old new h.rows.items i.rows.items) h.fault i.fault e;
   pass = only;
+  takes = λ k. takes_stalled bench.plan old new h.fault i.fault (none k) e;
 }
 
 picked : (a c : Bool) (u t : Ticket) → cond a (cond c Finished Empty) (Taken u) ≡ Taken t → u ≡ t
@@ -171,6 +181,12 @@ fresh_at false c i j n k old p q e = omega arith
 
 fresh_one : (op : Op) (n : ℕ) (old : List Ticket) → times (index op) n old ≡ 0 → AreFresh old (ticket op n ∷ [])
 fresh_one op n old e o k = let h = fresh_at (eqb (index op) (index o)) (eqb n k) (index op) (index o) n k old refl refl e in omega arith
+
+-- the ticket stands last
+taken_last : (C : ℕ) (old new : View) (op : Op) (t : Ticket) → TakeKept C old op (Taken t) new → new.taken ≡ old.taken ++ t ∷ []
+taken_last C old new op t h =
+    let u = ticket op (h.0.handed + 1) in
+    subst (λ (x : Ticket). new.taken ≡ old.taken ++ x ∷ []) (picked (eqb h.0.handed h.0.offered) h.0.closed u t h.2.0) (ap (λ (x : View). x.taken) h.2.2)
 
 took_one : (C : ℕ) (old new : View) (op : Op) (t : Ticket) (row : Row) → row.ticket ≡ t → TakeKept C old op (Taken t) new → TookRows old new (row ∷ [])
 took_one C old new op t row e h =
@@ -243,30 +259,30 @@ went_one bench may keeps C old new op t h i kept rows fails = record {
   fault = ran_fault may keeps C bench.plan old new op t h.fault i.fault kept fails;
   rows = ran_rows bench keeps C old new op t h.rows.items i.rows.items h.fault i.fault kept rows;
   pass = λ k. take_only C old op (Taken t) new (kept k);
+  takes = λ k. takes_one bench old new t h.rows.items i.rows.items h.fault i.fault (taken_last C old new op t (kept k))
+      (none_second (h.fault ≡ None) (AddsRow bench t h.rows.items i.rows.items) i.fault rows) fails;
 }
-
-none_second : (A : Type 0) (B : Type 0) (g : Option BenchFault) → IfNone g (A × B) → IfNone g B
-none_second A B None p = p.1
-none_second A B (Some e) p = tt
 
 -- what a worker answers
 pub record Answers (bench : BenchFields) (may keeps : Bool) (old new : View) (outcome : Result (Vec Row Global) BenchFault) : Type 0 where
   pub verdicts : IfOk outcome (λ rows. AreVerdicts bench rows.items)
   pub refused : IfErr outcome (IsNoWork may keeps bench.plan old.counts)
   pub records : keeps ≡ true → IfOk outcome (λ rows. TookRows old new rows.items)
+  pub stranger : keeps ≡ true → IfErr outcome (NamesTaken bench.plan old new)
 
 answered : (bench : BenchFields) (may keeps : Bool) (old new : View) (empty : List Row) (rows : Vec Row Global) (f : Option BenchFault)
     (outcome : Result (Vec Row Global) BenchFault) → empty ≡ [] → IfSome f (IsNoWork may keeps bench.plan old.counts) → IfNone f (Adds bench keeps old new empty rows.items)
-    → MatchOption f (outcome ≡ Ok rows) (λ e. outcome ≡ Err e) → Answers bench may keeps old new outcome
-answered bench may keeps old new empty rows None outcome z s n out =
+    → (keeps ≡ true → IfSome f (NamesTaken bench.plan old new)) → MatchOption f (outcome ≡ Ok rows) (λ e. outcome ≡ Err e) → Answers bench may keeps old new outcome
+answered bench may keeps old new empty rows None outcome z s n names out =
     let same : rows.items ≡ n.extra = n.added ∙ ap (λ (l : List Row). l ++ n.extra) z in
     subst (Answers bench may keeps old new) (sym out) (record {
       verdicts = subst (AreVerdicts bench) (sym same) n.verdicts;
       refused = tt;
       records = λ k. subst (TookRows old new) (sym same) (n.took k);
+      stranger = λ k. tt;
     })
-answered bench may keeps old new empty rows (Some e) outcome z s n out =
-    subst (Answers bench may keeps old new) (sym out) (record { verdicts = tt; refused = s; records = λ k. tt })
+answered bench may keeps old new empty rows (Some e) outcome z s n names out =
+    subst (Answers bench may keeps old new) (sym out) (record { verdicts = tt; refused = s; records = λ k. tt; stranger = names })
 
 pub answers : (bench : BenchFields) (may keeps : Bool) (old new : View) (empty : Gathered) (h : Gathered) (outcome : Result (Vec Row Global) BenchFault)
     → empty.rows.items ≡ [] → empty.fault ≡ None → Went bench may keeps old new empty h → MatchOption h.fault (outcome ≡ Ok h.rows) (λ e. outcome ≡ Err e)
@@ -274,7 +290,8 @@ pub answers : (bench : BenchFields) (may keeps : Bool) (old new : View) (empty :
 answers bench may keeps old new empty h outcome z none went out =
     answered bench may keeps old new empty.rows.items h.rows h.fault outcome z
     (subst (λ f. IfSome h.fault (λ e. MatchOption f (IsNoWork may keeps bench.plan old.counts e) (λ d. e ≡ d))) none went.fault)
-    (none_second (empty.fault ≡ None) (Adds bench keeps old new empty.rows.items h.rows.items) h.fault went.rows) out
+    (none_second (empty.fault ≡ None) (Adds bench keeps old new empty.rows.items h.rows.items) h.fault went.rows)
+    (λ k. named_taken bench.plan old new empty.fault h.fault none (went.takes k)) out
 
 -- there was no fault before
 pub first_fault : (f : Option BenchFault) (X : Type 0) (P : BenchFault → Type 0) → is_some f ≡ false → X → MatchOption f X P

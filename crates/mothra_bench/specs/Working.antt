@@ -1,5 +1,7 @@
 -- What a worker does with its pass, and what it answers.
-use Rattle.std.specs.Prelude.{◌≡◌, ℕ, ◌-◌, ◌≤◌, ⊤, Bool, true, List, ◌++◌, None, IfSome, IfNone, MatchOption}
+use Rattle.std.specs.Prelude.{◌≡◌, ℕ, ◌-◌, ◌≤◌, ⊤, Bool, true, List, ◌∷◌, ◌++◌, All}
+use Rattle.std.specs.Prelude.{Vec, Option, None, Result, IfOk, IfErr, IfSome, IfNone, MatchOption}
+use Rattle.std.specs.declared.alloc.Global.{Global}
 use Rattle.mothra_codes.specs.declared.op.Op.{Op}
 use Rattle.mothra_codes.specs.Op.{index}
 use Rattle.mothra_codes.specs.declared.ticket.Ticket.{Ticket}
@@ -48,6 +50,44 @@ IsNoWork may keeps plan counts (fault.Stranger ticket) = ¬ (Has plan ticket) ×
 IsNoWork may keeps plan counts fault.Stalled = may ≡ true
 IsNoWork may keeps plan counts _ = ⊥
 
+-- the first of the tickets that the plan does not have
+pub record IsFirstUnknown (plan : PlanFields) (tickets : List Ticket) (ticket : Ticket) : Type 0 where
+  pub before : List Ticket
+  pub after : List Ticket
+  pub cut : tickets ≡ before ++ ticket ∷ after
+  pub known : All (Has plan) before
+  pub unknown : ¬ (Has plan ticket)
+
+-- a fault that names a ticket names the first of them that the plan does not have
+abbrev pub NamesFirst : PlanFields → List Ticket → BenchFault → Type 0
+NamesFirst plan tickets (fault.Stranger ticket) = IsFirstUnknown plan tickets ticket
+NamesFirst plan tickets _ = ⊤
+
+-- the same of the tickets that a pass took in between
+pub record NamesTaken (plan : PlanFields) (old new : View) (fault : BenchFault) : Type 0 where
+  pub tickets : List Ticket
+  pub taken : new.taken ≡ old.taken ++ tickets
+  pub first : NamesFirst plan tickets fault
+
+-- The contract of `work`: what a worker makes of its pass, and what it answers.
+pub record Works (may keeps parts : Bool) (bench : BenchFields) (old new : View)
+    (outcome : Result (Vec Row Global) BenchFault) : Type 0 where
+  pub verdicts : IfOk outcome (λ rows. AreVerdicts bench rows.items)
+  pub refused : IfErr outcome (IsNoWork may keeps bench.plan old.counts)
+  pub part : parts ≡ true → new.part ≡ old.part
+  pub pass : keeps ≡ true → OnlyTook old new
+  pub records : keeps ≡ true → IfOk outcome (λ rows. TookRows old new rows.items)
+  pub stranger : keeps ≡ true → IfErr outcome (NamesTaken bench.plan old new)
+  pub over : keeps ≡ true → IfOk outcome (λ _. AreOver new)
+
+-- the tickets that the pass took: without a fault the plan has them all, and the first fault names the first that it
+-- does not have
+pub record Takes (plan : PlanFields) (old new : View) (before after : Option BenchFault) : Type 0 where
+  pub tickets : List Ticket
+  pub taken : new.taken ≡ old.taken ++ tickets
+  pub known : IfNone after (All (Has plan) tickets)
+  pub first : IfSome after (λ fault. IfNone before (NamesFirst plan tickets fault))
+
 -- some rows were added, each with its verdict, and where records are kept the pass took their tickets
 pub record Adds (bench : BenchFields) (keeps : Bool) (old new : View) (rows more : List Row) : Type 0 where
   pub extra : List Row
@@ -60,3 +100,4 @@ pub record Went (bench : BenchFields) (may keeps : Bool) (old new : View) (befor
   pub fault : IfSome after.fault (λ fault. MatchOption before.fault (IsNoWork may keeps bench.plan old.counts fault) (λ first. fault ≡ first))
   pub rows : IfNone after.fault ((before.fault ≡ None) × Adds bench keeps old new before.rows.items after.rows.items)
   pub pass : keeps ≡ true → OnlyTook old new
+  pub takes : keeps ≡ true → Takes bench.plan old new before.fault after.fault

@@ -4,7 +4,7 @@ ghost use Rattle.std.specs.Prelude.{◌≡◌, ◌⊎◌, true, IfOk, IfErr, IfS
 ghost use Rattle.mothra_codes.specs.declared.op.Op.{Op as OpModel};
 ghost use Rattle.mothra_bench.specs.Bench.{BenchFields};
 ghost use Rattle.mothra_bench.specs.Gathered.{AreVerdicts};
-ghost use Rattle.mothra_bench.specs.Working.{AreOver, IsNoWork, OnlyTook, TookRows, Went};
+ghost use Rattle.mothra_bench.specs.Working.{AreOver, IsNoWork, NamesTaken, OnlyTook, TookRows, Went};
 ghost use Rattle.mothra_exchange.specs.Sharing.{IsOver};
 
 use crate::bench::Bench;
@@ -120,6 +120,8 @@ pub fn work<G: Gate, R: Wait>(
     ensures part { G.needs_parts ≡ true → (G.view result.0).part ≡ (G.view pass).part }
     ensures pass { G.keeps_records ≡ true → OnlyTook (G.view pass) (G.view result.0) }
     ensures records { G.keeps_records ≡ true → IfOk result.1 (λ rows. TookRows (G.view pass) (G.view result.0) rows.items) }
+    ensures stranger { G.keeps_records ≡ true
+        → IfErr result.1 (NamesTaken bench.now.plan (G.view pass) (G.view result.0)) }
     ensures over { G.keeps_records ≡ true → IfOk result.1 (λ _. AreOver (G.view result.0)) }
 {
     let found = Verdicts::of(alloc, bench).ok();

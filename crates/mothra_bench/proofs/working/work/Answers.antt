@@ -41,6 +41,7 @@ returns-in-Finished g c =
       part = λ parts. c.take_round.ensures.part parts ∙ c.loop.invariant.3 parts;
       pass = went.pass;
       records = answer.records;
+      stranger = answer.stranger;
       over = λ keeps.
           let all = (λ (rows : Vec Row Global). AreOver new) in
           ⊎_elim (λ is. any_rows (AreOver new) c.outcome.result (c.take_round.ensures.over keeps is))
