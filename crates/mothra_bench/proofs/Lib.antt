@@ -22,6 +22,7 @@ mod SharedOperators
 mod TakenTickets
 mod WorkerSteps
 mod WorkerRows
+mod DriveEnds
 mod ReportEntries
 mod CompleteRows
 mod Crossings

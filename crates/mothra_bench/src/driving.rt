@@ -1,10 +1,15 @@
 //! Workers and feeders, started, joined, and their passes merged.
 
-ghost use Rattle.std.specs.Prelude.{◌≡◌, ◌⊎◌, ◌+◌, ◌++◌, ◌<◌, ◌≤◌, [], true, None, All, IfOk, IfErr, IfSome, IfNone, IsSome, length};
+ghost use Rattle.std.specs.Prelude.{◌≡◌, ◌⊎◌, ◌+◌, ◌++◌, ◌<◌, ◌≤◌, List, [], true, false, All, length};
+ghost use Rattle.std.specs.Prelude.{None, IfOk, IfErr, IfSome, IfNone, IsSome, MatchOption};
+ghost use Rattle.mothra_exchange.specs.View.{whole_part};
 ghost use Rattle.mothra_exchange.specs.declared.view.View.{View};
-ghost use Rattle.mothra_bench.specs.Driving.{AreComplete, AreHandedOnce, Drives, HasShares, IsNoDrive, IsShare, IsWhole, Joins, KeepsFed, OnlySplit};
-ghost use Rattle.mothra_bench.specs.Feeding.{AreFed, IsReady, IsStalled};
-ghost use Rattle.mothra_bench.specs.Gathered.{AreVerdicts, tickets_in};
+ghost use Rattle.mothra_bench.specs.Closing.{AreClosed};
+ghost use Rattle.mothra_bench.specs.Driving.{AreComplete, AreHandedOnce, AreJoined, Drives, EndsWhole, HasShares};
+ghost use Rattle.mothra_bench.specs.Driving.{IsDriven, IsNoDrive, IsNoStart, IsShare, IsWhole, Joins, KeepsFed, OnlySplit};
+ghost use Rattle.mothra_bench.specs.Driving.{WorkerEnd, answer_of};
+ghost use Rattle.mothra_bench.specs.Feeding.{AreFed, Feeds, IsReady, IsStalled};
+ghost use Rattle.mothra_bench.specs.Gathered.{AreVerdicts, row_list, tickets_in};
 ghost use Rattle.mothra_bench.specs.Working.{AreOver};
 
 use crate::bench::Bench;
@@ -52,18 +57,20 @@ where
         × (G.needs_parts ≡ true → (G.view pass.old).part ≡ (G.view pass.new).part + crew.now.workers)) }
     ensures records { G.keeps_records ≡ true → OnlySplit (G.view pass.old) (G.view pass.new) }
     ensures refused { IfSome result.1 (IsNoDrive G.may_give_up G.keeps_records crew.now.bench.now.plan (G.view pass.old).counts) }
+    ensures which { IfSome result.1 (IsNoStart crew.now.workers (length result.0.items)) }
+    ensures memory { result.1 ≡ Some BenchFault.Memory → pass.new ≡ pass.old }
 {
     let Ok(mut started) = Vec::with_capacity(crew.alloc, crew.workers as usize) else {
         return (Vec::new(crew.alloc), Some(BenchFault::Memory));
     };
     for _ in 0..crew.workers {
         let own = crew.gate.split(pass);
-        let Some(worker) = start_worker(scope, crew.rt, crew.alloc, crew.gate, own, crew.bench)
-        else {
-            return (started, Some(BenchFault::Thread));
+        let worker = match start_worker(scope, crew.rt, crew.alloc, crew.gate, own, crew.bench) {
+            Ok(worker) => worker,
+            Err(fault) => return (started, Some(fault)),
         };
         let Ok(()) = started.push(worker) else {
-            return (started, Some(BenchFault::Memory));
+            unreachable!()
         };
     }
     (started, None)
@@ -93,13 +100,18 @@ where
         × (G.needs_parts ≡ true → (G.view pass.old).part ≡ (G.view pass.new).part + 1)
         × (G.keeps_records ≡ true → OnlySplit (G.view pass.old) (G.view pass.new))) }
     ensures refused { IfSome fault.new (IsNoDrive G.may_give_up G.keeps_records crew.now.bench.now.plan (G.view pass.old).counts) }
+    ensures kept { IfSome fault.old (λ first. (fault.new ≡ Some first) × (result ≡ None)) }
+    ensures thread { IfNone fault.old
+        (MatchOption result (fault.new ≡ Some BenchFault.Thread) (λ _. fault.new ≡ None)) }
+    ensures closed { G.keeps_records ≡ true → G.may_give_up ≡ false
+        → IfNone result (AreClosed ops.now (G.view pass.new)) }
 {
     if fault.is_none() {
         let own = crew.gate.split(pass);
-        if let Some(feeder) = start_feeder(scope, crew.rt, crew.gate, own, ops, crew.bench.plan()) {
-            return Some(feeder);
+        match start_feeder(scope, crew.rt, crew.gate, own, ops, crew.bench.plan()) {
+            Ok(feeder) => return Some(feeder),
+            Err(refused) => *fault = Some(refused),
         }
-        *fault = Some(BenchFault::Thread);
     }
     close_each(crew.rt, crew.gate, pass, ops);
     None
@@ -124,6 +136,9 @@ fn join_started<G: Gate, R: Threads>(
         (λ feeder. (other : View) × Joins (G.view pass.old) other (G.view pass.new)
         × (other.counts ≡ (G.view feeder.promise.pass.value).counts)
         × (IsReady feeder.promise.plan.now (G.view feeder.promise.pass.value) → IfOk result (λ _. AreFed feeder.promise.ops.now other))) }
+    ensures feeds { MatchOption feeder.entry (result ≡ Ok tt) (λ feeder. (back : View)
+        × Feeds G.may_give_up G.keeps_records G.needs_parts feeder.promise.plan.now feeder.promise.ops.now
+        (G.view feeder.promise.pass.value) back result) }
 {
     match feeder {
         Some(feeder) => join_feeder(crew.rt, crew.gate, pass, feeder),
@@ -131,11 +146,13 @@ fn join_started<G: Gate, R: Threads>(
     }
 }
 
-/// Waits for the workers, merges their passes, and gives all rows, or the first fault in their order.
+/// Waits for the workers, merges their passes, and gives all rows, or the first fault in their order. Want of memory
+/// for the rows of all is noted as the drive's own fault, unless it has one.
 fn join_workers<G: Gate, R: Threads>(
     crew: &Crew<'_, G, R>,
     pass: &mut G::Pass,
     workers: Vec<Worker<'_, G>>,
+    fault: &mut Option<BenchFault>,
 ) -> Result<Vec<Row>, BenchFault>
 where
     G::Pass: Drop,
@@ -150,13 +167,34 @@ where
         → IfOk result (λ rows. (G.view pass.new).taken ≡ (G.view pass.old).taken ++ tickets_in rows.items) }
     ensures fed { G.keeps_records ≡ true → KeepsFed (G.view pass.old) (G.view pass.new) }
     ensures over { G.keeps_records ≡ true → IfOk result (λ _. (workers.entry.items ≡ []) ⊎ AreOver (G.view pass.new)) }
+    ensures joined { (ends : List WorkerEnd) × (length ends ≡ length workers.entry.items)
+        × AreJoined G.may_give_up G.keeps_records G.needs_parts crew.now.bench.now (G.view pass.old).counts
+        (G.view pass.old) (G.view pass.new) fault.new (row_list result) ends }
+    ensures none { IfNone fault.new (fault.old ≡ None) }
+    ensures memory { IfSome fault.new
+        (λ own. MatchOption fault.old (own ≡ BenchFault.Memory) (λ first. own ≡ first)) }
 {
     let mut gathered = Gathered::new(crew.alloc);
     for worker in workers {
         let outcome = join_worker(crew.rt, crew.gate, crew.bench, pass, worker);
-        gathered.add(outcome);
+        gathered.add(outcome, fault);
     }
     gathered.outcome()
+}
+
+/// The drive's own fault; else that of the first thread that has one, the feeders before the workers; else all rows.
+fn answer(
+    own: Option<BenchFault>,
+    first: Result<(), BenchFault>,
+    second: Result<(), BenchFault>,
+    outcome: Result<Vec<Row>, BenchFault>,
+) -> Result<Vec<Row>, BenchFault>
+    ensures { result ≡ answer_of own first second outcome }
+{
+    match own {
+        Some(fault) => Err(fault),
+        None => first.and(second).and(outcome),
+    }
 }
 
 /// Starts the threads, joins them all, and merges their passes.
@@ -178,14 +216,8 @@ where
     let other = start_or_close(scope, crew, &mut pass, crew.back, &mut fault);
     let first = join_started(crew, &mut pass, one);
     let second = join_started(crew, &mut pass, other);
-    let gathered = join_workers(crew, &mut pass, workers);
-    if let Some(fault) = fault {
-        return (pass, Err(fault));
-    }
-    if let Err(fault) = first.and(second) {
-        return (pass, Err(fault));
-    }
-    (pass, gathered)
+    let gathered = join_workers(crew, &mut pass, workers, &mut fault);
+    (pass, answer(fault, first, second, gathered))
 }
 
 /// The same, in a scope that ends with the last thread.
@@ -213,9 +245,10 @@ where
 /// Runs the mutants of a bench's plan in so many workers, through a gate that two feeders fill: the first with the operators from AAR to DSA,
 /// the second with those from GLR to UOI. It joins all, merges their passes, which are split from the caller's, and finishes.
 ///
-/// Where there is no memory, or a thread cannot begin, no further one is started, the operators of a feeder that was not started are closed, and
-/// the rest is joined; the answer is then B1 or B2. Else it is the fault of the first thread that has one: of the feeders, then of the workers,
-/// in their order.
+/// Where there is no memory, or a thread cannot begin, no further one is started, the operators of a feeder that was
+/// not started are closed, and the rest is joined; the answer is then B1 or B2. It is B1 where there is no memory for
+/// the rows of all. Else it is the fault of the first thread that has one: of the feeders, then of the workers, in
+/// their order.
 pub fn drive<G: Gate + Sync, R: Threads + Wait + Sync>(
     rt: &R,
     alloc: Global,
@@ -234,6 +267,9 @@ where
     ensures records { G.keeps_records ≡ true → IfOk result (λ driven. AreHandedOnce driven.1 (tickets_in driven.0.items)) }
     ensures complete { G.needs_parts ≡ true → G.keeps_records ≡ true → IsWhole bench.now.plan (G.view pass)
         → IfOk result (λ driven. AreComplete bench.now.plan driven.1 (tickets_in driven.0.items)) }
+    ensures order { IsDriven G.may_give_up G.keeps_records G.needs_parts bench.now workers (G.view pass).counts result }
+    ensures whole { G.needs_parts ≡ true → G.keeps_records ≡ true → (G.view pass).part ≡ whole_part
+        → IfOk result (λ driven. EndsWhole G.bound (G.view pass) driven.0.items driven.1) }
 {
     let all = Op::ALL;
     let (front, back) = all.split_at(11);

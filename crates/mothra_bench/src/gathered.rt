@@ -2,7 +2,7 @@
 
 ghost use Rattle.std.specs.Prelude.{◌≡◌, ◌∷◌, ◌++◌, [], None, Some, Ok, Err, IfOk, IfErr, IfSome, IfNone, IsOkAnd, MatchOption, MatchResult};
 ghost use Rattle.mothra_bench.specs.Bench.{BenchFields};
-ghost use Rattle.mothra_bench.specs.Gathered.{AddsRow};
+ghost use Rattle.mothra_bench.specs.Gathered.{AddsRow, gathered_rows, joined_rows, row_list};
 ghost use Rattle.mothra_bench.specs.Verdict.{IsNoVerdict, IsVerdict};
 ghost use Rattle.mothra_bench.specs.declared.fault.BenchFault.TheVariants.{Memory};
 
@@ -57,11 +57,20 @@ impl Gathered {
         }
     }
 
-    /// Appends the rows of a worker, or notes its fault, unless there was one.
-    pub(crate) fn add(&mut self, outcome: Result<Vec<Row>, BenchFault>)
+    /// Appends the rows of a worker, or notes its fault, unless there was one. Want of memory for the rows is noted as
+    /// a fault of the caller's own, too, unless it has one.
+    pub(crate) fn add(
+        &mut self,
+        outcome: Result<Vec<Row>, BenchFault>,
+        own: &mut Option<BenchFault>,
+    )
         ensures rows { IfNone self.new.fault ((self.old.fault ≡ None) × IsOkAnd outcome (λ rows. self.new.rows.items ≡ self.old.rows.items ++ rows.items)) }
         ensures fault { IfSome self.new.fault
             (λ fault. MatchOption self.old.fault (MatchResult outcome (λ rows. fault ≡ Memory) (λ other. fault ≡ other)) (λ first. fault ≡ first)) }
+        ensures joined { IfNone own.new
+            (gathered_rows self.new ≡ joined_rows (gathered_rows self.old) (row_list outcome)) }
+        ensures own { IfNone own.new (own.old ≡ None) }
+        ensures memory { IfSome own.new (λ fault. MatchOption own.old (fault ≡ Memory) (λ first. fault ≡ first)) }
     {
         if self.fault.is_some() {
             return;
@@ -70,6 +79,7 @@ impl Gathered {
             Ok(mut rows) => {
                 if self.rows.append(&mut rows).is_err() {
                     self.fault = Some(BenchFault::Memory);
+                    *own = own.or(Some(BenchFault::Memory));
                 }
             }
             Err(fault) => self.fault = Some(fault),

@@ -1,11 +1,11 @@
 //! Workers and feeders in threads of their own: what each promises, how it is started and joined.
 
-ghost use Rattle.std.specs.Prelude.{◌≡◌, ◌+◌, ◌++◌, [], true, IfOk, IfErr, IfSome};
+ghost use Rattle.std.specs.Prelude.{◌≡◌, ◌+◌, ◌++◌, [], true, IfOk, IfErr};
 ghost use Rattle.mothra_exchange.specs.declared.view.View.{View};
 ghost use Rattle.mothra_bench.specs.Driving.{IsNew, Joins, KeepsFed};
-ghost use Rattle.mothra_bench.specs.Feeding.{AreFed, IsReady, IsStalled, OnlyGave};
+ghost use Rattle.mothra_bench.specs.Feeding.{AreFed, Feeds, IsReady, IsStalled};
 ghost use Rattle.mothra_bench.specs.Gathered.{AreVerdicts, tickets_in};
-ghost use Rattle.mothra_bench.specs.Working.{AreOver, IsNoWork, OnlyTook, TookRows};
+ghost use Rattle.mothra_bench.specs.Working.{AreOver, IsNoWork, Works};
 
 use crate::bench::Bench;
 use crate::fault::BenchFault;
@@ -31,12 +31,7 @@ pub(crate) struct WorkerPromise<'a, G: Gate> {
 
 impl<'a, G: Gate> Promise<(G::Pass, Result<Vec<Row>, BenchFault>)> for WorkerPromise<'a, G> {
     ghost kept_by = { λ p r. G.is_pass p.gate.now r.0
-        × IfOk r.1 (λ rows. AreVerdicts p.bench.now rows.items)
-        × IfErr r.1 (IsNoWork G.may_give_up G.keeps_records p.bench.now.plan (G.view p.pass.value).counts)
-        × (G.needs_parts ≡ true → (G.view r.0).part ≡ (G.view p.pass.value).part)
-        × (G.keeps_records ≡ true → OnlyTook (G.view p.pass.value) (G.view r.0))
-        × (G.keeps_records ≡ true → IfOk r.1 (λ rows. TookRows (G.view p.pass.value) (G.view r.0) rows.items))
-        × (G.keeps_records ≡ true → IfOk r.1 (λ _. AreOver (G.view r.0))) };
+        × Works G.may_give_up G.keeps_records G.needs_parts p.bench.now (G.view p.pass.value) (G.view r.0) r.1 };
 }
 
 /// What a feeder promises: the contract of `feed`.
@@ -51,10 +46,8 @@ pub(crate) struct FeederPromise<'a, G: Gate> {
 
 impl<'a, G: Gate> Promise<(G::Pass, Result<(), BenchFault>)> for FeederPromise<'a, G> {
     ghost kept_by = { λ p r. G.is_pass p.gate.now r.0
-        × IfErr r.1 (IsStalled G.may_give_up)
-        × (G.needs_parts ≡ true → (G.view r.0).part ≡ (G.view p.pass.value).part)
-        × (G.keeps_records ≡ true → OnlyGave (G.view p.pass.value) (G.view r.0))
-        × (G.keeps_records ≡ true → IsReady p.plan.now (G.view p.pass.value) → IfOk r.1 (λ _. AreFed p.ops.now (G.view r.0))) };
+        × Feeds G.may_give_up G.keeps_records G.needs_parts p.plan.now p.ops.now
+        (G.view p.pass.value) (G.view r.0) r.1 };
 }
 
 /// A worker in its thread.
@@ -69,7 +62,7 @@ pub(crate) type Feeder<'a, G> = PromisedHandle<
     FeederPromise<'a, G>,
 >;
 
-/// Starts a worker; none where no thread can begin.
+/// Starts a worker; B2 where no thread can begin.
 pub(crate) fn start_worker<'s, E, G: Gate + Sync, R: Threads + Wait + Sync>(
     scope: &Scope<'s, E>,
     rt: &'s R,
@@ -77,12 +70,13 @@ pub(crate) fn start_worker<'s, E, G: Gate + Sync, R: Threads + Wait + Sync>(
     gate: &'s G,
     pass: G::Pass,
     bench: &'s Bench,
-) -> Option<Worker<'s, G>>
+) -> Result<Worker<'s, G>, BenchFault>
 where
     G::Pass: Send + Drop + 's,
     requires { G.is_pass gate.now pass }
-    ensures { IfSome result
+    ensures started { IfOk result
         (λ worker. (worker.promise.gate.now ≡ gate.now) × (worker.promise.bench.now ≡ bench.now) × (worker.promise.pass.value ≡ pass)) }
+    ensures thread { IfErr result (λ fault. fault ≡ BenchFault.Thread) }
 {
     let promise = WorkerPromise {
         gate,
@@ -90,12 +84,12 @@ where
         pass: Snapshot::of(&pass),
     };
     match scope.spawn_with(promise, move || work(rt, alloc, gate, pass, bench)) {
-        Ok(worker) => Some(worker),
-        Err(_) => None,
+        Ok(worker) => Ok(worker),
+        Err(_) => Err(BenchFault::Thread),
     }
 }
 
-/// Starts a feeder; none where no thread can begin.
+/// Starts a feeder; B2 where no thread can begin.
 pub(crate) fn start_feeder<'s, E, G: Gate + Sync, R: Threads + Wait + Sync>(
     scope: &Scope<'s, E>,
     rt: &'s R,
@@ -103,12 +97,13 @@ pub(crate) fn start_feeder<'s, E, G: Gate + Sync, R: Threads + Wait + Sync>(
     pass: G::Pass,
     ops: &'s [Op],
     plan: &'s Plan,
-) -> Option<Feeder<'s, G>>
+) -> Result<Feeder<'s, G>, BenchFault>
 where
     G::Pass: Send + Drop + 's,
     requires { G.is_pass gate.now pass }
-    ensures { IfSome result (λ feeder. (feeder.promise.gate.now ≡ gate.now) × (feeder.promise.ops.now ≡ ops.now)
+    ensures started { IfOk result (λ feeder. (feeder.promise.gate.now ≡ gate.now) × (feeder.promise.ops.now ≡ ops.now)
         × (feeder.promise.plan.now ≡ plan.now) × (feeder.promise.pass.value ≡ pass)) }
+    ensures thread { IfErr result (λ fault. fault ≡ BenchFault.Thread) }
 {
     let promise = FeederPromise {
         gate,
@@ -117,8 +112,8 @@ where
         pass: Snapshot::of(&pass),
     };
     match scope.spawn_with(promise, move || feed(rt, gate, pass, ops, plan)) {
-        Ok(feeder) => Some(feeder),
-        Err(_) => None,
+        Ok(feeder) => Ok(feeder),
+        Err(_) => Err(BenchFault::Thread),
     }
 }
 
@@ -139,6 +134,8 @@ pub(crate) fn join_feeder<G: Gate, R: Threads>(
         × (other.counts ≡ (G.view feeder.entry.promise.pass.value).counts)
         × (IsReady feeder.entry.promise.plan.now (G.view feeder.entry.promise.pass.value)
         → IfOk result (λ _. AreFed feeder.entry.promise.ops.now other)) }
+    ensures feeds { (back : View) × Feeds G.may_give_up G.keeps_records G.needs_parts feeder.entry.promise.plan.now
+        feeder.entry.promise.ops.now (G.view feeder.entry.promise.pass.value) back result }
 {
     let (other, outcome) = feeder.join(rt);
     gate.merge(pass, other);
@@ -164,6 +161,10 @@ pub(crate) fn join_worker<G: Gate, R: Threads>(
     ensures still_over { G.keeps_records ≡ true → AreOver (G.view pass.old) → AreOver (G.view pass.new) }
     ensures records { G.keeps_records ≡ true
         → IfOk result (λ rows. (G.view pass.new).taken ≡ (G.view pass.old).taken ++ tickets_in rows.items) }
+    ensures works { (back : View)
+        × Works G.may_give_up G.keeps_records G.needs_parts bench.now
+        (G.view worker.entry.promise.pass.value) back result
+        × (G.keeps_records ≡ true → (G.view pass.new).taken ≡ (G.view pass.old).taken ++ back.taken) }
 {
     let (other, outcome) = worker.join(rt);
     gate.merge(pass, other);

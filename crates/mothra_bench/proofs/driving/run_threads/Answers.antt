@@ -1,16 +1,25 @@
-use Rattle.std.proofs.Common.{◌≡◌, ◌⊎◌, ◌++◌, [], true, length, ap, sym, ◌∙◌, ⊎_elim, arith}
+use Rattle.std.proofs.Common.{◌≡◌, ◌⊎◌, ◌++◌, ℕ, [], true, Ok, None, length, ap, sym, ◌∙◌, subst, ⊎_elim, arith}
 use Rattle.std.proofs.lemmas.Result.{IfErr-weaker, IfOk-weaker}
 use Rattle.mothra_exchange.specs.View.{whole_part}
-use Rattle.mothra_bench.specs.Driving.{IsDone, IsNoDrive}
-use Rattle.mothra_bench.specs.Gathered.{tickets_in}
+use Rattle.mothra_bench.specs.Driving.{AreStarted, Drives, IsDone, IsNoDrive, Run, all_rows, answer_of, feeder_outcome, taken_by}
+use Rattle.mothra_bench.specs.Gathered.{AreVerdicts, row_list, tickets_in}
 use Rattle.mothra_bench.specs.Working.{AreOver}
-use Rattle.mothra_bench.proofs.JoinedPasses.{all_done, both_ok, feeder_fed, split_on}
-use Rattle.mothra_bench.proofs.WorkerRows.{ok_more, same_no_drive, three_of, told_none}
+use Rattle.mothra_bench.proofs.DriveEnds.{all_first, answer_list, answer_same, err_answer, feeder_end, joins, ok_answer, own_told, same_worked, stalled_told, starts, where_none}
+use Rattle.mothra_bench.proofs.JoinedPasses.{all_done, feeder_fed, split_on}
+use Rattle.mothra_bench.proofs.WorkerRows.{ok_more, same_no_drive, three_of}
+use Rattle.mothra_bench.proofs.WorkerSteps.{any_rows}
 use Rattle.mothra_bench.proofs.driving.run_threads.Goals as goal
 
 pub returns-clause-drives : goal.returns-clause-drives
 returns-clause-drives g c =
-    let plan = c.args.crew.now.bench.now.plan in
+    let may = g.G.Gate.may_give_up in
+    let keeps = g.G.Gate.keeps_records in
+    let parts = g.G.Gate.needs_parts in
+    let bench = c.args.crew.now.bench.now in
+    let plan = bench.plan in
+    let front_ops = c.args.crew.now.front.now in
+    let back_ops = c.args.crew.now.back.now in
+    let count = c.args.crew.now.workers in
     let first = g.G.Gate.view c.args.pass in
     let crewed = g.G.Gate.view c.start_workers-workers.new.pass in
     let between = g.G.Gate.view c.start_or_close-one.new.pass in
@@ -18,43 +27,82 @@ returns-clause-drives g c =
     let joined = g.G.Gate.view c.join_started-first.new.pass in
     let both = g.G.Gate.view c.join_started-second.new.pass in
     let last = g.G.Gate.view c.join_workers-gathered.new.pass in
-    let counts : g.G.Gate.keeps_records ≡ true → both.counts ≡ first.counts =
-    λ keeps. (c.join_started-second.ensures.records keeps).0 ∙ ((c.join_started-first.ensures.records keeps).0
-    ∙ ((c.start_or_close-other.ensures.records keeps).0 ∙ ((c.start_or_close-one.ensures.records keeps).0 ∙ (c.start_workers-workers.ensures.records keeps).counts))) in
-    let taken : g.G.Gate.keeps_records ≡ true → both.taken ≡ first.taken =
-    λ keeps. (c.join_started-second.ensures.records keeps).1 ∙ ((c.join_started-first.ensures.records keeps).1
-    ∙ ((c.start_or_close-other.ensures.records keeps).1 ∙ ((c.start_or_close-one.ensures.records keeps).1 ∙ (c.start_workers-workers.ensures.records keeps).taken))) in
-    record {
-      verdicts = c.join_workers-gathered.ensures.verdicts;
-      refused = IfErr-weaker c.join_workers-gathered.result (IsNoDrive g.G.Gate.may_give_up g.G.Gate.keeps_records plan both.counts)
-          (IsNoDrive g.G.Gate.may_give_up g.G.Gate.keeps_records plan first.counts)
-          (λ fault no. same_no_drive g.G.Gate.may_give_up g.G.Gate.keeps_records plan both.counts first.counts fault counts no) c.join_workers-gathered.ensures.refused;
-      records = λ keeps. IfOk-weaker c.join_workers-gathered.result (λ rows. last.taken ≡ both.taken ++ tickets_in rows.items)
-          (λ rows. last.taken ≡ first.taken ++ tickets_in rows.items) (λ rows e. e ∙ ap (λ l. l ++ tickets_in rows.items) (taken keeps))
-          (c.join_workers-gathered.ensures.records keeps);
-      done = λ parts keeps most shared whole.
-          let second = told_none _ c.start_or_close-other.new.fault c.start_or_close-other.ensures.started c.in_default.not-Some in
-          let one = told_none _ c.start_or_close-one.new.fault c.start_or_close-one.ensures.started (λ x e. let none = second.0 in cc) in
-          let crew = told_none _ c.start_workers-workers.result.1 c.start_workers-workers.ensures.all (λ x e. let none = one.0 in cc) in
-          let ok = both_ok c.join_started-first.result c.join_started-second.result c.in_default-and.field-0 (sym c.and.ensures ∙ c.in_default-and.is) in
-          let front = three_of _ _ _ c.start_or_close-one.result one.1 c.start_or_close-one.ensures.feeder (c.join_started-first.ensures.joined keeps)
-          (c.join_started-first.ensures.part parts) in
-          let back = three_of _ _ _ c.start_or_close-other.result second.1 c.start_or_close-other.ensures.feeder (c.join_started-second.ensures.joined keeps)
-          (c.join_started-second.ensures.part parts) in
-          let split = c.start_workers-workers.ensures.records keeps in
-          let again = one.3 keeps in
-          let all = split_on first crewed start split (split_on crewed between start again (second.3 keeps)) in
-          let fed = feeder_fed plan front.0.promise.plan.now c.args.crew.now.front.now front.0.promise.ops.now first crewed.counts
-          (g.G.Gate.view front.0.promise.pass.value) front.2.0 c.join_started-first.result whole split.counts front.1.2 front.1.1 (front.1.3.fresh keeps)
-          front.2.2 front.2.3 ok.0 in
-          let fed' = feeder_fed plan back.0.promise.plan.now c.args.crew.now.back.now back.0.promise.ops.now first between.counts
-          (g.G.Gate.view back.0.promise.pass.value) back.2.0 c.join_started-second.result whole (again.counts ∙ split.counts) back.1.2 back.1.1
-          (back.1.3.fresh keeps) back.2.2 back.2.3 ok.1 in
-          let part : last.part ≡ whole_part =
-          (let a = c.join_workers-gathered.ensures.part parts in let b = back.3 in let d = back.1.3.part parts in let e = front.3 in
-          let f = front.1.3.part parts in let h = second.2 parts in let i = one.2 parts in let j = crew.1 parts in let k = crew.0 in let l = whole.part in omega arith) in
-          ok_more ((c.start_workers-workers.result.0.items ≡ []) ⊎ AreOver last) (IsDone plan last) c.join_workers-gathered.result
-          (c.join_workers-gathered.ensures.over keeps) (λ way. all_done plan first start front.2.0 joined back.2.0 both last c.args.crew.now.front.now
-          c.args.crew.now.back.now whole all shared front.2.1 fed.0 fed.1 back.2.1 fed'.0 fed'.1 (c.join_workers-gathered.ensures.fed keeps) part
-          (⊎_elim (λ none. let long = ap (λ l. length l) none in let all' = crew.0 in absurd (omega arith)) (λ over. over) way));
-    }
+    let own = c.join_workers-gathered.new.fault in
+    let one = c.join_started-first.result in
+    let other = c.join_started-second.result in
+    let outcome = c.join_workers-gathered.result in
+    let crewed_counts : keeps ≡ true → crewed.counts ≡ first.counts = λ k. (c.start_workers-workers.ensures.records k).counts in
+    let between_counts : keeps ≡ true → between.counts ≡ first.counts = λ k. (c.start_or_close-one.ensures.records k).0 ∙ crewed_counts k in
+    let counts : keeps ≡ true → both.counts ≡ first.counts =
+    λ k. (c.join_started-second.ensures.records k).0 ∙ ((c.join_started-first.ensures.records k).0
+    ∙ ((c.start_or_close-other.ensures.records k).0 ∙ between_counts k)) in
+    let taken : keeps ≡ true → both.taken ≡ first.taken =
+    λ k. (c.join_started-second.ensures.records k).1 ∙ ((c.join_started-first.ensures.records k).1
+    ∙ ((c.start_or_close-other.ensures.records k).1 ∙ ((c.start_or_close-one.ensures.records k).1 ∙ (c.start_workers-workers.ensures.records k).taken))) in
+    let front_end = feeder_end c.start_or_close-one.result may keeps parts plan front_ops crewed.counts first.counts one
+    (λ feeder. feeder.promise.gate.now ≡ c.args.crew.now.gate.now) (λ feeder. feeder.promise.ops.now) (λ feeder. feeder.promise.plan.now)
+    (λ feeder. g.G.Gate.view feeder.promise.pass.value) crewed_counts c.start_or_close-one.ensures.feeder c.join_started-first.ensures.feeds in
+    let back_end = feeder_end c.start_or_close-other.result may keeps parts plan back_ops between.counts first.counts other
+    (λ feeder. feeder.promise.gate.now ≡ c.args.crew.now.gate.now) (λ feeder. feeder.promise.ops.now) (λ feeder. feeder.promise.plan.now)
+    (λ feeder. g.G.Gate.view feeder.promise.pass.value) between_counts c.start_or_close-other.ensures.feeder c.join_started-second.ensures.feeds in
+    let ends = c.join_workers-gathered.ensures.joined in
+    let run : Run = record { own = own; first = front_end.0; second = back_end.0; workers = ends.0 } in
+    let started : AreStarted count run own = joins count run c.start_or_close-other.new.fault own
+    (starts count (length c.start_workers-workers.result.0.items) run c.start_workers-workers.result.1 c.start_or_close-one.new.fault c.start_or_close-other.new.fault
+    c.start_or_close-one.result c.start_or_close-other.result ends.1 (all_first _ _ c.start_workers-workers.result.1 c.start_workers-workers.ensures.all) c.start_workers-workers.ensures.which c.start_or_close-one.ensures.kept
+    c.start_or_close-one.ensures.thread c.start_or_close-other.ensures.kept c.start_or_close-other.ensures.thread front_end.3 back_end.3)
+    c.join_workers-gathered.ensures.none c.join_workers-gathered.ensures.memory in
+    let none_at_last = where_none (c.start_or_close-other.new.fault ≡ None) own c.join_workers-gathered.ensures.none in
+    let second_of = λ (none : own ≡ None). where_none _ c.start_or_close-other.new.fault c.start_or_close-other.ensures.started (none_at_last none) in
+    let one_of = λ (none : own ≡ None). where_none _ c.start_or_close-one.new.fault c.start_or_close-one.ensures.started (second_of none).0 in
+    let crew_of = λ (none : own ≡ None). where_none _ c.start_workers-workers.result.1 c.start_workers-workers.ensures.all (one_of none).0 in
+    let part_of : parts ≡ true → own ≡ None → last.part ≡ first.part =
+    λ p none.
+    let front = three_of _ _ _ c.start_or_close-one.result (one_of none).1 c.start_or_close-one.ensures.feeder (c.join_started-first.ensures.part p)
+    (c.join_started-first.ensures.part p) in
+    let back = three_of _ _ _ c.start_or_close-other.result (second_of none).1 c.start_or_close-other.ensures.feeder (c.join_started-second.ensures.part p)
+    (c.join_started-second.ensures.part p) in
+    let a = c.join_workers-gathered.ensures.part p in let b = back.3 in let d = back.1.3.part p in let e = front.3 in
+    let f = front.1.3.part p in let h = (second_of none).2 p in let i = (one_of none).2 p in let j = (crew_of none).1 p in let k = (crew_of none).0 in omega arith in
+    subst (Drives may keeps parts bench front_ops back_ops count first last) (sym c.answer.ensures) (record {
+      verdicts = ok_answer own one other outcome (λ rows. AreVerdicts bench rows.items) (λ a b d. c.join_workers-gathered.ensures.verdicts);
+      refused = err_answer own one other outcome (IsNoDrive may keeps plan first.counts) (own_told may keeps plan first.counts count run own started)
+          (stalled_told may keeps plan first.counts one c.join_started-first.ensures.refused)
+          (stalled_told may keeps plan first.counts other c.join_started-second.ensures.refused)
+          (IfErr-weaker outcome (IsNoDrive may keeps plan both.counts) (IsNoDrive may keeps plan first.counts)
+          (λ fault no. same_no_drive may keeps plan both.counts first.counts fault counts no) c.join_workers-gathered.ensures.refused);
+      records = λ k. ok_answer own one other outcome (λ rows. last.taken ≡ first.taken ++ tickets_in rows.items)
+          (λ x y z. IfOk-weaker outcome (λ rows. last.taken ≡ both.taken ++ tickets_in rows.items) (λ rows. last.taken ≡ first.taken ++ tickets_in rows.items)
+          (λ rows e. e ∙ ap (λ l. l ++ tickets_in rows.items) (taken k)) (c.join_workers-gathered.ensures.records k));
+      counts = λ k. (c.join_workers-gathered.ensures.fed k).counts ∙ counts k;
+      part = λ p. ok_answer own one other outcome (λ rows. last.part ≡ first.part) (λ none x y. any_rows (last.part ≡ first.part) outcome (part_of p none));
+      done = λ p k most shared whole. ok_answer own one other outcome (λ rows. IsDone plan last) (λ none one_ok other_ok.
+          let front = three_of _ _ _ c.start_or_close-one.result (one_of none).1 c.start_or_close-one.ensures.feeder (c.join_started-first.ensures.joined k)
+          (c.join_started-first.ensures.part p) in
+          let back = three_of _ _ _ c.start_or_close-other.result (second_of none).1 c.start_or_close-other.ensures.feeder (c.join_started-second.ensures.joined k)
+          (c.join_started-second.ensures.part p) in
+          let split = c.start_workers-workers.ensures.records k in
+          let again = (one_of none).3 k in
+          let all = split_on first crewed start split (split_on crewed between start again ((second_of none).3 k)) in
+          let fed = feeder_fed plan front.0.promise.plan.now front_ops front.0.promise.ops.now first crewed.counts
+          (g.G.Gate.view front.0.promise.pass.value) front.2.0 one whole split.counts front.1.2 front.1.1 (front.1.3.fresh k) front.2.2 front.2.3 one_ok in
+          let fed' = feeder_fed plan back.0.promise.plan.now back_ops back.0.promise.ops.now first between.counts
+          (g.G.Gate.view back.0.promise.pass.value) back.2.0 other whole (again.counts ∙ split.counts) back.1.2 back.1.1 (back.1.3.fresh k) back.2.2 back.2.3 other_ok in
+          ok_more ((c.start_workers-workers.result.0.items ≡ []) ⊎ AreOver last) (IsDone plan last) outcome
+          (c.join_workers-gathered.ensures.over k) (λ way. all_done plan first start front.2.0 joined back.2.0 both last front_ops
+          back_ops whole all shared front.2.1 fed.0 fed.1 back.2.1 fed'.0 fed'.1 (c.join_workers-gathered.ensures.fed k) (part_of p none ∙ whole.part)
+          (⊎_elim (λ nobody. let long = ap (λ l. length l) nobody in let all' = (crew_of none).0 in absurd (omega arith)) (λ over. over) way)));
+      runs = record {
+        run = run;
+        is = record {
+          started = started;
+          first = front_end.1;
+          second = back_end.1;
+          workers = same_worked may keeps parts bench both.counts first.counts ends.0 counts ends.2.worked;
+        };
+        answer = answer_list own one other outcome
+            ∙ (answer_same own one other (row_list outcome) (all_rows ends.0) ends.2.rows
+            ∙ (ap (λ o. answer_of own o other (all_rows ends.0)) front_end.2 ∙ ap (λ o. answer_of own (feeder_outcome front_end.0) o (all_rows ends.0)) back_end.2));
+        taken = λ k. ends.2.taken k ∙ ap (λ l. l ++ taken_by ends.0) (taken k);
+      };
+    })

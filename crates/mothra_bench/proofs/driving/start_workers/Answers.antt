@@ -12,10 +12,10 @@ loop-preserved g c =
     let new = g.G.Gate.view c.split-own.new.pass in
     let inv = c.loop.invariant in
     let split = c.split-own.ensures in
-    let told = c.in-Some.ensures in
+    let told = c.in-Ok-start_worker.ensures.started in
     let more = c.in-Ok-push.ensures.items in (
       split.own.0,
-      all_push c.push.new.self.items c.loop.started.items c.in-Some.worker
+      all_push c.push.new.self.items c.loop.started.items c.in-Ok-start_worker.worker
           (λ worker. (worker.promise.gate.now ≡ c.args.crew.now.gate.now) × (worker.promise.bench.now ≡ c.args.crew.now.bench.now)
           × IsShare g.G.Gate.needs_parts g.G.Gate.keeps_records old.counts (g.G.Gate.view worker.promise.pass.value)) more inv.1 (
             told.0,
@@ -28,5 +28,6 @@ loop-preserved g c =
           ),
       (λ parts. let sum = inv.2 parts in let one = (split.part parts).0 in omega arith),
       (λ keeps. split_on old between new (inv.3 keeps) (split_once between new (split.records keeps).0)),
-      (let long = ap (λ l. length l) more ∙ length-append c.loop.started.items (c.in-Some.worker ∷ []) in let was = inv.4 in omega arith),
+      (let long = ap (λ l. length l) more ∙ length-append c.loop.started.items (c.in-Ok-start_worker.worker ∷ []) in let was = inv.4 in omega arith),
+      (let room = inv.5 in let grows = c.push.ensures.capacity in omega arith),
     )

@@ -1,4 +1,5 @@
-use Rattle.std.proofs.Common.{◌≡◌, ◌+◌, true, All, length}
+use Rattle.std.proofs.Common.{◌≡◌, ◌+◌, ◌≤◌, true, All, length}
+use Rattle.std.specs.Prelude.{vec_capacity}
 use Rattle.mothra_bench.specs.Driving.{IsShare, OnlySplit}
 use Rattle.mothra_bench.proofs.driving.start_workers.Given as goal
 
@@ -10,3 +11,4 @@ invariant-loop g l =
     × (g.G.Gate.needs_parts ≡ true → (g.G.Gate.view l.pass).part + l.counter ≡ (g.G.Gate.view l.fn.pass).part)
     × (g.G.Gate.keeps_records ≡ true → OnlySplit (g.G.Gate.view l.fn.pass) (g.G.Gate.view l.pass))
     × (length l.started.items ≡ l.counter)
+    × (l.crew.workers ≤ vec_capacity l.started)
