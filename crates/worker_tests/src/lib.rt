@@ -2,11 +2,17 @@
 #![tactic(auto)]
 
 #[cfg(test)]
+mod closes;
+#[cfg(test)]
 mod complete;
+#[cfg(test)]
+mod faulty;
 #[cfg(test)]
 mod gates;
 #[cfg(test)]
 mod holding;
+#[cfg(test)]
+mod order;
 #[cfg(test)]
 mod refused_memory;
 #[cfg(test)]
