@@ -1,24 +1,26 @@
 -- The lists of a plan that is being made.
-use Rattle.std.proofs.Common.{◌≡◌, ◌<◌, ◌≤◌, ◌⊎◌, ◌+◌, ◌++◌, ℕ, List, [], ◌∷◌, map, Bool, true, false, eqb, nat_eq, Option, Some, None, refl, sym, ap, ◌∙◌, cond, arith, inl, inr, subst, Bor, true≢false}
+use Rattle.std.proofs.Common.{◌≡◌, ◌<◌, ◌≤◌, ◌⊎◌, ◌+◌, ◌++◌, ℕ, zero, suc, List, [], ◌∷◌, map, filter, take, Bool, true, false, eqb, nat_eq, Option, Some, None, refl, sym, ap, ◌∙◌, cond, arith, inl, inr, subst, Bor, true≢false}
 use Rattle.std.specs.Prelude.{All, Contains, is_some}
 use Rattle.std.specs.Bool.{Decides}
 use Rattle.std.specs.List.{find}
 use Rattle.std.specs.Option.{option_map, option_map_or, option_or}
-use Rattle.std.proofs.lemmas.List.Elements.{All-head, All-tail, All-push, All-nil}
+use Rattle.std.proofs.lemmas.List.{append-nil, map-append, take_all}
+use Rattle.std.proofs.lemmas.List.Elements.{All-head, All-tail, All-push, All-nil, filter_more}
 use Rattle.std.proofs.lemmas.List.Folds.{find-append}
 use Rattle.std.proofs.lemmas.Bool.{cases_lt}
 use Rattle.std.proofs.lemmas.Bool.Decides.{nat_tests}
 use Rattle.f77_program.specs.Program.{LineFields, line_of}
 use Rattle.f77_check.specs.Checked.{CheckedFields}
 use Rattle.mothra_ops.specs.Edits.{IsCountedList, IsList, IsNoList, IsTooLong}
-use Rattle.mothra_codes.specs.Op.{index}
-use Rattle.mothra_ops.specs.Plan.{ListFields, IsPlan, IsNoPlan, fields_of, list_fields}
+use Rattle.mothra_codes.specs.Op.{all_ops, index, op_at}
+use Rattle.mothra_ops.specs.Plan.{ListFields, IsPlan, IsNoPlan, asked, fields_of, list_fields}
 use Rattle.mothra_ops.specs.declared.edit.Edit.{Edit}
 use Rattle.mothra_ops.specs.declared.fault.OpsFault.{OpsFault}
 use Rattle.mothra_ops.specs.declared.fault.OpsFault.TheVariants.{Memory, NotASite, TooMany}
 use Rattle.mothra_ops.specs.declared.listing.Listing.{Listing}
 use Rattle.mothra_codes.specs.declared.op.Op.{Op}
-use Rattle.mothra_codes.proofs.Operators.{same_op, index_below}
+use Rattle.mothra_codes.specs.declared.op.Op.TheVariants.{Aar}
+use Rattle.mothra_codes.proofs.Operators.{same_op, index_below, op_at-index}
 
 -- the list of an operator that is asked for
 pub record IsListOf (ops : List Op) (program : List LineFields) (every : ℕ) (list : Listing) : Type 0 where
@@ -28,9 +30,15 @@ pub record IsListOf (ops : List Op) (program : List LineFields) (every : ℕ) (l
 abbrev pub is_of : Op → Listing → Bool
 is_of op list = eqb (index list.op) (index op)
 
+-- the operator is one of these
+abbrev pub is_named : List Op → Op → Bool
+is_named [] op = false
+is_named (o ∷ os) op = cond (eqb (index o) (index op)) true (is_named os op)
+
 -- the lists of the operators that are asked for, of the first so many
 pub record HasLists (ops : List Op) (program : List LineFields) (every count : ℕ) (lists : List Listing) : Type 0 where
   pub own : All (IsListOf ops program every) lists
+  pub operators : map (λ (list : Listing). list.op) lists ≡ filter (is_named ops) (take count all_ops)
   pub complete : (op : Op) → index op < count → Contains ops op → is_some (find (is_of op) lists) ≡ true
 
 find_step : (op : Op) (list : Listing) (lists : List Listing) (b : Bool)
@@ -80,10 +88,65 @@ or_some (Some x) y e = refl
 or_some None y e = e
 
 pub no_lists : (ops : List Op) (program : List LineFields) (every : ℕ) → HasLists ops program every 0 []
-no_lists ops program every = record { own = All-nil (IsListOf ops program every); complete = λ op below asked. absurd (omega arith) }
+no_lists ops program every = record {
+  own = All-nil (IsListOf ops program every);
+  operators = refl;
+  complete = λ op below asked. absurd (omega arith);
+}
 
 itself : (a b : ℕ) → a ≡ b → eqb a b ≡ true
 itself a b e = grind (arith, nat_tests)
+
+-- whether an operator is named is whether it is one of the list
+named_first : (o op : Op) (rest b : Bool) → eqb (index o) (index op) ≡ b → o ≡ op → cond b true rest ≡ true
+named_first o op rest true t same = refl
+named_first o op rest false t same = absurd (true≢false (sym (itself (index o) (index op) (ap index same)) ∙ t))
+
+named_later : (rest b : Bool) → rest ≡ true → cond b true rest ≡ true
+named_later rest true t = refl
+named_later rest false t = t
+
+named : (ops : List Op) (op : Op) → Contains ops op → is_named ops op ≡ true
+named [] op (k, low, at) = absurd (omega (arith, low))
+named (o ∷ os) op (zero, low, at) = named_first o op (is_named os op) (eqb (index o) (index op)) refl at
+named (o ∷ os) op (suc k, low, at) =
+    named_later (is_named os op) (eqb (index o) (index op)) (named os op (k, omega (arith, low), at))
+
+is_one_by : (o op : Op) (os : List Op) (b : Bool) → eqb (index o) (index op) ≡ b → (is_named os op ≡ true → Contains os op)
+    → cond b true (is_named os op) ≡ true → Contains (o ∷ os) op
+is_one_by o op os true t later e = (0, omega arith, same_op o op (grind (arith, nat_tests)))
+is_one_by o op os false t later e = let one = later e in (suc one.0, omega (arith, one.1), one.2)
+
+is_one : (ops : List Op) (op : Op) → is_named ops op ≡ true → Contains ops op
+is_one [] op e = absurd (true≢false (sym e))
+is_one (o ∷ os) op e = is_one_by o op os (eqb (index o) (index op)) refl (is_one os op) e
+
+not_named : (b : Bool) → (b ≡ true → ⊥) → b ≡ false
+not_named true isnt = absurd (isnt refl)
+not_named false isnt = refl
+
+-- the operators of the lists, with one more and with none
+module _ (ops : List Op) (count : ℕ) (lists : List Listing) (own : Op) (at : index own ≡ count)
+    (before : map (λ (list : Listing). list.op) lists ≡ filter (is_named ops) (take count all_ops)) where
+  there : op_at count ≡ own
+  there = ap op_at (sym at) ∙ op_at-index own
+
+  next : (b : Bool) → is_named ops own ≡ b
+      → filter (is_named ops) (take count all_ops) ++ cond b (op_at count ∷ []) [] ≡ filter (is_named ops) (take (count + 1) all_ops)
+  next b t =
+      let low = index_below own in
+      ap (λ (a : Bool). filter (is_named ops) (take count all_ops) ++ cond a (op_at count ∷ []) []) (sym t ∙ ap (is_named ops) (sym there))
+      ∙ sym (filter_more (is_named ops) all_ops count Aar (omega (arith, low, at)))
+
+  operators_kept : (list : Listing) → list.op ≡ own → Contains ops own
+      → map (λ (l : Listing). l.op) (lists ++ list ∷ []) ≡ filter (is_named ops) (take (count + 1) all_ops)
+  operators_kept list same asked =
+      map-append (λ (l : Listing). l.op) lists (list ∷ []) ∙ (λ k. before k ++ (same ∙ sym there) k ∷ []) ∙ next true (named ops own asked)
+
+  operators_passed : (Contains ops own → ⊥) → map (λ (l : Listing). l.op) lists ≡ filter (is_named ops) (take (count + 1) all_ops)
+  operators_passed other =
+      before ∙ sym (append-nil (filter (is_named ops) (take count all_ops)))
+      ∙ next false (not_named (is_named ops own) (λ e. other (is_one ops own e)))
 
 last_found : (op : Op) (list : Listing) (b : Bool) → b ≡ true → is_some (cond b (Some list) None) ≡ true
 last_found op list true e = refl
@@ -106,6 +169,7 @@ pub one_more : (ops : List Op) (program : List LineFields) (every count : ℕ) (
     → HasLists ops program every count lists → IsListOf ops program every list → HasLists ops program every (count + 1) (lists ++ list ∷ [])
 one_more ops program every count lists list at has own = record {
   own = All-push (IsListOf ops program every) lists list has.own own;
+  operators = operators_kept ops count lists list.op at has.operators list refl own.asked;
   complete = λ op below asked. further ops count lists list op at asked has.complete (one_further count (index op) below (cases_lt (index op) count));
 }
 
@@ -137,6 +201,7 @@ pub none_more : (ops : List Op) (program : List LineFields) (every count : ℕ) 
     → (Contains ops own → ⊥) → HasLists ops program every count lists → HasLists ops program every (count + 1) lists
 none_more ops program every count lists own at other has = record {
   own = has.own;
+  operators = operators_passed ops count lists own at has.operators other;
   complete = λ op below asked. passed ops count lists own op at other asked has.complete (one_further count (index op) below (cases_lt (index op) count));
 }
 
@@ -200,10 +265,33 @@ counted_list ops program every lists op has one =
     (sym (find_fields op lists) ∙ ap (option_map list_fields) one.1)
     (subst (λ (o : Op). IsCountedList o program every one.0.edits.items one.0.whole) one.2.own one.2.holds.counted)
 
+alike : (a b : Bool) → (a ≡ true → b ≡ true) → (b ≡ true → a ≡ true) → a ≡ b
+alike true b there back = sym (there refl)
+alike false true there back = absurd (true≢false (sym (back refl)))
+alike false false there back = refl
+
+operators_of : (ops : List Op) (checked : CheckedFields) (every : ℕ) (lists : List Listing)
+    → HasLists ops (map line_of checked.program) every 22 lists
+    → map (λ (fields : ListFields). fields.op) (map list_fields lists) ≡ filter (asked (fields_of checked every lists)) all_ops
+operators_of ops checked every lists has = ops_of lists ∙ has.operators ∙ ap (filter (is_named ops)) (take_all 22 all_ops (omega arith))
+    ∙ ap (λ (test : Op → Bool). filter test all_ops) (λ k op. same op k)
+  where
+    program : List LineFields
+    program = map line_of checked.program
+
+    ops_of : (some : List Listing) → map (λ (fields : ListFields). fields.op) (map list_fields some) ≡ map (λ (list : Listing). list.op) some
+    ops_of [] = refl
+    ops_of (list ∷ some) = ap (λ (os : List Op). list.op ∷ os) (ops_of some)
+
+    same : (op : Op) → is_named ops op ≡ asked (fields_of checked every lists) op
+    same op = alike (is_named ops op) (asked (fields_of checked every lists) op)
+        (λ e. is_asked ops program every lists has op (is_one ops op e)) (λ e. named ops op (was_asked ops program every lists has op e))
+
 pub is_plan : (ops : List Op) (checked : CheckedFields) (every : ℕ) (lists : List Listing) → 1 ≤ every
     → HasLists ops (map line_of checked.program) every 22 lists → IsPlan (fields_of checked every lists)
 is_plan ops checked every lists some has = record {
   some = some;
+  operators = operators_of ops checked every lists has;
   lists = λ op t. counted_list ops (map line_of checked.program) every lists op has
       (one_of ops (map line_of checked.program) every lists op (find (is_of op) lists) has.own refl (sym (asked_as op lists) ∙ t));
 }

@@ -1,10 +1,11 @@
 -- A plan: the lists of the operators that were asked for.
-use Rattle.std.specs.Prelude.{◌≡◌, ◌<◌, ◌≤◌, ◌==◌, ⊤, ℕ, Bool, true, List, [], map, Option, is_some, Contains, find}
+use Rattle.std.specs.Prelude.{◌≡◌, ◌<◌, ◌≤◌, ◌==◌, ⊤, ℕ, Bool, true, Option, is_some}
+use Rattle.std.specs.Prelude.{List, [], map, filter, find, Contains}
 use Rattle.std.specs.Option.{option_map_or}
 use Rattle.f77_program.specs.Program.{LineFields, line_of}
 use Rattle.f77_check.specs.Checked.{CheckedFields}
 use Rattle.mothra_ops.specs.Edits.{IsCountedList, IsList, IsTooLong}
-use Rattle.mothra_codes.specs.Op.{index}
+use Rattle.mothra_codes.specs.Op.{all_ops, index}
 use Rattle.mothra_ops.specs.declared.edit.Edit.{Edit}
 use Rattle.mothra_ops.specs.declared.fault.OpsFault.{OpsFault}
 use Rattle.mothra_ops.specs.declared.fault.OpsFault.TheVariants.{Memory, NotASite, TooMany}
@@ -42,9 +43,10 @@ edits_of plan op = option_map_or (λ list. list.edits) (list_of plan op) []
 abbrev pub whole_of : PlanFields → Op → ℕ
 whole_of plan op = option_map_or (λ list. list.whole) (list_of plan op) 0
 
--- what each plan is: the lists of the operators asked for are those of its program
+-- what each plan is: one list for each operator asked for, in the order of the operators, and each of them its program's
 pub record IsPlan (plan : PlanFields) : Type 0 where
   pub some : 1 ≤ plan.every
+  pub operators : map (λ list. list.op) plan.lists ≡ filter (asked plan) all_ops
   pub lists : (op : Op) → asked plan op ≡ true → IsCountedList op (map line_of plan.checked.program) plan.every (edits_of plan op) (whole_of plan op)
 
 -- the operator is the first of those asked for whose list is too long
