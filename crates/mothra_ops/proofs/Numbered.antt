@@ -1,14 +1,14 @@
 -- The edits of a plan by number, and what they make.
-use Rattle.std.proofs.Common.{◌≡◌, ◌≤◌, ◌*◌, ◌∙◌, ℕ, zero, suc, true, List, [], Option, Some, None, refl, sym, ap, subst}
-use Rattle.std.specs.Prelude.{Contains, is_some, map, slice_get}
-use Rattle.std.specs.Option.{IfNone, IfSome, option_map, option_map_or}
+use Rattle.std.proofs.Common.{◌≡◌, ◌≤◌, ◌*◌, ◌++◌, ◌∙◌, ℕ, zero, suc, true, List, [], Option, Some, None, refl, sym, ap, subst}
+use Rattle.std.specs.Prelude.{Contains, codes, is_some, map, slice_get}
+use Rattle.std.specs.Option.{IfNone, IfSome, option_and_then, option_map, option_map_or}
 use Rattle.std.proofs.lemmas.List.Elements.{Contains-get_or}
 use Rattle.std.proofs.lemmas.Option.{none-some, same_Some, slice_get_within, get_or_from_slice_get}
 use Rattle.f77_check.specs.Checked.{CheckedFields}
 use Rattle.f77_program.specs.Program.{line_of}
 use Rattle.f77_tree.specs.Statement.{statement_of, Statement}
 use Rattle.mothra_ops.specs.Edits.{IsMember, IsMutant, made, numbered, thinned}
-use Rattle.mothra_ops.specs.Mutants.{MutantFields, mutant_fields, mutant_made, program_of}
+use Rattle.mothra_ops.specs.Mutants.{MutantFields, change_text, edit_text, mutant_fields, mutant_made, mutant_name, mutant_of, mutant_text, program_of}
 use Rattle.mothra_ops.specs.Original.{IsOriginal, lines_of}
 use Rattle.mothra_ops.specs.Plan.{ListFields, PlanFields, IsPlan, asked, edits_of, list_of}
 use Rattle.mothra_ops.specs.Pools.{PoolFields, fields_of, pools_of}
@@ -67,3 +67,15 @@ made_of original plan edit answer own same is =
     ap (option_map (λ (statement : Statement). record { number = edit.statement; statement = statement }))
     (is ∙ ap (λ (pools : PoolFields). made pools (lines_of original) edit) own
     ∙ ap (λ (checked : CheckedFields). made (pools_of (map line_of checked.program)) (map line_of checked.program) edit) same)
+
+-- how the mutant of a number is told, where there is one
+pub mutant_told : (plan : PlanFields) (op : Op) (number : ℕ) (mutant : MutantFields) → Some mutant ≡ mutant_of plan op number
+    → mutant_name plan.every op number ++ (codes " " ++ change_text (program_of plan) mutant) ≡ mutant_text plan op number
+mutant_told plan op number mutant is = by (numbered (edits_of plan op) number) is
+  where
+    by : (o : Option Edit) → Some mutant ≡ option_and_then (mutant_made (program_of plan)) o
+        → mutant_name plan.every op number ++ (codes " " ++ change_text (program_of plan) mutant)
+        ≡ option_map_or (edit_text (program_of plan) plan.every op number) o []
+    by (Some edit) e =
+        ap (λ (m : Option MutantFields). option_map_or (λ m. mutant_name plan.every op number ++ (codes " " ++ change_text (program_of plan) m)) m []) e
+    by None e = absurd (none-some mutant (sym e))

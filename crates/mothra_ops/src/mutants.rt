@@ -1,7 +1,9 @@
 //! The mutants of a plan, one at a time.
 
-ghost use Rattle.std.specs.Prelude.{◌≡◌, ◌++◌, ◌≤◌, option_map, string_bytes, codes, None, IfOk, IfErr, IfSome, IfNone, OnOk};
+ghost use Rattle.std.specs.Prelude.{◌≡◌, ◌++◌, ◌≤◌, option_map, string_bytes, codes, None};
+ghost use Rattle.std.specs.Prelude.{IfOk, IfErr, IfSome, IfNone, OnOk, OnErr};
 ghost use Rattle.f77_check.specs.Checked.{shapes};
+ghost use Rattle.f77_program.specs.Canonical.{statement_text};
 ghost use Rattle.f77_program.specs.Patching.{patched};
 ghost use Rattle.f77_tree.specs.Statement.{statement_of};
 ghost use Rattle.mothra_ops.specs.Edits.{IsMutant, numbered};
@@ -14,7 +16,7 @@ use crate::edit::Edit;
 use crate::fault::OpsFault;
 use crate::original::Original;
 use crate::plan::Plan;
-use f77_program::print_stmt;
+use f77_program::{SyntaxFault, print_stmt};
 use f77_tree::Stmt;
 use mothra_codes::Op;
 use std::alloc::{AllocError, Global};
@@ -116,55 +118,70 @@ impl<'a> Mutants<'a> {
         }
     }
 
-    /// Appends where a mutant is changed, and what stands there.
-    fn push_change(&self, text: &mut String, mutant: &Mutant) -> Result<(), OpsFault>
-        ensures text { OnOk result (string_bytes text.new ≡ string_bytes text.old ++ change_text (program_of self.now) (mutant_fields mutant.now)) }
+    /// How this mutant of the operator is told.
+    fn told(&self, alloc: Global, op: Op, number: u32, mutant: &Mutant) -> Result<String, OpsFault>
+        ensures text { IfOk result (λ text. string_bytes text ≡ mutant_name self.now.every op number
+            ++ (codes " " ++ change_text (program_of self.now) (mutant_fields mutant.now))) }
         ensures memory { IfErr result (λ fault. fault ≡ Memory) }
     {
         let line = self.line_number(mutant.number);
-        let Ok(statement) = print_stmt(*text.allocator(), &mutant.stmt) else {
-            return Err(OpsFault::Memory);
-        };
-        Ok(write!(text, "LINE {line} {statement}")?)
+        let statement = printed(alloc, &mutant.stmt)?;
+        let mut text = name(alloc, self.plan.every(), op, number)?;
+        write!(text, " LINE {line} {statement}")?;
+        Ok(text)
     }
 
-    /// Appends how this mutant of the operator is told.
-    fn push_mutant(
-        &self,
-        text: &mut String,
-        op: Op,
-        number: u32,
-        mutant: &Mutant,
-    ) -> Result<(), OpsFault>
-        ensures text { OnOk result (string_bytes text.new ≡ string_bytes text.old
-            ++ (mutant_name self.now.every op number ++ (codes " " ++ change_text (program_of self.now) (mutant_fields mutant.now)))) }
+    /// How the operator's mutant of this number is told; no text where the plan has no such mutant.
+    fn text_of(&self, alloc: Global, op: Op, number: u32) -> Result<String, OpsFault>
+        ensures text { IfOk result (λ text. string_bytes text ≡ mutant_text self.now op number) }
         ensures memory { IfErr result (λ fault. fault ≡ Memory) }
     {
-        push_name(text, self.plan.every(), op, number)?;
-        text.push(' ')?;
-        self.push_change(text, mutant)
+        match self.mutant(alloc, op, number)? {
+            Some(mutant) => self.told(alloc, op, number, &mutant),
+            None => Ok(String::new(alloc)),
+        }
     }
 
     /// Appends how the operator's mutant of this number is told: its name, the line number of the statement that it
     /// changes, and the canonical text of what stands there. Nothing where the plan has no such mutant.
     pub fn push_text(&self, text: &mut String, op: Op, number: u32) -> Result<(), OpsFault>
         ensures text { OnOk result (string_bytes text.new ≡ string_bytes text.old ++ mutant_text self.now op number) }
+        ensures unchanged { OnErr result (string_bytes text.new ≡ string_bytes text.old) }
         ensures memory { IfErr result (λ fault. fault ≡ Memory) }
     {
-        let alloc = *text.allocator();
-        let Some(mutant) = self.mutant(alloc, op, number)? else {
-            return Ok(());
-        };
-        self.push_mutant(text, op, number, &mutant)
+        let told = self.text_of(*text.allocator(), op, number)?;
+        Ok(text.push_str(&told)?)
     }
+}
+
+/// The canonical text of a statement.
+fn printed(alloc: Global, stmt: &Stmt) -> Result<String, OpsFault>
+    ensures text { IfOk result (λ text. string_bytes text ≡ statement_text (statement_of stmt.now)) }
+    ensures memory { IfErr result (λ fault. fault ≡ Memory) }
+{
+    match print_stmt(alloc, stmt) {
+        Ok(text) => Ok(text),
+        Err(SyntaxFault::Memory) => Err(OpsFault::Memory),
+        Err(_) => unreachable!(),
+    }
+}
+
+/// How a mutant is named.
+fn name(alloc: Global, every: u32, op: Op, number: u32) -> Result<String, AllocError>
+    ensures { IfOk result (λ name. string_bytes name ≡ mutant_name every op number) }
+{
+    let code = op.code();
+    let original = u64::from(number.saturating_sub(1)) * u64::from(every) + 1;
+    format!(in alloc; "{code} {number} {original}")
 }
 
 /// Appends how a mutant is named: the operator's code, its number, and its number in the whole list, of which each such
 /// item is kept.
 pub fn push_name(text: &mut String, every: u32, op: Op, number: u32) -> Result<(), AllocError>
-    ensures { OnOk result (string_bytes text.new ≡ string_bytes text.old ++ mutant_name every op number) }
+    ensures text { OnOk result (string_bytes text.new ≡ string_bytes text.old ++ mutant_name every op number) }
+    ensures unchanged { OnErr result (string_bytes text.new ≡ string_bytes text.old) }
 {
-    let code = op.code();
-    let original = u64::from(number.saturating_sub(1)) * u64::from(every) + 1;
-    Ok(write!(text, "{code} {number} {original}")?)
+    // The contract of `write!` does not say what a refusal leaves.
+    let name = name(*text.allocator(), every, op, number)?;
+    text.push_str(&name)
 }
