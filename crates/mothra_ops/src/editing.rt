@@ -12,7 +12,7 @@ ghost use Rattle.mothra_ops.specs.Original.{Has, IsOriginal, IsSiteOf, lines_of}
 ghost use Rattle.mothra_ops.specs.declared.fault.OpsFault.TheVariants.{Memory, NotASite};
 
 use crate::edit::Edit;
-use crate::fault::OpsFault;
+use crate::fault::{OpsFault, memory_fault};
 use crate::listing::Listing;
 use crate::original::{Original, put};
 use crate::replacing::gives;
@@ -170,6 +170,7 @@ pub fn apply(alloc: Global, checked: &Checked, edit: &Edit) -> Result<Checked, O
     };
     match checked.patched(edit.statement, &made) {
         Ok(mutant) => Ok(mutant),
-        Err(_) => Err(OpsFault::Memory),
+        // The changed program is legal.
+        Err(fault) => Err(memory_fault(fault)),
     }
 }

@@ -1,8 +1,10 @@
 //! What keeps edits from being answered.
 
 ghost use Rattle.std.specs.Prelude.{◌≡◌};
+ghost use Rattle.f77_legal.specs.declared.fault.CheckFault.TheVariants as check;
 ghost use Rattle.mothra_ops.specs.declared.fault.OpsFault.TheVariants as fault;
 
+use f77_check::CheckFault;
 use mothra_codes::Op;
 use std::alloc::{AllocError, AllocFailed};
 use thiserror::Error;
@@ -34,5 +36,16 @@ impl<T: Drop> From<AllocFailed<T>> for OpsFault {
 
     fn from(_e: AllocFailed<T>) -> OpsFault {
         OpsFault::Memory
+    }
+}
+
+/// The fault of a check that can have no other.
+pub(crate) fn memory_fault(found: CheckFault) -> OpsFault
+    requires { found ≡ check.Memory }
+    ensures { result ≡ fault.Memory }
+{
+    match found {
+        CheckFault::Memory => OpsFault::Memory,
+        _ => unreachable!(),
     }
 }

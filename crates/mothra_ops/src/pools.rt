@@ -16,7 +16,7 @@ ghost use Rattle.mothra_ops.specs.Pools as model;
 ghost use Rattle.mothra_ops.specs.Pools.{each_once, placed, ascending, array_reference, constant, pools_of, fields_of, reference_of};
 ghost use Rattle.mothra_ops.specs.declared.fault.OpsFault.TheVariants.{Memory};
 
-use crate::fault::OpsFault;
+use crate::fault::{OpsFault, memory_fault};
 use crate::places::is_element;
 use f77_check::Checked;
 use f77_legal::Names;
@@ -192,8 +192,9 @@ fn names(alloc: Global, lines: &[Shared<Line>]) -> Result<(Names, Vec<Name>, Vec
     ensures arrays { IfOk result (λ names. names.2.items ≡ filter (is_array (map line_of lines.now)) (symbols (map line_of lines.now))) }
     ensures memory { IfErr result (λ fault. fault ≡ Memory) }
 {
-    let Ok(names) = Names::of(alloc, lines) else {
-        return Err(OpsFault::Memory);
+    let names = match Names::of(alloc, lines) {
+        Ok(names) => names,
+        Err(fault) => return Err(memory_fault(fault)),
     };
     let (scalars, arrays) = scalars_and_arrays(alloc, &names)?;
     Ok((names, scalars, arrays))
@@ -221,10 +222,10 @@ fn labels(alloc: Global, checked: &Checked) -> Result<Vec<u32>, OpsFault>
     ensures labels { IfOk result (λ list. list.items ≡ ascending (labelled.labels (map line_of checked.now.program))) }
     ensures memory { IfErr result (λ fault. fault ≡ Memory) }
 {
-    let Ok(labels) = checked.labels() else {
-        return Err(OpsFault::Memory);
-    };
-    ascending(alloc, &labels)
+    match checked.labels() {
+        Ok(labels) => ascending(alloc, &labels),
+        Err(fault) => Err(memory_fault(fault)),
+    }
 }
 
 impl<'a> Pools<'a> {
