@@ -17,3 +17,8 @@ mod Applied
 mod Plans
 mod Numbered
 mod Shapes
+mod FormedNodes
+mod FormedSites
+mod FormedPools
+mod FormedGiven
+mod MadeFits

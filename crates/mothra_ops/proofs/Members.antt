@@ -26,16 +26,16 @@ some_of f None y P e next = absurd (none-some y e)
 some_of f (Some x) y P e next = next x refl (same_Some (f x) y e)
 
 -- the steps of an edit that is made
-record Steps (pools : PoolFields) (program : List LineFields) (e : Edit) (statement : Statement) : Type 0 where
-  line : LineFields
-  site : Site Statement
-  new : NodeOf
-  of_line : numbered program e.statement ≡ Some line
-  of_site : slice_get (sites line.stmt) e.position ≡ Some site
-  of_new : numbered (gives e.op pools line.stmt site.0) e.rank ≡ Some new
-  is : site.1 new ≡ statement
+pub record Steps (pools : PoolFields) (program : List LineFields) (e : Edit) (statement : Statement) : Type 0 where
+  pub line : LineFields
+  pub site : Site Statement
+  pub new : NodeOf
+  pub of_line : numbered program e.statement ≡ Some line
+  pub of_site : slice_get (sites line.stmt) e.position ≡ Some site
+  pub of_new : numbered (gives e.op pools line.stmt site.0) e.rank ≡ Some new
+  pub is : site.1 new ≡ statement
 
-steps : (pools : PoolFields) (program : List LineFields) (e : Edit) (statement : Statement) → made pools program e ≡ Some statement → Steps pools program e statement
+pub steps : (pools : PoolFields) (program : List LineFields) (e : Edit) (statement : Statement) → made pools program e ≡ Some statement → Steps pools program e statement
 steps pools program e statement h =
     option_and_then_some
     (λ (line : LineFields). option_and_then (λ (site : Site Statement). option_and_then (λ node. Some (site.1 node)) (numbered (gives e.op pools line.stmt site.0) e.rank)) (slice_get (sites line.stmt) e.position))

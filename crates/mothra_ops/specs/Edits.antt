@@ -42,6 +42,14 @@ pub record IsMember (op : Op) (program : List LineFields) (edit : Edit) : Type 0
   pub makes : made (pools_of program) program edit ≡ Some statement
   pub mutant : IsMutant program edit.statement statement
 
+-- What an edit makes is legal, and another program. That it may stand there is no condition.
+pub record MakesLegal (op : Op) (program : List LineFields) (edit : Edit) : Type 0 where
+  pub own : edit.op ≡ op
+  pub statement : Statement
+  pub makes : made (pools_of program) program edit ≡ Some statement
+  pub legal : IsLegal (patched program edit.statement statement)
+  pub differs : statement_at program (edit.statement - 1) ≢ Some statement
+
 -- what an edit makes, where it is one of its operator's, and nothing where it is none
 abbrev pub IsMadeBy : List LineFields → Edit → Option Statement → Type 0
 IsMadeBy program edit None = ¬ (IsMember edit.op program edit)

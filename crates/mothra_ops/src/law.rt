@@ -1,8 +1,12 @@
 //! Laws of the operators' lists.
 
-ghost use Rattle.std.specs.Prelude.{◌≡◌, ◌*◌, ◌<◌, ◌≤◌, ◌⊎◌, ℕ, List, length, slice_get};
-ghost use Rattle.f77_program.specs.Program.{LineFields};
-ghost use Rattle.mothra_ops.specs.Edits.{Lists, IsMember, IsTooLong, thinned, most_edits, most_whole};
+ghost use Rattle.std.specs.Prelude.{◌≡◌, ◌↔◌, ◌*◌, ◌<◌, ◌≤◌, ◌⊎◌, ℕ, List, Some, None, length, slice_get};
+ghost use Rattle.f77_tree.specs.Statement.{Statement};
+ghost use Rattle.f77_program.specs.Program.{IsProgram, LineFields};
+ghost use Rattle.f77_program.specs.Patching.{Fits};
+ghost use Rattle.f77_legal.specs.Legal.{IsLegal};
+ghost use Rattle.mothra_ops.specs.Edits.{Lists, IsMember, IsTooLong, MakesLegal, made, thinned, most_edits, most_whole};
+ghost use Rattle.mothra_ops.specs.Pools.{pools_of};
 ghost use Rattle.mothra_ops.specs.declared.edit.Edit.{Edit};
 ghost use Rattle.mothra_codes.specs.declared.op.Op.{Op};
 
@@ -21,4 +25,14 @@ pub fn too_long()
 /// A list thinned by q has the items 1, q + 1, 2 q + 1 and on of the whole list, counted from 1.
 pub fn thinned_items()
     ensures { (q : ℕ) (edits : List Edit) (k : ℕ) → 1 ≤ q → slice_get (thinned q edits) k ≡ slice_get edits (k * q) }
+{}
+
+/// What an operator makes of a statement of a legal program may stand there: some text spells it, and it is of the same
+/// group. So the operator's list leaves out only what is illegal or the same program.
+pub fn legal_members()
+    ensures fits { (program : List LineFields) (edit : Edit) (statement : Statement)
+        → IsProgram None program → IsLegal program
+        → made (pools_of program) program edit ≡ Some statement → Fits program edit.statement statement }
+    ensures members { (op : Op) (program : List LineFields) (edit : Edit) → IsProgram None program → IsLegal program
+        → IsMember op program edit ↔ MakesLegal op program edit }
 {}
