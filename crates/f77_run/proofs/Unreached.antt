@@ -1,5 +1,5 @@
 -- A statement that control does not come to may be another one of the same frame.
-use Rattle.std.proofs.Common.{arith, ◌≡◌, ◌≢◌, ◌∙◌, ◌+◌, ◌-◌, ◌&&◌, ℕ, zero, suc, inl, inr, Bool, true, false, not, List, [], map, Option, Some, None, refl, sym, ap, subst, ℤ, pos, negsuc}
+use Rattle.std.proofs.Common.{arith, ◌≡◌, ◌≢◌, ◌∙◌, ◌-◌, ◌&&◌, ℕ, zero, suc, inl, inr, Bool, true, false, not, List, [], map, Option, Some, None, refl, sym, ap, subst, ℤ, pos, negsuc}
 use Rattle.std.specs.Prelude.{Result, Ok, Err, MatchOption, ◌+ℤ◌, if◌then◌else◌, option_map, position, slice_get}
 use Rattle.std.specs.Option.{option_map_or}
 use Rattle.std.specs.Str.{bytes_eq}

@@ -1,6 +1,6 @@
 //! Which arguments fit dummy arguments.
 
-ghost use Rattle.std.specs.Prelude.{◌≡◌, ◌+◌, ◌==◌, Some, Err, IfOk, IfSome, IfErr};
+ghost use Rattle.std.specs.Prelude.{◌≡◌, ◌≢◌, ◌+◌, ◌==◌, Some, Err, IfOk, IfSome, IfErr};
 ghost use Rattle.f77_run.specs.Interpreter as run;
 ghost use Rattle.f77_run.specs.Interpreter.{AreFitting, first_misfit, is_count, refusal};
 ghost use Rattle.f77_run.specs.declared.outcome.RunFault.TheVariants as fault;
@@ -50,6 +50,7 @@ pub fn fit(shapes: &[Shape], arguments: &[Arg]) -> Result<(), RunFault>
     ensures refused { IfSome (refusal shapes.now arguments.now) (λ e. result ≡ Err e) }
     ensures fault { IfErr result (λ e. refusal shapes.now arguments.now ≡ Some e) }
     ensures misfits { IfErr result (λ _. AreFitting shapes.now arguments.now → ⊥) }
+    ensures no_want { IfErr result (λ e. e ≢ fault.Memory) }
 {
     if arguments.len() != shapes.len() {
         return Err(RunFault::ArgumentCount);

@@ -124,7 +124,7 @@ fn dummies(alloc: Global, checked: &Checked, machine: &Machine) -> Result<Values
 }
 
 /// What is told of an end.
-fn answer(
+pub(crate) fn answer(
     alloc: Global,
     checked: &Checked,
     finish: Finish,

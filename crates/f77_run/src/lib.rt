@@ -2,6 +2,7 @@
 #![tactic(auto)]
 
 mod argument;
+mod course;
 mod evaluate;
 mod execute;
 mod finish;
@@ -22,6 +23,7 @@ mod value;
 mod values;
 
 pub use argument::Arg;
+pub use course::Course;
 pub use finish::{Fault, Finish};
 pub use fitting::fit;
 pub use interpreter::{counted_run, run};

@@ -2,20 +2,24 @@
 
 ghost use Rattle.std.specs.Prelude.{◌≡◌, ◌<◌, ◌⊎◌, false, replicate, length, map, slice_set, true, Some, Err, IfOk, IfErr, IfSome};
 ghost use Rattle.f77_program.specs.Program.{line_of};
+ghost use Rattle.f77_legal.specs.Names.{bounds_of};
+ghost use Rattle.f77_check.specs.Slots.{slot_count};
 ghost use Rattle.f77_run.specs.Interpreter.{AreFitting, refusal};
 ghost use Rattle.f77_run.specs.Machine.{placed};
 ghost use Rattle.f77_run.specs.Reached.{AreReached, number_of};
 ghost use Rattle.f77_run.specs.Reached as meaning;
-ghost use Rattle.f77_run.specs.Running.{Site, IsRunning, config_at};
+ghost use Rattle.f77_run.specs.Running.{Site, IsRunning, ComesToEnd, values_at, config_at};
 ghost use Rattle.f77_run.specs.Site.{site_of};
 ghost use Rattle.f77_run.specs.declared.outcome.RunFault.TheVariants as fault;
 
 use crate::argument::Arg;
 use crate::execute::step;
+use crate::finish::Finish;
 use crate::fitting::fit;
 use crate::interpreter::begin;
 use crate::machine::{Control, Machine, Place};
 use crate::outcome::RunFault;
+use crate::running::End;
 use crate::values::Values;
 use f77_check::{Checked, Resolved};
 use f77_tree::Shared;
@@ -37,11 +41,19 @@ fn note(reached: &mut [bool], place: Place)
     reached[number(place)] = true;
 }
 
-/// Notes where control is, step by step.
-fn follow(statements: &[Shared<Resolved>], machine: &mut Machine, reached: &mut [bool], steps: u32)
+/// At most so many steps, noting where control is at each: how they end.
+pub(crate) fn follow(
+    statements: &[Shared<Resolved>],
+    machine: &mut Machine,
+    reached: &mut [bool],
+    steps: u32,
+) -> End
     ghost at: { Site }
     requires running { IsRunning at statements.now machine.old }
     requires none { reached.old ≡ replicate (length at.program) false }
+    ensures ends { let values = values_at at machine.new.cells.items in
+        ComesToEnd at.program steps (config_at at machine.old) result.made result.finish values }
+    ensures cells { length machine.new.cells.items ≡ slot_count (bounds_of at.program) at.names }
     ensures count { length reached.new ≡ length at.program }
     ensures reached { meaning.AreReachedFrom at.program (config_at at machine.old) steps reached.new }
 {
@@ -49,15 +61,16 @@ fn follow(statements: &[Shared<Resolved>], machine: &mut Machine, reached: &mut 
         note(reached, machine.place);
         match step(statements, machine) {
             Ok(Control::Goes) => {}
-            Ok(Control::Returns) => return,
-            Ok(Control::Stops) => return,
-            Err(_) => return,
+            Ok(Control::Returns) => return End::new(Finish::Returned, made + 1),
+            Ok(Control::Stops) => return End::new(Finish::Stopped, made + 1),
+            Err(fault) => return End::new(Finish::Failed(fault), made + 1),
         }
     }
+    End::new(Finish::StepLimit, steps)
 }
 
 /// So many statements, none of them reached.
-fn none_reached(alloc: Global, count: usize) -> Result<Vec<bool>, RunFault>
+pub(crate) fn none_reached(alloc: Global, count: usize) -> Result<Vec<bool>, RunFault>
     ensures reached { IfOk result (λ reached. reached.items ≡ replicate count false) }
     ensures memory { IfErr result (λ e. e ≡ fault.Memory) }
 {

@@ -5,6 +5,7 @@ ghost use Rattle.std.specs.Bool.{Decides};
 ghost use Rattle.f77_program.specs.Program.{line_of};
 ghost use Rattle.f77_run.specs.Interpreter as meaning;
 ghost use Rattle.f77_run.specs.Interpreter.{AreArguments, AreFitting, IsOutcomeOf, Tells, refusal, values_in};
+ghost use Rattle.f77_run.specs.Reached.{AreReached};
 ghost use Rattle.f77_run.specs.Running.{Site, IsRunning, config_at};
 ghost use Rattle.f77_run.specs.Site.{site_of, held, HoldsDummies};
 ghost use Rattle.f77_run.specs.Start.{IsStart, constant_value};
@@ -12,15 +13,18 @@ ghost use Rattle.f77_run.specs.declared.outcome.Outcome.{Outcome};
 ghost use Rattle.f77_run.specs.declared.outcome.RunFault.TheVariants as fault;
 
 use crate::argument::Arg;
+use crate::course::Course;
 use crate::finish::{Fault, Finish};
 use crate::fitting::fit;
 use crate::holding::are_held;
-use crate::interpreter::{enter, initial};
+use crate::interpreter::{answer, enter, initial};
 use crate::machine::{Machine, Place};
 use crate::outcome::{Outcome, RunFault};
+use crate::reached::{follow, none_reached};
 use crate::running::go;
 use crate::snapshot::Snapshot;
 use crate::value::Value;
+use crate::values::Values;
 use f77_check::Checked;
 use std::alloc::Global;
 use std::marker::Model;
@@ -107,7 +111,8 @@ fn are_dummies(checked: &Checked, machine: &Machine, arguments: &[Arg]) -> bool
     let start = checked.start();
     match fit(checked.arguments(), arguments) {
         Ok(()) => are_held(&machine.cells, &start.dummies, arguments),
-        Err(_) => false,
+        Err(RunFault::ArgumentCount | RunFault::ArgumentShape(_)) => false,
+        Err(RunFault::Memory) => unreachable!(),
     }
 }
 
@@ -167,8 +172,38 @@ fn same_outcome(
     Ok(is_told(checked, end.finish, machine, outcome))
 }
 
+/// The course of the run with arguments that fit.
+fn course_of(
+    alloc: Global,
+    checked: &Checked,
+    initial: &[Option<Value>],
+    machine: &mut Machine,
+    arguments: &[Arg],
+    steps: u32,
+) -> Result<Course, RunFault>
+    ghost at: { Site }
+    requires site { at ≡ site_of checked.now arguments.now }
+    requires initial { initial.now ≡ map (option_map constant_value) checked.now.start.initial.items }
+    requires fitting { AreFitting checked.now.arguments arguments.now }
+    ensures outcome { IfOk result
+        (λ course. IsOutcomeOf (map line_of checked.now.program) arguments.now steps course.outcome) }
+    ensures reached { IfOk result
+        (λ course. AreReached (map line_of checked.now.program) arguments.now steps course.reached) }
+    ensures memory { IfErr result (λ e. e ≡ fault.Memory) }
+{
+    restart(checked, initial, machine, arguments)?;
+    let mut reached = none_reached(alloc, checked.count())?;
+    let end = follow(checked.statements(), machine, &mut reached, steps);
+    let outcome = answer(alloc, checked, end.finish, machine)?;
+    Ok(Course {
+        outcome,
+        reached: Values::new(reached),
+    })
+}
+
 impl<'a> Runner<'a> {
-    /// The runs of this program. All the memory that they need is taken here, but that in which a state of a long run is kept.
+    /// The runs of this program. All the memory that they need is taken here, but that of a course, and that in which a
+    /// state of a long run is kept.
     pub fn of(alloc: Global, checked: &'a Checked) -> Result<Runner<'a>, RunFault>
         ensures program { IfOk result (λ runner. runner ≡ checked.now) }
         ensures memory { IfErr result (λ e. e ≡ fault.Memory) }
@@ -208,6 +243,40 @@ impl<'a> Runner<'a> {
                 arguments,
                 steps,
                 outcome,
+            ),
+            Err(fault) => Err(fault),
+        }
+    }
+
+    /// The course of the run with these values of the dummy arguments, in order, for so many steps at most. The
+    /// program is run once.
+    ///
+    /// N2 and N3 are told before any step, and want of memory, N1, in place of any answer.
+    pub fn course(
+        &mut self,
+        alloc: Global,
+        arguments: &[Arg],
+        steps: u32,
+    ) -> Result<Course, RunFault>
+        ensures program { self.new ≡ self.old }
+        ensures outcome { IfOk result
+            (λ course. IsOutcomeOf (map line_of self.old.program) arguments.now steps course.outcome) }
+        ensures only { IfOk result (λ course. (other : Outcome)
+            → IsOutcomeOf (map line_of self.old.program) arguments.now steps other → other ≡ course.outcome) }
+        ensures reached { IfOk result
+            (λ course. AreReached (map line_of self.old.program) arguments.now steps course.reached) }
+        ensures refused { IfSome (refusal self.old.arguments arguments.now) (λ e. result ≡ Err e) }
+        ensures fault { IfErr result (λ e. (e ≡ fault.Memory) ⊎ (refusal self.old.arguments arguments.now ≡ Some e)) }
+    {
+        let checked = self.checked;
+        match fit(checked.arguments(), arguments) {
+            Ok(()) => course_of(
+                alloc,
+                checked,
+                &self.initial,
+                &mut self.machine,
+                arguments,
+                steps,
             ),
             Err(fault) => Err(fault),
         }

@@ -23,7 +23,7 @@ pub(crate) struct End {
 }
 
 impl End {
-    fn new(finish: Finish, made: u32) -> End
+    pub(crate) fn new(finish: Finish, made: u32) -> End
         ensures finish { result.finish ≡ finish }
         ensures made { result.made ≡ made }
     {

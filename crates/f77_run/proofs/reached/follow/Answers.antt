@@ -3,7 +3,7 @@ use Rattle.std.specs.Prelude.{Some, Ok}
 use Rattle.f77_run.specs.Moves.{move_of, state_of}
 use Rattle.f77_run.proofs.Following.{place_within}
 use Rattle.f77_run.proofs.Followed.{noted_end, noted_length, noted_more}
-use Rattle.f77_run.proofs.Runs.{can_move, one_more, are_short, are_within}
+use Rattle.f77_run.proofs.Runs.{can_move, one_more, ends, meets, are_short, are_within}
 use Rattle.f77_run.proofs.reached.follow.Goals as goal
 
 pub step-requires-clause-statements : goal.step-requires-clause-statements
@@ -54,3 +54,26 @@ loop-made-preserved g c =
       noted_length c.loop-made.reached c.note.new.reached _ _ c.note.ensures c.loop-made.invariant.2,
       omega (arith, below),
     )
+
+pub returns-in-Ok-Returns-clause-ends : goal.returns-in-Ok-Returns-clause-ends
+returns-in-Ok-Returns-clause-ends g c =
+    rw (c.new.ensures.made, c.new.ensures.finish)
+    (ends g.at c.args.statements.now c.args.machine.now c.loop-made.machine c.args.steps c.loop-made.made _ _ c.loop-made-test.true c.loop-made.invariant.0
+    (c.step.ensures.moved ∙ ap (λ r. Some (move_of r c.step.new.machine)) (c.in-Ok-Returns.is ∙ ap Ok c.in-Ok-Returns.field-0-is)))
+
+pub returns-in-Ok-Stops-clause-ends : goal.returns-in-Ok-Stops-clause-ends
+returns-in-Ok-Stops-clause-ends g c =
+    rw (c.new-in-Ok-Stops.ensures.made, c.new-in-Ok-Stops.ensures.finish)
+    (ends g.at c.args.statements.now c.args.machine.now c.loop-made.machine c.args.steps c.loop-made.made _ _ c.loop-made-test.true c.loop-made.invariant.0
+    (c.step.ensures.moved ∙ ap (λ r. Some (move_of r c.step.new.machine)) (c.in-Ok-Stops.is ∙ ap Ok c.in-Ok-Stops.field-0-is)))
+
+pub returns-in-Err-clause-ends : goal.returns-in-Err-clause-ends
+returns-in-Err-clause-ends g c =
+    rw (c.new-in-Err.ensures.made, c.new-in-Err.ensures.finish)
+    (ends g.at c.args.statements.now c.args.machine.now c.loop-made.machine c.args.steps c.loop-made.made _ _ c.loop-made-test.true c.loop-made.invariant.0
+    (c.step.ensures.moved ∙ ap (λ r. Some (move_of r c.step.new.machine)) c.in-Err.is))
+
+pub returns-clause-ends : goal.returns-clause-ends
+returns-clause-ends g c =
+    rw (c.new-2.ensures.made, c.new-2.ensures.finish)
+    (meets g.at c.args.statements.now c.args.machine.now c.loop-made.machine c.args.steps c.loop-made.made c.loop-made.invariant.3 c.loop-made-test.false c.loop-made.invariant.0)

@@ -21,7 +21,7 @@ returns-in-Ok c =
     (subst (λ list. AreFitting list c.args.arguments.now) c.arguments.ensures c.in-Ok.ensures.fitting)
     (subst (λ slots. Decides c.are_held.result (AreHeld c.args.machine.now.cells.items (zip slots c.args.arguments.now))) slots decides)
 
-pub returns-in-Err : goal.returns-in-Err
-returns-in-Err c =
+pub returns-in-Err-ArgumentCount : goal.returns-in-Err-ArgumentCount
+returns-in-Err-ArgumentCount c =
     dummies_misfit c.args.checked.now c.start-start.ensures.checked c.args.machine.now.cells.items c.requires.cells c.requires.typed c.args.arguments.now
-    (subst (λ list. AreFitting list c.args.arguments.now → ⊥) c.arguments.ensures c.in-Err.ensures.misfits)
+    (subst (λ list. AreFitting list c.args.arguments.now → ⊥) c.arguments.ensures c.in-Err-ArgumentCount.ensures.misfits)

@@ -1,0 +1,13 @@
+//! What a run comes to, and where it was.
+
+use crate::outcome::Outcome;
+use crate::values::Values;
+
+/// The course of a run: what comes of it, and which statements control comes to.
+#[derive(Debug, Drop)]
+pub struct Course {
+    /// What comes of the run.
+    pub outcome: Outcome,
+    /// One truth value for each statement of the program, in order: whether control comes to it.
+    pub reached: Values<bool>,
+}
