@@ -1,14 +1,17 @@
 -- Tests on which the program is run in order.
-use Rattle.std.proofs.Common.{◌≡◌, ◌∙◌, ◌+◌, ◌<◌, ◌≤◌, ◌++◌, ◌∷◌, ◌↔◌, ℕ, Bool, true, false, true≢false, IsTrue, List, [], length, take, drop, get_or, sym, ap, subst, arith}
+use Rattle.std.proofs.Common.{◌≡◌, ◌∙◌, ◌+◌, ◌<◌, ◌≤◌, ◌++◌, ◌∷◌, ◌↔◌, ℕ, Bool, true, false, true≢false, IsTrue, List, [], None, length, take, drop, get_or, sym, ap, subst, arith}
 use Rattle.std.specs.Prelude.{All}
 use Rattle.std.proofs.lemmas.List.{take-append-drop, take_all, take_more, drop_more, length-take-le}
-use Rattle.std.proofs.lemmas.List.Elements.{All-nil, All-cons, All-head, All-tail, All-push, All-more}
+use Rattle.std.proofs.lemmas.List.Elements.{All-nil, All-cons, All-head, All-tail, All-push, All-more, All-get_or}
 use Rattle.std.proofs.lemmas.Slice.Zip.{all_zipped_more}
 use Rattle.f77_program.specs.Program.{LineFields}
-use Rattle.f77_run.specs.Interpreter.{IsOutcomeOf}
+use Rattle.f77_check.specs.declared.checked.Shape.{Shape}
+use Rattle.f77_run.specs.Interpreter.{IsOutcomeOf, refusal}
+use Rattle.f77_run.specs.Reached.{AreReached}
 use Rattle.f77_run.specs.declared.argument.Arg.{Arg}
 use Rattle.f77_run.specs.declared.outcome.Outcome.{Outcome}
 use Rattle.mothra_bench.specs.Bench.{IsEnd, AreOutcomes, Ends, IsFirstNot}
+use Rattle.mothra_bench.specs.Running.{AreCourses}
 
 -- a list, cut at an item
 pub cut_at : {X : Type 0} (xs : List X) (i : ℕ) (x : X) → i < length xs → x ≡ get_or xs i x → xs ≡ take i xs ++ x ∷ drop (i + 1) xs
@@ -41,27 +44,33 @@ one_more P xs i x within is hold holds = All-more P xs i x within hold (subst P 
 pub none_left : {X : Type 0} (P : X → Type 0) (xs : List X) (i : ℕ) → length xs ≤ i → All P (take i xs) → All P xs
 none_left P xs i end hold = subst (All P) (take_all i xs end) hold
 
--- what a program comes to on tests, on each of which it ends
-pub record AreEndings (program : List LineFields) (steps : ℕ) (tests : List (List Arg)) (outcomes : List Outcome) : Type 0 where
-  pub each : AreOutcomes program steps tests outcomes
-  pub end : All IsEnd outcomes
+-- the courses of a program on no tests, and on one test more
+pub no_courses : (program : List LineFields) (steps : ℕ) → AreCourses program steps [] [] []
+no_courses program steps = record { outcomes = tt; end = All-nil IsEnd; reached = tt }
 
-pub no_endings : (program : List LineFields) (steps : ℕ) → AreEndings program steps [] []
-no_endings program steps = record { each = tt; end = All-nil IsEnd }
+pub course_more : (program : List LineFields) (steps : ℕ) (tests : List (List Arg)) (outcomes : List Outcome) (reached : List (List Bool)) (i : ℕ) (test : List Arg)
+    (outcome : Outcome) (statements : List Bool) → i < length tests → test ≡ get_or tests i test → AreCourses program steps (take i tests) outcomes reached
+    → IsOutcomeOf program test steps outcome → IsEnd outcome → AreReached program test steps statements
+    → AreCourses program steps (take (i + 1) tests) (outcomes ++ outcome ∷ []) (reached ++ statements ∷ [])
+course_more program steps tests outcomes reached i test outcome statements within is are one end noted =
+    subst (λ (taken : List (List Arg)). AreCourses program steps taken (outcomes ++ outcome ∷ []) (reached ++ statements ∷ []))
+    (sym (next_taken tests i test within is))
+    (record {
+      outcomes = all_zipped_more (λ arguments outcome. IsOutcomeOf program arguments steps outcome) (take i tests) outcomes test outcome are.outcomes one;
+      end = All-push IsEnd outcomes outcome are.end end;
+      reached = all_zipped_more (λ arguments reached. AreReached program arguments steps reached) (take i tests) reached test statements are.reached noted;
+    })
 
-pub ending_more : (program : List LineFields) (steps : ℕ) (tests : List (List Arg)) (outcomes : List Outcome) (i : ℕ) (test : List Arg) (outcome : Outcome)
-    → i < length tests → test ≡ get_or tests i test → AreEndings program steps (take i tests) outcomes
-    → IsOutcomeOf program test steps outcome → IsEnd outcome → AreEndings program steps (take (i + 1) tests) (outcomes ++ outcome ∷ [])
-ending_more program steps tests outcomes i test outcome within is are one end = record {
-  each = subst (λ (taken : List (List Arg)). AreOutcomes program steps taken (outcomes ++ outcome ∷ [])) (sym (next_taken tests i test within is))
-      (all_zipped_more (λ arguments outcome. IsOutcomeOf program arguments steps outcome) (take i tests) outcomes test outcome are.each one);
-  end = All-push IsEnd outcomes outcome are.end end;
-}
+pub courses_all : (program : List LineFields) (steps : ℕ) (tests : List (List Arg)) (outcomes : List Outcome) (reached : List (List Bool)) (i : ℕ) → length tests ≤ i
+    → AreCourses program steps (take i tests) outcomes reached → AreCourses program steps tests outcomes reached
+courses_all program steps tests outcomes reached i end are =
+    subst (λ (taken : List (List Arg)). AreCourses program steps taken outcomes reached) (take_all i tests end) are
 
-pub endings_all : (program : List LineFields) (steps : ℕ) (tests : List (List Arg)) (outcomes : List Outcome) (i : ℕ) → length tests ≤ i
-    → AreEndings program steps (take i tests) outcomes → AreEndings program steps tests outcomes
-endings_all program steps tests outcomes i end are =
-    subst (λ (taken : List (List Arg)). AreEndings program steps taken outcomes) (take_all i tests end) are
+-- the arguments of a test fit where those of all tests do
+pub test_fits : (shapes : List Shape) (tests : List (List Arg)) (i : ℕ) (test : List Arg) → i < length tests → test ≡ get_or tests i test
+    → All (λ arguments. refusal shapes arguments ≡ None) tests → refusal shapes test ≡ None
+test_fits shapes tests i test within is all =
+    subst (λ arguments. refusal shapes arguments ≡ None) (sym is) (All-get_or (λ arguments. refusal shapes arguments ≡ None) tests i test within all)
 
 -- on each of them it ends
 pub ends_all : (program : List LineFields) (steps : ℕ) (tests : List (List Arg)) (outcomes : List Outcome) → AreOutcomes program steps tests outcomes

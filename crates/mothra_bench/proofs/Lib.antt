@@ -27,3 +27,4 @@ mod ReportEntries
 mod CompleteRows
 mod Crossings
 mod CountSteps
+mod Wants

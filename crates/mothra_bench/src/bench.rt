@@ -17,7 +17,7 @@ ghost use Rattle.mothra_ops.specs.Mutants.{program_of};
 
 use crate::equivalents::named_by;
 use crate::fault::BenchFault;
-use crate::running::{first_misfit, outcomes_of, reached_on};
+use crate::running::{courses_on, first_misfit};
 use f77_run::{Arg, Outcome, Values};
 use indexmap::IndexSet;
 use mothra_exchange::Ticket;
@@ -76,7 +76,7 @@ impl Model for Bench {
 
 impl Bench {
     /// The bench of a plan, its tests, the limit on steps, and the mutants that are declared equivalent, with their numbers in the
-    /// whole lists. The program is run on every test.
+    /// whole lists. The program is run once on every test.
     ///
     /// Of several faults the first in this order is told: B3 over all tests, B4 over all tests, then the declared entries in order, B5 before B6
     /// for one entry. Entries of operators that the plan was not asked for are passed over.
@@ -98,15 +98,14 @@ impl Bench {
         if let Some(test) = first_misfit(&plan, tests.as_slice()) {
             return Err(BenchFault::TestShape(test));
         }
-        let outcomes = outcomes_of(alloc, &plan, tests.as_slice(), steps)?;
-        let reached = reached_on(alloc, &plan, tests.as_slice(), steps)?;
+        let courses = courses_on(alloc, &plan, tests.as_slice(), steps)?;
         let named = named_by(alloc, &plan, declared.as_slice())?;
         Ok(Bench {
             plan,
             tests,
             steps,
-            outcomes: Values::new(outcomes),
-            reached: Values::new(reached),
+            outcomes: Values::new(courses.outcomes),
+            reached: Values::new(courses.reached),
             declared,
             named,
         })

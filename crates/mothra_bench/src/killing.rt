@@ -11,6 +11,7 @@ ghost use Rattle.mothra_bench.specs.declared.fault.BenchFault.TheVariants.{Memor
 
 use crate::bench::Bench;
 use crate::fault::BenchFault;
+use crate::want;
 use f77_check::Checked;
 use f77_run::{Runner, Values};
 use std::alloc::Global;
@@ -50,7 +51,7 @@ fn kill(
     let arguments = bench.tests()[test].as_slice();
     match mutant.comes_to(arguments, bench.steps(), &bench.outcomes()[test]) {
         Ok(same) => Ok(!same),
-        Err(_) => Err(BenchFault::Memory),
+        Err(fault) => Err(want::of_run(fault)),
     }
 }
 
@@ -87,6 +88,6 @@ pub(crate) fn kills_of(
 {
     match Runner::of(alloc, mutant) {
         Ok(mut runner) => kills_in_turn(alloc, bench, &mut runner, changed),
-        Err(_) => Err(BenchFault::Memory),
+        Err(fault) => Err(want::of_run(fault)),
     }
 }

@@ -21,6 +21,7 @@ mod running;
 mod threads;
 mod tickets;
 mod verdict;
+mod want;
 mod working;
 
 pub use analysis::analyse;

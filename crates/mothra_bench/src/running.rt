@@ -1,18 +1,19 @@
 //! The program itself on the tests of a bench.
 
-ghost use Rattle.std.specs.Prelude.{◌≡◌, ◌↔◌, All, IsTrue, IfOk, IfErr, IfSome, IfNone};
+ghost use Rattle.std.specs.Prelude.{◌≡◌, ◌↔◌, All, IsTrue, None, IfOk, IfErr, IfSome, IfNone, map};
+ghost use Rattle.f77_program.specs.Program.{line_of};
 ghost use Rattle.f77_check.specs.Checked.{shapes};
-ghost use Rattle.f77_run.specs.Interpreter.{IsOutcomeOf};
+ghost use Rattle.f77_run.specs.Interpreter.{IsOutcomeOf, refusal};
 ghost use Rattle.f77_run.specs.Reached.{AreReached};
-ghost use Rattle.mothra_bench.specs.Bench.{Fits, IsEnd, AreOutcomes, Ends, IsFirstNot};
-ghost use Rattle.mothra_bench.specs.Killing.{AreReachedOn};
-ghost use Rattle.mothra_bench.specs.Running.{IsNoRun};
+ghost use Rattle.mothra_bench.specs.Bench.{Fits, IsEnd, Ends, IsFirstNot};
+ghost use Rattle.mothra_bench.specs.Running.{AreCourses, IsNoRun};
 ghost use Rattle.mothra_bench.specs.declared.fault.BenchFault.TheVariants.{Memory};
 ghost use Rattle.mothra_ops.specs.Mutants.{program_of};
 
 use crate::fault::BenchFault;
+use crate::want;
 use f77_check::Shape;
-use f77_run::{Arg, Outcome, Values, fit, reached_statements, run};
+use f77_run::{Arg, Course, Outcome, RunFault, Runner, Values, fit};
 use mothra_ops::Plan;
 use std::alloc::Global;
 
@@ -32,7 +33,8 @@ fn fits(plan: &Plan, test: &Values<Arg>) -> bool
 {
     match fit(dummies(plan), test.as_slice()) {
         Ok(()) => true,
-        Err(_) => false,
+        Err(RunFault::ArgumentCount | RunFault::ArgumentShape(_)) => false,
+        Err(RunFault::Memory) => unreachable!(),
     }
 }
 
@@ -66,82 +68,86 @@ fn is_end(outcome: &Outcome) -> bool
     }
 }
 
-/// What the program comes to on a test; none where it neither returns nor stops.
-fn ending(
+/// The course of the program on a test; none where it neither returns nor stops.
+fn course_on(
     alloc: Global,
-    plan: &Plan,
+    original: &mut Runner<'_>,
     test: &Values<Arg>,
     steps: u32,
-) -> Result<Option<Outcome>, BenchFault>
-    requires { Fits (program_of plan.now) test.now }
-    ensures ends { IfOk result
-        (λ ending. IfSome ending (λ outcome. IsOutcomeOf (program_of plan.now) test.now steps outcome × IsEnd outcome)) }
-    ensures fails { IfOk result (λ ending. IfNone ending (¬ (Ends (program_of plan.now) steps test.now))) }
+) -> Result<Option<Course>, BenchFault>
+    requires { refusal original.old.arguments test.now ≡ None }
+    ensures program { original.new ≡ original.old }
+    ensures outcome { IfOk result (λ course. IfSome course
+        (λ course. IsOutcomeOf (map line_of original.old.program) test.now steps course.outcome)) }
+    ensures end { IfOk result (λ course. IfSome course (λ course. IsEnd course.outcome)) }
+    ensures reached { IfOk result (λ course. IfSome course
+        (λ course. AreReached (map line_of original.old.program) test.now steps course.reached)) }
+    ensures fails { IfOk result
+        (λ course. IfNone course (¬ (Ends (map line_of original.old.program) steps test.now))) }
     ensures memory { IfErr result (λ fault. fault ≡ Memory) }
 {
-    let Ok(outcome) = run(alloc, plan.program(), test.as_slice(), steps) else {
-        return Err(BenchFault::Memory);
-    };
-    if is_end(&outcome) {
-        Ok(Some(outcome))
-    } else {
-        Ok(None)
+    match original.course(alloc, test.as_slice(), steps) {
+        Ok(course) => {
+            if is_end(&course.outcome) {
+                Ok(Some(course))
+            } else {
+                Ok(None)
+            }
+        }
+        Err(fault) => Err(want::of_run(fault)),
     }
 }
 
-/// What the program comes to on each test. B4 is told of the first on which it neither returns nor stops.
-pub(crate) fn outcomes_of(
+/// What the program comes to on tests, and where it was, test by test.
+#[derive(Drop)]
+pub(crate) struct Courses {
+    pub(crate) outcomes: Vec<Outcome>,
+    /// For each test, which statements control comes to.
+    pub(crate) reached: Vec<Values<bool>>,
+}
+
+/// The courses of the program on tests, on each of which it is run once.
+fn courses_in_turn(
     alloc: Global,
-    plan: &Plan,
+    original: &mut Runner<'_>,
     tests: &[Values<Arg>],
     steps: u32,
-) -> Result<Vec<Outcome>, BenchFault>
-    requires { All (Fits (program_of plan.now)) tests.now }
-    ensures outcomes { IfOk result (λ outcomes. AreOutcomes (program_of plan.now) steps tests.now outcomes.items) }
-    ensures end { IfOk result (λ outcomes. All IsEnd outcomes.items) }
-    ensures refused { IfErr result (λ fault. IsNoRun (program_of plan.now) steps tests.now fault) }
+) -> Result<Courses, BenchFault>
+    requires { All (λ arguments. refusal original.old.arguments arguments ≡ None) tests.now }
+    ensures courses { IfOk result (λ courses. let program = map line_of original.old.program in
+        AreCourses program steps tests.now courses.outcomes.items courses.reached.items) }
+    ensures refused { IfErr result (λ fault. IsNoRun (map line_of original.old.program) steps tests.now fault) }
 {
     let mut outcomes = Vec::with_capacity(alloc, tests.len())?;
+    let mut reached = Vec::with_capacity(alloc, tests.len())?;
     for (index, test) in tests.iter().enumerate() {
-        let Some(outcome) = ending(alloc, plan, test, steps)? else {
+        let Some(course) = course_on(alloc, original, test, steps)? else {
             return Err(BenchFault::OriginalFails(index + 1));
         };
-        outcomes.push(outcome)?;
+        outcomes.push(course.outcome)?;
+        reached.push(course.reached)?;
     }
-    Ok(outcomes)
+    Ok(Courses { outcomes, reached })
 }
 
-/// Which statements of the program control comes to on a test.
-fn reached_by(
-    alloc: Global,
-    plan: &Plan,
-    test: &Values<Arg>,
-    steps: u32,
-) -> Result<Values<bool>, BenchFault>
-    requires { Fits (program_of plan.now) test.now }
-    ensures reached { IfOk result (λ reached. AreReached (program_of plan.now) test.now steps reached) }
-    ensures memory { IfErr result (λ fault. fault ≡ Memory) }
-{
-    match reached_statements(alloc, plan.program(), test.as_slice(), steps) {
-        Ok(reached) => Ok(reached),
-        Err(_) => Err(BenchFault::Memory),
-    }
-}
-
-/// Which statements of the program control comes to on each test.
-pub(crate) fn reached_on(
+/// The courses of the program on tests, on each of which it is run once. B4 is told of the first on which it neither
+/// returns nor stops.
+pub(crate) fn courses_on(
     alloc: Global,
     plan: &Plan,
     tests: &[Values<Arg>],
     steps: u32,
-) -> Result<Vec<Values<bool>>, BenchFault>
+) -> Result<Courses, BenchFault>
     requires { All (Fits (program_of plan.now)) tests.now }
-    ensures reached { IfOk result (λ reached. AreReachedOn (program_of plan.now) steps tests.now reached.items) }
-    ensures memory { IfErr result (λ fault. fault ≡ Memory) }
+    ensures courses { IfOk result
+        (λ courses. AreCourses (program_of plan.now) steps tests.now courses.outcomes.items courses.reached.items) }
+    ensures refused { IfErr result (λ fault. IsNoRun (program_of plan.now) steps tests.now fault) }
 {
-    let mut reached = Vec::with_capacity(alloc, tests.len())?;
-    for test in tests {
-        reached.push(reached_by(alloc, plan, test, steps)?)?;
+    let checked = plan.program();
+    // That its shapes are those of its program is told with the program.
+    let _ = checked.program();
+    match Runner::of(alloc, checked) {
+        Ok(mut original) => courses_in_turn(alloc, &mut original, tests, steps),
+        Err(fault) => Err(want::of_run(fault)),
     }
-    Ok(reached)
 }

@@ -14,6 +14,7 @@ ghost use Rattle.mothra_bench.specs.declared.fault.BenchFault.TheVariants.{Memor
 use crate::bench::Bench;
 use crate::fault::BenchFault;
 use crate::killing::kills_of;
+use crate::want;
 use f77_check::Checked;
 use f77_legal::keeps_frame;
 use f77_run::Values;
@@ -74,7 +75,7 @@ impl<'a> Verdicts<'a> {
     {
         match Mutants::of(alloc, bench.plan()) {
             Ok(mutants) => Ok(Verdicts { bench, mutants }),
-            Err(_) => Err(BenchFault::Memory),
+            Err(fault) => Err(want::of_plan(fault)),
         }
     }
 
@@ -92,7 +93,7 @@ impl<'a> Verdicts<'a> {
             .patched(mutant.number, &mutant.stmt)
         {
             Ok(checked) => Ok(checked),
-            Err(_) => Err(BenchFault::Memory),
+            Err(fault) => Err(want::of_check(&fault)),
         }
     }
 
@@ -129,7 +130,7 @@ impl<'a> Verdicts<'a> {
         let mutant = match self.mutants.mutant(alloc, ticket.op, ticket.number) {
             Ok(Some(mutant)) => mutant,
             Ok(None) => return Err(BenchFault::Stranger(ticket)),
-            Err(_) => return Err(BenchFault::Memory),
+            Err(fault) => return Err(want::of_plan(fault)),
         };
         match self.kills(alloc, &mutant) {
             Ok(kills) => Ok(Row { ticket, kills }),

@@ -1,14 +1,17 @@
-use Rattle.std.proofs.Common.{◌≡◌, ◌<◌, ◌*◌, ◌∙◌, Some, length, map, refl, sym, ap, subst, arith, rules}
-use Rattle.std.specs.Prelude.{IfSome, slice_get}
+use Rattle.std.proofs.Common.{◌≡◌, ◌<◌, ◌*◌, ◌∙◌, List, Some, None, length, map, refl, sym, ap, subst, arith, rules}
+use Rattle.std.specs.Prelude.{All, IfSome, slice_get}
 use Rattle.std.proofs.lemmas.Option.{same_Some, slice_get_read}
 use Rattle.std.proofs.lemmas.Slice.Zip.{AllZip-long}
 use Rattle.f77_program.specs.Program.{line_of}
-use Rattle.f77_run.specs.Interpreter.{IsOutcomeOf}
+use Rattle.f77_run.specs.Interpreter.{IsOutcomeOf, refusal}
 use Rattle.f77_run.specs.Reached.{AreReached}
+use Rattle.f77_run.specs.declared.argument.Arg.{Arg}
 use Rattle.mothra_ops.specs.Mutants.{program_of}
 use Rattle.mothra_bench.specs.Killing.{IsChangedAt}
+use Rattle.mothra_bench.proofs.BenchTests.{test_fits}
 use Rattle.mothra_bench.proofs.Kills.{is_kill}
 use Rattle.mothra_bench.proofs.KillsUnreached.{paired, survives}
+use Rattle.mothra_bench.proofs.Wants.{run_wants}
 use Rattle.mothra_bench.proofs.killing.kill.Goals as goal
 
 pub offset_bounds-reached-test : goal.offset_bounds-reached-test
@@ -70,3 +73,11 @@ returns-in-Ok-clause-kill c = λ arguments at.
     (subst (IsOutcomeOf program arguments bench.steps) here own.2)
     (subst (λ arguments. IsOutcomeOf mutant arguments bench.steps told.0) given
     (subst (λ steps. IsOutcomeOf mutant c.as_slice-arguments.result.now steps told.0) c.steps.ensures told.1))
+
+pub of_run-requires : goal.of_run-requires
+of_run-requires c =
+    let tests : c.tests.result.now ≡ c.args.bench.now.tests = c.tests.ensures.tests in
+    let long = ap length tests in
+    let fit = subst (λ (tests : List (List Arg)). All (λ arguments. refusal c.args.mutant.now.arguments arguments ≡ None) tests) (sym tests) c.requires.fit in
+    let fits = test_fits c.args.mutant.now.arguments c.tests.result.now c.args.test c.index-tests-test.result (omega (arith, c.requires.within, long)) c.index-tests-test.is fit in
+    run_wants c.in-Err.fault _ (rw c.as_slice-arguments.ensures fits) c.in-Err.ensures.fault
