@@ -285,6 +285,6 @@ fn key_fault(alloc: Global, key: &str) -> JobFault
 {
     match String::from_str(alloc, key) {
         Ok(key) => JobFault::Key(Key::new(key)),
-        Err(_) => JobFault::Memory,
+        Err(AllocError) => JobFault::Memory,
     }
 }
