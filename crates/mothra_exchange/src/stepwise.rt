@@ -1,0 +1,20 @@
+//! What holds between any two steps of an exchange.
+
+ghost use Rattle.std.specs.Prelude.{ℕ, List};
+ghost use Rattle.mothra_exchange.specs.declared.view.View.{View as ViewModel};
+ghost use Rattle.mothra_exchange.specs.Table.{BetweenStepsOf};
+
+use crate::rule::Bound;
+use crate::table::TableExchange;
+use crate::view::View;
+use atomic_table::TableRule;
+
+/// An exchange that changes in single steps: what its type keeps between any two of them.
+pub trait Stepwise {
+    // This holds of the words and of the views between any two steps.
+    ghost between: { Self → (List ℕ → List ViewModel → Type 0) → Type 0 };
+}
+
+impl<const C: u32> Stepwise for TableExchange<C> {
+    ghost between = { λ e P. BetweenStepsOf ⟦<Bound<C> as TableRule<(), View, [u32; 22]>>⟧.holds e P };
+}
