@@ -1,5 +1,5 @@
 -- Where every mutant of the plan was handed out once, its rows make a matrix.
-use Rattle.std.proofs.Common.{◌≡◌, ℕ, suc, ◌+◌, ◌≤◌, List, [], ◌∷◌, ◌++◌, length, All, Bool, true, false, eqb, ◌&&◌, refl, sym, ap, ◌∙◌, subst, arith}
+use Rattle.std.proofs.Common.{◌≡◌, ℕ, suc, ◌+◌, ◌≤◌, List, [], ◌∷◌, ◌++◌, length, All, Bool, true, false, eqb, ◌&&◌, refl, ap, ◌∙◌, subst, arith}
 use Rattle.std.proofs.lemmas.Bool.Decides.{nat_tests}
 use Rattle.std.proofs.lemmas.List.{map-append}
 use Rattle.std.proofs.lemmas.Slice.Zip.{AllZip-long}
@@ -7,8 +7,6 @@ use Rattle.f77_run.specs.declared.argument.Arg.{Arg}
 use Rattle.mothra_codes.specs.Op.{index}
 use Rattle.mothra_codes.specs.Ticket.{is_ticket, once_up_to, one_if, times}
 use Rattle.mothra_codes.specs.declared.ticket.Ticket.{Ticket}
-use Rattle.mothra_exchange.specs.View.{whole_view}
-use Rattle.mothra_exchange.specs.declared.view.View.{View}
 use Rattle.mothra_exchange.specs.declared.word.Word.{Word}
 use Rattle.mothra_exchange.proofs.Counting.{once_up_to-most, times-append}
 use Rattle.mothra_ops.specs.Mutants.{program_of}
@@ -16,8 +14,7 @@ use Rattle.mothra_ops.specs.Plan.{PlanFields, edits_of}
 use Rattle.mothra_bench.specs.Analysis.{IsNoReport}
 use Rattle.mothra_bench.specs.Bench.{BenchFields}
 use Rattle.mothra_bench.specs.Collecting.{IsFirstDouble, IsFirstMissing, IsFirstStranger, IsNoMatrix, is_row_of, rows_of}
-use Rattle.mothra_bench.specs.Driving.{AreComplete, IsWhole}
-use Rattle.mothra_bench.specs.Feeding.{AreCounts}
+use Rattle.mothra_bench.specs.Driving.{AreComplete}
 use Rattle.mothra_bench.specs.Gathered.{AreVerdicts, IsOwn, tickets_in}
 use Rattle.mothra_bench.specs.Verdict.{Has, IsKill, mutated}
 use Rattle.mothra_bench.specs.declared.fault.BenchFault.{BenchFault}
@@ -118,8 +115,3 @@ matrix_report bench words rows (fault.TestShape n) complete verdicts h = absurd 
 matrix_report bench words rows (fault.OriginalFails n) complete verdicts h = absurd h
 matrix_report bench words rows (fault.EquivalentUnknown n) complete verdicts h = absurd h
 matrix_report bench words rows (fault.EquivalentTwice n) complete verdicts h = absurd h
-
--- the pass of an exchange that was just made with the plan's counts is whole
-pub whole_pass : (plan : PlanFields) (counts : List ℕ) (view : View) → view ≡ whole_view counts → AreCounts plan counts → IsWhole plan view
-whole_pass plan counts view is own =
-    subst (IsWhole plan) (sym is) (record { counts = own; part = refl; offered = refl; taken = refl; closings = refl })

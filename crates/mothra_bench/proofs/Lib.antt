@@ -25,6 +25,7 @@ mod WorkerRows
 mod DriveEnds
 mod ReportEntries
 mod CompleteRows
+pub mod FirstItems
 mod Crossings
 mod CountSteps
 mod Wants

@@ -13,4 +13,5 @@ pub mod Gathered
 pub mod Working
 pub mod Feeding
 pub mod Driving
+pub mod PlanExchange
 pub mod Analysis

@@ -1,13 +1,16 @@
 -- The verdict of running a mutant alone (DeMillo, Lipton and Sayward 1978): which tests kill it.
-use Rattle.std.specs.Prelude.{◌≡◌, ◌≢◌, ◌≤◌, ⊤, ℕ, Bool, true, false, List, length, Some}
+use Rattle.std.specs.Prelude.{◌≡◌, ◌≢◌, ◌≤◌, ⊤, ℕ, Bool, true, false, List, length, Option, Some}
 use Rattle.std.specs.List.{AllZip}
 use Rattle.f77_program.specs.Program.{LineFields}
 use Rattle.f77_program.specs.Patching.{patched}
 use Rattle.f77_run.specs.Interpreter.{IsOutcomeOf}
 use Rattle.f77_run.specs.declared.argument.Arg.{Arg}
 use Rattle.f77_run.specs.declared.outcome.Outcome.{Outcome}
-use Rattle.mothra_ops.specs.Mutants.{MutantFields, mutant_of, program_of}
+use Rattle.mothra_ops.specs.Edits.{numbered}
+use Rattle.mothra_ops.specs.Mutants.{MutantFields, mutant_made, mutant_of, program_of}
 use Rattle.mothra_ops.specs.Plan.{PlanFields, edits_of}
+use Rattle.mothra_ops.specs.declared.edit.Edit.{Edit}
+use Rattle.mothra_codes.specs.declared.op.Op.{Op}
 use Rattle.mothra_codes.specs.declared.ticket.Ticket.{Ticket}
 use Rattle.mothra_bench.specs.Bench.{BenchFields}
 use Rattle.mothra_bench.specs.declared.fault.BenchFault.{BenchFault}
@@ -32,10 +35,22 @@ mutated program mutant = patched program mutant.number mutant.statement
 abbrev pub Has : PlanFields → Ticket → Type 0
 Has plan ticket = (1 ≤ ticket.number) × (ticket.number ≤ length (edits_of plan ticket.op))
 
+-- item k of the operator's list, counted from 1: what ticket k of the operator stands for
+abbrev pub item_of : PlanFields → Op → ℕ → Option Edit
+item_of plan op k = numbered (edits_of plan op) k
+
 -- the kills are those of the ticket's mutant, run alone on each test
 pub record IsVerdict (bench : BenchFields) (ticket : Ticket) (kills : List Bool) : Type 0 where
   pub mutant : MutantFields
   pub is : mutant_of bench.plan ticket.op ticket.number ≡ Some mutant
+  pub alone : IsAlone (program_of bench.plan) (mutated (program_of bench.plan) mutant) bench.steps bench.tests kills
+
+-- the kills are those of the mutant that the item makes which the ticket stands for, run alone on each test
+pub record IsItemVerdict (bench : BenchFields) (ticket : Ticket) (kills : List Bool) : Type 0 where
+  pub edit : Edit
+  pub item : item_of bench.plan ticket.op ticket.number ≡ Some edit
+  pub mutant : MutantFields
+  pub makes : mutant_made (program_of bench.plan) edit ≡ Some mutant
   pub alone : IsAlone (program_of bench.plan) (mutated (program_of bench.plan) mutant) bench.steps bench.tests kills
 
 -- why there is no verdict: B8 where the plan has no such mutant

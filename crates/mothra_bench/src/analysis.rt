@@ -7,9 +7,9 @@ use crate::bench::Bench;
 use crate::collecting::collect;
 use crate::driving::drive;
 use crate::fault::BenchFault;
+use crate::plan_exchange::exchange_of;
 use crate::report::render;
-use crate::tickets::counts;
-use mothra_exchange::{ExchangeFault, Pass, TableExchange};
+use mothra_exchange::{Pass, TableExchange};
 use std::alloc::Global;
 use std::sync::Wait;
 use std::thread::Threads;
@@ -25,9 +25,7 @@ pub fn analyse<R: Threads + Wait + Sync>(
     ensures report { IfOk result (λ text. IsReport bench.now (string_bytes text)) }
     ensures refused { IfErr result IsNoReport }
 {
-    let Ok((exchange, pass)) = TableExchange::<64>::new(alloc, counts(bench.plan())) else {
-        return Err(BenchFault::Memory);
-    };
+    let (exchange, pass) = exchange_of(alloc, bench.plan())?;
     let (rows, tally) = drive(rt, alloc, exchange, pass, bench, workers)?;
     let matrix = collect(alloc, bench, &tally, rows)?;
     render(alloc, bench, &matrix)

@@ -1,17 +1,17 @@
 use Rattle.std.proofs.Common.{◌≡◌, refl, subst, string_bytes}
 use Rattle.std.proofs.lemmas.Result.{IfOk-weaker, err_from_is_err_and}
+use Rattle.mothra_exchange.specs.Table.{view_of}
 use Rattle.mothra_bench.specs.Analysis.{IsReport}
-use Rattle.mothra_bench.specs.Feeding.{AreCounts}
+use Rattle.mothra_bench.specs.Driving.{IsWhole}
 use Rattle.mothra_bench.specs.Report.{report_text}
-use Rattle.mothra_bench.proofs.CompleteRows.{matrix_report, whole_pass}
+use Rattle.mothra_bench.proofs.CompleteRows.{matrix_report}
 use Rattle.mothra_bench.proofs.ReportEntries.{are_entries}
 use Rattle.mothra_bench.proofs.analysis.analyse.Goals as goal
 
 pub returns-in_err-matrix-clause-refused : goal.returns-in_err-matrix-clause-refused
 returns-in_err-matrix-clause-refused g c =
     let bench = c.args.bench.now in
-    let own = subst (λ plan. AreCounts plan c.counts.result) c.plan.ensures.plan c.counts.ensures.counts in
-    let whole = whole_pass bench.plan c.counts.result _ c.in-Ok.ensures.view own in
+    let whole = subst (λ plan. IsWhole plan (view_of c.in_ok-exchange.pass)) c.plan.ensures.plan c.in_ok-exchange.ensures.whole in
     let complete = c.in_ok-rows.ensures.complete refl refl whole in
     let p = err_from_is_err_and c.from_residual-in_err-matrix.result c.from_residual-in_err-matrix.ensures.1 in
     rw (p.1, p.2) (matrix_report bench _ _ c.in_err-matrix.field-0.0 complete c.in_ok-rows.ensures.verdicts c.in_err-matrix.ensures.refused)

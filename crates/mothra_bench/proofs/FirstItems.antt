@@ -1,0 +1,141 @@
+-- Between two steps of an exchange with the counts of a plan, the tickets handed out stand for the first items of its lists.
+use Rattle.std.proofs.Common.{◌≡◌, ℕ, zero, suc, ◌+◌, ◌<◌, ◌≤◌, List, [], ◌∷◌, ◌++◌, map, length, take, Option, Some}
+use Rattle.std.proofs.Common.{Bool, refl, sym, ap, subst, ◌∙◌, arith, inl, inr}
+use Rattle.std.specs.Prelude.{slice_get, slice_index}
+use Rattle.std.proofs.lemmas.List.{get_or-map, length_push, map_more, map_push}
+use Rattle.std.proofs.lemmas.Option.{option_and_then_some, slice_get-get_or, slice_get_cases}
+use Rattle.mothra_codes.specs.Op.{all_ops, index}
+use Rattle.mothra_codes.specs.declared.op.Op.{Op}
+use Rattle.mothra_codes.specs.declared.op.Op.TheVariants.{Aar}
+use Rattle.mothra_codes.specs.declared.ticket.Ticket.{Ticket}
+use Rattle.mothra_codes.proofs.Operators.{index_below, op_at-index}
+use Rattle.mothra_exchange.specs.Law.{IsWordOf, Shows}
+use Rattle.mothra_exchange.specs.Log.{IsLegal, closes, hands, offers, one_to, taken_in}
+use Rattle.mothra_exchange.specs.Rule.{IsSound, OpRule}
+use Rattle.mothra_exchange.specs.declared.log.Event.{Event}
+use Rattle.mothra_exchange.specs.declared.view.View.{View}
+use Rattle.mothra_exchange.specs.declared.word.Word.{Word}
+use Rattle.mothra_exchange.proofs.Histories.{in_order, legal_for, none_after}
+use Rattle.mothra_exchange.proofs.Showing.{shows_one_log}
+use Rattle.mothra_exchange.proofs.Standings.{closing_stands, has_word, offered_stand, rule_at, taken_stand}
+use Rattle.mothra_ops.specs.Edits.{numbered}
+use Rattle.mothra_ops.specs.Mutants.{mutant_made, program_of}
+use Rattle.mothra_ops.specs.Plan.{PlanFields, edits_of}
+use Rattle.mothra_bench.specs.Bench.{BenchFields}
+use Rattle.mothra_bench.specs.Feeding.{AreCounts}
+use Rattle.mothra_bench.specs.PlanExchange.{AreFirstItems, HandsOutFront, HasHistory, IsHandedOut, KeepsLists, counts_of}
+use Rattle.mothra_bench.specs.Verdict.{IsItemVerdict, IsVerdict, item_of}
+
+-- ---- the items of a list by number
+
+module _ {X : Type 0} where
+  -- items 1 to n are the first n
+  numbered_front : (xs : List X) (n : ℕ) → n ≤ length xs → map (numbered xs) (one_to n) ≡ map Some (take n xs)
+  numbered_front xs zero within = refl
+  numbered_front xs (suc n) within = elim (slice_get_cases xs n).1 [
+    | inl (x, low, at, is) ↦
+        let before : map (numbered xs) (one_to n) ≡ map Some (take n xs) = numbered_front xs n (omega (arith, within)) in
+        let next : n + 1 ≡ suc n = omega arith in
+        map_push (numbered xs) (one_to n) (suc n)
+        ∙ (ap (λ (l : List (Option X)). l ++ slice_get xs n ∷ []) before
+        ∙ (ap (λ (o : Option X). map Some (take n xs) ++ o ∷ []) (slice_get-get_or xs n x low)
+        ∙ (sym (map_more Some xs n x low) ∙ ap (λ (m : ℕ). map Some (take m xs)) next)))
+    | inr (high, past) ↦ absurd (omega (arith, within, high))
+  ]
+
+  item_at : (xs : List X) (k : ℕ) → 0 < k → k ≤ length xs → (x : X) × (numbered xs k ≡ Some x)
+  item_at xs zero pos within = absurd (omega (arith, pos))
+  item_at xs (suc k) pos within = elim (slice_get_cases xs k).1 [
+    | inl (x, low, at, is) ↦ (x, at)
+    | inr (high, past) ↦ absurd (omega (arith, within, high))
+  ]
+
+length-one_to : (n : ℕ) → length (one_to n) ≡ n
+length-one_to zero = refl
+length-one_to (suc n) = let before = length-one_to n in let more = length_push (one_to n) (suc n) in omega arith
+
+first_items : (plan : PlanFields) (op : Op) (n : ℕ) → n ≤ length (edits_of plan op) → AreFirstItems plan op (one_to n)
+first_items plan op n within =
+    numbered_front (edits_of plan op) n within
+    ∙ ap (λ (m : ℕ). map Some (take m (edits_of plan op))) (sym (length-one_to n))
+
+-- ---- the counts of a plan
+
+count_at : (plan : PlanFields) (op : Op) → slice_index (counts_of plan) (index op) ≡ length (edits_of plan op)
+count_at plan op =
+    get_or-map (λ (o : Op). length (edits_of plan o)) all_ops (index op) Aar 0 (index_below op)
+    ∙ ap (λ (o : Op). length (edits_of plan o)) (op_at-index op)
+
+-- ---- the exchange between two steps
+
+-- no more is handed out than the operator has
+few : (C i n many : ℕ) (w : Word) (views : List View) → OpRule C i n w views → n ≡ many → w.handed ≤ many
+few C i n many w views rule same = omega (arith, rule.bounds.handed, rule.bounds.offered, rule.count, same)
+
+module _ (C : ℕ) (plan : PlanFields) (counts words : List ℕ) (views : List View) (sound : IsSound C counts words views) (own : AreCounts plan counts) where
+  within : (op : Op) (w : Word) → IsWordOf words op w → w.handed ≤ length (edits_of plan op)
+  within op w is = few C (index op) (slice_index counts (index op)) (length (edits_of plan op)) w views (rule_at C counts words views sound op w is) (own op)
+
+  handed_out : (op : Op) (w : Word) → IsWordOf words op w → (k : ℕ) → 0 < k → k ≤ w.handed → IsHandedOut plan op views k
+  handed_out op w is k pos le =
+      let low = within op w is in
+      let item = item_at (edits_of plan op) k pos (omega (arith, le, low)) in
+      record { edit = item.0; item = item.1; taken = (taken_stand C counts words views sound op w is).each k pos le }
+
+  front : (op : Op) (w : Word) → IsWordOf words op w → HandsOutFront plan op w views
+  front op w is =
+      let taken = taken_stand C counts words views sound op w is in
+      record {
+        front = first_items plan op w.handed (within op w is);
+        each = handed_out op w is;
+        no_other = taken.no_other;
+        in_order = record {
+          taken = taken;
+          offered = offered_stand C counts words views sound op w is;
+          closed = closing_stands C counts words views sound op w is;
+        };
+      }
+
+  same : (op : Op) → slice_index counts (index op) ≡ slice_index (counts_of plan) (index op)
+  same op = own op ∙ sym (count_at plan op)
+
+  handed : (log : List Event) → IsLegal C counts log → (op : Op) (w : Word) → Shows counts log op w → taken_in (index op) log ≡ one_to w.handed
+  handed log legal op w shows = in_order C counts (index op) log legal ∙ ap one_to (sym (ap (λ (v : Word). v.handed) shows))
+
+  shown_for : (log : List Event) (op : Op) (w : Word) → Shows counts log op w → Shows (counts_of plan) log op w
+  shown_for log op w shows =
+      let i = index op in
+      let word : ℕ → Word = λ n. record { count = n; offered = offers i log; handed = hands i log; closed = closes i log } in
+      shows ∙ ap word (same op)
+
+  items : (log : List Event) → IsLegal C counts log → ((op : Op) (w : Word) → IsWordOf words op w → Shows counts log op w)
+      → (op : Op) → AreFirstItems plan op (taken_in (index op) log)
+  items log legal shows op =
+      let found = has_word C counts words views sound op in
+      let out = handed log legal op found.0 (shows op found.0 found.1) in
+      subst (AreFirstItems plan op) (sym out) (first_items plan op found.0.handed (within op found.0 found.1))
+
+  history : 0 < C → HasHistory C plan words
+  history some_wait =
+      let shown = shows_one_log C counts words views sound some_wait in
+      record {
+        log = shown.0;
+        legal = legal_for C counts (counts_of plan) same [] shown.0 shown.1;
+        shows = λ op w is. shown_for shown.0 op w (shown.2 op w is);
+        handed = λ op w is. handed shown.0 shown.1 op w (shown.2 op w is);
+        items = items shown.0 shown.1 shown.2;
+        accepted = λ op close offer ticket. none_after C counts shown.0 shown.1 close offer op ticket;
+      }
+
+  pub keeps_lists : KeepsLists C plan words views
+  keeps_lists = record {
+    operators = λ op. let found = has_word C counts words views sound op in (found.0, found.1, front op found.0 found.1);
+    history = history;
+  }
+
+-- ---- the verdict of an item
+
+pub item_verdict : (bench : BenchFields) (ticket : Ticket) (kills : List Bool) → IsVerdict bench ticket kills → IsItemVerdict bench ticket kills
+item_verdict bench ticket kills is =
+    option_and_then_some (mutant_made (program_of bench.plan)) (item_of bench.plan ticket.op ticket.number) is.mutant is.is
+    (λ edit item makes. record { edit = edit; item = item; mutant = is.mutant; makes = makes; alone = is.alone })
