@@ -1,18 +1,22 @@
 //! What holds of what is served.
 
-ghost use Rattle.std.specs.Prelude.{◌≡◌, ℕ, List};
+ghost use Rattle.std.specs.Prelude.{◌≡◌, ℕ, Bool, List};
 ghost use Rattle.clap.specs.Words.{Text};
 ghost use Rattle.mothra_app.specs.Fault.{MayFailBy};
 ghost use Rattle.mothra_job.specs.Job.{job_of};
-ghost use Rattle.mothra_app.specs.Law.{IsFairAnswer, IsLegalJob, IsWant, KeepsLists, ReportsJob};
+ghost use Rattle.mothra_app.specs.Law.{IsFairAnswer, IsLegalJob, IsWant, ReportsJob};
 ghost use Rattle.mothra_app.specs.Serving.{AsksFor, IsServed, MayBeWritten};
 ghost use Rattle.mothra_app.specs.declared.fault.Fault.{Fault};
 ghost use Rattle.mothra_app.specs.declared.status.Status.{Status};
 ghost use Rattle.mothra_app.specs.declared.status.Status.TheVariants.{Report};
+ghost use Rattle.mothra_bench.specs.Bench.{BenchFields};
 ghost use Rattle.mothra_bench.specs.Feeding.{AreCounts};
+ghost use Rattle.mothra_bench.specs.PlanExchange.{KeepsLists};
+ghost use Rattle.mothra_bench.specs.Verdict.{IsItemVerdict, IsVerdict};
 ghost use Rattle.mothra_cli.specs.declared.request.Request.{Request};
 ghost use Rattle.mothra_cli.specs.declared.request.Request.TheVariants.{Run};
 ghost use Rattle.mothra_codes.specs.declared.op.Op.{Op};
+ghost use Rattle.mothra_codes.specs.declared.ticket.Ticket.{Ticket};
 ghost use Rattle.mothra_exchange.specs.Rule.{IsSound};
 ghost use Rattle.mothra_exchange.specs.declared.view.View.{View};
 ghost use Rattle.mothra_ops.specs.Plan.{PlanFields};
@@ -20,11 +24,7 @@ ghost use Rattle.mothra_ops.specs.Plan.{PlanFields};
 use f77_run::law::one_outcome;
 use f77_source::law::one_reading;
 use f77_syntax::law::one_program;
-use mothra_bench::law::one_report;
-use mothra_exchange::law::{
-    closed_once, handed_in_order, none_offered_after_close, offered_are_one_to_offered,
-    taken_are_one_to_handed, words_show_a_legal_log,
-};
+use mothra_bench::law::{handed_out_are_first, one_report, verdict_of_the_item};
 use mothra_ops::law::{one_list, too_long};
 
 /// Words and bytes are served with one status and one text at most.
@@ -58,19 +58,20 @@ pub fn any_workers()
 /// Between any two steps of an exchange for a plan, the mutants handed out of each operator are a front of its list, in
 /// order, each once, and none was accepted after the operator closed. Where `run` is served with a report, that report has
 /// every mutant once, with the verdict of running it alone, whatever the number of workers.
+///
+/// Ticket k stands for item k of the list, where it is handed out as where it is run: a verdict of ticket k is that of
+/// the mutant which item k makes.
 pub fn headline()
     ensures between_steps { (C : ℕ) (plan : PlanFields) (counts words : List ℕ) (views : List View)
-        → IsSound C counts words views → AreCounts plan counts → KeepsLists C plan counts words views }
+        → IsSound C counts words views → AreCounts plan counts → KeepsLists C plan words views }
     ensures report { (words : List Text) (operators : List Op) (every steps workers : ℕ) (bytes text : List ℕ)
         → AsksFor words (Run operators every steps workers) → IsServed words bytes Report text
         → ReportsJob (job_of bytes) operators every steps text }
+    ensures verdict { (bench : BenchFields) (ticket : Ticket) (kills : List Bool)
+        → IsVerdict bench ticket kills → IsItemVerdict bench ticket kills }
 {
-    taken_are_one_to_handed();
-    offered_are_one_to_offered();
-    closed_once();
-    words_show_a_legal_log();
-    handed_in_order();
-    none_offered_after_close();
+    handed_out_are_first();
+    verdict_of_the_item();
 }
 
 /// What may be written for a legal job is its report, or the line of a fault for which the command breaks off, which is
