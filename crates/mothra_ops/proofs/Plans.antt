@@ -13,7 +13,7 @@ use Rattle.f77_program.specs.Program.{LineFields, line_of}
 use Rattle.f77_check.specs.Checked.{CheckedFields}
 use Rattle.mothra_ops.specs.Edits.{IsCountedList, IsList, IsNoList, IsTooLong}
 use Rattle.mothra_codes.specs.Op.{all_ops, index, op_at}
-use Rattle.mothra_ops.specs.Plan.{ListFields, IsPlan, IsNoPlan, asked, fields_of, list_fields}
+use Rattle.mothra_ops.specs.Plan.{ListFields, HasOneEach, IsPlan, IsNoPlan, asked, fields_of, list_fields}
 use Rattle.mothra_ops.specs.declared.edit.Edit.{Edit}
 use Rattle.mothra_ops.specs.declared.fault.OpsFault.{OpsFault}
 use Rattle.mothra_ops.specs.declared.fault.OpsFault.TheVariants.{Memory, NotASite, TooMany}
@@ -272,7 +272,8 @@ alike false false there back = refl
 
 operators_of : (ops : List Op) (checked : CheckedFields) (every : ℕ) (lists : List Listing)
     → HasLists ops (map line_of checked.program) every 22 lists
-    → map (λ (fields : ListFields). fields.op) (map list_fields lists) ≡ filter (asked (fields_of checked every lists)) all_ops
+    → HasOneEach (fields_of checked every lists)
+unfolding HasOneEach
 operators_of ops checked every lists has = ops_of lists ∙ has.operators ∙ ap (filter (is_named ops)) (take_all 22 all_ops (omega arith))
     ∙ ap (λ (test : Op → Bool). filter test all_ops) (λ k op. same op k)
   where

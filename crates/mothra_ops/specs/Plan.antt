@@ -43,10 +43,14 @@ edits_of plan op = option_map_or (λ list. list.edits) (list_of plan op) []
 abbrev pub whole_of : PlanFields → Op → ℕ
 whole_of plan op = option_map_or (λ list. list.whole) (list_of plan op) 0
 
--- what each plan is: one list for each operator asked for, in the order of the operators, and each of them its program's
+-- one list for each operator asked for, in the order of the operators
+unfoldable pub HasOneEach : PlanFields → Type 0
+HasOneEach plan = map (λ list. list.op) plan.lists ≡ filter (asked plan) all_ops
+
+-- what each plan is: one list for each operator asked for, in their order, and each of them its program's
 pub record IsPlan (plan : PlanFields) : Type 0 where
   pub some : 1 ≤ plan.every
-  pub operators : map (λ list. list.op) plan.lists ≡ filter (asked plan) all_ops
+  pub operators : HasOneEach plan
   pub lists : (op : Op) → asked plan op ≡ true → IsCountedList op (map line_of plan.checked.program) plan.every (edits_of plan op) (whole_of plan op)
 
 -- the operator is the first of those asked for whose list is too long
