@@ -1,10 +1,12 @@
 //! The program `mothra`: reads a job from standard input, and writes the answer to standard output alone.
 #![tactic(auto)]
 
-ghost use Rattle.std.specs.Prelude.{◌≡◌, Ok, OnErr};
+ghost use Rattle.std.specs.Prelude.{◌≡◌, ◌≢◌, Ok, Err, OnErr};
+ghost use Rattle.std.specs.IoError.{error_kind};
 
 use mothra_app::{AppFault, Status, Watched, serve};
 use std::env::Env;
+use std::io::ErrorKind;
 use std::process::ExitCode;
 use std::{env, io};
 
@@ -18,7 +20,7 @@ fn exit_status(served: Result<Status, AppFault>) -> u8
 {
     match served {
         Ok(Status::Report | Status::Help) => 0,
-        Ok(Status::Fault) | Err(_) => 1,
+        Ok(Status::Fault) | Err(AppFault::Memory | AppFault::Read | AppFault::Write) => 1,
         Ok(Status::Words) => 2,
     }
 }
@@ -29,9 +31,12 @@ fn words_of(rt: &(impl Env + AllocGlobal)) -> io::Result<Vec<String>> {
 }
 
 /// What comes of words that cannot be had: memory ran out, or they are no UTF-8 and are refused without a text.
-fn without_words(error: &io::Error) -> Result<Status, AppFault> {
+fn without_words(error: &io::Error) -> Result<Status, AppFault>
+    ensures memory { error_kind error.now ≡ ErrorKind.OutOfMemory → result ≡ Err AppFault.Memory }
+    ensures words { error_kind error.now ≢ ErrorKind.OutOfMemory → result ≡ Ok Status.Words }
+{
     match error.kind() {
-        io::ErrorKind::OutOfMemory => Err(AppFault::Memory),
+        ErrorKind::OutOfMemory => Err(AppFault::Memory),
         _ => Ok(Status::Words),
     }
 }
