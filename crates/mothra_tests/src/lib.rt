@@ -4,6 +4,8 @@
 #[cfg(test)]
 mod answers;
 #[cfg(test)]
+mod calls;
+#[cfg(test)]
 mod damaged_jobs;
 #[cfg(test)]
 mod equivalents;

@@ -14,6 +14,8 @@ mod run_branches;
 #[cfg(test)]
 mod run_changed;
 #[cfg(test)]
+mod run_courses;
+#[cfg(test)]
 mod run_data;
 #[cfg(test)]
 mod run_endless;

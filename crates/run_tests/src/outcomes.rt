@@ -47,7 +47,7 @@ fn show_outcome(text: &mut String, outcome: &Outcome) -> Result<(), Fail> {
     }
 }
 
-fn outcome_text(rt: &impl AllocGlobal, outcome: &Outcome) -> Result<String, Fail> {
+pub(crate) fn outcome_text(rt: &impl AllocGlobal, outcome: &Outcome) -> Result<String, Fail> {
     let mut text = String::new(rt.alloc());
     show_outcome(&mut text, outcome)?;
     Ok(text)

@@ -6,7 +6,7 @@ use f77_run::{RunFault, Values, reached_statements};
 use sample_programs::{arguments, checked, expect, parts};
 use std::test::Fail;
 
-fn digits(rt: &impl AllocGlobal, reached: &Values<bool>) -> Result<String, Fail> {
+pub(crate) fn digits(rt: &impl AllocGlobal, reached: &Values<bool>) -> Result<String, Fail> {
     let mut text = String::new(rt.alloc());
     for reached in reached.as_slice() {
         text.push(if *reached { '1' } else { '0' })?;
