@@ -2,9 +2,9 @@
 #![tactic(auto)]
 
 #[cfg(test)]
-mod closes;
-#[cfg(test)]
 mod complete;
+#[cfg(test)]
+mod counting;
 #[cfg(test)]
 mod faulty;
 #[cfg(test)]
@@ -15,6 +15,8 @@ mod holding;
 mod order;
 #[cfg(test)]
 mod refused_memory;
+#[cfg(test)]
+mod splits;
 #[cfg(test)]
 mod tricked;
 #[cfg(test)]

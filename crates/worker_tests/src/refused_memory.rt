@@ -1,13 +1,13 @@
 //! Each allocation can be refused: four workers then end all the same, with each row, or with want of memory or of a thread. Every operator is
 //! closed in the end, also where the feeder could not begin that would close it.
 
-use crate::closes::Counting;
+use crate::counting::{Counted, Counting};
 use mothra_bench::{Bench, BenchFault, drive};
 use mothra_exchange::TableExchange;
 use sample_benches::{counts, sum_bench};
 use std::process::Abort;
 use std::sync::Wait;
-use std::sync::atomic::{AtomicU64, Ordering};
+use std::sync::atomic::Ordering;
 use std::test::Fail;
 use std::thread::Threads;
 
@@ -20,16 +20,16 @@ fn assert_undisturbed<R: Abort + AllocGlobal + Threads + Wait + Sync>(
     let Ok((inner, pass)) = TableExchange::<64>::new(rt.alloc(), counts(bench.plan())) else {
         return;
     };
-    let closes = AtomicU64::new(0);
+    let counted = Counted::new();
     let gate = Counting {
         inner,
-        closes: &closes,
+        counted: &counted,
     };
     match drive(rt, rt.alloc(), gate, pass, bench, 4) {
         Ok(driven) => assert_eq!(rt; driven.0.len(), rows),
         Err(fault) => assert!(rt; matches!(fault, BenchFault::Memory | BenchFault::Thread)),
     }
-    assert_eq!(rt; closes.load(Ordering::SeqCst), 22u64);
+    assert_eq!(rt; counted.closes.load(Ordering::SeqCst), 22u64);
 }
 
 #[test]

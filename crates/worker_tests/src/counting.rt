@@ -1,19 +1,37 @@
-//! A gate that counts the operators that are closed.
+//! A gate that counts the passes that are split off and the operators that are closed.
 
 use mothra_exchange::{Close, Gate, Offer, Take, Tally, Ticket};
 use mothra_ops::Op;
 use std::sync::Wait;
 use std::sync::atomic::{AtomicU64, Ordering};
 
-/// Round another gate.
+/// What such a gate has counted.
+#[derive(Drop)]
+pub(crate) struct Counted {
+    /// How many passes were split off.
+    pub(crate) splits: AtomicU64,
+    /// How many closes were answered to be done.
+    pub(crate) closes: AtomicU64,
+}
+
+impl Counted {
+    /// Nothing so far.
+    pub(crate) fn new() -> Counted {
+        Counted {
+            splits: AtomicU64::new(0),
+            closes: AtomicU64::new(0),
+        }
+    }
+}
+
+/// Round another gate. It keeps no records.
 #[derive(Drop)]
 pub(crate) struct Counting<'a, G> {
     pub(crate) inner: G,
-    /// How many closes were answered to be done.
-    pub(crate) closes: &'a AtomicU64,
+    pub(crate) counted: &'a Counted,
 }
 
-impl<'a, G: Gate> Gate for Counting<'a, G> {
+impl<G: Gate> Gate for Counting<'_, G> {
     ghost use Rattle.std.specs.Prelude.{false};
 
     type Pass = G::Pass;
@@ -31,6 +49,7 @@ impl<'a, G: Gate> Gate for Counting<'a, G> {
     ghost bound = { G.bound };
 
     fn split(&self, pass: &mut G::Pass) -> G::Pass {
+        self.counted.splits.fetch_add(1, Ordering::SeqCst);
         self.inner.split(pass)
     }
 
@@ -49,7 +68,7 @@ impl<'a, G: Gate> Gate for Counting<'a, G> {
     fn close<R: Wait>(&self, rt: &R, pass: &mut G::Pass, op: Op) -> Close {
         let answer = self.inner.close(rt, pass, op);
         if matches!(answer, Close::Done) {
-            self.closes.fetch_add(1, Ordering::SeqCst);
+            self.counted.closes.fetch_add(1, Ordering::SeqCst);
         }
         answer
     }
