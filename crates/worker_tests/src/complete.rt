@@ -50,10 +50,18 @@ fn assert_complete<R: Abort + AllocGlobal + Threads + Wait + Sync>(
     Ok(())
 }
 
+/// By one worker, by two and by as many as there may be.
+fn assert_each<R: Abort + AllocGlobal + Threads + Wait + Sync>(
+    rt: &R,
+    bench: &Bench,
+) -> Result<(), Fail> {
+    assert_complete(rt, bench, 1)?;
+    assert_complete(rt, bench, 2)?;
+    assert_complete(rt, bench, 32)
+}
+
 #[test]
 fn hand_out_each_mutant_once(rt: HostRuntime) -> Result<(), Fail> {
     let bench = sum_bench(&rt)?;
-    assert_complete(&rt, &bench, 1)?;
-    assert_complete(&rt, &bench, 2)?;
-    assert_complete(&rt, &bench, 32)
+    assert_each(&rt, &bench)
 }

@@ -4,7 +4,7 @@
 use crate::faulty::{Faulty, Mishap};
 use crate::gates::{assert_fault, driven};
 use mothra_bench::{Bench, BenchFault};
-use mothra_exchange::TableExchange;
+use mothra_exchange::{TableExchange, Ticket};
 use sample_benches::{counts, sum_bench, ticket};
 use std::process::Abort;
 use std::sync::Wait;
@@ -24,22 +24,40 @@ fn assert_told<R: Abort + AllocGlobal + Threads + Wait + Sync>(
     Ok(())
 }
 
+/// Each feeder gives up while the first worker gets a ticket of no mutant.
+fn assert_feeders<R: Abort + AllocGlobal + Threads + Wait + Sync>(
+    rt: &R,
+    bench: &Bench,
+    none: Ticket,
+) -> Result<(), Fail> {
+    let first = [(3, Mishap::GivesUp), (1, Mishap::Invents(none))];
+    assert_told(rt, bench, first, BenchFault::Stalled)?;
+    let second = [(1, Mishap::Invents(none)), (4, Mishap::GivesUp)];
+    assert_told(rt, bench, second, BenchFault::Stalled)
+}
+
 #[test]
 fn tell_the_fault_of_a_feeder_before_a_worker(rt: HostRuntime) -> Result<(), Fail> {
-    let invents = Mishap::Invents(ticket("ABS 10")?);
+    let none = ticket("ABS 10")?;
     let bench = sum_bench(&rt)?;
-    let first = [(3, Mishap::GivesUp), (1, invents)];
-    assert_told(&rt, &bench, first, BenchFault::Stalled)?;
-    let second = [(1, invents), (4, Mishap::GivesUp)];
-    assert_told(&rt, &bench, second, BenchFault::Stalled)
+    assert_feeders(&rt, &bench, none)
+}
+
+/// One worker gives up while the other gets a ticket of no mutant.
+fn assert_workers<R: Abort + AllocGlobal + Threads + Wait + Sync>(
+    rt: &R,
+    bench: &Bench,
+    none: Ticket,
+) -> Result<(), Fail> {
+    let stranger = [(1, Mishap::Invents(none)), (2, Mishap::GivesUp)];
+    assert_told(rt, bench, stranger, BenchFault::Stranger(none))?;
+    let stalled = [(2, Mishap::Invents(none)), (1, Mishap::GivesUp)];
+    assert_told(rt, bench, stalled, BenchFault::Stalled)
 }
 
 #[test]
 fn tell_the_fault_of_the_first_worker(rt: HostRuntime) -> Result<(), Fail> {
     let none = ticket("ABS 10")?;
     let bench = sum_bench(&rt)?;
-    let stranger = [(1, Mishap::Invents(none)), (2, Mishap::GivesUp)];
-    assert_told(&rt, &bench, stranger, BenchFault::Stranger(none))?;
-    let stalled = [(2, Mishap::Invents(none)), (1, Mishap::GivesUp)];
-    assert_told(&rt, &bench, stalled, BenchFault::Stalled)
+    assert_workers(&rt, &bench, none)
 }

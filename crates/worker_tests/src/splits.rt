@@ -6,6 +6,7 @@ use crate::counting::{Counted, Counting};
 use mothra_bench::{Bench, drive};
 use mothra_exchange::TableExchange;
 use sample_benches::{counts, sum_bench};
+use std::process::Abort;
 use std::sync::Wait;
 use std::sync::atomic::Ordering;
 use std::test::Fail;
@@ -29,11 +30,19 @@ fn splits<R: AllocGlobal + Threads + Wait + Sync>(
     Ok(counted.splits.load(Ordering::SeqCst))
 }
 
+/// By each number of workers.
+fn assert_each<R: Abort + AllocGlobal + Threads + Wait + Sync>(
+    rt: &R,
+    bench: &Bench,
+) -> Result<(), Fail> {
+    for workers in 1..33 {
+        assert_eq!(rt; splits(rt, bench, workers)?, u64::from(workers) + 2);
+    }
+    Ok(())
+}
+
 #[test]
 fn one_for_each_worker_and_feeder(rt: HostRuntime) -> Result<(), Fail> {
     let bench = sum_bench(&rt)?;
-    for workers in 1..33 {
-        assert_eq!(rt; splits(&rt, &bench, workers)?, u64::from(workers) + 2);
-    }
-    Ok(())
+    assert_each(&rt, &bench)
 }

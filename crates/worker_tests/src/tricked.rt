@@ -3,7 +3,7 @@
 use crate::gates::{assert_fault, assert_report, driven};
 use crate::tricks::{Trick, Tricky};
 use mothra_bench::{Bench, BenchFault};
-use mothra_exchange::{LockedExchange, TableExchange};
+use mothra_exchange::{LockedExchange, TableExchange, Ticket};
 use sample_benches::{SUM, counts, report, sum_bench, ticket};
 use std::process::Abort;
 use std::sync::Wait;
@@ -47,15 +47,25 @@ fn assert_refused<R: Abort + AllocGlobal + Threads + Wait + Sync>(
     Ok(())
 }
 
+/// A ticket is handed out again, one of no mutant is, and none is.
+fn assert_invented<R: Abort + AllocGlobal + Threads + Wait + Sync>(
+    rt: &R,
+    bench: &Bench,
+    first: Ticket,
+    none: Ticket,
+) -> Result<(), Fail> {
+    let again = Trick::Invents(1, first);
+    assert_refused(rt, bench, again, BenchFault::Double(first))?;
+    let stranger = Trick::Invents(0, none);
+    assert_refused(rt, bench, stranger, BenchFault::Stranger(none))?;
+    assert_refused(rt, bench, Trick::Refuses, BenchFault::Missing(first))
+}
+
 #[test]
 fn refuse_tickets_that_a_gate_invents(rt: HostRuntime) -> Result<(), Fail> {
     let (first, none) = (ticket("ABS 1")?, ticket("ABS 10")?);
     let bench = sum_bench(&rt)?;
-    let again = Trick::Invents(1, first);
-    assert_refused(&rt, &bench, again, BenchFault::Double(first))?;
-    let stranger = Trick::Invents(0, none);
-    assert_refused(&rt, &bench, stranger, BenchFault::Stranger(none))?;
-    assert_refused(&rt, &bench, Trick::Refuses, BenchFault::Missing(first))
+    assert_invented(&rt, &bench, first, none)
 }
 
 #[test]
@@ -87,13 +97,21 @@ fn miss_mutants_where_a_gate_ends_early(rt: HostRuntime) -> Result<(), Fail> {
     assert_short(&rt, &bench, Trick::Ends(16))
 }
 
+/// The gate gives up at each of its first calls.
+fn assert_stalled<R: Abort + AllocGlobal + Threads + Wait + Sync>(
+    rt: &R,
+    bench: &Bench,
+) -> Result<(), Fail> {
+    for calls in 0..50 {
+        assert_refused(rt, bench, Trick::GivesUp(calls), BenchFault::Stalled)?;
+    }
+    Ok(())
+}
+
 #[test]
 fn end_where_a_gate_gives_up_at_any_call(rt: HostRuntime) -> Result<(), Fail> {
     let bench = sum_bench(&rt)?;
-    for calls in 0..50 {
-        assert_refused(&rt, &bench, Trick::GivesUp(calls), BenchFault::Stalled)?;
-    }
-    Ok(())
+    assert_stalled(&rt, &bench)
 }
 
 /// Over both forms the report is the same.
