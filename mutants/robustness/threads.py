@@ -60,5 +60,5 @@ def run(given: argparse.Namespace, name: str) -> int:
     for workers in WORKERS:
         most, status = most_threads([given.mothra, "run", "--workers", str(workers)])
         print(f"{workers} workers: {most} threads at most, status {status}", flush=True)
-        is_right = is_right and status == 0 and most == workers + OTHERS
+        is_right = is_right and status == SUCCESS and most == workers + OTHERS
     return SUCCESS if is_right else FAULT

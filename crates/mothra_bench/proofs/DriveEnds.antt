@@ -1,7 +1,6 @@
 -- How the threads of a drive end, and the answer to which they come.
-use Rattle.std.proofs.Common.{◌≡◌, ◌⊎◌, ℕ, ◌<◌, ◌≤◌, List, [], ◌∷◌, ◌++◌, All, Bool, true, Vec, Global, Option, None, Some, Result, Ok, Err, IfSome, IsSome, IfOk, IfErr, MatchOption, length, refl, sym, ap, ◌∙◌, subst, append_assoc, append-nil, arith, inl, inr}
+use Rattle.std.proofs.Common.{◌≡◌, ℕ, List, [], ◌∷◌, ◌++◌, All, Bool, true, Vec, Global, Option, None, Some, Result, Ok, Err, IfSome, IsSome, IfOk, IfErr, MatchOption, length, refl, sym, ap, ◌∙◌, subst, append_assoc, append-nil, arith, inl, inr}
 use Rattle.std.specs.Prelude.{IfNone}
-use Rattle.std.specs.Result.{result_and}
 use Rattle.std.proofs.lemmas.List.Elements.{All-append, All-cons, All-nil, All-weaker}
 use Rattle.mothra_codes.specs.declared.op.Op.{Op}
 use Rattle.mothra_codes.specs.Op.{index}
@@ -23,12 +22,6 @@ use Rattle.mothra_bench.specs.declared.gathered.Gathered.{Gathered}
 use Rattle.mothra_bench.specs.declared.verdict.Row.{Row}
 use Rattle.mothra_bench.proofs.JoinedPasses.{new_same}
 use Rattle.mothra_bench.proofs.WorkerRows.{none_left}
-
-pub and_answer : {X : Type 0} (first second : Result (Unit {0}) BenchFault) (outcome : Result X BenchFault)
-    → result_and (result_and first second) outcome ≡ answer_of None first second outcome
-and_answer (Err e) second outcome = refl
-and_answer (Ok x) (Err e) outcome = refl
-and_answer (Ok x) (Ok y) outcome = refl
 
 -- what holds of an answer
 pub ok_answer : {X : Type 0} (own : Option BenchFault) (first second : Result (Unit {0}) BenchFault) (outcome : Result X BenchFault) (P : X → Type 0)

@@ -1,7 +1,6 @@
 -- The passes of feeders and workers, merged into one.
-use Rattle.std.proofs.Common.{◌≡◌, ℕ, zero, suc, ◌+◌, ◌<◌, ◌≤◌, List, [], Result, Ok, Err, IfOk, length, Contains, Bool, true, ◌&&◌, eqb, refl, sym, ap, ◌∙◌, subst, ⊎_elim, arith}
+use Rattle.std.proofs.Common.{◌≡◌, ℕ, zero, suc, ◌+◌, ◌<◌, ◌≤◌, List, [], Result, Ok, IfOk, length, Contains, Bool, true, ◌&&◌, eqb, refl, sym, ap, ◌∙◌, subst, ⊎_elim, arith}
 use Rattle.std.specs.Prelude.{slice_index}
-use Rattle.std.specs.Result.{result_and}
 use Rattle.std.proofs.lemmas.Bool.Decides.{nat_tests}
 use Rattle.std.proofs.lemmas.List.Elements.{All-contains}
 use Rattle.mothra_codes.specs.declared.op.Op.{Op}
@@ -217,11 +216,6 @@ all_complete C plan view words tickets done ends taken = record {
   where
     word : (op : Op) → word_at words op ≡ complete_word (length (edits_of plan op))
     word op = ends_complete C view op (word_at words op) (ends op) done.part (done.fed op) (done.over op) ∙ ap complete_word (done.counts op)
-
-pub both_ok : (a b : Result (Unit {0}) BenchFault) (x : Unit {0}) → result_and a b ≡ Ok x → (a ≡ Ok tt) × (b ≡ Ok tt)
-both_ok (Ok y) (Ok z) x e = (refl, refl)
-both_ok (Ok y) (Err f) x e = cc
-both_ok (Err f) b x e = cc
 
 -- what was joined of a feeder that was started with a new pass
 pub feeder_fed : (plan own : PlanFields) (ops given : List Op) (first : View) (counts : List ℕ) (view other : View) (outcome : Result (Unit {0}) BenchFault) → IsWhole plan first

@@ -1,6 +1,6 @@
 -- The tickets that a worker's pass took, and the first of them that the plan does not have.
 use Rattle.std.proofs.Common.{◌≡◌, ℕ, zero, suc, ◌≤◌, List, [], ◌∷◌, ◌++◌, All, Option, None, Some, IfSome, MatchOption, length, sym, ap, ◌∙◌, subst, append_assoc, append-nil, refl, arith}
-use Rattle.std.specs.Prelude.{IfNone, slice_get}
+use Rattle.std.specs.Prelude.{IfNone}
 use Rattle.std.specs.Option.{option_and_then}
 use Rattle.std.proofs.lemmas.List.Elements.{All-append, All-cons, All-nil}
 use Rattle.std.proofs.lemmas.Option.{none-some, slice_get_within}

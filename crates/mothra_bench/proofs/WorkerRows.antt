@@ -91,10 +91,6 @@ pub none_left : {X : Type 0} (xs : List X) → length xs ≡ 0 → xs ≡ []
 none_left [] e = refl
 none_left (x ∷ xs) e = absurd (omega arith)
 
-pub told_none : {X : Type 0} (P : Type 0) (o : Option X) → IfNone o P → ((x : X) → o ≡ Some x → ⊥) → P
-told_none P None p never = p
-told_none P (Some x) p never = absurd (never x refl)
-
 pub three_of : {X : Type 0} (P Q R : X → Type 0) (o : Option X) → IsSome o → IfSome o P → IfSome o Q → IfSome o R → (x : X) × P x × Q x × R x
 three_of P Q R None is p q r = absurd (true≢false (sym is))
 three_of P Q R (Some x) is p q r = (x, p, q, r)

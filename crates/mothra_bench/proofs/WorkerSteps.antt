@@ -26,7 +26,7 @@ use Rattle.mothra_bench.specs.Bench.{BenchFields}
 use Rattle.mothra_bench.specs.Feeding.{AreCounts}
 use Rattle.mothra_bench.specs.Gathered.{AddsRow, AreVerdicts, IsOwn, tickets_in}
 use Rattle.mothra_bench.specs.Verdict.{Has, IsNoVerdict}
-use Rattle.mothra_bench.specs.Working.{Adds, AreFresh, IsNoWork, NamesTaken, OnlyTook, Takes, TookRows, Went}
+use Rattle.mothra_bench.specs.Working.{Adds, AreFresh, IsNoWork, NamesTaken, OnlyTook, TookRows, Went}
 use Rattle.mothra_bench.specs.declared.fault.BenchFault.{BenchFault}
 use Rattle.mothra_bench.specs.declared.fault.BenchFault.TheVariants as fault
 use Rattle.mothra_bench.specs.declared.gathered.Gathered.{Gathered}

@@ -1,7 +1,7 @@
 -- What workers and feeders come to together.
 use Rattle.std.specs.Prelude.{◌≡◌, ◌⊎◌, ℕ, ◌+◌, ◌<◌, ◌≤◌, ⊤, Bool, true, List, [], ◌∷◌, ◌++◌, length, take, drop}
 use Rattle.std.specs.Prelude.{Vec, Option, None, Some, Result, Ok, Err, IsSome, IfOk, IfErr, IfSome, IfNone}
-use Rattle.std.specs.Prelude.{All, Contains, MatchResult}
+use Rattle.std.specs.Prelude.{All, Contains, MatchResult, flat_map}
 use Rattle.std.specs.declared.alloc.Global.{Global}
 use Rattle.mothra_codes.specs.declared.op.Op.{Op}
 use Rattle.mothra_codes.specs.Op.{all_ops, index}
@@ -121,8 +121,7 @@ pub record HasWorked (may keeps parts : Bool) (bench : BenchFields) (counts : Li
 
 -- the tickets that the workers took
 abbrev pub taken_by : List WorkerEnd → List Ticket
-taken_by [] = []
-taken_by (worker ∷ rest) = worker.back.taken ++ taken_by rest
+taken_by workers = flat_map (λ worker. worker.back.taken) workers
 
 -- of the workers in order the first fault, else all rows
 abbrev pub all_rows : List WorkerEnd → Result (List Row) BenchFault

@@ -41,5 +41,6 @@ abbrev pub rows_or_fault : List Row → Option BenchFault → Result (List Row) 
 rows_or_fault rows None = Ok rows
 rows_or_fault rows (Some fault) = Err fault
 
+-- what was gathered, as an outcome
 abbrev pub gathered_rows : Gathered → Result (List Row) BenchFault
 gathered_rows gathered = rows_or_fault gathered.rows.items gathered.fault

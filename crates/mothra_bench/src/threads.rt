@@ -1,6 +1,6 @@
 //! Workers and feeders in threads of their own: what each promises, how it is started and joined.
 
-ghost use Rattle.std.specs.Prelude.{◌≡◌, ◌+◌, ◌++◌, [], true, IfOk, IfErr};
+ghost use Rattle.std.specs.Prelude.{◌≡◌, ◌+◌, ◌++◌, true, IfOk, IfErr};
 ghost use Rattle.mothra_exchange.specs.declared.view.View.{View};
 ghost use Rattle.mothra_bench.specs.Driving.{IsNew, Joins, KeepsFed};
 ghost use Rattle.mothra_bench.specs.Feeding.{AreFed, Feeds, IsReady, IsStalled};

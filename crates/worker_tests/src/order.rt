@@ -1,5 +1,5 @@
-//! Of the faults of several threads the first is told, in the order of two feeders and then the workers. The passes of two workers are
-//! split off first, then those of the feeders.
+//! Of the faults of several threads the first is told, in the order of two feeders and then the workers. The passes of
+//! two workers are split off first, then those of the feeders.
 
 use crate::faulty::{Faulty, Mishap};
 use crate::gates::{assert_fault, driven};

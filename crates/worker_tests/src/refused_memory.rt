@@ -1,5 +1,5 @@
-//! Each allocation can be refused: four workers then end all the same, with each row, or with want of memory or of a thread. Every operator is
-//! closed in the end, also where the feeder could not begin that would close it.
+//! Each allocation can be refused: four workers then end all the same, with each row, or with want of memory or of a
+//! thread. Every operator is closed in the end, also where the feeder could not begin that would close it.
 
 use crate::counting::{Counted, Counting};
 use mothra_bench::{Bench, BenchFault, drive};

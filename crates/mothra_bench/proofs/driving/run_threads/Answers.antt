@@ -1,6 +1,5 @@
-use Rattle.std.proofs.Common.{◌≡◌, ◌⊎◌, ◌++◌, ℕ, [], true, Ok, None, length, ap, sym, ◌∙◌, subst, ⊎_elim, arith}
+use Rattle.std.proofs.Common.{◌≡◌, ◌⊎◌, ◌++◌, [], true, None, length, ap, sym, ◌∙◌, subst, ⊎_elim, arith}
 use Rattle.std.proofs.lemmas.Result.{IfErr-weaker, IfOk-weaker}
-use Rattle.mothra_exchange.specs.View.{whole_part}
 use Rattle.mothra_bench.specs.Driving.{AreStarted, Drives, IsDone, IsNoDrive, Run, all_rows, answer_of, feeder_outcome, taken_by}
 use Rattle.mothra_bench.specs.Gathered.{AreVerdicts, row_list, tickets_in}
 use Rattle.mothra_bench.specs.Working.{AreOver}
