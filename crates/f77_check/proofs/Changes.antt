@@ -8,6 +8,7 @@ use Rattle.std.proofs.lemmas.Bool.Decides.{nat_tests}
 use Rattle.std.proofs.lemmas.List.{length-map, length-reverse}
 use Rattle.std.proofs.lemmas.Option.{same_Some, slice_get_cases, slice_get-map, slice_get_past, slice_get_read, slice_get_within}
 use Rattle.indexmap.specs.IndexMap.{keys}
+use Rattle.f77_program.specs.Patching.{replaced}
 use Rattle.f77_program.specs.Program.{LineFields, IsProgram, line_of}
 use Rattle.f77_tree.specs.StatementGrammar.{IsFormed}
 use Rattle.f77_tree.specs.Statement.{Statement}
@@ -22,21 +23,21 @@ use Rattle.f77_check.specs.declared.checked.Shape.{Shape}
 use Rattle.f77_check.specs.declared.resolve.Resolver.{Resolver}
 use Rattle.f77_check.specs.declared.start.Start.{Start}
 use Rattle.f77_check.specs.declared.resolved.Resolved.{Resolved}
-use Rattle.f77_legal.specs.Blocks.{numbers}
+use Rattle.f77_legal.specs.Blocks.{numbers, behind}
 use Rattle.f77_legal.specs.Frames.{framed, HaveOneFrame}
 use Rattle.f77_legal.specs.Labels.{place_of, statement_at, terminal_label}
 use Rattle.f77_legal.specs.Legal.{IsLegal, faults, first_fault}
 use Rattle.f77_legal.specs.Loops.{terminal, ends_at, loops_ending}
 use Rattle.f77_legal.specs.NameTable.{has_name}
-use Rattle.f77_legal.specs.Names.{name_in}
-use Rattle.f77_legal.specs.Patches.{is_among, names_pass, IsStock, MayStandAt, NamesAmong}
+use Rattle.f77_legal.specs.Names.{Symbol, name_in}
+use Rattle.f77_legal.specs.Patches.{is_among, names_pass, IsStock, MayStandAt, NamesAmong, StandsAlone}
 use Rattle.f77_legal.specs.declared.fault.CheckFault.{CheckFault}
 use Rattle.f77_legal.specs.declared.names.Names.{Names}
 use Rattle.f77_legal.proofs.Alone.{alone_frame, alone_stock}
 use Rattle.f77_legal.proofs.Branches.{found_some}
 use Rattle.f77_legal.proofs.PatchNames.{is_executed, executed, among_kept, symbols_pass}
-use Rattle.f77_legal.proofs.Replaced.{other_line}
-use Rattle.f77_legal.proofs.SameFrame.{length_same}
+use Rattle.f77_legal.proofs.Replaced.{other_line, changed_line}
+use Rattle.f77_legal.proofs.SameFrame.{length_same, behind_same}
 use Rattle.f77_check.proofs.Carried.{all_resolved_same, can_resolve_same, shapes_same, start_same}
 use Rattle.f77_check.proofs.CheckedParts.{checked_of}
 use Rattle.f77_check.proofs.KeptNames.{mentions_at}
@@ -187,6 +188,21 @@ module _ (r : Resolver) (p q : List LineFields) (i : ℕ) (can : CanResolve r p)
 
   changed_start : (start : Start) → IsStartOf p (keys r.tables.names.facts) start → IsStartOf q (keys r.tables.names.facts) start
   changed_start start is = start_same p q changed_frame (keys r.tables.names.facts) start is
+
+-- with the changed statement resolved in its place, the statements resolved are those of the changed program
+module _ (names : List Symbol) (p : List LineFields) (i : ℕ) (s : Statement) (alone : StandsAlone names p i s) where
+  pub changed_here : statement_at (replaced p i s) i ≡ Some s
+  changed_here = ap (option_map (λ (line : LineFields). line.stmt)) (changed_line p i alone.line s alone.at)
+
+  pub changed_behind : (next : ℕ) → behind p i ≡ Some next → behind (replaced p i s) i ≡ Some next
+  changed_behind next is = behind_same (replaced p i s) p (alone_frame names p i s alone) i ∙ is
+
+  pub in_its_place : (list : List Resolved) (new : Resolved) → AreResolved p names list → IsResolved (replaced p i s) names i s new
+      → AreResolved (replaced p i s) names (set list i new)
+  in_its_place list new are is =
+      all_resolved_same p (replaced p i s) (sym (alone_frame names p i s alone)) names i list new
+      (λ j apart. ap (option_map (λ (line : LineFields). line.stmt)) (other_line p i j s apart)) are
+      (λ t at. subst (λ t. IsResolved (replaced p i s) names i t new) (same_Some _ _ (sym changed_here ∙ at)) is)
 
 -- the parts of the changed program
 pub changed_parts : (checked : CheckedFields) → IsChecked checked → (r : Resolver) → CanResolve r (map line_of checked.program) → keys r.tables.names.facts ≡ checked.names

@@ -1,12 +1,12 @@
 //! Checked programs with one statement changed.
 
-ghost use Rattle.std.specs.Prelude.{◌≡◌, ◌<◌, ◌⊎◌, ◌-◌, true, false, length, map, IfOk, IfErr, IfSome, IsNone, None, Some};
-ghost use Rattle.f77_program.specs.Program.{IsProgram, line_of};
+ghost use Rattle.std.specs.Prelude.{◌≡◌, ◌<◌, ◌⊎◌, ◌-◌, true, false, List, length, map, IfOk, IfErr, IfSome, IsNone, None, Some};
+ghost use Rattle.f77_program.specs.Program.{LineFields, IsProgram, line_of};
 ghost use Rattle.f77_program.specs.Patching.{Fits, replaced, patched};
 ghost use Rattle.f77_tree.specs.Statement.{statement_of};
 ghost use Rattle.f77_check.specs.Checked.{shapes};
-ghost use Rattle.f77_check.specs.Patching.{IsChangedAlone};
-ghost use Rattle.f77_check.specs.Resolved.{AreResolved};
+ghost use Rattle.f77_check.specs.Patching.{IsChangedAlone, IsInPlace};
+ghost use Rattle.f77_check.specs.Resolved.{IsResolved, AreResolved};
 ghost use Rattle.f77_legal.specs.Legal.{IsLegal, Tells, faults, first_fault};
 ghost use Rattle.f77_legal.specs.Patches.{MayStandAt, StandsAlone};
 ghost use Rattle.f77_legal.specs.declared.fault.CheckFault.TheVariants.{Memory};
@@ -15,7 +15,7 @@ use crate::checked::Checked;
 use crate::checking::{check, judged};
 use crate::resolved::Resolved;
 use f77_legal::{CheckFault, is_terminal, keeps_frame};
-use f77_program::{Line, Program};
+use f77_program::{Line, Program, is_formed};
 use f77_tree::{Shared, Stmt};
 use std::alloc::Global;
 
@@ -94,6 +94,45 @@ impl Checked {
             statements,
             self.shared_start().clone()?,
         ))
+    }
+
+    /// The statement resolved that stands in the place of the one of this number, where the change is judged by the changed statement
+    /// alone; None where it is not. With it in the place of the old one, the statements resolved are those of the changed program.
+    ///
+    /// Want of memory is told in place of any answer.
+    pub fn resolved_in_place(
+        &self,
+        number: usize,
+        stmt: &Stmt,
+    ) -> Result<Option<Shared<Resolved>>, CheckFault>
+        requires fits { Fits (map line_of self.now.program) number (statement_of stmt.now) }
+        requires legal { IsLegal (patched (map line_of self.now.program) number (statement_of stmt.now)) }
+        ensures in_place { IfOk result (λ found. IfSome found (IsInPlace self.now number (statement_of stmt.now))) }
+        ensures memory { IfErr result (λ fault. fault ≡ Memory) }
+    {
+        if !self.stands_alone(number, stmt) {
+            return Ok(None);
+        }
+        // A statement that some text spells has short names, as those of a program are.
+        let _formed = is_formed(stmt);
+        let program = self.program();
+        let resolved = self.resolved_for(number - 1, stmt)?;
+        Ok(Some(Shared::new(program.allocator(), resolved)?))
+    }
+
+    /// The statement `i` of the changed program, which this statement is, resolved.
+    fn resolved_for(&self, i: usize, stmt: &Stmt) -> Result<Resolved, CheckFault>
+        ghost program: { List LineFields }
+        requires changed { program ≡ replaced (map line_of self.now.program) i (statement_of stmt.now) }
+        requires alone { StandsAlone self.now.names (map line_of self.now.program) i (statement_of stmt.now) }
+        requires formed { IsProgram None program }
+        requires legal { IsLegal program }
+        ensures resolved { IfOk result (λ resolved. IsResolved program self.now.names i (statement_of stmt.now) resolved) }
+        ensures memory { IfErr result (λ fault. fault ≡ Memory) }
+    {
+        let next = self.statements()[i].next;
+        self.resolver()
+            .resolved_as(self.program().allocator(), i, stmt, next)
     }
 
     /// The program with this statement in the place of the one of this number, checked: it and the shapes of its dummy

@@ -7,6 +7,7 @@ ghost use Rattle.f77_program.specs.Program.{LineFields, line_of};
 ghost use Rattle.f77_tree.specs.Statement.{statement_of, Statement, jumps_of};
 ghost use Rattle.f77_tree.specs.View.{place_of, tree_of, trees};
 ghost use Rattle.f77_check.specs.Action.{IsJump, AreJumps};
+ghost use Rattle.f77_legal.specs.Blocks.{behind};
 ghost use Rattle.f77_legal.specs.Labels as labels;
 ghost use Rattle.f77_legal.specs.Labels.{statement_at};
 ghost use Rattle.f77_legal.specs.Loops.{terminal};
@@ -280,6 +281,26 @@ impl Resolver {
         }
     }
 
+    /// A statement of a legal program, resolved: the statement `i`, from which control goes on to `next`.
+    pub(crate) fn resolved_as(
+        &self,
+        alloc: Global,
+        i: usize,
+        stmt: &Stmt,
+        next: usize,
+    ) -> Result<Resolved, CheckFault>
+        ghost program: { List LineFields }
+        requires at { statement_at program i ≡ Some (statement_of stmt.now) }
+        requires next { behind program i ≡ Some next }
+        requires can { CanResolve self.now program }
+        ensures resolved { IfOk result (λ resolved. IsResolved program (keys self.now.tables.names.facts) i (statement_of stmt.now) resolved) }
+        ensures memory { IfErr result (λ fault. fault ≡ Memory) }
+    {
+        let action = self.action(alloc, i, stmt)?;
+        let ends = self.tables.ranges.ending(alloc, i)?;
+        Ok(Resolved { action, next, ends })
+    }
+
     /// The statement `i` of a legal program, resolved.
     pub(crate) fn resolved(
         &self,
@@ -299,9 +320,7 @@ impl Resolver {
         let Some(next) = next(lines, i) else {
             unreachable!()
         };
-        let action = self.action(alloc, i, stmt)?;
-        let ends = self.tables.ranges.ending(alloc, i)?;
-        Ok(Resolved { action, next, ends })
+        self.resolved_as(alloc, i, stmt, next)
     }
 
     /// Each statement of a legal program, resolved, in order.
