@@ -100,7 +100,7 @@ impl Original<'_> {
     }
 
     /// The operator's whole list, thinned.
-    fn listing(&self, alloc: Global, op: Op, every: u32) -> Result<Listing, OpsFault>
+    pub(crate) fn listing(&self, alloc: Global, op: Op, every: u32) -> Result<Listing, OpsFault>
         requires { 1 ≤ every }
         ensures op { IfOk result (λ listing. listing.op ≡ op) }
         ensures list { IfOk result (λ listing. IsOriginal self.now → IsCountedList op (lines_of self.now) every listing.edits.items listing.whole) }
@@ -120,22 +120,6 @@ impl Original<'_> {
     }
 }
 
-/// The operator's list, thinned, with the number of edits of the whole one.
-pub(crate) fn listing(
-    alloc: Global,
-    checked: &Checked,
-    op: Op,
-    every: u32,
-) -> Result<Listing, OpsFault>
-    requires { 1 ≤ every }
-    ensures op { IfOk result (λ listing. listing.op ≡ op) }
-    ensures list { IfOk result (λ listing. IsCountedList op (map line_of checked.now.program) every listing.edits.items listing.whole) }
-    ensures refused { IfErr result (λ fault. IsNoList op (map line_of checked.now.program) every fault) }
-{
-    let original = Original::of(alloc, checked)?;
-    original.listing(alloc, op, every)
-}
-
 /// The edits of the operator's list, in the order of statement, position and rank, thinned: of the whole list its items 1,
 /// `every` + 1, 2 * `every` + 1 and on.
 ///
@@ -145,7 +129,8 @@ pub fn edits(alloc: Global, checked: &Checked, op: Op, every: u32) -> Result<Vec
     ensures list { IfOk result (λ edits. IsList op (map line_of checked.now.program) every edits.items) }
     ensures refused { IfErr result (λ fault. IsNoList op (map line_of checked.now.program) every fault) }
 {
-    let listing = listing(alloc, checked, op, every)?;
+    let original = Original::of(alloc, checked)?;
+    let listing = original.listing(alloc, op, every)?;
     Ok(listing.edits)
 }
 

@@ -14,9 +14,9 @@ ghost use Rattle.mothra_codes.specs.declared.op.Op.{Op};
 ghost use Rattle.mothra_ops.specs.Plan.{PlanFields, IsPlan, IsNoPlan, fields_of, list_fields, list_of, asked, edits_of, whole_of};
 
 use crate::edit::Edit;
-use crate::editing::listing;
 use crate::fault::OpsFault;
 use crate::listing::Listing;
+use crate::original::Original;
 use f77_check::Checked;
 use mothra_codes::Op;
 use std::alloc::Global;
@@ -49,17 +49,18 @@ impl Model for Plan {
     ghost invariant = { λ plan. IsPlan (fields_of plan.checked plan.every plan.lists.items) };
 }
 
-/// The lists of these operators in their order, each thinned.
+/// The lists of these operators in their order, each thinned. What they draw from is found once.
 fn lists(alloc: Global, checked: &Checked, ops: &[Op], every: u32) -> Result<Vec<Listing>, OpsFault>
     requires { 1 ≤ every }
     ensures asked { IfOk result (λ lists. (op : Op) → IsTrue (asked (fields_of checked.now every lists.items) op) ↔ Contains ops.now op) }
     ensures lists { IfOk result (λ lists. IsPlan (fields_of checked.now every lists.items)) }
     ensures refused { IfErr result (λ fault. IsNoPlan ops.now (map line_of checked.now.program) every fault) }
 {
+    let original = Original::of(alloc, checked)?;
     let mut lists = Vec::new(alloc);
     for op in Op::ALL {
         if ops.contains(&op) {
-            lists.push(listing(alloc, checked, op, every)?)?;
+            lists.push(original.listing(alloc, op, every)?)?;
         }
     }
     Ok(lists)

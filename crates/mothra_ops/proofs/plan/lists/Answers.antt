@@ -1,12 +1,17 @@
-use Rattle.std.proofs.Common.{rules, ◌≡◌, map, arith, subst, sym, ℕ, ◌+◌, ◌++◌, ◌∷◌, [], nat_eq}
+use Rattle.std.proofs.Common.{rules, ◌≡◌, map, arith, subst, sym, ℕ, ◌+◌, ◌++◌, ◌∷◌, List, [], nat_eq}
 use Rattle.mothra_codes.specs.contracts.op.OpPartialEq.TheImpl.{ghosts}
 use Rattle.std.proofs.lemmas.Bool.Decides.{not_from_Decides}
 use Rattle.std.proofs.lemmas.List.Elements.{Decides-contains, contains_decides}
 use Rattle.f77_program.specs.Program.{line_of}
-use Rattle.mothra_ops.specs.Edits.{IsCountedList}
+use Rattle.f77_check.specs.Checked.{CheckedFields}
+use Rattle.mothra_ops.specs.Edits.{IsCountedList, IsNoList}
+use Rattle.mothra_ops.specs.Original.{IsOriginal, lines_of}
 use Rattle.mothra_codes.specs.Op.{index, op_at}
 use Rattle.mothra_ops.specs.Plan.{IsNoPlan}
 use Rattle.mothra_codes.specs.declared.op.Op.{Op}
+use Rattle.mothra_ops.specs.declared.edit.Edit.{Edit}
+use Rattle.mothra_ops.specs.declared.fault.OpsFault.{OpsFault}
+use Rattle.mothra_ops.specs.declared.original.Original.{Original}
 use Rattle.mothra_codes.proofs.Operators.{index-op_at}
 use Rattle.mothra_ops.proofs.Plans.{HasLists, no_lists, one_more_listed, none_more, one_op, no_plan, is_asked, was_asked, is_plan}
 use Rattle.mothra_ops.proofs.plan.lists.Goals as goal
@@ -14,6 +19,17 @@ use Rattle.mothra_ops.proofs.plan.lists.Goals.{then-contains+in_ok-listing+in_ok
 
 same_answer : (a b : Op) → ghosts.eq a b ≡ nat_eq (index a) (index b)
 same_answer a b = grind (arith)
+
+-- the lists that the original gives are those of the program
+counted_list : (original : Original) (checked : CheckedFields) (op : Op) (every : ℕ) (edits : List Edit) (whole : ℕ) → IsOriginal original → original.checked.now ≡ checked
+    → (IsOriginal original → IsCountedList op (lines_of original) every edits whole) → IsCountedList op (map line_of checked.program) every edits whole
+counted_list original checked op every edits whole is same list =
+    subst (λ (x : CheckedFields). IsCountedList op (map line_of x.program) every edits whole) same (list is)
+
+no_list : (original : Original) (checked : CheckedFields) (op : Op) (every : ℕ) (fault : OpsFault) → IsOriginal original → original.checked.now ≡ checked
+    → (IsOriginal original → IsNoList op (lines_of original) every fault) → IsNoList op (map line_of checked.program) every fault
+no_list original checked op every fault is same none =
+    subst (λ (x : CheckedFields). IsNoList op (map line_of x.program) every fault) same (none is)
 
 pub loop-op-init : goal.loop-op-init
 loop-op-init c = subst (HasLists c.args.ops.now (map line_of c.args.checked.now.program) c.args.every 0) (sym c.new-lists.ensures.items) (no_lists c.args.ops.now (map line_of c.args.checked.now.program) c.args.every)
@@ -24,7 +40,9 @@ returns-in_err-listing-clause-refused c =
     (contains_decides ghosts.eq (λ a b. one_op a b (ghosts.eq a b) (same_answer a b)) c.args.ops.now (op_at c.loop-op.op-index) c.contains.result c.contains.ensures.cases) in
     let told : IsNoPlan c.args.ops.now (map line_of c.args.checked.now.program) c.args.every c.in_err-listing.field-0.0 =
     no_plan c.args.ops.now (map line_of c.args.checked.now.program) c.args.every c.loop-op.op-index c.loop-op.lists.items (op_at c.loop-op.op-index) c.in_err-listing.field-0.0
-    (index-op_at c.loop-op.op-index c.loop-op-test.true) c.loop-op.invariant (decided.0 c.if-contains.true) (search rules) in
+    (index-op_at c.loop-op.op-index c.loop-op-test.true) c.loop-op.invariant (decided.0 c.if-contains.true)
+    (no_list c.in_ok-original.original c.args.checked.now (op_at c.loop-op.op-index) c.args.every c.in_err-listing.field-0.0
+    c.in_ok-original.ensures.original c.in_ok-original.ensures.program c.in_err-listing.ensures.refused) in
     search rules
 
 pub loop-op-preserved : goal.loop-op-preserved
@@ -33,7 +51,9 @@ loop-op-preserved c = elim c.if-contains.branch [
       let decided = Decides-contains c.args.ops.now (op_at c.loop-op.op-index) c.contains.result
       (contains_decides ghosts.eq (λ a b. one_op a b (ghosts.eq a b) (same_answer a b)) c.args.ops.now (op_at c.loop-op.op-index) c.contains.result c.contains.ensures.cases) in
       let own : w.in_ok-listing.field-0.op ≡ op_at c.loop-op.op-index = search rules in
-      let counted : IsCountedList (op_at c.loop-op.op-index) (map line_of c.args.checked.now.program) c.args.every w.in_ok-listing.field-0.edits.items w.in_ok-listing.field-0.whole = search rules in
+      let counted : IsCountedList (op_at c.loop-op.op-index) (map line_of c.args.checked.now.program) c.args.every w.in_ok-listing.field-0.edits.items w.in_ok-listing.field-0.whole
+      = counted_list c.in_ok-original.original c.args.checked.now (op_at c.loop-op.op-index) c.args.every w.in_ok-listing.field-0.edits.items w.in_ok-listing.field-0.whole
+      c.in_ok-original.ensures.original c.in_ok-original.ensures.program w.in_ok-listing.ensures.list in
       let items : c.if-contains.lists.items ≡ c.loop-op.lists.items ++ w.in_ok-listing.field-0 ∷ [] = search rules in
       subst (HasLists c.args.ops.now (map line_of c.args.checked.now.program) c.args.every (c.loop-op.op-index + 1)) (sym items)
       (one_more_listed c.args.ops.now (map line_of c.args.checked.now.program) c.args.every c.loop-op.op-index c.loop-op.lists.items w.in_ok-listing.field-0 (op_at c.loop-op.op-index)
