@@ -39,3 +39,7 @@ mod Reading
 mod Beginning
 mod OneAnswer
 mod Telling
+mod Alongside
+mod Parted
+mod Visiting
+mod Exchanged

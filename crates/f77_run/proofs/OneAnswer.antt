@@ -88,7 +88,7 @@ told_once p finish.Stopped s _ _ f g = absurd f
 told_once p (finish.Failed fault) s answer other f g = f ∙ sym g
 told_once p finish.StepLimit s answer other f g = f ∙ sym g
 
-one_start : (p : List LineFields) (given : List (List Value)) (c b : Config) → IsStart p given c → IsStart p given b → c ≡ b
+pub one_start : (p : List LineFields) (given : List (List Value)) (c b : Config) → IsStart p given c → IsStart p given b → c ≡ b
 one_start p given c b f g =
     let same : f.0 ≡ g.0 = same_Some f.0 g.0 (sym f.1 ∙ g.1) in
     f.2 ∙ ap (λ i. config (Execute i) (start_values p given) (λ d. None)) same ∙ sym g.2

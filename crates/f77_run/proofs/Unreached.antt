@@ -148,7 +148,7 @@ module _ (p q : List LineFields) (same : HaveOneFrame p q) where
 
   -- and where they differ in one statement, until control is there
   module _ (i : ℕ) (others : AreSameBut i p q) where
-    step_same : (c : Config) (n : Next) → number_of c.place ≢ i → Step p c n → Step q c n
+    pub step_same : (c : Config) (n : Next) → number_of c.place ≢ i → Step p c n → Step q c n
     step_same c n apart f = step_at_same c.place c.values c.active n (others (number_of c.place) apart) f
 
     run_same : (n : ℕ) (c : Config) (o : Finish) (s : Store) → ¬ (IsReached p i n c) → IsOutcome p n c o s → IsOutcome q n c o s
@@ -171,7 +171,7 @@ module _ (p q : List LineFields) (same : HaveOneFrame p q) where
       option_map_or (λ i. option_map_or (map (λ v. Some v)) (slice_get given i) []) (position (bytes_eq name) (dummies_same p q same k))
       (map (λ m. option_map constant_value (preset_at_same p q same name m k)) (first_numbers (elements_same p q same name k)))
 
-  starts_same : (given : List (List Value)) (c : Config) → IsStart p given c → IsStart q given c
+  pub starts_same : (given : List (List Value)) (c : Config) → IsStart p given c → IsStart q given c
   starts_same given c is =
       (is.0, sym (entry_same p q same) ∙ is.1, is.2 ∙ ap (λ s. config (Execute is.0) s (λ d. None)) (start_values_same given))
 
@@ -181,7 +181,7 @@ module _ (p q : List LineFields) (same : HaveOneFrame p q) where
     values = ap (map s) (sym (dummies_same p q same)) ∙ are.values;
   }
 
-  tells_same : (end : Finish) (s : Store) (answer : Outcome) → Tells p end s answer → Tells q end s answer
+  pub tells_same : (end : Finish) (s : Store) (answer : Outcome) → Tells p end s answer → Tells q end s answer
   tells_same finish.Returned s (outcome.Returned arguments) f = arguments_same s arguments f
   tells_same finish.Stopped s (outcome.Stopped arguments) f = arguments_same s arguments f
   tells_same (finish.Failed fault) s answer f = f

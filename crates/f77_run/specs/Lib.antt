@@ -17,3 +17,7 @@ pub mod Site
 pub mod Endless
 pub mod Reached
 pub mod Snapshot
+pub mod Visits
+pub mod Together
+pub mod Changed
+pub mod Parting

@@ -5,6 +5,7 @@ ghost use Rattle.f77_run.specs.Endless.{ComesBack, MeetsLimits};
 ghost use Rattle.f77_run.specs.Interpreter.{OneAnswer};
 ghost use Rattle.f77_run.specs.Outcome.{OneSuccessor, OneOutcome};
 ghost use Rattle.f77_run.specs.Reached.{MayBeAnother};
+ghost use Rattle.f77_run.specs.Together.{MayBegin, ComeToTheSame};
 
 /// A configuration leads to one configuration or end at most, a run ends in one way at most within each limit on steps, and a run with
 /// given arguments has one outcome at most.
@@ -26,6 +27,14 @@ pub fn control_is_never_lost()
 pub fn endless_runs()
     ensures comes_back { ComesBack }
     ensures limits { MeetsLimits }
+{}
+
+/// The run of another program that goes together with that of this one for some steps may begin behind them; where the two do not part within
+/// the limit, they come to the same.
+#[tactic(auto, using(crate::proofs::Alongside::may_begin, crate::proofs::Alongside::come_to_the_same))]
+pub fn runs_that_go_together()
+    ensures begins { MayBegin }
+    ensures ends { ComeToTheSame }
 {}
 
 /// Programs of one frame that differ in one statement have one outcome where control does not come to that statement.

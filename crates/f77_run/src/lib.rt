@@ -2,6 +2,7 @@
 #![tactic(auto)]
 
 mod argument;
+mod changed;
 mod course;
 mod evaluate;
 mod execute;
@@ -14,6 +15,7 @@ pub mod law;
 mod machine;
 mod number;
 mod outcome;
+mod parting;
 mod passing;
 mod reached;
 mod runner;
@@ -21,8 +23,10 @@ mod running;
 mod snapshot;
 mod value;
 mod values;
+mod visits;
 
 pub use argument::Arg;
+pub use changed::ChangedRunner;
 pub use course::Course;
 pub use finish::{Fault, Finish};
 pub use fitting::fit;
@@ -32,3 +36,4 @@ pub use reached::reached_statements;
 pub use runner::Runner;
 pub use value::Value;
 pub use values::Values;
+pub use visits::Visits;

@@ -1,7 +1,9 @@
 //! A machine over slots.
 
-ghost use Rattle.std.specs.Prelude.{◌≡◌, ◌<◌, Some, Ok, true, length, slice_set, is_some, IfSome};
+ghost use Rattle.std.specs.Prelude.{◌≡◌, ◌<◌, ◌+◌, Some, Ok, true, length, slice_set, is_some, IfSome};
 ghost use Rattle.f77_run.specs.Evaluation.{held_in};
+ghost use Rattle.f77_run.specs.Machine.{placed};
+ghost use Rattle.f77_run.specs.Reached.{number_of};
 ghost use Rattle.f77_run.specs.Moves as moves;
 ghost use Rattle.f77_run.specs.Moves.{are_below};
 ghost use Rattle.f77_run.specs.Value.{whole, logic};
@@ -18,6 +20,18 @@ pub(crate) enum Place {
     Increment(usize),
 }
 
+impl Place {
+    /// The statement where control is.
+    pub(crate) fn number(self) -> usize
+        ensures { result ≡ number_of (placed self) }
+    {
+        match self {
+            Place::Execute(i) => i,
+            Place::Increment(d) => d,
+        }
+    }
+}
+
 /// What an active DO has left: its passes, and its incrementation parameter.
 #[derive(Clone, Copy, Debug, PartialEq, Eq)]
 pub(crate) struct Turn {
@@ -31,6 +45,15 @@ pub(crate) struct Machine {
     pub(crate) place: Place,
     pub(crate) cells: Vec<Option<Value>>,
     pub(crate) turns: Vec<Option<Turn>>,
+}
+
+impl Machine {
+    /// How many values its state has: those of the slots, and what each DO has left.
+    pub(crate) fn size(&self) -> usize
+        ensures { result ≡ length self.now.cells.items + length self.now.turns.items }
+    {
+        self.cells.len() + self.turns.len()
+    }
 }
 
 /// What a statement leads to, where nothing fails.

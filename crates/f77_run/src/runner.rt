@@ -9,6 +9,7 @@ ghost use Rattle.f77_run.specs.Reached.{AreReached};
 ghost use Rattle.f77_run.specs.Running.{Site, IsRunning, config_at};
 ghost use Rattle.f77_run.specs.Site.{site_of, held, HoldsDummies};
 ghost use Rattle.f77_run.specs.Start.{IsStart, constant_value};
+ghost use Rattle.f77_run.specs.Visits.{IsFollowed};
 ghost use Rattle.f77_run.specs.declared.outcome.Outcome.{Outcome};
 ghost use Rattle.f77_run.specs.declared.outcome.RunFault.TheVariants as fault;
 
@@ -20,11 +21,12 @@ use crate::holding::are_held;
 use crate::interpreter::{answer, enter, initial};
 use crate::machine::{Machine, Place};
 use crate::outcome::{Outcome, RunFault};
-use crate::reached::{follow, none_reached};
+use crate::reached::follow;
 use crate::running::go;
 use crate::snapshot::Snapshot;
 use crate::value::Value;
 use crate::values::Values;
+use crate::visits::Visits;
 use f77_check::Checked;
 use std::alloc::Global;
 use std::marker::Model;
@@ -69,7 +71,7 @@ impl<'a> Model for Runner<'a> {
 }
 
 /// A machine with room for so many slots and DOs.
-fn room(alloc: Global, slots: usize, turns: usize) -> Result<Machine, RunFault>
+pub(crate) fn room(alloc: Global, slots: usize, turns: usize) -> Result<Machine, RunFault>
     ensures memory { IfErr result (λ e. e ≡ fault.Memory) }
 {
     let cells = Vec::with_capacity(alloc, slots)?;
@@ -82,7 +84,7 @@ fn room(alloc: Global, slots: usize, turns: usize) -> Result<Machine, RunFault>
 }
 
 /// The machine is at the start of a run, whatever it did before.
-fn restart(
+pub(crate) fn restart(
     checked: &Checked,
     initial: &[Option<Value>],
     machine: &mut Machine,
@@ -133,7 +135,12 @@ fn is_fault(fault: Fault, outcome: &Outcome) -> bool
 }
 
 /// Whether this is told of an end.
-fn is_told(checked: &Checked, finish: Finish, machine: &Machine, outcome: &Outcome) -> bool
+pub(crate) fn is_told(
+    checked: &Checked,
+    finish: Finish,
+    machine: &Machine,
+    outcome: &Outcome,
+) -> bool
     requires { HoldsDummies checked.now machine.now }
     ensures { Decides result (Tells (map line_of checked.now.program) finish (held checked.now machine.now.cells.items) outcome.now) }
 {
@@ -167,7 +174,7 @@ fn same_outcome(
     ensures memory { IfErr result (λ e. e ≡ fault.Memory) }
 {
     restart(checked, initial, machine, arguments)?;
-    earlier.forget();
+    earlier.forget(0);
     let end = go(checked.statements(), machine, earlier, steps)?;
     Ok(is_told(checked, end.finish, machine, outcome))
 }
@@ -180,6 +187,7 @@ fn course_of(
     machine: &mut Machine,
     arguments: &[Arg],
     steps: u32,
+    room: &mut usize,
 ) -> Result<Course, RunFault>
     ghost at: { Site }
     requires site { at ≡ site_of checked.now arguments.now }
@@ -189,15 +197,20 @@ fn course_of(
         (λ course. IsOutcomeOf (map line_of checked.now.program) arguments.now steps course.outcome) }
     ensures reached { IfOk result
         (λ course. AreReached (map line_of checked.now.program) arguments.now steps course.reached) }
+    ensures visits { IfOk result (λ course. IsFollowed checked.now arguments.now steps course.visits) }
     ensures memory { IfErr result (λ e. e ≡ fault.Memory) }
 {
     restart(checked, initial, machine, arguments)?;
-    let mut reached = none_reached(alloc, checked.count())?;
-    let end = follow(checked.statements(), machine, &mut reached, steps);
+    let mut visits = Visits::none(alloc, checked.count())?;
+    let statements = checked.statements();
+    let end = follow(alloc, statements, machine, &mut visits, steps, room)?;
+    visits.made = end.made;
+    let reached = Values::new(visits.reached(alloc)?);
     let outcome = answer(alloc, checked, end.finish, machine)?;
     Ok(Course {
         outcome,
-        reached: Values::new(reached),
+        reached,
+        visits,
     })
 }
 
@@ -249,7 +262,8 @@ impl<'a> Runner<'a> {
     }
 
     /// The course of the run with these values of the dummy arguments, in order, for so many steps at most. The
-    /// program is run once.
+    /// program is run once. Its first states at each statement are kept while there is room for so many values, which falls
+    /// by those of each state: one for each slot and one for each statement.
     ///
     /// N2 and N3 are told before any step, and want of memory, N1, in place of any answer.
     pub fn course(
@@ -257,6 +271,7 @@ impl<'a> Runner<'a> {
         alloc: Global,
         arguments: &[Arg],
         steps: u32,
+        room: &mut usize,
     ) -> Result<Course, RunFault>
         ensures program { self.new ≡ self.old }
         ensures outcome { IfOk result
@@ -265,6 +280,7 @@ impl<'a> Runner<'a> {
             → IsOutcomeOf (map line_of self.old.program) arguments.now steps other → other ≡ course.outcome) }
         ensures reached { IfOk result
             (λ course. AreReached (map line_of self.old.program) arguments.now steps course.reached) }
+        ensures visits { IfOk result (λ course. IsFollowed self.old arguments.now steps course.visits) }
         ensures refused { IfSome (refusal self.old.arguments arguments.now) (λ e. result ≡ Err e) }
         ensures fault { IfErr result (λ e. (e ≡ fault.Memory) ⊎ (refusal self.old.arguments arguments.now ≡ Some e)) }
     {
@@ -277,6 +293,7 @@ impl<'a> Runner<'a> {
                 &mut self.machine,
                 arguments,
                 steps,
+                room,
             ),
             Err(fault) => Err(fault),
         }

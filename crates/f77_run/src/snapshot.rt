@@ -12,7 +12,7 @@ use crate::outcome::RunFault;
 use crate::value::Value;
 use std::alloc::Global;
 
-/// How many steps are made before a state is kept: a run that ends before them pays nothing.
+/// How many steps are made at least before a state is kept: a run that ends before them pays nothing.
 const FIRST: u32 = 64;
 
 /// For how many steps at least each state is looked for: a run that comes back within them is known as soon as by a look at each step.
@@ -36,7 +36,7 @@ pub(crate) struct Snapshot {
     next: u32,
 }
 
-fn same_place(one: Option<Place>, other: Place) -> bool
+pub(crate) fn same_place(one: Option<Place>, other: Place) -> bool
     ensures { Decides result (one ≡ Some other) }
 {
     match (one, other) {
@@ -63,14 +63,15 @@ impl Snapshot {
         }
     }
 
-    /// No state is kept any more. The memory stays.
-    pub(crate) fn forget(&mut self)
+    /// No state is kept any more, and the next one behind so many steps, or a few more. The memory stays.
+    pub(crate) fn forget(&mut self, first: u32)
         ensures { kept self.new ≡ None }
     {
+        let first = first.max(FIRST);
         self.place = None;
-        self.due = FIRST;
-        self.last = FIRST;
-        self.next = FIRST;
+        self.due = first;
+        self.last = first;
+        self.next = first;
     }
 
     /// Whether the machine is in the state that is kept.

@@ -1,15 +1,17 @@
 -- Tests on which the program is run in order.
-use Rattle.std.proofs.Common.{◌≡◌, ◌∙◌, ◌+◌, ◌<◌, ◌≤◌, ◌++◌, ◌∷◌, ◌↔◌, ℕ, Bool, true, false, true≢false, IsTrue, List, [], None, length, take, drop, get_or, sym, ap, subst, arith}
+use Rattle.std.proofs.Common.{◌≡◌, ◌∙◌, ◌+◌, ◌<◌, ◌≤◌, ◌++◌, ◌∷◌, ◌↔◌, ℕ, Bool, true, false, true≢false, IsTrue, List, [], None, length, map, take, drop, get_or, sym, ap, subst, arith}
 use Rattle.std.specs.Prelude.{All}
 use Rattle.std.proofs.lemmas.List.{take-append-drop, take_all, take_more, drop_more, length-take-le}
 use Rattle.std.proofs.lemmas.List.Elements.{All-nil, All-cons, All-head, All-tail, All-push, All-more, All-get_or}
 use Rattle.std.proofs.lemmas.Slice.Zip.{all_zipped_more}
-use Rattle.f77_program.specs.Program.{LineFields}
+use Rattle.f77_program.specs.Program.{LineFields, line_of}
+use Rattle.f77_check.specs.Checked.{CheckedFields}
 use Rattle.f77_check.specs.declared.checked.Shape.{Shape}
 use Rattle.f77_run.specs.Interpreter.{IsOutcomeOf, refusal}
-use Rattle.f77_run.specs.Reached.{AreReached}
+use Rattle.f77_run.specs.Visits.{IsFollowed}
 use Rattle.f77_run.specs.declared.argument.Arg.{Arg}
 use Rattle.f77_run.specs.declared.outcome.Outcome.{Outcome}
+use Rattle.f77_run.specs.declared.visits.Visits.{Visits}
 use Rattle.mothra_bench.specs.Bench.{IsEnd, AreOutcomes, Ends, IsFirstNot}
 use Rattle.mothra_bench.specs.Running.{AreCourses}
 
@@ -45,26 +47,26 @@ pub none_left : {X : Type 0} (P : X → Type 0) (xs : List X) (i : ℕ) → leng
 none_left P xs i end hold = subst (All P) (take_all i xs end) hold
 
 -- the courses of a program on no tests, and on one test more
-pub no_courses : (program : List LineFields) (steps : ℕ) → AreCourses program steps [] [] []
-no_courses program steps = record { outcomes = tt; end = All-nil IsEnd; reached = tt }
+pub no_courses : (checked : CheckedFields) (steps : ℕ) → AreCourses checked steps [] [] []
+no_courses checked steps = record { outcomes = tt; end = All-nil IsEnd; visits = tt }
 
-pub course_more : (program : List LineFields) (steps : ℕ) (tests : List (List Arg)) (outcomes : List Outcome) (reached : List (List Bool)) (i : ℕ) (test : List Arg)
-    (outcome : Outcome) (statements : List Bool) → i < length tests → test ≡ get_or tests i test → AreCourses program steps (take i tests) outcomes reached
-    → IsOutcomeOf program test steps outcome → IsEnd outcome → AreReached program test steps statements
-    → AreCourses program steps (take (i + 1) tests) (outcomes ++ outcome ∷ []) (reached ++ statements ∷ [])
-course_more program steps tests outcomes reached i test outcome statements within is are one end noted =
-    subst (λ (taken : List (List Arg)). AreCourses program steps taken (outcomes ++ outcome ∷ []) (reached ++ statements ∷ []))
+pub course_more : (checked : CheckedFields) (steps : ℕ) (tests : List (List Arg)) (outcomes : List Outcome) (visits : List Visits) (i : ℕ) (test : List Arg)
+    (outcome : Outcome) (noted : Visits) → i < length tests → test ≡ get_or tests i test → AreCourses checked steps (take i tests) outcomes visits
+    → IsOutcomeOf (map line_of checked.program) test steps outcome → IsEnd outcome → IsFollowed checked test steps noted
+    → AreCourses checked steps (take (i + 1) tests) (outcomes ++ outcome ∷ []) (visits ++ noted ∷ [])
+course_more checked steps tests outcomes visits i test outcome noted within is are one end follows =
+    subst (λ (taken : List (List Arg)). AreCourses checked steps taken (outcomes ++ outcome ∷ []) (visits ++ noted ∷ []))
     (sym (next_taken tests i test within is))
     (record {
-      outcomes = all_zipped_more (λ arguments outcome. IsOutcomeOf program arguments steps outcome) (take i tests) outcomes test outcome are.outcomes one;
+      outcomes = all_zipped_more (λ arguments outcome. IsOutcomeOf (map line_of checked.program) arguments steps outcome) (take i tests) outcomes test outcome are.outcomes one;
       end = All-push IsEnd outcomes outcome are.end end;
-      reached = all_zipped_more (λ arguments reached. AreReached program arguments steps reached) (take i tests) reached test statements are.reached noted;
+      visits = all_zipped_more (λ arguments visits. IsFollowed checked arguments steps visits) (take i tests) visits test noted are.visits follows;
     })
 
-pub courses_all : (program : List LineFields) (steps : ℕ) (tests : List (List Arg)) (outcomes : List Outcome) (reached : List (List Bool)) (i : ℕ) → length tests ≤ i
-    → AreCourses program steps (take i tests) outcomes reached → AreCourses program steps tests outcomes reached
-courses_all program steps tests outcomes reached i end are =
-    subst (λ (taken : List (List Arg)). AreCourses program steps taken outcomes reached) (take_all i tests end) are
+pub courses_all : (checked : CheckedFields) (steps : ℕ) (tests : List (List Arg)) (outcomes : List Outcome) (visits : List Visits) (i : ℕ) → length tests ≤ i
+    → AreCourses checked steps (take i tests) outcomes visits → AreCourses checked steps tests outcomes visits
+courses_all checked steps tests outcomes visits i end are =
+    subst (λ (taken : List (List Arg)). AreCourses checked steps taken outcomes visits) (take_all i tests end) are
 
 -- the arguments of a test fit where those of all tests do
 pub test_fits : (shapes : List Shape) (tests : List (List Arg)) (i : ℕ) (test : List Arg) → i < length tests → test ≡ get_or tests i test

@@ -1,7 +1,6 @@
 -- A plan and a bench may be lent to many threads, since each of their parts may.
 use mathlib.Core.List.{[], ◌∷◌}
 use mir.Syntax.{Sym}
-use denote.Builtin.{bool}
 use denote.RattleType.{RattleType}
 use denote.Struct.Declared.{shape}
 use denote.Struct.Tuple.{TupleAt, type_at}
@@ -31,6 +30,10 @@ use Rattle.mothra_codes.specs.contracts.op.Op as op
 use Rattle.f77_run.specs.contracts.argument.Arg as arg
 use Rattle.f77_run.specs.contracts.outcome.Outcome as outcome
 use Rattle.f77_run.specs.contracts.values.Values as values
+use Rattle.f77_run.specs.contracts.visits.Visits as visits
+use Rattle.std.specs.contracts.vec.Vec as vec
+use Rattle.std.specs.contracts.alloc.Global as global
+use Rattle.std.specs.contracts.impls.GlobalAllocator as allocator
 use Rattle.mothra_codes.specs.contracts.ticket.Ticket as ticket
 
 -- a closure may go to another thread with the five things that it captured
@@ -105,15 +108,15 @@ tests_sync = search (crosses, sendable) depth 60 fits 20000
 outcomes_sync : IsSync (values.the_row outcome.the_row)
 outcomes_sync = search (crosses, sendable) depth 60 fits 20000
 
-reached_sync : IsSync (values.the_row (values.the_row bool))
-reached_sync = search (crosses, sendable) depth 60 fits 20000
+visits_sync : IsSync (vec.the_field visits.the_row global.the_row allocator.TheImpl.ghosts).row
+visits_sync = search (crosses, sendable) depth 60 fits 20000
 
 declared_sync : IsSync (values.the_row ticket.the_row)
 declared_sync = search (crosses, sendable) depth 60 fits 20000
 
 inside_sync : IsSync inside.the_row
 inside_sync =
-    recorded_sync _ _ _ inside.the_type.to_one (struct_sync (shape inside.the_type) (plan_sync, (tests_sync, ((search sendable), (outcomes_sync, (reached_sync, (declared_sync, ((search (crosses, sendable) depth 60 fits 20000), tt))))))))
+    recorded_sync _ _ _ inside.the_type.to_one (struct_sync (shape inside.the_type) (plan_sync, (tests_sync, ((search sendable), (outcomes_sync, (visits_sync, (declared_sync, ((search (crosses, sendable) depth 60 fits 20000), tt))))))))
 
 pub bench_sync : IsSync bench.the_row
 bench_sync = search (inside_sync, sendable) depth 60 fits 20000

@@ -11,7 +11,7 @@ mod ReportOperators
 mod ReportRows
 mod ReportTexts
 mod Kills
-mod KillsUnreached
+mod KillsInTurn
 mod PassSteps
 mod Looking
 mod FeederSteps

@@ -1,7 +1,7 @@
 -- A worker's steps, one after another.
-use Rattle.std.proofs.Common.{◌≡◌, ℕ, ◌+◌, ◌-◌, ◌<◌, ◌≤◌, List, [], ◌∷◌, ◌++◌, Bool, true, false, Vec, Global, Option, None, Some, Result, Ok, Err, IfSome, IfOk, IfErr, MatchOption, cond, ◌&&◌, eqb, is_some, IsSome, true≢false, eq-eqb, ◌≢◌, refl, sym, ap, ◌∙◌, subst, append_assoc, append-nil, arith, Bor}
+use Rattle.std.proofs.Common.{◌≡◌, ℕ, ◌+◌, ◌-◌, ◌<◌, ◌≤◌, List, [], ◌∷◌, ◌++◌, Bool, true, false, Vec, Global, Option, None, Some, Result, Ok, Err, IfSome, IfOk, IfErr, MatchOption, cond, ◌&&◌, eqb, is_some, IsSome, true≢false, eq-eqb, ◌≢◌, refl, sym, ap, ◌∙◌, subst, append_assoc, append-nil, arith}
 use Rattle.std.specs.Result.{result_ok}
-use Rattle.std.specs.Prelude.{IfNone, option_copied}
+use Rattle.std.specs.Prelude.{IfNone}
 use Rattle.std.proofs.lemmas.Bool.{eqb-true}
 use Rattle.std.proofs.lemmas.Bool.Decides.{nat_tests}
 use Rattle.std.proofs.lemmas.List.{map-append}
@@ -298,12 +298,14 @@ pub first_fault : (f : Option BenchFault) (X : Type 0) (P : BenchFault → Type 
 first_fault None X P e x = x
 first_fault (Some d) X P e x = cc
 
--- the verdicts that are lent are those that were made
-pub lent_verdicts : {X : Type 0} (made : Result X BenchFault) (kept : Option X) (lent : Option (Bor X)) (x : X) → IfOk made (λ v. v ≡ x) → kept ≡ result_ok made
-    → option_copied lent ≡ kept → IfSome lent (λ v. v.now ≡ x)
-lent_verdicts made kept None x is own copied = tt
-lent_verdicts (Ok v) kept (Some r) x is own copied = same_Some r.now v (copied ∙ own) ∙ is
-lent_verdicts (Err e) kept (Some r) x is own copied = absurd (none-some r.now (sym (copied ∙ own)))
+-- verdicts that were made are of this bench
+pub own_verdicts : {X : Type 0} (made : Result X BenchFault) (kept : Option X) (x : X) → IfOk made (λ v. v ≡ x) → kept ≡ result_ok made → IfSome kept (λ v. v ≡ x)
+own_verdicts made None x is own = tt
+own_verdicts (Ok v) (Some w) x is own = same_Some w v own ∙ is
+own_verdicts (Err e) (Some w) x is own = absurd (none-some w (sym own))
+
+pub same_verdicts : {X : Type 0} {now before : Option X} (x : X) → now ≡ before → IfSome before (λ v. v ≡ x) → IfSome now (λ v. v ≡ x)
+same_verdicts x same is = subst (λ o. IfSome o (λ v. v ≡ x)) (sym same) is
 
 -- with a fault there are no rows
 pub faulty_answer : (P : Vec Row Global → Type 0) (f : Option BenchFault) (rows : Vec Row Global) (outcome : Result (Vec Row Global) BenchFault) → IsSome f

@@ -1,16 +1,11 @@
--- What a mutant leaves as it was: it need not be run where control does not come to what it changed.
-use Rattle.std.specs.Prelude.{ℕ, Bool, List}
+-- What is known of the program on the tests, by which a mutant is run no further back than to where it parts from the program.
+use Rattle.std.specs.Prelude.{ℕ, List}
 use Rattle.std.specs.List.{AllZip}
-use Rattle.f77_program.specs.Program.{LineFields}
-use Rattle.f77_legal.specs.Frames.{HaveOneFrame}
-use Rattle.f77_run.specs.Reached.{AreReached, AreSameBut}
+use Rattle.f77_check.specs.Checked.{CheckedFields}
+use Rattle.f77_run.specs.Visits.{IsFollowed}
 use Rattle.f77_run.specs.declared.argument.Arg.{Arg}
+use Rattle.f77_run.specs.declared.visits.Visits.{Visits}
 
--- for each test, which statements of the program control comes to
-abbrev pub AreReachedOn : List LineFields → ℕ → List (List Arg) → List (List Bool) → Type 0
-AreReachedOn program steps tests reached = AllZip (λ arguments reached. AreReached program arguments steps reached) tests reached
-
--- the mutant is of the program's frame, and another in the statement i alone, counted from 0
-pub record IsChangedAt (program mutant : List LineFields) (i : ℕ) : Type 0 where
-  pub frame : HaveOneFrame program mutant
-  pub others : AreSameBut i program mutant
+-- for each test, where control was in the run of the program
+abbrev pub AreFollowedOn : CheckedFields → ℕ → List (List Arg) → List Visits → Type 0
+AreFollowedOn checked steps tests visits = AllZip (λ arguments visits. IsFollowed checked arguments steps visits) tests visits

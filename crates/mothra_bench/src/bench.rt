@@ -11,14 +11,13 @@ ghost use Rattle.f77_check.specs.contracts.expression.Number as number;
 ghost use Rattle.mothra_bench.specs.Bench.{BenchFields, IsBench, IsNoBench, most_tests};
 ghost use Rattle.mothra_bench.specs.Collecting.{IsDeclared};
 ghost use Rattle.mothra_bench.specs.Equivalents.{AreNamed};
-ghost use Rattle.mothra_bench.specs.Killing.{AreReachedOn};
+ghost use Rattle.mothra_bench.specs.Killing.{AreFollowedOn};
 ghost use Rattle.mothra_ops.specs.Mutants as numbers;
-ghost use Rattle.mothra_ops.specs.Mutants.{program_of};
 
 use crate::equivalents::named_by;
 use crate::fault::BenchFault;
 use crate::running::{courses_on, first_misfit};
-use f77_run::{Arg, Outcome, Values};
+use f77_run::{Arg, Outcome, Values, Visits};
 use indexmap::IndexSet;
 use mothra_exchange::Ticket;
 use mothra_ops::Plan;
@@ -27,16 +26,16 @@ use std::marker::Model;
 
 /// A plan, the tests that its mutants are run on, the limit on steps of each run, and the mutants that are declared equivalent.
 ///
-/// It holds what the program itself comes to on each test, so that a mutant costs its own runs alone, and where control was on the way, so
-/// that it costs none where it is not reached.
+/// It holds what the program itself comes to on each test, and where control was on the way: so a mutant is run from where it parts from
+/// the program, and not at all where it does not.
 #[derive(Drop)]
 pub struct Bench {
     plan: Plan,
     tests: Values<Values<Arg>>,
     steps: u32,
     outcomes: Values<Outcome>,
-    /// For each test, which statements of the program control comes to.
-    reached: Values<Values<bool>>,
+    /// For each test, where control was in the run of the program.
+    visits: Vec<Visits>,
     declared: Values<Ticket>,
     /// The set of the declared ones.
     named: IndexSet<Ticket>,
@@ -71,7 +70,7 @@ impl Model for Bench {
       declared = bench.declared;
     })
         × AreNamed bench.declared bench.named.keys
-        × AreReachedOn (program_of bench.plan) bench.steps bench.tests bench.reached };
+        × AreFollowedOn bench.plan.checked bench.steps bench.tests bench.visits.items };
 }
 
 impl Bench {
@@ -105,7 +104,7 @@ impl Bench {
             tests,
             steps,
             outcomes: Values::new(courses.outcomes),
-            reached: Values::new(courses.reached),
+            visits: courses.visits,
             declared,
             named,
         })
@@ -142,12 +141,12 @@ impl Bench {
         self.outcomes.as_slice()
     }
 
-    /// For each test, which statements of the program control comes to, in order. It takes no memory.
-    pub(crate) fn reached(&self) -> &[Values<bool>]
-        ensures reached { AreReachedOn (program_of self.now.plan) self.now.steps self.now.tests result.now }
+    /// For each test, where control was in the run of the program. It takes no memory.
+    pub(crate) fn visits(&self) -> &[Visits]
+        ensures visits { AreFollowedOn self.now.plan.checked self.now.steps self.now.tests result.now }
         ensures bench { IsBench self.now }
     {
-        self.reached.as_slice()
+        &self.visits
     }
 
     /// Whether the mutant is declared equivalent, by its number in the whole list. It takes no memory.

@@ -31,11 +31,12 @@ impl Gathered {
     }
 
     /// Runs a ticket's mutant, unless there was a fault. With no verdicts to ask there was no memory for them.
-    pub(crate) fn run(&mut self, alloc: Global, verdicts: Option<&Verdicts<'_>>, ticket: Ticket)
-        ensures row { (bench : BenchFields) → IfSome verdicts.entry (λ verdicts. verdicts.now ≡ bench)
+    pub(crate) fn run(&mut self, alloc: Global, verdicts: &mut Option<Verdicts<'_>>, ticket: Ticket)
+        ensures row { (bench : BenchFields) → IfSome verdicts.old (λ verdicts. verdicts ≡ bench)
             → IfNone self.new.fault ((self.old.fault ≡ None) × AddsRow bench ticket self.old.rows.items self.new.rows.items) }
-        ensures fault { (bench : BenchFields) → IfSome verdicts.entry (λ verdicts. verdicts.now ≡ bench)
+        ensures fault { (bench : BenchFields) → IfSome verdicts.old (λ verdicts. verdicts ≡ bench)
             → IfSome self.new.fault (λ fault. MatchOption self.old.fault (IsNoVerdict bench.plan ticket fault) (λ first. fault ≡ first)) }
+        ensures verdicts { verdicts.new ≡ verdicts.old }
     {
         if self.fault.is_some() {
             return;
@@ -108,11 +109,16 @@ impl Gathered {
 }
 
 /// The row of a ticket's mutant.
-fn row_of(alloc: Global, verdicts: Option<&Verdicts<'_>>, ticket: Ticket) -> Result<Row, BenchFault>
+fn row_of(
+    alloc: Global,
+    verdicts: &mut Option<Verdicts<'_>>,
+    ticket: Ticket,
+) -> Result<Row, BenchFault>
     ensures ticket { IfOk result (λ row. row.ticket ≡ ticket) }
-    ensures kills { IfOk result (λ row. (bench : BenchFields) → IfSome verdicts.entry (λ verdicts. verdicts.now ≡ bench) → IsVerdict bench ticket row.kills) }
-    ensures refused { IfErr result (λ fault. (bench : BenchFields) → IfSome verdicts.entry (λ verdicts. verdicts.now ≡ bench)
+    ensures kills { IfOk result (λ row. (bench : BenchFields) → IfSome verdicts.old (λ verdicts. verdicts ≡ bench) → IsVerdict bench ticket row.kills) }
+    ensures refused { IfErr result (λ fault. (bench : BenchFields) → IfSome verdicts.old (λ verdicts. verdicts ≡ bench)
         → IsNoVerdict bench.plan ticket fault) }
+    ensures verdicts { verdicts.new ≡ verdicts.old }
 {
     match verdicts {
         Some(verdicts) => verdicts.row(alloc, ticket),

@@ -4,7 +4,7 @@ ghost use Rattle.std.specs.Prelude.{◌≡◌, ◌↔◌, All, IsTrue, None, IfO
 ghost use Rattle.f77_program.specs.Program.{line_of};
 ghost use Rattle.f77_check.specs.Checked.{shapes};
 ghost use Rattle.f77_run.specs.Interpreter.{IsOutcomeOf, refusal};
-ghost use Rattle.f77_run.specs.Reached.{AreReached};
+ghost use Rattle.f77_run.specs.Visits.{IsFollowed};
 ghost use Rattle.mothra_bench.specs.Bench.{Fits, IsEnd, Ends, IsFirstNot};
 ghost use Rattle.mothra_bench.specs.Running.{AreCourses, IsNoRun};
 ghost use Rattle.mothra_bench.specs.declared.fault.BenchFault.TheVariants.{Memory};
@@ -13,9 +13,12 @@ ghost use Rattle.mothra_ops.specs.Mutants.{program_of};
 use crate::fault::BenchFault;
 use crate::want;
 use f77_check::Shape;
-use f77_run::{Arg, Course, Outcome, RunFault, Runner, Values, fit};
+use f77_run::{Arg, Course, Outcome, RunFault, Runner, Values, Visits, fit};
 use mothra_ops::Plan;
 use std::alloc::Global;
+
+/// How many values the states that are kept may have in all: each takes 24 bytes at most, all of them 32 MiB.
+const ROOM: usize = 1_398_101;
 
 /// The shapes of the program's dummy arguments.
 fn dummies(plan: &Plan) -> &[Shape]
@@ -74,19 +77,19 @@ fn course_on(
     original: &mut Runner<'_>,
     test: &Values<Arg>,
     steps: u32,
+    room: &mut usize,
 ) -> Result<Option<Course>, BenchFault>
     requires { refusal original.old.arguments test.now ≡ None }
     ensures program { original.new ≡ original.old }
     ensures outcome { IfOk result (λ course. IfSome course
         (λ course. IsOutcomeOf (map line_of original.old.program) test.now steps course.outcome)) }
     ensures end { IfOk result (λ course. IfSome course (λ course. IsEnd course.outcome)) }
-    ensures reached { IfOk result (λ course. IfSome course
-        (λ course. AreReached (map line_of original.old.program) test.now steps course.reached)) }
+    ensures visits { IfOk result (λ course. IfSome course (λ course. IsFollowed original.old test.now steps course.visits)) }
     ensures fails { IfOk result
         (λ course. IfNone course (¬ (Ends (map line_of original.old.program) steps test.now))) }
     ensures memory { IfErr result (λ fault. fault ≡ Memory) }
 {
-    match original.course(alloc, test.as_slice(), steps) {
+    match original.course(alloc, test.as_slice(), steps, room) {
         Ok(course) => {
             if is_end(&course.outcome) {
                 Ok(Some(course))
@@ -102,8 +105,8 @@ fn course_on(
 #[derive(Drop)]
 pub(crate) struct Courses {
     pub(crate) outcomes: Vec<Outcome>,
-    /// For each test, which statements control comes to.
-    pub(crate) reached: Vec<Values<bool>>,
+    /// For each test, where control was.
+    pub(crate) visits: Vec<Visits>,
 }
 
 /// The courses of the program on tests, on each of which it is run once.
@@ -114,20 +117,21 @@ fn courses_in_turn(
     steps: u32,
 ) -> Result<Courses, BenchFault>
     requires { All (λ arguments. refusal original.old.arguments arguments ≡ None) tests.now }
-    ensures courses { IfOk result (λ courses. let program = map line_of original.old.program in
-        AreCourses program steps tests.now courses.outcomes.items courses.reached.items) }
+    ensures courses { IfOk result
+        (λ courses. AreCourses original.old steps tests.now courses.outcomes.items courses.visits.items) }
     ensures refused { IfErr result (λ fault. IsNoRun (map line_of original.old.program) steps tests.now fault) }
 {
     let mut outcomes = Vec::with_capacity(alloc, tests.len())?;
-    let mut reached = Vec::with_capacity(alloc, tests.len())?;
+    let mut visits = Vec::with_capacity(alloc, tests.len())?;
+    let mut room = ROOM;
     for (index, test) in tests.iter().enumerate() {
-        let Some(course) = course_on(alloc, original, test, steps)? else {
+        let Some(course) = course_on(alloc, original, test, steps, &mut room)? else {
             return Err(BenchFault::OriginalFails(index + 1));
         };
         outcomes.push(course.outcome)?;
-        reached.push(course.reached)?;
+        visits.push(course.visits)?;
     }
-    Ok(Courses { outcomes, reached })
+    Ok(Courses { outcomes, visits })
 }
 
 /// The courses of the program on tests, on each of which it is run once. B4 is told of the first on which it neither
@@ -140,7 +144,7 @@ pub(crate) fn courses_on(
 ) -> Result<Courses, BenchFault>
     requires { All (Fits (program_of plan.now)) tests.now }
     ensures courses { IfOk result
-        (λ courses. AreCourses (program_of plan.now) steps tests.now courses.outcomes.items courses.reached.items) }
+        (λ courses. AreCourses plan.now.checked steps tests.now courses.outcomes.items courses.visits.items) }
     ensures refused { IfErr result (λ fault. IsNoRun (program_of plan.now) steps tests.now fault) }
 {
     let checked = plan.program();

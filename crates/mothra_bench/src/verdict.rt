@@ -1,23 +1,21 @@
 //! The verdict of running a mutant alone.
 
-ghost use Rattle.std.specs.Prelude.{◌≡◌, map, IfOk, IfErr, IfSome};
+ghost use Rattle.std.specs.Prelude.{◌≡◌, map, IfOk, IfErr};
 ghost use Rattle.f77_check.specs.Checked.{shapes};
 ghost use Rattle.f77_program.specs.Program.{line_of};
 ghost use Rattle.f77_tree.specs.Statement.{statement_of};
 ghost use Rattle.mothra_ops.specs.Edits.{IsMutant};
 ghost use Rattle.mothra_ops.specs.Mutants.{mutant_fields, program_of};
 ghost use Rattle.mothra_bench.specs.Bench.{BenchFields, IsBench};
-ghost use Rattle.mothra_bench.specs.Killing.{IsChangedAt};
 ghost use Rattle.mothra_bench.specs.Verdict.{IsAlone, IsVerdict, IsNoVerdict, mutated};
 ghost use Rattle.mothra_bench.specs.declared.fault.BenchFault.TheVariants.{Memory};
 
 use crate::bench::Bench;
 use crate::fault::BenchFault;
-use crate::killing::kills_of;
+use crate::killing::{kills_from_start, kills_of};
 use crate::want;
 use f77_check::Checked;
-use f77_legal::keeps_frame;
-use f77_run::Values;
+use f77_run::{ChangedRunner, Values};
 use mothra_exchange::Ticket;
 use mothra_ops::{Mutant, Mutants};
 use std::alloc::Global;
@@ -32,11 +30,13 @@ pub struct Row {
     pub kills: Values<bool>,
 }
 
-/// The verdicts on the mutants of a bench. What the operators draw from its program is found once, and not for each mutant.
+/// The verdicts on the mutants of a bench. What the operators draw from its program is found once, and not for each mutant, and what runs
+/// need is taken once.
 #[derive(Drop)]
 pub struct Verdicts<'a> {
     bench: &'a Bench,
     mutants: Mutants<'a>,
+    runner: ChangedRunner<'a>,
 }
 
 impl<'a> Model for Verdicts<'a> {
@@ -64,7 +64,8 @@ impl<'a> Model for Verdicts<'a> {
 
     ghost view = { λ verdicts. verdicts.bench.now };
 
-    ghost invariant = { λ verdicts. IsBench verdicts.bench.now × (verdicts.mutants ≡ verdicts.bench.now.plan) };
+    ghost invariant = { λ verdicts. IsBench verdicts.bench.now × (verdicts.mutants ≡ verdicts.bench.now.plan)
+        × (verdicts.runner.checked ≡ verdicts.bench.now.plan.checked) };
 }
 
 impl<'a> Verdicts<'a> {
@@ -73,8 +74,16 @@ impl<'a> Verdicts<'a> {
         ensures verdicts { IfOk result (λ verdicts. verdicts ≡ bench.now) }
         ensures memory { IfErr result (λ fault. fault ≡ Memory) }
     {
+        let runner = match ChangedRunner::of(alloc, bench.plan().program()) {
+            Ok(runner) => runner,
+            Err(fault) => return Err(want::of_run(fault)),
+        };
         match Mutants::of(alloc, bench.plan()) {
-            Ok(mutants) => Ok(Verdicts { bench, mutants }),
+            Ok(mutants) => Ok(Verdicts {
+                bench,
+                mutants,
+                runner,
+            }),
             Err(fault) => Err(want::of_plan(fault)),
         }
     }
@@ -97,18 +106,8 @@ impl<'a> Verdicts<'a> {
         }
     }
 
-    /// The number from 0 of the statement that is changed, where the frame of the program stays.
-    fn changed_statement(&self, mutant: &Mutant) -> Option<usize>
-        requires { IsMutant (program_of self.now.plan) mutant.now.number (statement_of mutant.now.stmt) }
-        ensures { IfSome result (IsChangedAt (program_of self.now.plan) (mutated (program_of self.now.plan) (mutant_fields mutant.now))) }
-    {
-        let i = mutant.number - 1;
-        let lines = self.bench.plan().program().program().lines();
-        keeps_frame(&lines[i].stmt, &mutant.stmt).then_some(i)
-    }
-
-    /// Which tests kill the mutant.
-    fn kills(&self, alloc: Global, mutant: &Mutant) -> Result<Values<bool>, BenchFault>
+    /// Which tests kill the mutant, whose runs all begin at the start.
+    fn kills_from_start(&self, alloc: Global, mutant: &Mutant) -> Result<Values<bool>, BenchFault>
         requires mutant { IsMutant (program_of self.now.plan) mutant.now.number (statement_of mutant.now.stmt) }
         requires shapes { shapes (mutated (program_of self.now.plan) (mutant_fields mutant.now)) ≡ shapes (program_of self.now.plan) }
         ensures kills { IfOk result (λ kills. IsAlone (program_of self.now.plan) (mutated (program_of self.now.plan) (mutant_fields mutant.now))
@@ -116,23 +115,44 @@ impl<'a> Verdicts<'a> {
         ensures memory { IfErr result (λ fault. fault ≡ Memory) }
     {
         match self.changed(mutant) {
-            Ok(changed) => kills_of(alloc, self.bench, &changed, self.changed_statement(mutant)),
+            Ok(changed) => kills_from_start(alloc, self.bench, &changed),
             Err(fault) => Err(fault),
         }
     }
 
+    /// Which tests kill the mutant.
+    fn kills(&mut self, alloc: Global, mutant: Mutant) -> Result<Values<bool>, BenchFault>
+        requires mutant { IsMutant (program_of self.old.plan) mutant.number (statement_of mutant.stmt) }
+        requires shapes { shapes (mutated (program_of self.old.plan) (mutant_fields mutant)) ≡ shapes (program_of self.old.plan) }
+        ensures bench { self.new ≡ self.old }
+        ensures kills { IfOk result (λ kills. IsAlone (program_of self.old.plan) (mutated (program_of self.old.plan) (mutant_fields mutant))
+            self.old.steps self.old.tests kills) }
+        ensures memory { IfErr result (λ fault. fault ≡ Memory) }
+    {
+        let program = self.bench.plan().program();
+        match program.resolved_in_place(mutant.number, &mutant.stmt) {
+            Ok(Some(resolved)) => {
+                self.runner.change(mutant.number, mutant.stmt, resolved);
+                kills_of(alloc, self.bench, &mut self.runner)
+            }
+            Ok(None) => self.kills_from_start(alloc, &mutant),
+            Err(fault) => Err(want::of_check(&fault)),
+        }
+    }
+
     /// The mutant is run on every test.
-    pub fn row(&self, alloc: Global, ticket: Ticket) -> Result<Row, BenchFault>
+    pub fn row(&mut self, alloc: Global, ticket: Ticket) -> Result<Row, BenchFault>
+        ensures bench { self.new ≡ self.old }
         ensures ticket { IfOk result (λ row. row.ticket ≡ ticket) }
-        ensures kills { IfOk result (λ row. IsVerdict self.now ticket row.kills) }
-        ensures refused { IfErr result (λ fault. IsNoVerdict self.now.plan ticket fault) }
+        ensures kills { IfOk result (λ row. IsVerdict self.old ticket row.kills) }
+        ensures refused { IfErr result (λ fault. IsNoVerdict self.old.plan ticket fault) }
     {
         let mutant = match self.mutants.mutant(alloc, ticket.op, ticket.number) {
             Ok(Some(mutant)) => mutant,
             Ok(None) => return Err(BenchFault::Stranger(ticket)),
             Err(fault) => return Err(want::of_plan(fault)),
         };
-        match self.kills(alloc, &mutant) {
+        match self.kills(alloc, mutant) {
             Ok(kills) => Ok(Row { ticket, kills }),
             Err(fault) => Err(fault),
         }
@@ -145,5 +165,6 @@ pub fn verdict_of(alloc: Global, bench: &Bench, ticket: Ticket) -> Result<Row, B
     ensures kills { IfOk result (λ row. IsVerdict bench.now ticket row.kills) }
     ensures refused { IfErr result (λ fault. IsNoVerdict bench.now.plan ticket fault) }
 {
-    Verdicts::of(alloc, bench)?.row(alloc, ticket)
+    let mut verdicts = Verdicts::of(alloc, bench)?;
+    verdicts.row(alloc, ticket)
 }

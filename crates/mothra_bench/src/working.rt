@@ -48,18 +48,19 @@ fn take_turn<G: Gate, R: Wait>(
     alloc: Global,
     gate: &G,
     pass: &mut G::Pass,
-    verdicts: Option<&Verdicts<'_>>,
+    verdicts: &mut Option<Verdicts<'_>>,
     gathered: &mut Gathered,
     op: Op,
 ) -> Turn
     requires { G.is_pass gate.now pass.old }
     ensures own { G.is_pass gate.now pass.new }
     ensures part { G.needs_parts ≡ true → (G.view pass.new).part ≡ (G.view pass.old).part }
-    ensures went { (bench : BenchFields) → IfSome verdicts.entry (λ verdicts. verdicts.now ≡ bench)
+    ensures went { (bench : BenchFields) → IfSome verdicts.old (λ verdicts. verdicts ≡ bench)
         → Went bench G.may_give_up G.keeps_records (G.view pass.old) (G.view pass.new) gathered.old gathered.new }
     ensures over { G.keeps_records ≡ true → result ≡ Turn.Finished
         → IsOver (G.view pass.new) op × ((other : OpModel) → IsOver (G.view pass.old) other → IsOver (G.view pass.new) other) }
     ensures gave_up { result ≡ Turn.GaveUp → IsSome gathered.new.fault }
+    ensures verdicts { verdicts.new ≡ verdicts.old }
 {
     match gate.take(rt, pass, op) {
         Take::Finished => Turn::Finished,
@@ -81,16 +82,17 @@ fn take_round<G: Gate, R: Wait>(
     alloc: Global,
     gate: &G,
     pass: &mut G::Pass,
-    verdicts: Option<&Verdicts<'_>>,
+    verdicts: &mut Option<Verdicts<'_>>,
     gathered: &mut Gathered,
 ) -> Turn
     requires { G.is_pass gate.now pass.old }
     ensures own { G.is_pass gate.now pass.new }
     ensures part { G.needs_parts ≡ true → (G.view pass.new).part ≡ (G.view pass.old).part }
-    ensures went { (bench : BenchFields) → IfSome verdicts.entry (λ verdicts. verdicts.now ≡ bench)
+    ensures went { (bench : BenchFields) → IfSome verdicts.old (λ verdicts. verdicts ≡ bench)
         → Went bench G.may_give_up G.keeps_records (G.view pass.old) (G.view pass.new) gathered.old gathered.new }
     ensures over { G.keeps_records ≡ true → result ≡ Turn.Finished → AreOver (G.view pass.new) }
     ensures gave_up { result ≡ Turn.GaveUp → IsSome gathered.new.fault }
+    ensures verdicts { verdicts.new ≡ verdicts.old }
 {
     let mut round = Turn::Finished;
     for op in Op::ALL {
@@ -124,12 +126,11 @@ pub fn work<G: Gate, R: Wait>(
         → IfErr result.1 (NamesTaken bench.now.plan (G.view pass) (G.view result.0)) }
     ensures over { G.keeps_records ≡ true → IfOk result.1 (λ _. AreOver (G.view result.0)) }
 {
-    let found = Verdicts::of(alloc, bench).ok();
-    let verdicts = found.as_ref();
+    let mut verdicts = Verdicts::of(alloc, bench).ok();
     let mut gathered = Gathered::new(alloc);
     let backoff = Backoff::new();
     for _ in rt.forever() {
-        match take_round(rt, alloc, gate, &mut pass, verdicts, &mut gathered) {
+        match take_round(rt, alloc, gate, &mut pass, &mut verdicts, &mut gathered) {
             Turn::Finished | Turn::GaveUp => return (pass, gathered.outcome()),
             Turn::Ran => backoff.reset(),
             Turn::Idle => backoff.snooze(),

@@ -24,4 +24,6 @@ mod run_faults;
 #[cfg(test)]
 mod run_loops;
 #[cfg(test)]
+mod run_parted;
+#[cfg(test)]
 mod run_reached;

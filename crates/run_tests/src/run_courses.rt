@@ -26,7 +26,9 @@ fn answer(rt: &impl AllocGlobal, runner: &mut Runner, input: &str) -> Result<Str
     let (words, steps) = halves(input, " within ")?;
     let steps = steps.parse()?;
     let values = arguments(rt, words)?;
-    shown(rt, &runner.course(rt.alloc(), &values, steps))
+    // No state is kept.
+    let mut room = 0;
+    shown(rt, &runner.course(rt.alloc(), &values, steps, &mut room))
 }
 
 fn assert_answer(rt: &impl AllocGlobal, runner: &mut Runner, row: &str) -> Result<(), Fail> {

@@ -47,15 +47,35 @@ pub fn whole_tally(rt: &impl AllocGlobal, bench: &Bench) -> Result<Tally, Fail> 
     tally(rt, counts(bench.plan()))
 }
 
-/// The row of each mutant, by operator and number.
-pub fn rows(rt: &impl AllocGlobal, bench: &Bench) -> Result<Vec<Row>, Fail> {
-    let verdicts = Verdicts::of(rt.alloc(), bench)?;
+/// The row of each mutant of one operator, behind the others.
+fn push_rows(
+    rt: &impl AllocGlobal,
+    bench: &Bench,
+    verdicts: &mut Verdicts<'_>,
+    op: Op,
+    rows: &mut Vec<Row>,
+) -> Result<(), Fail> {
+    for before in 0..bench.plan().count(op) {
+        let number = before + 1;
+        rows.push(verdicts.row(rt.alloc(), Ticket { op, number })?)?;
+    }
+    Ok(())
+}
+
+fn rows_by(
+    rt: &impl AllocGlobal,
+    bench: &Bench,
+    verdicts: &mut Verdicts<'_>,
+) -> Result<Vec<Row>, Fail> {
     let mut rows = Vec::new(rt.alloc());
     for op in Op::ALL {
-        for before in 0..bench.plan().count(op) {
-            let number = before + 1;
-            rows.push(verdicts.row(rt.alloc(), Ticket { op, number })?)?;
-        }
+        push_rows(rt, bench, verdicts, op, &mut rows)?;
     }
     Ok(rows)
+}
+
+/// The row of each mutant, by operator and number.
+pub fn rows(rt: &impl AllocGlobal, bench: &Bench) -> Result<Vec<Row>, Fail> {
+    let mut verdicts = Verdicts::of(rt.alloc(), bench)?;
+    rows_by(rt, bench, &mut verdicts)
 }

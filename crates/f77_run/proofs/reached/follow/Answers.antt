@@ -1,9 +1,13 @@
-use Rattle.std.proofs.Common.{arith, ap, ◌∙◌}
+use Rattle.std.proofs.Common.{◌+◌, arith, ap, subst, sym, ◌∙◌}
 use Rattle.std.specs.Prelude.{Some, Ok}
+use Rattle.f77_run.specs.Machine.{placed}
 use Rattle.f77_run.specs.Moves.{move_of, state_of}
+use Rattle.f77_run.specs.Reached.{number_of}
+use Rattle.f77_run.specs.Running.{config_at}
+use Rattle.f77_run.specs.Visits.{AreVisited}
 use Rattle.f77_run.proofs.Following.{place_within}
-use Rattle.f77_run.proofs.Followed.{noted_end, noted_length, noted_more}
 use Rattle.f77_run.proofs.Runs.{can_move, one_more, ends, meets, are_short, are_within}
+use Rattle.f77_run.proofs.Visiting.{some_item, visited_end, visited_more}
 use Rattle.f77_run.proofs.reached.follow.Goals as goal
 
 pub step-requires-clause-statements : goal.step-requires-clause-statements
@@ -20,38 +24,62 @@ note-requires g c =
     let running = c.loop-made.invariant.0.running in
     let within = place_within c.args.statements.now (state_of c.loop-made.machine) (can_move g.at c.args.statements.now c.loop-made.machine running) in
     let count = running.resolved.count in
-    let long = c.loop-made.invariant.2 in
+    let long = c.loop-made.invariant.1.count in
     omega (arith, within, count, long)
 
-pub returns-in-Ok-Returns-clause-reached : goal.returns-in-Ok-Returns-clause-reached
-returns-in-Ok-Returns-clause-reached g c =
-    rw c.note.ensures
-    (noted_end g.at c.args.statements.now c.args.machine.now c.loop-made.machine c.loop-made.made c.loop-made.invariant.0 c.loop-made.reached c.loop-made.invariant.1
-    c.args.steps _ _ c.loop-made-test.true
+pub returns-in-Ok-Returns-clause-visited : goal.returns-in-Ok-Returns-clause-visited
+returns-in-Ok-Returns-clause-visited g c =
+    let running = c.loop-made.invariant.0.running in
+    let within = place_within c.args.statements.now (state_of c.loop-made.machine) (can_move g.at c.args.statements.now c.loop-made.machine running) in
+    let count = running.resolved.count in
+    let long = c.loop-made.invariant.1.count in
+    let old = some_item c.loop-made.visits.list.items (number_of (placed c.loop-made.machine.place)) (omega (arith, within, count, long)) in
+    let new = c.in_ok-note.ensures.noted old.0 old.1 in
+    subst (AreVisited g.at (config_at g.at c.args.machine.now) c.args.steps) (sym new.2)
+    (visited_end g.at c.args.statements.now c.args.machine.now c.loop-made.machine c.loop-made.made c.loop-made.invariant.0 c.loop-made.visits.list.items old.0 new.0 old.1 new.1
+    c.loop-made.invariant.1 c.args.steps _ _ c.loop-made-test.true
     (c.step.ensures.moved ∙ ap (λ r. Some (move_of r c.step.new.machine)) (c.in-Ok-Returns.is ∙ ap Ok c.in-Ok-Returns.field-0-is)))
 
-pub returns-in-Ok-Stops-clause-reached : goal.returns-in-Ok-Stops-clause-reached
-returns-in-Ok-Stops-clause-reached g c =
-    rw c.note.ensures
-    (noted_end g.at c.args.statements.now c.args.machine.now c.loop-made.machine c.loop-made.made c.loop-made.invariant.0 c.loop-made.reached c.loop-made.invariant.1
-    c.args.steps _ _ c.loop-made-test.true
+pub returns-in-Ok-Stops-clause-visited : goal.returns-in-Ok-Stops-clause-visited
+returns-in-Ok-Stops-clause-visited g c =
+    let running = c.loop-made.invariant.0.running in
+    let within = place_within c.args.statements.now (state_of c.loop-made.machine) (can_move g.at c.args.statements.now c.loop-made.machine running) in
+    let count = running.resolved.count in
+    let long = c.loop-made.invariant.1.count in
+    let old = some_item c.loop-made.visits.list.items (number_of (placed c.loop-made.machine.place)) (omega (arith, within, count, long)) in
+    let new = c.in_ok-note.ensures.noted old.0 old.1 in
+    subst (AreVisited g.at (config_at g.at c.args.machine.now) c.args.steps) (sym new.2)
+    (visited_end g.at c.args.statements.now c.args.machine.now c.loop-made.machine c.loop-made.made c.loop-made.invariant.0 c.loop-made.visits.list.items old.0 new.0 old.1 new.1
+    c.loop-made.invariant.1 c.args.steps _ _ c.loop-made-test.true
     (c.step.ensures.moved ∙ ap (λ r. Some (move_of r c.step.new.machine)) (c.in-Ok-Stops.is ∙ ap Ok c.in-Ok-Stops.field-0-is)))
 
-pub returns-in-Err-clause-reached : goal.returns-in-Err-clause-reached
-returns-in-Err-clause-reached g c =
-    rw c.note.ensures
-    (noted_end g.at c.args.statements.now c.args.machine.now c.loop-made.machine c.loop-made.made c.loop-made.invariant.0 c.loop-made.reached c.loop-made.invariant.1
-    c.args.steps _ _ c.loop-made-test.true
+pub returns-in-Err-clause-visited : goal.returns-in-Err-clause-visited
+returns-in-Err-clause-visited g c =
+    let running = c.loop-made.invariant.0.running in
+    let within = place_within c.args.statements.now (state_of c.loop-made.machine) (can_move g.at c.args.statements.now c.loop-made.machine running) in
+    let count = running.resolved.count in
+    let long = c.loop-made.invariant.1.count in
+    let old = some_item c.loop-made.visits.list.items (number_of (placed c.loop-made.machine.place)) (omega (arith, within, count, long)) in
+    let new = c.in_ok-note.ensures.noted old.0 old.1 in
+    subst (AreVisited g.at (config_at g.at c.args.machine.now) c.args.steps) (sym new.2)
+    (visited_end g.at c.args.statements.now c.args.machine.now c.loop-made.machine c.loop-made.made c.loop-made.invariant.0 c.loop-made.visits.list.items old.0 new.0 old.1 new.1
+    c.loop-made.invariant.1 c.args.steps _ _ c.loop-made-test.true
     (c.step.ensures.moved ∙ ap (λ r. Some (move_of r c.step.new.machine)) c.in-Err.is))
 
 pub loop-made-preserved : goal.loop-made-preserved
 loop-made-preserved g c =
+    let running = c.loop-made.invariant.0.running in
+    let within = place_within c.args.statements.now (state_of c.loop-made.machine) (can_move g.at c.args.statements.now c.loop-made.machine running) in
+    let count = running.resolved.count in
+    let long = c.loop-made.invariant.1.count in
+    let old = some_item c.loop-made.visits.list.items (number_of (placed c.loop-made.machine.place)) (omega (arith, within, count, long)) in
+    let new = c.in_ok-note.ensures.noted old.0 old.1 in
     let moved = c.step.ensures.moved ∙ ap (λ r. Some (move_of r c.step.new.machine)) (c.in-Ok-Goes.is ∙ ap Ok c.in-Ok-Goes.field-0-is) in
     let below = c.loop-made-test.true in (
       one_more g.at c.args.statements.now c.args.machine.now c.loop-made.machine c.step.new.machine c.loop-made.made c.loop-made.invariant.0 moved c.step.ensures.lengths,
-      rw c.note.ensures
-          (noted_more g.at c.args.statements.now c.args.machine.now c.loop-made.machine c.loop-made.made c.loop-made.invariant.0 c.loop-made.reached c.loop-made.invariant.1),
-      noted_length c.loop-made.reached c.note.new.reached _ _ c.note.ensures c.loop-made.invariant.2,
+      subst (AreVisited g.at (config_at g.at c.args.machine.now) (c.loop-made.made + 1)) (sym new.2)
+          (visited_more g.at c.args.statements.now c.args.machine.now c.loop-made.machine c.loop-made.made c.loop-made.invariant.0 c.loop-made.visits.list.items old.0 new.0 old.1 new.1
+          c.loop-made.invariant.1),
       omega (arith, below),
     )
 
@@ -76,4 +104,4 @@ returns-in-Err-clause-ends g c =
 pub returns-clause-ends : goal.returns-clause-ends
 returns-clause-ends g c =
     rw (c.new-2.ensures.made, c.new-2.ensures.finish)
-    (meets g.at c.args.statements.now c.args.machine.now c.loop-made.machine c.args.steps c.loop-made.made c.loop-made.invariant.3 c.loop-made-test.false c.loop-made.invariant.0)
+    (meets g.at c.args.statements.now c.args.machine.now c.loop-made.machine c.args.steps c.loop-made.made c.loop-made.invariant.2 c.loop-made-test.false c.loop-made.invariant.0)

@@ -2,7 +2,7 @@ use Rattle.std.proofs.Common.{◌≡◌, ◌∙◌, None, map, sym, subst}
 use Rattle.f77_program.specs.Program.{line_of}
 use Rattle.f77_check.specs.Checked.{CheckedFields}
 use Rattle.f77_run.specs.Interpreter.{IsOutcomeOf, refusal}
-use Rattle.f77_run.specs.Reached.{AreReached}
+use Rattle.f77_run.specs.Visits.{IsFollowed}
 use Rattle.mothra_bench.specs.Bench.{Ends}
 use Rattle.mothra_bench.proofs.BenchTests.{course_more, courses_all, ends_all, first_not, test_fits}
 use Rattle.mothra_bench.proofs.running.courses_in_turn.Goals as goal
@@ -23,21 +23,20 @@ returns-in_default-clause-refused c =
 
 pub loop-index-preserved : goal.loop-index-preserved
 loop-index-preserved c =
-    let program = map line_of c.args.original.now.program in
     let same = c.loop-index.invariant.0 in
     let test = c.index-tests-index.result in
     let told = rw c.in-Some.is at c.in_ok-course.ensures.outcome in
-    let noted = rw c.in-Some.is at c.in_ok-course.ensures.reached in
+    let noted = rw c.in-Some.is at c.in_ok-course.ensures.visits in
     let end = rw c.in-Some.is at c.in_ok-course.ensures.end in
     let own = subst (λ (checked : CheckedFields). IsOutcomeOf (map line_of checked.program) test c.args.steps c.in-Some.course.outcome) same told in
-    let come = subst (λ (checked : CheckedFields). AreReached (map line_of checked.program) test c.args.steps c.in-Some.course.reached) same noted in (
+    let come = subst (λ (checked : CheckedFields). IsFollowed checked test c.args.steps c.in-Some.course.visits) same noted in (
       c.course_on.ensures.program ∙ same,
       rw (c.in_ok-push.ensures.items, c.in_ok-push-2.ensures.items)
-          (course_more program c.args.steps c.args.tests.now c.loop-index.outcomes.items c.loop-index.reached.items c.loop-index.index test
-          c.in-Some.course.outcome c.in-Some.course.reached c.loop-index-test.true c.index-tests-index.is c.loop-index.invariant.1 own end come),
+          (course_more c.args.original.now c.args.steps c.args.tests.now c.loop-index.outcomes.items c.loop-index.visits.items c.loop-index.index test
+          c.in-Some.course.outcome c.in-Some.course.visits c.loop-index-test.true c.index-tests-index.is c.loop-index.invariant.1 own end come),
     )
 
 pub returns-clause-courses : goal.returns-clause-courses
 returns-clause-courses c =
-    courses_all (map line_of c.args.original.now.program) c.args.steps c.args.tests.now c.loop-index.outcomes.items c.loop-index.reached.items c.loop-index.index
+    courses_all c.args.original.now c.args.steps c.args.tests.now c.loop-index.outcomes.items c.loop-index.visits.items c.loop-index.index
     c.loop-index-test.false c.loop-index.invariant.1

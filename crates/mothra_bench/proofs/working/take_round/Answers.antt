@@ -1,7 +1,7 @@
 use Rattle.std.proofs.Common.{rules, ◌≡◌, ◌≢◌, refl, ◌∙◌, ⊎_elim, arith}
 use Rattle.mothra_codes.proofs.Operators.{index_below}
 use Rattle.mothra_bench.specs.declared.working.Turn.TheVariants as turn
-use Rattle.mothra_bench.proofs.WorkerSteps.{all_over, went_on, went_still}
+use Rattle.mothra_bench.proofs.WorkerSteps.{all_over, same_verdicts, went_on, went_still}
 use Rattle.mothra_bench.proofs.working.take_round.Goals as goal
 
 pub loop-op-init : goal.loop-op-init
@@ -11,6 +11,7 @@ loop-op-init g c = (
   λ bench of. went_still bench g.G.Gate.may_give_up g.G.Gate.keeps_records (g.G.Gate.view c.args.pass.now) c.args.gathered.now,
   λ keeps is op below. absurd (omega arith),
   λ is. cc,
+  refl,
 )
 
 pub loop-op-preserved : goal.loop-op-preserved
@@ -20,16 +21,18 @@ loop-op-preserved g c =
     let went_not : c.take_turn-turn.result ≢ turn.GaveUp = search rules in (
       c.take_turn-turn.ensures.own,
       λ parts. c.take_turn-turn.ensures.part parts ∙ c.loop-op.invariant.1 parts,
-      λ bench of. went_on _ _ _ _ _ _ _ _ _ (c.loop-op.invariant.2 bench of) (c.take_turn-turn.ensures.went bench of),
+      λ bench of. went_on _ _ _ _ _ _ _ _ _ (c.loop-op.invariant.2 bench of) (c.take_turn-turn.ensures.went bench (same_verdicts bench c.loop-op.invariant.5 of)),
       λ keeps is.
           let both = c.behind-round.ensures.finished is in
           let over = c.take_turn-turn.ensures.over keeps both.1 in
           all_over old new c.loop-op.op-index c.loop-op-test.true (c.loop-op.invariant.3 keeps both.0) over.0 over.1,
       λ is. ⊎_elim c.loop-op.invariant.4 went_not (c.behind-round.ensures.gave_up is),
+      c.take_turn-turn.ensures.verdicts ∙ c.loop-op.invariant.5,
     )
 
 pub returns-then-eq-clause-went : goal.returns-then-eq-clause-went
-returns-then-eq-clause-went g c bench of = went_on _ _ _ _ _ _ _ _ _ (c.loop-op.invariant.2 bench of) (c.take_turn-turn.ensures.went bench of)
+returns-then-eq-clause-went g c bench of =
+    went_on _ _ _ _ _ _ _ _ _ (c.loop-op.invariant.2 bench of) (c.take_turn-turn.ensures.went bench (same_verdicts bench c.loop-op.invariant.5 of))
 
 pub returns-then-eq-clause-gave_up : goal.returns-then-eq-clause-gave_up
 returns-then-eq-clause-gave_up g c is = let went : c.take_turn-turn.result ≡ turn.GaveUp = search rules in c.take_turn-turn.ensures.gave_up went

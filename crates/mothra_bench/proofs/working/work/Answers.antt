@@ -1,37 +1,46 @@
-use Rattle.std.proofs.Common.{◌∙◌, Global, Vec, ⊎_elim}
+use Rattle.std.proofs.Common.{◌∙◌, Global, Vec, refl, ⊎_elim}
 use Rattle.mothra_bench.specs.Working.{AreOver}
 use Rattle.mothra_bench.specs.declared.verdict.Row.{Row}
-use Rattle.mothra_bench.proofs.WorkerSteps.{answers, any_rows, faulty_answer, lent_verdicts, went_on}
+use Rattle.mothra_bench.proofs.WorkerSteps.{answers, any_rows, faulty_answer, own_verdicts, same_verdicts, went_on, went_still}
 use Rattle.mothra_bench.proofs.working.work.Goals as goal
 
+pub loop-init : goal.loop-init
+loop-init g c = (
+  tt,
+  tt,
+  c.requires,
+  λ parts. refl,
+  own_verdicts c.of.result c.ok-verdicts.result c.args.bench.now c.of.ensures.verdicts c.ok-verdicts.ensures.value,
+  went_still c.args.bench.now g.G.Gate.may_give_up g.G.Gate.keeps_records (g.G.Gate.view c.args.pass) c.new-gathered.result,
+)
+
 pub loop-preserved-in-Ran : goal.loop-preserved-in-Ran
-loop-preserved-in-Ran g c =
-    let of = lent_verdicts c.of.result c.ok-found.result c.as_ref-verdicts.result c.args.bench.now c.of.ensures.verdicts c.ok-found.ensures.value c.as_ref-verdicts.ensures.value in (
-      tt,
-      tt,
-      c.take_round.ensures.own,
-      λ parts. c.take_round.ensures.part parts ∙ c.loop.invariant.3 parts,
-      went_on _ _ _ _ _ _ _ _ _ c.loop.invariant.4 (c.take_round.ensures.went c.args.bench.now of),
-    )
+loop-preserved-in-Ran g c = (
+  tt,
+  tt,
+  c.take_round.ensures.own,
+  λ parts. c.take_round.ensures.part parts ∙ c.loop.invariant.3 parts,
+  same_verdicts c.args.bench.now c.take_round.ensures.verdicts c.loop.invariant.4,
+  went_on _ _ _ _ _ _ _ _ _ c.loop.invariant.5 (c.take_round.ensures.went c.args.bench.now c.loop.invariant.4),
+)
 
 pub loop-preserved : goal.loop-preserved
-loop-preserved g c =
-    let of = lent_verdicts c.of.result c.ok-found.result c.as_ref-verdicts.result c.args.bench.now c.of.ensures.verdicts c.ok-found.ensures.value c.as_ref-verdicts.ensures.value in (
-      tt,
-      tt,
-      c.take_round.ensures.own,
-      λ parts. c.take_round.ensures.part parts ∙ c.loop.invariant.3 parts,
-      went_on _ _ _ _ _ _ _ _ _ c.loop.invariant.4 (c.take_round.ensures.went c.args.bench.now of),
-    )
+loop-preserved g c = (
+  tt,
+  tt,
+  c.take_round.ensures.own,
+  λ parts. c.take_round.ensures.part parts ∙ c.loop.invariant.3 parts,
+  same_verdicts c.args.bench.now c.take_round.ensures.verdicts c.loop.invariant.4,
+  went_on _ _ _ _ _ _ _ _ _ c.loop.invariant.5 (c.take_round.ensures.went c.args.bench.now c.loop.invariant.4),
+)
 
 pub returns-in-Finished : goal.returns-in-Finished
 returns-in-Finished g c =
     let bench = c.args.bench.now in
     let old = g.G.Gate.view c.args.pass in
     let new = g.G.Gate.view c.take_round.new.pass in
-    let of = lent_verdicts c.of.result c.ok-found.result c.as_ref-verdicts.result bench c.of.ensures.verdicts c.ok-found.ensures.value c.as_ref-verdicts.ensures.value in
     let went = went_on bench g.G.Gate.may_give_up g.G.Gate.keeps_records old (g.G.Gate.view c.loop.pass) new c.new-gathered.result c.loop.gathered
-    c.take_round.new.gathered c.loop.invariant.4 (c.take_round.ensures.went bench of) in
+    c.take_round.new.gathered c.loop.invariant.5 (c.take_round.ensures.went bench c.loop.invariant.4) in
     let answer = answers bench g.G.Gate.may_give_up g.G.Gate.keeps_records old new c.new-gathered.result c.take_round.new.gathered c.outcome.result
     c.new-gathered.ensures.rows c.new-gathered.ensures.fault went c.outcome.ensures in
     record {

@@ -1,0 +1,92 @@
+-- Runs of two programs go together until they part.
+use Rattle.std.proofs.Common.{arith, ◌≡◌, ◌≢◌, ◌+◌, ◌<◌, ◌≤◌, ℕ, zero, suc, inl, inr, Bool, false, List, [], ◌∷◌, Some, refl, sym, subst}
+use Rattle.std.specs.Prelude.{slice_get}
+use Rattle.std.proofs.lemmas.Bool.{cases_lt}
+use Rattle.std.proofs.lemmas.Option.{same_Some}
+use Rattle.f77_program.specs.Program.{LineFields}
+use Rattle.f77_legal.specs.Frames.{HaveOneFrame}
+use Rattle.f77_run.specs.declared.value.Value.{Value}
+use Rattle.f77_run.specs.declared.visits.Visit.{Visit}
+use Rattle.f77_run.specs.Control.{Comes}
+use Rattle.f77_run.specs.Endless.{Reaches}
+use Rattle.f77_run.specs.Reached.{number_of, AreSameBut}
+use Rattle.f77_run.specs.Running.{Site}
+use Rattle.f77_run.specs.Step.{Config, Goes, Ends, Step}
+use Rattle.f77_run.specs.Together.{DoesAlike, GoTogether, MayBegin, ComeToTheSame}
+use Rattle.f77_run.specs.Visits.{AreVisits, IsVisit, config_in}
+use Rattle.f77_run.proofs.Endless.{determined, whole}
+use Rattle.f77_run.proofs.Unreached.{step_same}
+
+-- from the next configuration on
+further : (p q : List LineFields) (k : ℕ) (c b : Config) → GoTogether p q (suc k) c → Step p c (Goes b) → GoTogether p q k b
+further p q k c b go step j d below reaches = go (suc j) d (omega (arith, below)) (b, step, reaches)
+
+here : (p q : List LineFields) (k : ℕ) (c : Config) → GoTogether p q (suc k) c → DoesAlike p q c
+here p q k c go = go 0 c (omega arith) refl
+
+pub follows : (p q : List LineFields) (k : ℕ) (c d : Config) → GoTogether p q k c → Reaches p k c d → Reaches q k c d
+follows p q zero c d go on = on
+follows p q (suc k) c d go on = (on.0, here p q k c go (Goes on.0) on.1, follows p q k on.0 d (further p q k c on.0 go on.1) on.2)
+
+pub may_begin : MayBegin
+may_begin p q k left c d o s go reaches rest = whole q k left (k + left) c d o s refl (follows p q k c d go reaches) rest
+
+pub come_to_the_same : ComeToTheSame
+come_to_the_same p q zero c o s go is = is
+come_to_the_same p q (suc n) c o s go (inl end) = inl (here p q n c go (Ends o s) end)
+come_to_the_same p q (suc n) c o s go (inr on) =
+    inr (on.0, here p q n c go (Goes on.0) on.1, come_to_the_same p q n on.0 o s (further p q n c on.0 go on.1) on.2)
+
+-- what a run reaches, it comes to
+pub comes_there : (p : List LineFields) (given : List (List Value)) (k : ℕ) (c d : Config) → Comes p given c → Reaches p k c d → Comes p given d
+comes_there p given zero c d comes same = subst (Comes p given) (sym same) comes
+comes_there p given (suc k) c d comes on = comes_there p given k on.0 d (Comes.by_step comes on.1) on.2
+
+-- a program that is another in the statement i alone goes with this one, but at the times when control is there
+module _ (at : Site) (q : List LineFields) (same : HaveOneFrame at.program q) (i : ℕ) (others : AreSameBut i at.program q) (start : Config) (n : ℕ) where
+  elsewhere : (c : Config) → number_of c.place ≢ i → DoesAlike at.program q c
+  elsewhere c apart next step = step_same at.program q same i others c next apart step
+
+  -- one of the times
+  now : (u : Visit) → IsVisit at i start u → DoesAlike at.program q (config_in at u) → (k : ℕ) (c : Config) → k ≡ u.made → Reaches at.program k start c
+      → DoesAlike at.program q c
+  now u is alike k c made reaches =
+      let one : config_in at u ≡ c = determined at.program u.made start (config_in at u) c is.reaches (subst (λ j. Reaches at.program j start c) made reaches) in
+      subst (DoesAlike at.program q) one alike
+
+  -- the times before one of them
+  pub before : (m : ℕ) (visits : List Visit) (more : Bool) (j : ℕ) (visit : Visit) → AreVisits at i start m n visits more → slice_get visits j ≡ Some visit
+      → ((a : ℕ) (u : Visit) → a < j → slice_get visits a ≡ Some u → DoesAlike at.program q (config_in at u))
+      → (k : ℕ) (c : Config) → m ≤ k → k < visit.made → Reaches at.program k start c → DoesAlike at.program q c
+  before m [] more j visit are there alike k c from below reaches = absurd (cc (there))
+  before m (u ∷ visits) more zero visit are there alike k c from below reaches =
+      let one : u ≡ visit = same_Some u visit there in
+      let within : k < u.made = subst (λ (v : Visit). k < v.made) (sym one) below in
+      elsewhere c (are.2 k c from within reaches)
+  before m (u ∷ visits) more (suc j) visit are there alike k c from below reaches = elim (cases_lt k u.made) [
+    | inl early ↦ elsewhere c (are.2 k c from early reaches)
+    | inr late ↦ elim (cases_lt u.made k) [
+      | inl later ↦
+          before (u.made + 1) visits more j visit are.4 there (λ a v earlier at. alike (suc a) v (omega (arith, earlier)) at) k c (omega (arith, later)) below reaches
+      | inr not_later ↦ now u are.3 (alike 0 u (omega arith) refl) k c (omega (arith, late, not_later)) reaches
+    ]
+  ]
+
+  -- all times
+  pub throughout : (m : ℕ) (visits : List Visit) → AreVisits at i start m n visits false
+      → ((a : ℕ) (u : Visit) → slice_get visits a ≡ Some u → DoesAlike at.program q (config_in at u))
+      → (k : ℕ) (c : Config) → m ≤ k → k < n → Reaches at.program k start c → DoesAlike at.program q c
+  throughout m [] are alike k c from below reaches = elsewhere c (are k c from below reaches)
+  throughout m (u ∷ visits) are alike k c from below reaches = elim (cases_lt k u.made) [
+    | inl early ↦ elsewhere c (are.2 k c from early reaches)
+    | inr late ↦ elim (cases_lt u.made k) [
+      | inl later ↦ throughout (u.made + 1) visits are.4 (λ a v at. alike (suc a) v at) k c (omega (arith, later)) below reaches
+      | inr not_later ↦ now u are.3 (alike 0 u refl) k c (omega (arith, late, not_later)) reaches
+    ]
+  ]
+
+  pub visit_of : (m : ℕ) (visits : List Visit) (more : Bool) (j : ℕ) (visit : Visit) → AreVisits at i start m n visits more → slice_get visits j ≡ Some visit
+      → IsVisit at i start visit × (visit.made < n)
+  visit_of m [] more j visit are there = absurd (cc (there))
+  visit_of m (u ∷ visits) more zero visit are there = subst (λ (v : Visit). IsVisit at i start v × (v.made < n)) (same_Some u visit there) (are.3, are.1)
+  visit_of m (u ∷ visits) more (suc j) visit are there = visit_of (u.made + 1) visits more j visit are.4 there

@@ -1,0 +1,32 @@
+use Rattle.std.proofs.Common.{◌≡◌, length, map, refl, sym, ap, subst}
+use Rattle.std.proofs.lemmas.Option.{slice_get_read}
+use Rattle.f77_program.specs.Program.{line_of}
+use Rattle.f77_check.specs.Checked.{CheckedFields}
+use Rattle.f77_run.specs.Changed.{ChangedFields}
+use Rattle.f77_run.specs.Interpreter.{IsOutcomeOf}
+use Rattle.f77_run.specs.Visits.{IsFollowed}
+use Rattle.f77_run.proofs.Exchanged.{are_parting, visits_there, visits_within}
+use Rattle.f77_run.proofs.changed.ChangedRunner.comes_to.Goals as goal
+
+pub comes_alike-requires : goal.comes_alike-requires
+comes_alike-requires c =
+    let change = c.self.inside.change in
+    let arguments = c.args.arguments.now in
+    let same : change.checked.now ≡ c.args.self.now.checked = ap (λ (changed : ChangedFields). changed.checked) c.self.view_is in
+    let is = c.self.invariant.0 in
+    let follows : IsFollowed change.checked.now arguments c.args.steps c.args.visits.now
+    = subst (λ (checked : CheckedFields). IsFollowed checked arguments c.args.steps c.args.visits.now) (sym same) c.requires.visits in (
+      refl,
+      (
+        are_parting change arguments is follows.fitting,
+        (
+          visits_there change arguments is c.args.steps c.args.visits.now c.index-visited.result.now follows
+              (slice_get_read c.args.visits.now.list.items (length c.args.visits.now.list.items) change.place c.index-visited.result.now refl
+              (visits_within change arguments is c.args.steps c.args.visits.now follows) c.index-visited.ensures),
+          (
+            subst (λ (checked : CheckedFields). IsOutcomeOf (map line_of checked.program) arguments c.args.steps c.args.outcome.now) (sym same) c.requires.outcome,
+            c.self.invariant.1,
+          ),
+        ),
+      ),
+    )

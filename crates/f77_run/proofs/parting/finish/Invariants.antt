@@ -1,0 +1,5 @@
+use Rattle.f77_run.specs.Parting.{changed_site}
+use Rattle.f77_run.proofs.parting.finish.Given as goal
+
+abbrev pub ghost-go : goal.ghost-go
+ghost-go g a = changed_site g.parting
