@@ -4,12 +4,16 @@ import json
 import re
 import tempfile
 import unittest
+from collections.abc import Iterable
 from pathlib import Path
+from unittest import mock
 
 import running
-from mutants.explanations.also import told_fault
-from mutants.explanations.beyond import called_names, declared_arrays, notes_on_statement
-from mutants.explanations.sweep import Found, Sweep, all_faults
+from mutants.explanations import also
+from mutants.explanations.also import told_faults
+from mutants.explanations.copies import Copy
+from mutants.explanations.habits import Seen
+from mutants.explanations.sweep import Found, all_faults
 from mutants.texts.cards import cards_of
 from running import LEAST, STAND_IN, run
 
@@ -55,18 +59,25 @@ def told_of(source: str) -> tuple[str, str] | None:
     return None
 
 
+HEAD, DECLARED = "      SUBROUTINE A(I)", "      INTEGER ABS"
+
+
+def faults_in(found: Iterable[Found]) -> list[str]:
+    return [f"{each.code} {each.detail}" for each in found]
+
+
 class Sweeps(unittest.TestCase):
     def test_each_fault_is_found_with_its_line(self) -> None:
         found, is_all = all_faults(SOURCE, told_of)
         wanted = ["F4 9", "S2 3", "S3 3", "S2 4", "S2 6", "S2 7", "S2 10", "S2 11", "S3 12", "C2 Z", "C5 14"]
-        self.assertEqual([f"{each.code} {each.detail}" for each in found], wanted)
+        self.assertEqual(faults_in(found), wanted)
         self.assertTrue(is_all)
 
     def test_what_stays_is_a_program_with_the_same_lines(self) -> None:
-        sweep = Sweep(SOURCE)
-        while fault := told_of(sweep.text()):
-            self.assertTrue(sweep.mended(*fault))
-        kept = [(card.line, card.label, card.text) for card in cards_of(sweep.text())]
+        copy = Copy(SOURCE)
+        while fault := told_of(copy.text()):
+            self.assertTrue(copy.mended(*fault))
+        kept = [(card.line, card.label, card.text) for card in cards_of(copy.text())]
         self.assertEqual(kept, [
             (1, "", "SUBROUTINEBAD(N,X,K)"), (3, "", "INTEGERZ"), (4, "", "INTEGERN,X(9),TOOLON,LONGER"),
             (5, "", "INTEGERY(10)"), (8, "7", "CONTINUE"), (10, "", "K=1"), (12, "", "IF(.TRUE.)THEN"),
@@ -74,75 +85,84 @@ class Sweeps(unittest.TestCase):
         ])  # fmt: skip
 
     def test_it_ends_where_nothing_can_be_taken_out(self) -> None:
-        for fault in (("C11", "2"), ("C3", "K"), ("S1", ""), ("J2", ""), ("", ""), ("S2", "99")):
+        for fault in (("C11", "99"), ("C3", "K"), ("S1", ""), ("J2", ""), ("", ""), ("S2", "99"), ("C14", "")):
             with self.subTest(fault):
                 found, is_all = all_faults(LEAST, lambda source, told=fault: told)  # type: ignore[misc]
                 self.assertLessEqual(len(found), 1)
                 self.assertFalse(is_all)
         found, is_all = all_faults(LEAST, lambda source: ("S2", "3"))
-        self.assertEqual((found, is_all), ([Found("S2", "3")], False))
+        self.assertEqual((faults_in(found), is_all), (["S2 3"], False))
 
     def test_lines_labels_and_ends_are_mended(self) -> None:
         for code, detail, lines, wanted in (
             ("F3", "2", ["A", "      K=\u00e9"], ["A", "      K=X"]),
             ("F5", "1", ["  X 0 K=1"], ["      K=1"]),
             ("F5", "1", ["K = 1"], ["      K = 1"]),
+            ("F5", "1", ["  K=1"], ["      K=1"]),
+            ("F5", "1", ["! NO"], [""]),
+            ("F5", "1", ["D     K=1"], ["      K=1"]),
             ("F6", "1", ["     &K=1"], [""]),
             ("C6", "10", ["   10 K=1", "  010 K=2"], ["   10 K=1", "      K=2"]),
             ("S8", "", ["      K=1"], ["      K=1", "      END"]),
             ("S9", "2", ["      END", "      K=1", "C"], ["      END", ""]),
             ("S7", "", ["      INTEGER FUNCTION F(N)"], ["      SUBROUTINE F(N)"]),
-            ("S2", "1", ["      ELSE IF (K == 1) THEN"], ["      ELSE IF (.TRUE.) THEN"]),
+            ("S2", "2", ["C", "      SUBROUTINE MY_SUB(I,*)"], ["C", "      SUBROUTINE MYSUB(I)"]),
+            ("S2", "2", [HEAD, "      ELSE IF (K == 1) THEN"], [HEAD, "      ELSE IF (.TRUE.) THEN"]),
+            ("S2", "2", [HEAD, "      IF (K.EQ.1) THEN ! ONE"], [HEAD, "      IF(K.EQ.1)THEN"]),
+            ("S2", "2", [HEAD, "      END SUBROUTINE A"], [HEAD, "      END"]),
+            ("S2", "2", [HEAD, "      INTEGER*4, SAVE :: K=1, L(0:N)"], [HEAD, "      INTEGERK,L(9)"]),
+            ("S3", "2", [HEAD, "      LOGICAL P=.TRUE."], [HEAD, "      LOGICALP"]),
+            ("S3", "2", [HEAD, "      IF (KILOGRAM.EQ.1) CONTINUE"], [HEAD, "      IF(KILOGR.EQ.1)CONTINUE"]),
+            ("C3", "MOD", [HEAD, "      INTEGER MOD,K(3)"], [HEAD, "      INTEGERK(3)"]),
+            ("C3", "K", [HEAD, "      INTEGER K", "      LOGICAL K"], [HEAD, "      INTEGER K", ""]),
+            ("C2", "ABS", [HEAD, "      K=ABS(K)", "      L=ABS(I)"], [HEAD, DECLARED, "", "      L=ABS(I)"]),
         ):
-            with self.subTest(code):
-                sweep = Sweep("\n".join(lines))
-                self.assertTrue(sweep.mended(code, detail))
-                self.assertEqual(sweep.lines, wanted)
+            with self.subTest(lines[-1]):
+                copy = Copy("\n".join(lines))
+                self.assertTrue(copy.mended(code, detail))
+                self.assertEqual(copy.lines, wanted)
 
     def test_names_are_not_looked_for_where_a_declaration_is_gone(self) -> None:
         faults = iter([("S4", "2"), ("C5", "3")])
         found, is_all = all_faults(
             "      SUBROUTINE A\n      INTEGER M(0)\n      M(1)=1\n      END\n", lambda source: next(faults)
         )
-        self.assertEqual((found, is_all), ([Found("S4", "2")], False))
+        self.assertEqual((faults_in(found), is_all), (["S4 2"], False))
+
+    def test_an_end_of_a_logical_if_is_left_out_and_another_part_of_a_block_once(self) -> None:
+        faults = iter([("C11", "3"), ("C11", "4"), ("C11", "5"), ("C13", "2"), ("C11", "6")])
+        lines = [HEAD, "      IF (P) K=1", "      ELSE", "      END IF", "      ELSE", "      END IF", "      END", ""]
+        found, is_all = all_faults("\n".join(lines), lambda source: next(faults))
+        self.assertEqual((faults_in(found), is_all), (["C11 3", "C11 4", "C11 5", "C13 2"], False))
 
 
 class Notes(unittest.TestCase):
-    def test_what_a_statement_is(self) -> None:
-        for text, told in (
-            ("ENDDO", "END DO is of later FORTRAN"),
-            ("DOI=1,N", "A DO has a label here"),
-            ("IF(P)CALLX", "CALL is a statement of FORTRAN 77"),
-            ("INTEGERX(N+1,*)", "The bound N+1 of X is no number: --size N=.. gives it one."),
-            ("INTEGERX(N+1,*)", "The bound * of X is no number: --size X=.. gives it one."),
-            ("INTEGERX(0:N)", "The bound 0:N of X is no number."),
-            ("INTEGER*4K", "INTEGER with a length is of later FORTRAN"),
-            ("X=1.E3", "A number with a point is REAL"),
-            ("IF(K==1)THEN", "Relations are written .EQ."),
-            ("LOGICALFUNCTIONF(X)", "subroutines alone are read here"),
-        ):
-            with self.subTest(text):
-                self.assertIn(told, " ".join(notes_on_statement(text)))
-        for text in ("K=1", "CALLED=1", "IF(1.EQ.K)K=2", "READ(1)=5", "DO10I=1,N", "INTEGERX(5)"):
-            with self.subTest(text):
-                self.assertEqual(notes_on_statement(text), [])
-
-    def test_names_that_are_neither_arrays_nor_functions(self) -> None:
-        arrays = declared_arrays(["INTEGERA(3),B", "REAL*8C(4)", "DIMENSIOND(2)", "COMMON/X/E(5)", "F(1)=2"])
-        self.assertEqual(arrays, {"A", "C", "D", "E"})
-        self.assertEqual(
-            called_names("IF(A(1).EQ.MIN(K,MOD(I,J)))G=ISIGN(1,MIN(2,3))", arrays), [("MIN", 11), ("ISIGN", 29)]
-        )
+    def told(self, *faults: Found) -> list[str]:
+        return told_faults(faults, SOURCE, Found("S2", "4", [Seen("REAL")]))
 
     def test_a_fault_is_told_with_its_line_and_its_text(self) -> None:
-        line, told = told_fault(Found("C2", "Z"), SOURCE)
-        self.assertEqual((line, told.split("\n")[0]), (14, "  line 14, C2 Z: Z=MIN(K,Z)"))
+        (told,) = self.told(Found("C2", "Z"))
+        self.assertTrue(told.startswith("  line 14, C2 Z: Z=MIN(K,Z)\n      This name is REAL: "))
         # On a line that is none of a statement, one may begin in the copy.
-        self.assertEqual(told_fault(Found("S2", "8"), SOURCE)[1].split("\n")[0], "  line 8, S2: 2)")
-        line, told = told_fault(Found("S2", "7"), SOURCE)
-        self.assertEqual(
-            told, "  line 7, S2: CALL SUB(K,\n      CALL is a statement of FORTRAN 77, but not one of the subset."
-        )
+        self.assertEqual(self.told(Found("S2", "8"))[0].split("\n")[0], "  line 8, S2: 2)")
+        (told,) = self.told(Found("S2", "7", [Seen("CALL")]))
+        self.assertTrue(told.startswith("  line 7, S2: CALL SUB(K,\n      CALL is a call of another subroutine. "))
+        self.assertIn("Write the statements of that subroutine", told)
+
+    def test_what_was_said_is_said_once(self) -> None:
+        real, call = [Seen("REAL")], [Seen("CALL")]
+        told = self.told(Found("S2", "6", real), Found("S2", "7", call), Found("S2", "8", call))
+        self.assertEqual(told[0], "  line 6, S2: DO I=1,N (as on line 4)")
+        self.assertEqual(told[2], "  line 8, S2: 2) (as on line 7)")
+
+    def test_more_than_ten_are_told_by_their_lines(self) -> None:
+        found = [Found("S2", str(line)) for line in range(1, 15)]
+        with mock.patch.object(also, "all_faults", lambda source, ask: (found, False)):
+            told = also.also_told("mothra", SOURCE, SOURCE)
+        self.assertIn("(13)", told)
+        self.assertEqual(told.count(", S2"), 10)
+        self.assertTrue(told.endswith("\n3 more stand on the lines 12, 13 and 14.\n"
+                                      "What is wrong beyond these can be told when they are mended.\n"))
 
 
 ASKED = """\
@@ -177,9 +197,8 @@ class Tool(unittest.TestCase):
         self.assertEqual((status, errors), (0, ""))
         self.assertTrue(out.startswith("FAULT S2 2\n"))
         told = out.partition("What else keeps the unit from being read (2), the first fault taken out:\n")[2]
-        self.assertEqual(
-            [line for line in told.split("\n") if "line" in line], ["  line 4, S2: CALL Y", "  line 5, S2: CALL Z"]
-        )
+        self.assertEqual(told.split("\n")[0], "  line 4, S2: CALL Y (as on line 2)")
+        self.assertEqual(told.split("\n")[1], "  line 5, S2: CALL Z (as on line 2)")
         self.assertNotIn("beyond these", out)
 
     def test_the_lines_are_those_of_the_file_whatever_the_job_has(self) -> None:
@@ -191,7 +210,7 @@ class Tool(unittest.TestCase):
     def test_a_job_and_a_given_line(self) -> None:
         job = self.room / "job.json"
         job.write_text(json.dumps({"source": "      SUBROUTINE A\n      CALL X\n      CALL Y\n      END\n"}))
-        self.assertIn("  line 3, S2: CALL Y\n", self.explain(job)[1])
+        self.assertIn("  line 3, S2: CALL Y (as on line 2)\n", self.explain(job)[1])
         self.assertNotIn("CALL Y", self.explain(job, "FAULT", "S2", "2")[1])
 
     def test_options_stand_in_front(self) -> None:
@@ -209,7 +228,7 @@ class Tool(unittest.TestCase):
         )
         self.program.write_text("SUBROUTINE A(I)\n")
         told = self.explain(self.program, "FAULT", "F5", "1")[1]
-        self.assertIn("It begins in column 1, as in free form", told)
+        self.assertIn("It begins before column 7, as in free form", told)
 
     def test_a_table_and_declarations_beside(self) -> None:
         self.program.write_text(LEAST)

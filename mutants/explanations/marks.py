@@ -1,9 +1,7 @@
 """Where in a source a fault lies: the marks under its lines, and what else is worth saying of them."""
 
-import re
 from collections.abc import Callable, Iterable, Sequence
 
-from mutants.explanations.beyond import FUNCTIONS_TOLD, called_names, declared_arrays
 from mutants.explanations.spans import KEYWORDS, Mark, Marked, find_name, label_marks, span, whole
 from mutants.explanations.statements import OF_CARDS
 from mutants.texts.cards import Card, cards_of, source_lines
@@ -29,11 +27,7 @@ def form_marks(code: str, number: int, lines: Sequence[str]) -> Marked:
     if code == "F4":
         return bytes_mark(line, number, lambda c: c == "\t")
     if code == "F5":
-        is_free = re.match(r"[A-Za-z]{2}", line) is not None
-        notes = (
-            ["It begins in column 1, as in free form: in fixed form a statement begins in column 7."] if is_free else []
-        )
-        return [Mark(number, 1, min(max(len(line), 1), 5))], notes
+        return [Mark(number, 1, min(max(len(line), 1), 5))], []
     return [Mark(number, 6, 6)], []
 
 
@@ -74,9 +68,6 @@ def places(code: str, kind: str, detail: str, source: str) -> Marked:
         marks, notes = line_marks(code, int(detail), lines, cards)
     elif kind == "name":
         marks = name_marks(code, detail, cards)
-        arrays = declared_arrays(card.text for card in cards)
-        is_called = code == "C2" and any(detail in dict(called_names(card.text, arrays)) for card in cards)
-        notes = [f"{detail}( stands here, but {detail} is {FUNCTIONS_TOLD}"] if is_called else []
     elif kind == "label":
         marks = label_marks(cards, int(detail))
     elif code in ("S7", "S8") and cards:

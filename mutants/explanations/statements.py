@@ -3,7 +3,7 @@
 import re
 from collections.abc import Callable, Sequence
 
-from mutants.explanations.beyond import FUNCTIONS_TOLD, called_names, declared_arrays, notes_on_statement
+from mutants.explanations.names import called_names, declared_arrays
 from mutants.explanations.spans import (
     KEYWORDS,
     Mark,
@@ -26,6 +26,8 @@ def long_name_in(whole_text: str) -> tuple[int, int] | None:
     text = without_operators(whole_text)
     for found in re.finditer(r"[A-Z][A-Z0-9]*", text):
         word, begin = found[0], found.start()
+        if begin in (0, action_at(text)) and word == "CONTINUE":
+            continue
         keyword = front.match(word) if begin in (0, action_at(text)) else None
         begin += len(keyword[0]) if keyword else 0
         if found.end() - begin > 6 and text[begin].isalpha():
@@ -36,10 +38,7 @@ def long_name_in(whole_text: str) -> tuple[int, int] | None:
 def long_name(card: Card) -> Marked:
     """The first name that is too long."""
     found = long_name_in(card.text)
-    if not found:
-        return whole(card), []
-    begin, end = found
-    return span(card, begin, end), [f"{card.text[begin:end]} has {end - begin} characters."]
+    return span(card, *found) if found else whole(card), []
 
 
 def large_number(card: Card) -> Marked:
@@ -61,15 +60,11 @@ def deep_parenthesis(card: Card) -> Marked:
     return whole(card), []
 
 
-def unknown_statement(card: Card) -> Marked:
-    return whole(card), notes_on_statement(card.text)
-
-
 def number_fault(card: Card, cards: Sequence[Card]) -> Marked:
     """Marks of what stands in parentheses behind names, where bounds, subscripts or arguments do not agree."""
     names = called_names(card.text, declared_arrays(other.text for other in cards))
     marks = [mark for name, at in names for mark in span(card, at, at + len(name))]
-    return marks or whole(card), [f"{name}( stands here, but {name} is {FUNCTIONS_TOLD}" for name, _ in names]
+    return marks or whole(card), []
 
 
 def missing_labels(card: Card, cards: Sequence[Card]) -> Marked:
@@ -97,7 +92,6 @@ def do_variable(card: Card, cards: Sequence[Card]) -> Marked:
 
 
 OF_CARDS: dict[str, Callable[[Card, Sequence[Card]], Marked]] = {
-    "S2": lambda card, cards: unknown_statement(card),
     "S3": lambda card, cards: long_name(card),
     "S4": lambda card, cards: large_number(card),
     "S5": lambda card, cards: deep_parenthesis(card),

@@ -5,6 +5,7 @@ import textwrap
 from mutants.explanations.jobs import notes_on
 from mutants.explanations.marks import places, shown
 from mutants.explanations.meanings import MEANINGS, Meaning
+from mutants.explanations.seeing import advice_of_all, habits_seen, said_of_all
 from mutants.explanations.words import words_say
 from mutants.operators import NAMES
 from mutants.texts.jobs import read_job
@@ -41,14 +42,16 @@ def explained(line: str, text: bytes, program: str | None, words: list[str], sho
     code, kind, detail = parts_of(line)
     meaning = MEANINGS[code]
     parts = [f"{line}\n{wrapped(meaning.says)}"]
-    notes = notes_on(code, kind, detail, text, program, words)
+    notes, advice = notes_on(code, kind, detail, text, program, words), meaning.advice
     if code[0] in "FSC":
-        source = read_job(text).source if shown_source is None else shown_source
+        job = read_job(text).source
+        source = job if shown_source is None else shown_source
         marks, more = places(code, kind, detail, source)
         parts += ["\n".join(shown(source, marks))] if marks else []
-        notes += more
+        seen = habits_seen(code, detail, job)
+        notes, advice = [*notes, *said_of_all(seen), *more], advice_of_all(seen, advice)
     parts += ["\n".join(note if note.startswith("  ") else wrapped(note) for note in notes)] if notes else []
-    return "\n\n".join([*parts, rule_text(meaning), wrapped(f"What to do: {meaning.advice}")]) + "\n"
+    return "\n\n".join([*parts, rule_text(meaning), wrapped(f"What to do: {advice}")]) + "\n"
 
 
 def explained_words(line: str, words: list[str]) -> str:

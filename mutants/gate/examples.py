@@ -3,7 +3,7 @@
     tools/examples MOTHRA
 
 A suite examples/NAME.suite.json or examples/NAME.csv is of the program examples/NAME.f, or of that whose name stands
-before a hyphen. Five things are compared:
+before a hyphen. Six things are compared:
 
 - examples/NAME.json with the job that `mutants job` makes of program and suite, and of the mutants that
   examples/NAME.equivalent.csv declares, where that is there;
@@ -12,7 +12,8 @@ before a hyphen. Five things are compared:
 - the texts of programs, suites and reports in the test of the examples with the files;
 - what README.md and the pages for users show behind each line `$ COMMAND` of a block ```console with what the command
   writes, run from the top of the repository with MOTHRA as `mothra`. A line `...` stands for any lines.
-  tools/against-gfortran is not run.
+  tools/against-gfortran is not run;
+- the fault of each example of a habit, in mutants/explanations/habits.txt, with the one that MOTHRA tells.
 
 There is one line for each thing that is not the same. The last line counts both, and the exit status is 1 where there
 is one. It tests what the tests of the crates cannot, since those read no files.
@@ -28,6 +29,7 @@ from os import environ
 from pathlib import Path
 from typing import NamedTuple
 
+from mutants.gate.habits import compare_habits
 from mutants.jobs.making import job_text
 from mutants.program.roots import ROOT
 from mutants.program.unproved import MARK
@@ -136,7 +138,8 @@ def add_words(parser: argparse.ArgumentParser) -> None:
 def run(given: argparse.Namespace, name: str) -> int:
     same = differ = 0
     mothra = given.mothra
-    for compare in (compare_files(mothra), compare_checks(mothra), compare_test(), compare_pages(mothra)):
+    stored = (compare_habits(mothra), compare_files(mothra), compare_checks(mothra), compare_test())
+    for compare in (*stored, compare_pages(mothra)):
         for what, is_same in compare:
             same += is_same
             differ += not is_same

@@ -11,7 +11,7 @@ from typing import NamedTuple
 
 from mutants.texts.cards import Card, cards_of, is_comment, is_continuation
 
-DECLARATION = re.compile(r"(INTEGER|LOGICAL|DIMENSION)(?=[A-Z])")
+DECLARATION = re.compile(r"(INTEGER|LOGICAL|DIMENSION)(?=[A-Z])(?!FUNCTION[A-Z])")
 ITEM = re.compile(r"([A-Z][A-Z0-9]*)(\()?")
 FIELD = 66
 

@@ -1,0 +1,13 @@
+C     HOW MUCH STANDS IN A TABLE, WRITTEN AS IT IS WRITTEN TODAY: WHAT
+C     KEEPS IT FROM BEING READ IS TOLD BY THE COMMAND MUTANTS EXPLAIN.
+      SUBROUTINE AMOUNT(TAB, N, ISUM)
+      IMPLICIT NONE
+      INTEGER*4 N, TAB(N), ISUM, I
+      ISUM = 0
+      DO I = 1, N
+         IF (TAB(I) > 0) THEN   ! what is owed does not count
+            ISUM = MIN(ISUM + ABS(TAB(I)), 1000)
+         END IF
+      END DO
+      WRITE (*,*) 'SUM', ISUM
+      END SUBROUTINE AMOUNT
