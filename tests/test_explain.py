@@ -4,15 +4,18 @@ import json
 import re
 import tempfile
 import unittest
-from collections.abc import Iterator, Sequence
+from collections.abc import Callable, Iterator, Sequence
 from pathlib import Path
+from unittest import mock
 
 import running
+from mutants.explanations import ends
 from mutants.explanations.jobs import notes_on
 from mutants.explanations.marks import places, shown
 from mutants.explanations.meanings import MEANINGS
 from mutants.explanations.told import explained
 from mutants.explanations.words import words_say
+from mutants.program.calling import Fault
 from running import STAND_IN, refuses, run
 
 FRONT, SUM, LAST = "      SUBROUTINE ADD(I,J,K)", "      K=I+J", "      END"
@@ -150,7 +153,8 @@ class Notes(unittest.TestCase):
         self.assertIn("Value 2 is true, for J (INTEGER).", self.notes("B3 1", suite=[[2, True, 0]]))
         self.assertIn("Value 1 is [1]", self.notes("N3 1", ["exec", "--test", "1"], suite=[[[1], 2, 0]]))
         self.assertIn("The suite has 1 test.", self.notes("J8 2", suite=[[1, 2, 3]]))
-        self.assertIn("Test 1 is [1, 2, 3].", self.notes("B4 1", suite=[[1, 2, 3]]))
+        self.assertIn("Test 1 is [1, 2, 3]: I=1, J=2, K=3.", self.notes("B4 1", suite=[[1, 2, 3]]))
+        self.assertIn("Test 1 is [1, 2].", self.notes("B4 1", suite=[[1, 2]]))
 
     def test_keys_and_entries(self) -> None:
         self.assertIn('The key "x" is unknown.', self.notes("J3 x", x=1))
@@ -164,6 +168,39 @@ class Notes(unittest.TestCase):
         self.assertTrue(told[0].startswith("Line 2, column 10 of the job"))
         self.assertEqual(told[2].index("^") - 2, 9)
         self.assertIn("UTF-8", notes_on("J2", "", "", b"\xff", None, [])[0])
+
+
+def ends_at(step: int, outcome: str) -> Callable[..., str]:
+    """In the place of mothra: a run that ends at a step."""
+    return lambda program, number, words, job: outcome if int(words[1]) >= step else "STEPLIMIT"
+
+
+class Ends(unittest.TestCase):
+    def notes(self, step: int, outcome: str, *words: str) -> list[str]:
+        job = json.dumps({"source": f"{FRONT}\n{SUM}\n{LAST}\n", "suite": [[1, 2, 3], [4, 5, 6]]}).encode()
+        with mock.patch.object(ends, "asked_outcome", ends_at(step, outcome)):
+            return notes_on("B4", "test", "2", job, "mothra", ["run", *words])
+
+    def test_the_step_that_ended_the_run(self) -> None:
+        for step in (1, 2, 4711, 9999, 10000):
+            told = f"Step {step} ends the run as ZEROSTEP: the step of a DO was 0."
+            self.assertEqual(self.notes(step, "ZEROSTEP"), ["Test 2 is [4, 5, 6]: I=4, J=5, K=6.", told])
+        self.assertIn("Step 7 ends the run as OVERFLOW", self.notes(7, "OVERFLOW", "--steps", "7")[1])
+
+    def test_a_run_that_takes_long(self) -> None:
+        found = self.notes(30000, "RETURNED 4 5 9")
+        self.assertIn("not come to its end at step 10000", found[1])
+        self.assertEqual(found[2], "With --steps 40000 it ends as RETURNED 4 5 9.")
+        self.assertIn("at step 5,", self.notes(7, "OVERFLOW", "--steps", "5")[1])
+        self.assertEqual(self.notes(999_999, "STOPPED 1 1 1")[2], "With --steps 1000000 it ends as STOPPED 1 1 1.")
+        self.assertIn("With --steps 1000000, the largest limit, it comes to none", self.notes(1_000_001, "")[2])
+        self.assertEqual(len(self.notes(1_000_001, "", "--steps", "1000000")), 3)
+
+    def test_a_fault_of_the_program_is_not_told_here(self) -> None:
+        job = json.dumps({"source": f"{FRONT}\n{SUM}\n{LAST}\n", "suite": [[1, 2, 3]]}).encode()
+        with mock.patch.object(ends, "asked_outcome", side_effect=Fault("exec", "FAULT N1")):
+            self.assertEqual(len(notes_on("B4", "test", "1", job, "mothra", ["run"])), 1)
+        self.assertEqual(len(self.notes(1, "RETURNED 4 5 9")), 1)
 
 
 class Words(unittest.TestCase):

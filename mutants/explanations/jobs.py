@@ -2,9 +2,10 @@
 
 import json
 import re
-from collections.abc import Mapping
+from collections.abc import Mapping, Sequence
 from typing import Any
 
+from mutants.explanations.ends import DEFAULT, end_notes
 from mutants.fortran.unit import Dummy, read_head, read_unit
 from mutants.jobs.cells import is_value
 from mutants.operators import NAMES
@@ -14,15 +15,6 @@ from mutants.texts.cards import cards_of
 
 # So many characters of a value are shown.
 LONGEST = 100
-OUTCOMES = {
-    "OVERFLOW": "a value left the range of INTEGER, -2147483648 to 2147483647",
-    "DIVIDEBYZERO": "a number was divided by 0, or MOD had the second argument 0",
-    "ZEROPOWER": "0 was raised to a power that is 0 or negative",
-    "BADSUBSCRIPT": "a subscript was below 1 or above its bound",
-    "ZEROSTEP": "the step of a DO was 0",
-    "UNDEFINED": "a variable or an array element was read before it had a value",
-    "STEPLIMIT": "it had not come to its end when the limit on steps was reached; a loop may have no end",
-}
 
 
 def short(value: object) -> str:
@@ -131,18 +123,15 @@ def shape_notes(job: Mapping[str, Any], test: list[Any], number: int | None = No
     return notes
 
 
-def outcome_notes(program: str | None, text: bytes, job: Mapping[str, Any], number: int, words: list[str]) -> list[str]:
-    """What the program does on a test, where there is a program that can be asked."""
-    test = item_of(job, "suite", number)
-    notes = [f"Test {number} is {short(test)}."]
-    steps = words[words.index("--steps") + 1 : words.index("--steps") + 2] if "--steps" in words else []
-    if program is None:
-        return notes
-    try:
-        told = answer(program, ["exec", "--test", str(number), *(["--steps", *steps] if steps else [])], text).strip()
-    except Fault:
-        return notes
-    return notes + ([f"The run ends as {told}: {OUTCOMES[told]}."] if told in OUTCOMES else [])
+def outcome_notes(program: str | None, job: Mapping[str, Any], number: int, words: Sequence[str]) -> list[str]:
+    """The values of a test on which the program neither returns nor stops, and what comes of it where that is asked."""
+    test, source = item_of(job, "suite", number), str(job.get("source"))
+    names = [name for name, _ in dummies_of(source)]
+    values = test if isinstance(test, list) and len(test) == len(names) else []
+    named = ", ".join(f"{name}={short(value)}" for name, value in zip(names, values))
+    notes = [f"Test {number} is {short(test)}{': ' if named else ''}{named}."]
+    limit = words[words.index("--steps") + 1] if "--steps" in words[:-1] else ""
+    return notes + (end_notes(program, source, test, int(limit or DEFAULT)) if program else [])
 
 
 def entry_notes(program: str | None, text: bytes, job: Mapping[str, Any], number: int) -> list[str]:
@@ -195,7 +184,7 @@ def notes_by_number(
     if code == "B3":
         return shape_notes(job, test_of(job, int(detail)), int(detail))
     if code == "B4":
-        return outcome_notes(program, text, job, int(detail), words)
+        return outcome_notes(program, job, int(detail), words)
     if code in ("N2", "N3") and "--test" in words[:-1]:
         number = int(words[words.index("--test") + 1])
         return shape_notes(job, test_of(job, number), number)

@@ -7,8 +7,8 @@
 
 The program is run on the job with these words (`run` where there are none), and its fault is explained; or the line of
 a fault is given, as words or on standard input. For a fault of the suite the test is shown, for one of the words the
-option. A rule of the language is told with its sections of ANSI X3.9-1978. For B4 and B5 the program is asked what it
-does on the test, or how many mutants there are, where there is a program.
+option. A rule of the language is told with its sections of ANSI X3.9-1978. For B4 the program is asked what it does on
+the test, and which step ended its run; for B5 how many mutants there are.
 
 Of a program and its tests a job is made, as by mutants job and with its options. Where the program cannot be read, up to
 ten other faults are told, each with its line: what is told first is taken out of a copy, and mothra is asked again. A
