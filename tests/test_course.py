@@ -9,13 +9,18 @@ import tempfile
 import unittest
 from collections.abc import Mapping
 from pathlib import Path
+from unittest import mock
 
 import running
-from mutants.classes.results import COLUMNS
+from mutants.classes import processes
+from mutants.classes.results import COLUMNS, Result, failed_told
 from mutants.classes.running import answers_in, text_of_answer
+from mutants.program import many
+from mutants.program.calling import Fault
 from running import LEAST, STAND_IN, TESTS, has, refuses, run
 
 GREAT = LEAST.replace("LEAST", "GREAT").replace(".LT.", ".GT.")
+FAILED = "mutants course: 2 of 5 jobs failed: carl and dora"
 SUITES = {
     "anna.json": "[[1, 2, 0], [2, 1, 0]]",
     "bert.csv": "3,3,0\n1,2,0\n",
@@ -31,7 +36,7 @@ def has_parallel() -> bool:
 
 
 class Class(unittest.TestCase):
-    """A class in a folder of its own, run by the stand-in for parallel."""
+    """A class in a folder of its own."""
 
     def setUp(self) -> None:
         room = tempfile.TemporaryDirectory()
@@ -78,10 +83,10 @@ class OneProgram(Class):
 
     def test_table_and_page(self) -> None:
         status, out, errors = self.ended
-        self.assertEqual(status, 0)
+        self.assertEqual(status, 1)
         self.assertIn("3 of 5 with a report", out)
         self.assertEqual(errors.splitlines()[0], "mutants course: 1 of 5")
-        self.assertEqual(errors.splitlines()[-1], "mutants course: 5 of 5")
+        self.assertEqual(errors.splitlines()[-2:], ["mutants course: 5 of 5", FAILED])
         rows = self.table()
         self.assertEqual(list(rows["anna"]), COLUMNS)
         self.assertEqual([rows[name]["score"] for name in ("anna", "bert", "emil")], ["93.75", "50.00", "75.00"])
@@ -109,10 +114,10 @@ class OneProgram(Class):
 
     def test_a_second_call_runs_nothing_and_a_changed_suite_alone(self) -> None:
         before = self.page()
-        self.assertEqual(self.course()[2], "")
+        self.assertEqual(self.course()[2], f"{FAILED}\n")
         self.assertEqual(self.page(), before)
         self.put({"bert.csv": "1,2,0\n"})
-        self.assertEqual(self.course()[2].splitlines(), ["mutants course: 4 of 5", "mutants course: 5 of 5"])
+        self.assertEqual(self.course()[2].splitlines(), ["mutants course: 4 of 5", "mutants course: 5 of 5", FAILED])
         self.assertEqual(self.table()["bert"]["tests"], "1")
         self.assertEqual((self.folder / "out" / "jobs" / "bert.outcomes").read_text(), "RETURNED 1 2 1\n")
         self.assertEqual(self.course("--ops", "ROR")[2].splitlines()[0], "mutants course: 1 of 5")
@@ -146,16 +151,53 @@ class OneProgram(Class):
         self.assertIn("no list of names", self.table()["anna"]["told"])
 
 
+class Processes(unittest.TestCase):
+    """The jobs of a class as processes of this machine."""
+
+    def test_one_process_for_each_processor_or_as_many_as_are_asked_for(self) -> None:
+        for count, wanted in ((None, many.processors()), (3, 3)):
+            with mock.patch.object(processes, "ask_many") as ask_many:
+                processes.run_here("mothra", ["--workers", "1"], [b"{}", b"[]"], count, lambda place, text: None)
+            program, calls, at_once = ask_many.call_args.args[:3]
+            self.assertEqual((program, at_once), ("mothra", wanted))
+            self.assertEqual(calls, [(["run", "--workers", "1"], job) for job in (b"{}", b"[]")])
+
+    def test_what_comes_of_a_job_ends_no_other(self) -> None:
+        texts = {b"a": "REPORT 2\nEND\n", b"b": Fault("run", "FAULT B3 1"), b"c": Fault("run", "status -9")}
+        found: dict[int, str] = {}
+        with mock.patch.object(many.Calls, "answer", lambda calls, words, job: given(texts[job])):
+            processes.run_here("mothra", [], list(texts), 2, found.__setitem__)
+        self.assertEqual(found, {0: "REPORT 2\nEND\n", 1: "FAULT B3 1\n", 2: "status -9\n"})
+
+
+class Failed(unittest.TestCase):
+    def test_the_count_and_a_few_names_are_told(self) -> None:
+        found = [Result(f"s{number}", "least", [], None, "FAULT B3 1") for number in range(7)]
+        self.assertEqual(failed_told(found), "7 of 7 jobs failed: s0, s1, s2, s3, s4 and 2 more")
+        self.assertEqual(failed_told(found[:1]), "1 of 1 job failed: s0")
+        self.assertEqual(failed_told([]), "")
+
+
+def given(answer: str | Fault) -> str:
+    if isinstance(answer, Fault):
+        raise answer
+    return answer
+
+
 class Cut(Class):
     def test_goes_on_where_it_was_cut(self) -> None:
         self.put({"least.f": LEAST, **{f"s{n}.csv": f"{n},2,0\n" for n in range(3)}})
         os.environ["FAKE_PARALLEL_LIMIT"] = "1"
         self.addCleanup(os.environ.pop, "FAKE_PARALLEL_LIMIT")
-        status, _, errors = self.course()
-        self.assertEqual((status, errors.splitlines()[-1]), (1, "mutants course: 2 jobs have no answer: parallel: cut"))
+        status, _, errors = self.course("--sshlogin", ":")
+        self.assertEqual(status, 1)
+        self.assertEqual(
+            errors.splitlines()[-2:],
+            ["mutants course: 2 jobs have no answer: parallel: cut", "mutants course: 2 of 3 jobs failed: s1 and s2"],
+        )
         self.assertEqual([row["told"] for row in self.table().values()], ["", "no answer", "no answer"])
         os.environ["FAKE_PARALLEL_LIMIT"] = "9"
-        status, _, errors = self.course()
+        status, _, errors = self.course("--sshlogin", ":")
         self.assertEqual((status, errors.splitlines()), (0, [f"mutants course: {done} of 3" for done in (1, 2, 3)]))
         self.assertEqual([row["told"] for row in self.table().values()], ["", "", ""])
 
@@ -166,7 +208,9 @@ class ManyPrograms(Class):
         self.put({"least.f": LEAST, "great.f": GREAT, "great-anna.json": suite, "great.json": "[]"})
         self.put({"suite.csv": "2,1,0\n"})
         self.put({"other-bert.json": suite, "wrong.f": "      END\n"})
-        self.assertEqual(self.course()[0], 0)
+        status, _, errors = self.course()
+        self.assertEqual(status, 1)
+        self.assertIn("2 of 5 jobs failed: other-bert and wrong", errors)
         rows = self.table()
         programs = [rows[name]["program"] for name in ("great", "great-anna", "least")]
         self.assertEqual(programs, ["great", "great", "least"])
@@ -190,13 +234,16 @@ class Refusals(Class):
         self.assertEqual(run("course", "--help")[0], 0)
         self.assertEqual(run("course", "--jobs", "0", self.folder)[0], 2)
 
-    def test_without_gnu_parallel(self) -> None:
-        self.put({"least.f": LEAST, "a.json": "[]"})
+    def test_gnu_parallel_is_needed_for_other_machines_alone(self) -> None:
+        self.put({"least.f": LEAST, "a.json": "[[1, 2, 0]]"})
         other = self.folder / "bin"
         other.mkdir()
         (other / "parallel").write_text("#!/bin/sh\necho parallel of another kind\n")
         (other / "parallel").chmod(0o755)
-        refuses(self, run("course", "--mothra", STAND_IN, self.folder, path=other), "not GNU parallel")
+        words = ["--mothra", STAND_IN, self.folder]
+        refuses(self, run("course", "--sshlogin", "anna", *words, path=other), "not GNU parallel")
+        with running.without_processes():
+            self.assertEqual(run("course", *words, path=other)[0], 0)
 
 
 class Answers(unittest.TestCase):
@@ -218,8 +265,8 @@ class Answers(unittest.TestCase):
 class WithParallel(Class):
     def test_the_jobs_of_a_class(self) -> None:
         self.put({"least.f": LEAST, **SUITES, **{f"s{n}.csv": f"{n},2,0\n" for n in range(3)}})
-        status, out, errors = run("course", "--mothra", STAND_IN, "--jobs", "3", self.folder)
-        self.assertEqual((status, errors.splitlines()[-1]), (0, "mutants course: 8 of 8"))
+        status, out, errors = run("course", "--mothra", STAND_IN, "--jobs", "3", "--sshlogin", ":", self.folder)
+        self.assertEqual((status, errors.splitlines()[-2]), (1, "mutants course: 8 of 8"))
         self.assertEqual(self.table()["anna"]["score"], "93.75")
         self.assertEqual(self.table()["carl"]["fault"], "B3")
 
@@ -231,7 +278,7 @@ class WithParallel(Class):
         self.addCleanup(os.environ.pop, "FAKE_SSH_FOLDER")
         logins = [word for name in ("one", "two") for word in ("--sshlogin", f"{TESTS / 'bin' / 'ssh'} {name}")]
         status, out, errors = run("course", "--mothra", STAND_IN, "--jobs", "1", *logins, self.folder)
-        self.assertEqual((status, errors.splitlines()[-1]), (0, "mutants course: 5 of 5"))
+        self.assertEqual((status, errors.splitlines()[-2]), (1, "mutants course: 5 of 5"))
         self.assertEqual([row["score"] for row in self.table().values()], ["93.75", "50.00", "", "", "75.00"])
         self.assertEqual(list(other.iterdir()), [])
 

@@ -12,7 +12,7 @@ DECLARED = "mutant,before,after,reason\nROR 5,IF (J.GT.I) K=J,IF (J.GE.I) K=J,th
 class Reading(Class):
     def test_a_unit_with_tabs(self) -> None:
         self.put({"two.f": TWO, "anna.json": SUITES["anna.json"], "two.great.equivalent.csv": DECLARED})
-        self.assertEqual(self.course("--unit", "GREAT")[0], 0)
+        self.assertEqual(self.course("--unit", "GREAT")[0], 1)
         self.assertIn("two.f: line 7 (and 3 more) has a tab", self.table()["anna"]["told"])
         status, _, errors = self.course("--unit", "GREAT", "--expand-tabs")
         self.assertEqual((status, "warning" in errors), (0, False), errors)

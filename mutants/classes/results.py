@@ -5,8 +5,13 @@ from collections.abc import Iterable, Mapping, Sequence
 from typing import Any, NamedTuple
 
 from mutants.pages.cover import smallest_set
+from mutants.pages.frame import joined_words, plural
 from mutants.texts.lines import Mutant
 from mutants.texts.reports import Count, Report, Row, score_of, summed
+
+
+# So many names of jobs that failed are told.
+MOST = 5
 
 
 class Reported(NamedTuple):
@@ -49,6 +54,13 @@ class Class(NamedTuple):
 
 def reported_of(results: Iterable[Result]) -> list[Reported]:
     return [Reported(each.name, each.suite, each.report) for each in results if each.report is not None]
+
+
+def failed_told(results: Sequence[Result]) -> str:
+    """How many jobs failed, and which; no text where none did."""
+    names = [each.name for each in results if each.report is None]
+    told = [*names[:MOST], *([f"{len(names) - MOST} more"] if len(names) > MOST else [])]
+    return f"{len(names)} of {plural(len(results), 'job')} failed: {joined_words(told)}" if names else ""
 
 
 def test_places(results: Sequence[Reported]) -> tuple[dict[str, int], list[list[str]]]:

@@ -1,4 +1,4 @@
-"""The jobs of a class, run side by side by GNU parallel.
+"""The jobs of a class, run by GNU parallel on several machines.
 
 Each job is one line of the standard input of one `parallel --pipe`, which hands it to one `mothra run`: so no file has
 to be brought to another machine, and none is left there. What comes of a job is written as a whole when it has ended,
@@ -17,7 +17,7 @@ from mutants.program.unproved import MARK
 from mutants.statuses import SUCCESS
 
 BEGIN, END = "JOB ", "STATUS "
-MISSING = "GNU parallel is not found: it runs the jobs side by side (Debian's package parallel)"
+MISSING = "GNU parallel is not found: --sshlogin spreads the jobs by it (Debian's package parallel)"
 # More than a job may have, so that one job is one block.
 BLOCK = "2M"
 

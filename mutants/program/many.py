@@ -17,6 +17,8 @@ Call = tuple[Sequence[str], bytes]
 Keep = Callable[[int, str], None]
 # What is told in the place of a fault of the call at a place.
 Refuse = Callable[[int, Fault], Exception]
+# What a call gives, of those that are running, its words and its job.
+Ask = Callable[["Calls", Sequence[str], bytes], str]
 # So often, in seconds, it is asked whether there is something to tell.
 TICK = 0.5
 
@@ -67,6 +69,10 @@ class Calls:
                 begun.kill()
 
 
+def answer_of(calls: Calls, words: Sequence[str], job: bytes) -> str:
+    return calls.answer(words, job)
+
+
 def as_it_is(place: int, fault: Fault) -> Exception:
     return fault
 
@@ -110,14 +116,15 @@ def ask_many(
     keep: Keep,
     tick: Callable[[], None],
     refuse: Refuse = as_it_is,
+    ask: Ask = answer_of,
 ) -> None:
     """Makes these calls. `keep` is called with the place and the text of each as it ends, `tick` now and then.
 
-    The first fault ends all of them; so does Ctrl-C.
+    The first fault that `ask` raises ends all of them; so does Ctrl-C.
     """
     running = Calls(program)
     with ThreadPoolExecutor(at_once) as pool:
-        begun = [pool.submit(running.answer, *call) for call in calls]
+        begun = [pool.submit(ask, running, *call) for call in calls]
         try:
             keep_each(begun, keep, tick, refuse)
         finally:

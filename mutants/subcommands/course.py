@@ -9,18 +9,18 @@ suite is of each program without a table of its own. NAME.equivalent.csv, or equ
 mutants that are declared equivalent, as mutants declare writes them; a bare list in .json is read too. --unit, --size
 and --expand-tabs are those of mutants job, for each program of the folder.
 
-Each table becomes a job. The jobs are run side by side by GNU parallel, N at once (else one for each processor), each
-with one thread; --sshlogin is handed to parallel, and MOTHRA is then the name of the program on all the machines. Jobs
-whose result is there are not run again: so a second call goes on where the first was cut, and does what has changed.
-How many are done is told on standard error.
+Each table becomes a job. The jobs are run side by side, N at once (else one for each processor), each as a process with
+one thread. With --sshlogin GNU parallel spreads them over machines, and MOTHRA is then the name of the program on all
+of these. Jobs whose result is there are not run again: so a second call goes on where the first was cut, and does what
+has changed. How many are done is told on standard error.
 
 Written are, in FOLDER/out: jobs/NAME.json, .report and .outcomes (the job, what mothra run wrote of it, and what the
 program itself does on each test), jobs/NAME.html (its page), course.html (the page of the class), and course.csv with
 these columns: name (of the table), program, unit, tests, mutants, killed, equivalent (declared, and not killed),
 survived, score (in percent, rounded down, or NONE), only_here (mutants that no other suite of the program kills),
 wrong (declared, but killed), fault (its code; - where there was no job or no answer) and told (the line of the fault).
-A job without a report is a row with its fault, and the exit status is 0 all the same; it is 1 where jobs have no
-answer, which the next call asks for again.
+A job without a report is a row with its fault, and stops no other one. Where there are such jobs, it is told how many
+and which, and the exit status is 1. Those that have no answer are asked for again by the next call.
 """
 
 import argparse
@@ -33,7 +33,8 @@ from mutants.checks.outcomes import asked_outcomes
 from mutants.checks.running import Means
 from mutants.classes.folder import Results, Task, tasks_in
 from mutants.classes.page import View, course_page
-from mutants.classes.results import COLUMNS, Result, csv_row, only_here, reported_of
+from mutants.classes.results import COLUMNS, Result, csv_row, failed_told, only_here, reported_of
+from mutants.classes.processes import run_here
 from mutants.classes.running import find_parallel, run_all
 from mutants.files import written
 from mutants.jobs.making import add_reading_options, wish_of
@@ -73,7 +74,8 @@ def run_missing(given: argparse.Namespace, program: str, tasks: list[Task], resu
     missing = [task for task in tasks if results.is_missing(task)]
     if not missing:
         return
-    find_parallel()
+    if given.sshlogin:
+        find_parallel()
     progress, done = Progress(name), [len(tasks) - len(missing)]
     progress.tell(f"{done[0]} of {len(tasks)}")
 
@@ -82,11 +84,14 @@ def run_missing(given: argparse.Namespace, program: str, tasks: list[Task], resu
         done[0] += 1
         progress.tell(f"{done[0]} of {len(tasks)}")
 
-    # With other machines the word is one that each of them knows.
-    word = given.mothra if given.sshlogin and given.mothra else program
-    words, texts = [*results.words, "--workers", "1"], [task.text for task in missing if task.text is not None]
+    words, told = [*results.words, "--workers", "1"], ""
+    texts = [task.text for task in missing if task.text is not None]
     try:
-        told = run_all(word, words, texts, given.jobs, given.sshlogin, keep)
+        if given.sshlogin:
+            # On other machines the word is one that each of them knows.
+            told = run_all(given.mothra or program, words, texts, given.jobs, given.sshlogin, keep)
+        else:
+            run_here(program, words, texts, given.jobs, keep)
     finally:
         progress.end()
     if done[0] < len(tasks):
@@ -181,7 +186,8 @@ def run(given: argparse.Namespace, name: str) -> int:
     found = [result_of(task, results) for task in tasks]
     write_table(out, found)
     write_pages(out, Means(program, given.steps), tasks, found, known, results)
-    done = sum(result.report is not None for result in found)
-    print(f"{done} of {len(found)} with a report: {out / 'course.html'}")
+    print(f"{len(reported_of(found))} of {len(found)} with a report: {out / 'course.html'}")
     print(remark_on(program), end="\n" if remark_on(program) else "")
-    return FAULT if any(result.refusal == NO_ANSWER for result in found) else SUCCESS
+    failed = failed_told(found)
+    sys.stderr.write(f"{name}: {failed}\n" if failed else "")
+    return FAULT if failed else SUCCESS

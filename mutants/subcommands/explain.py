@@ -10,9 +10,9 @@ a fault is given, as words or on standard input. For a fault of the suite the te
 option. A rule of the language is told with its sections of ANSI X3.9-1978. For B4 the program is asked what it does on
 the test, and which step ended its run; for B5 how many mutants there are.
 
-Of a program and its tests a job is made, as by mutants job and with its options. Where the program cannot be read, up to
-ten other faults are told, each with its line: what is told first is taken out of a copy, and mothra is asked again. A
-statement of FORTRAN 77 outside the subset, or of later Fortran, is told as what it is, with what to write instead.
+Of a program and its tests a job is made, as by mutants job and with its options. Where the program cannot be read, up
+to ten other faults are told, each with its line: what is told first is taken out of a copy, and mothra is asked again.
+A statement of FORTRAN 77 outside the subset, or of later Fortran, is told as what it is, with what to write instead.
 
 The exit status is 0 where a fault was explained, or where there is none.
 """

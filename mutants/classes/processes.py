@@ -1,0 +1,28 @@
+"""The jobs of a class run on this machine: a process of the program for each, so many at once."""
+
+from collections.abc import Callable, Sequence
+
+from mutants.classes.running import text_of_answer
+from mutants.program.calling import Fault
+from mutants.program.many import Calls, ask_many, processors
+from mutants.statuses import SUCCESS
+
+
+def text_of_call(calls: Calls, words: Sequence[str], job: bytes) -> str:
+    """What is kept of a job: the report, or the line that says why there is none, which ends no other job."""
+    try:
+        return text_of_answer(calls.answer(words, job), SUCCESS)
+    except Fault as fault:
+        return f"{fault.line}\n"
+
+
+def untold() -> None:
+    """In the place of what tells how far it is: each job that ends tells it."""
+
+
+def run_here(
+    program: str, words: Sequence[str], jobs: Sequence[bytes], count: int | None, keep: Callable[[int, str], None]
+) -> None:
+    """Runs the jobs; `keep` is called with the place and the text of each as it ends."""
+    calls = [(["run", *words], job) for job in jobs]
+    ask_many(program, calls, count or processors(), keep, untold, ask=text_of_call)
