@@ -38,7 +38,7 @@ from mutants.texts.reports import read_report, score_of, summed
 from mutants.words import whole_path
 
 TEST = ROOT / "crates" / "mothra_tests" / "src" / "example_reports.rt"
-PAGES = ["README.md", "docs/GUIDE.md", "docs/REFERENCE.md", "docs/RESULTS.md"]
+PAGES = ["README.md", "docs/GUIDE.md", "docs/HANDOUT.md", "docs/REFERENCE.md", "docs/RESULTS.md"]
 IN_TEST = "triangle.f triangle.suite.json triangle-more.suite.json euclid.f euclid.suite.json euclid.report".split()
 # The desk calculator takes minutes of a processor, and others may use it too.
 SECONDS = 1800
