@@ -3,14 +3,17 @@
 import json
 import unittest
 from collections.abc import Sequence
+from pathlib import Path
 from unittest import mock
 
 import running  # noqa: F401  it finds the package
+from mutants.checks.faults import told_of_program
 from mutants.explanations.habits import HABITS, read_paragraph
 from mutants.explanations.names import called_names, declared_arrays, logical_names
 from mutants.explanations.seeing import advice_of_all, habits_seen, said_of_all, statement_habits
 from mutants.explanations.told import explained
 from mutants.gate import habits
+from mutants.program.calling import Fault
 
 # Statements, with the name of the habit that is seen in each.
 COMMON = {
@@ -121,6 +124,17 @@ class Told(unittest.TestCase):
         self.assertIn("Write MAX0 in the place of MAX.", self.told("FAULT C5 2", ["K=MAX(I,J)"]))
         self.assertIn("A call of a function is FORTRAN 77", self.told("FAULT C2 FOO", ["K=FOO(I)"]))
         self.assertNotIn("missing parenthesis", self.told("FAULT S2 2", ["CALL SUB(K)"]))
+
+    def test_a_check_tells_it_in_its_line(self) -> None:
+        source = "      SUBROUTINE A(I,J,K)\n      CALL SUB(K)\n      K=ABS(I)\n      X=I\n      END\n"
+        for line, begin in (
+            ("FAULT S2 2", "a.f, line 2: CALL is a call of another subroutine."),
+            ("FAULT C2 ABS", "a.f: ABS is FORTRAN 77, for any kind of number or for REAL."),
+            ("FAULT C2 X", "a.f: This name is REAL"),
+        ):
+            told = str(told_of_program(Path("a.f"), source, Fault("print", line)))
+            self.assertTrue(told.startswith(begin), told)
+            self.assertIn(f"({line})", told)
 
     def test_without_a_habit_it_is_that_of_the_fault(self) -> None:
         self.assertIn("A misspelled name looks like this too.", self.told("FAULT C2 X", ["X=I"]))

@@ -4,6 +4,7 @@ from collections.abc import Sequence
 from pathlib import Path
 
 from mutants.explanations.meanings import MEANINGS
+from mutants.explanations.seeing import habits_seen, said_of_all
 from mutants.program.calling import Fault
 from mutants.texts.cards import source_lines
 
@@ -19,16 +20,20 @@ def said_of(line: str) -> str:
 
 
 def told_of_program(path: Path, source: str, fault: Fault) -> ValueError:
-    """What keeps a program from being read, with its line where the fault has one; other faults stay as they are."""
+    """What keeps a program from being read, with its line where the fault has one; other faults stay as they are.
+
+    A habit of other Fortran is told in the place of what the fault means.
+    """
     code, _, detail = fault.line.removeprefix("FAULT ").partition(" ")
     meaning = MEANINGS.get(code) if fault.line.startswith("FAULT ") else None
     if not meaning or code[0] not in "JFSCO":
         return fault
-    lines = source_lines(source)
+    lines, seen = source_lines(source), said_of_all(habits_seen(code, detail, source))
+    said = f"{' '.join(seen)} ({fault.line})" if seen else said_of(fault.line)
     if meaning.detail != "line" or not detail.isdecimal() or not 0 < int(detail) <= len(lines):
-        return ValueError(f"{path}: {said_of(fault.line)}")
+        return ValueError(f"{path}: {said}")
     shown = " ".join(lines[int(detail) - 1].split())[:LONGEST]
-    return ValueError(f"{path}, line {detail}: {said_of(fault.line)}: {shown}")
+    return ValueError(f"{path}, line {detail}: {said}: {shown}")
 
 
 def told_of_run(declared: Sequence[object], fault: Fault) -> ValueError:
