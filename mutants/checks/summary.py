@@ -6,16 +6,17 @@ from itertools import groupby
 from textwrap import wrap
 
 from mutants.checks.checking import Checked
-from mutants.pages.declared import NO_REASON
+from mutants.pages.declared import NO_REASON, declared_groups
 from mutants.pages.frame import joined_words, plural
 from mutants.pages.report import by_line, counts_by_line
 from mutants.pages.suite import NUMBERS, alone_of, needless_text, values_of
+from mutants.pages.spans import change_of
 from mutants.texts.lines import Mutant
 from mutants.texts.reports import score_of, summed
-from mutants.pages.spans import change_of
+from mutants.texts.twins import count_of_programs, name_of, names_text, twins_in
 
-# So many survivors of an operator are shown on a line.
-ALIKE = 8
+# So many survivors of an operator are shown on a line; so wide is a name at least.
+ALIKE, NAME = 8, 8
 # Where more lines than these are told, the score is told at the end again; and so wide is a long sentence.
 LONG, WIDTH = 60, 118
 
@@ -52,8 +53,16 @@ def score_line(checked: Checked) -> str:
     return f"{told}, of those that were asked for." if checked.left_out else f"{told}."
 
 
+def twin_lines(checked: Checked) -> Iterator[str]:
+    """The same of programs, where some mutants are one; the score counts mutants, as the report does."""
+    count = count_of_programs(checked.listed, checked.report.rows)
+    if count.total < len(checked.listed):
+        wanted = count.total - count.equivalent
+        yield f"Some of the mutants are the same program: {count.killed} of {plural(wanted, 'different program')} killed."
+
+
 def wrong_lines(checked: Checked) -> Iterator[str]:
-    wrong = [f"{row.op} {row.place}" for row in checked.report.rows if row.status == "W"]
+    wrong = [name_of(row) for row in checked.report.rows if row.status == "W"]
     if wrong:
         verb = "it" if len(wrong) == 1 else "each of them"
         yield f"WRONGLY DECLARED EQUIVALENT: {joined_words(wrong)}. A test kills {verb}."
@@ -61,16 +70,14 @@ def wrong_lines(checked: Checked) -> Iterator[str]:
 
 def declared_lines(checked: Checked) -> Iterator[str]:
     """The declared mutants with their texts and reasons, those first that a test kills."""
-    pairs = [(mutant, row) for mutant, row in zip(checked.listed, checked.report.rows) if row.status in "WE"]
-    pairs.sort(key=lambda pair: pair[1].status != "W")
-    if pairs:
-        yield f"{plural(len(pairs), 'mutant')} declared equivalent:"
-    for mutant, row in pairs:
-        name = f"{mutant.op} {mutant.place}"
-        told = changed_text(checked.statements[mutant.line], mutant.text)
-        killed = "KILLED, " if row.status == "W" else ""
-        reason = checked.said.reasons.get(name) or NO_REASON
-        yield f"  {name:<8}  line {mutant.line}: {told}: {killed}{reason}"
+    groups = declared_groups(checked.listed, checked.report.rows, checked.said.reasons)
+    if groups:
+        yield f"{plural(sum(len(each.mutants) for each in groups), 'mutant')} declared equivalent:"
+    for each in groups:
+        first = each.mutants[0]
+        told = changed_text(checked.statements[first.line], first.text)
+        killed = "KILLED, " if each.row.status == "W" else ""
+        yield f"  {names_text(each.mutants):<{NAME}}  line {first.line}: {told}: {killed}{each.reason or NO_REASON}"
 
 
 def changed_text(old: str, new: str) -> str:
@@ -80,14 +87,16 @@ def changed_text(old: str, new: str) -> str:
 
 
 def line_lines(survivors: Iterable[Mutant], statement: str) -> Iterator[str]:
-    """The survivors of a line; where an operator has many, some of them."""
-    for op, alike in groupby(survivors, key=lambda mutant: mutant.op):
-        group = list(alike)
-        shown = group if len(group) <= ALIKE else group[: ALIKE - 1]
-        for mutant in shown:
-            yield f"  {f'{op} {mutant.place}':<8}  {changed_text(statement, mutant.text)}"
-        if len(shown) < len(group):
-            yield f"  {op}       and {len(group) - len(shown)} more"
+    """The survivors of a line, twins as one; where an operator has many, some of them."""
+    every = twins_in(survivors)
+    wide = max([NAME, *(len(names_text(twins)) for twins in every)])
+    for op, alike in groupby(every, key=lambda twins: twins[0].op):
+        groups = list(alike)
+        shown = groups if len(groups) <= ALIKE else groups[: ALIKE - 1]
+        for twins in shown:
+            yield f"  {names_text(twins):<{wide}}  {changed_text(statement, twins[0].text)}"
+        if len(shown) < len(groups):
+            yield f"  {op:<{wide}}  and {sum(map(len, groups[len(shown) :]))} more"
 
 
 def survivor_lines(checked: Checked) -> Iterator[str]:
@@ -96,10 +105,25 @@ def survivor_lines(checked: Checked) -> Iterator[str]:
     if not survivors:
         yield "No mutant survives that is not declared equivalent."
         return
-    yield f"{plural(len(survivors), 'survivor')} on {plural(len(lines), 'line')}, each with what it changes:"
+    told = f"{plural(len(survivors), 'survivor')} on {plural(len(lines), 'line')}"
+    different = len(twins_in(survivors))
+    told += f", {plural(different, 'different program')}" if different < len(survivors) else ""
+    yield f"{told}, each with what it changes:"
     for line in sorted(lines):
         yield f"line {line}: {checked.statements[line]} ({len(lines[line])} of {counts[line].total} survive)"
         yield from line_lines(lines[line], checked.statements[line])
+
+
+def half_declared_lines(checked: Checked) -> Iterator[str]:
+    """The survivors whose program is declared equivalent under another name alone."""
+    declared = {name_of(row) for row in checked.report.rows if row.status == "E"}
+    alive = {name_of(row) for row in checked.report.rows if row.status == "S"}
+    for group in twins_in(checked.listed):
+        others = [twin for twin in group if name_of(twin) in declared]
+        left = [twin for twin in group if name_of(twin) in alive]
+        if others and left:
+            told = f"{names_text(left)} and {names_text(others)} are the same program"
+            yield f"{told}, and only the last is declared equivalent (mutants declare takes all names)."
 
 
 def unreached_lines(checked: Checked) -> Iterator[str]:
@@ -135,11 +159,12 @@ def suite_lines(checked: Checked) -> Iterator[str]:
 def summary(checked: Checked, program: object, more: Sequence[str]) -> str:
     """The whole text; `more` are lines on what was written."""
     lines = [f"{checked.report.unit} of {program}: {plural(len(checked.job.suite), 'test')}", *outcome_lines(checked)]
-    lines += [*difference_lines(checked), "", *wrong_lines(checked), score_line(checked)]
+    lines += [*difference_lines(checked), "", *wrong_lines(checked), score_line(checked), *twin_lines(checked)]
     lines += [f"Left out: {each}." for each in checked.left_out]
     lines += [
         "",
         *survivor_lines(checked),
+        *half_declared_lines(checked),
         *unreached_lines(checked),
         *declared_lines(checked),
         "",

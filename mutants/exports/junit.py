@@ -10,6 +10,7 @@ from mutants.pages.frame import plural
 from mutants.pages.report import by_line, counts_by_line
 from mutants.texts.lines import Mutant
 from mutants.texts.reports import Count
+from mutants.texts.twins import names_text, twins_in
 
 
 def attributes(values: Mapping[str, object]) -> str:
@@ -19,7 +20,7 @@ def attributes(values: Mapping[str, object]) -> str:
 def failure(survivors: Sequence[Mutant], count: Count) -> str:
     verb = "survives" if len(survivors) == 1 else "survive"
     told = {"message": f"{len(survivors)} of {plural(count.total, 'mutant')} {verb}", "type": "survivors"}
-    lines = "\n".join(f"{mutant.op} {mutant.place}: {mutant.text}" for mutant in survivors)
+    lines = "\n".join(f"{names_text(twins)}: {twins[0].text}" for twins in twins_in(survivors))
     return f"    <failure{attributes(told)}>{escape(lines)}</failure>\n"
 
 

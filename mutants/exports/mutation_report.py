@@ -40,12 +40,18 @@ def location(span: Span) -> dict[str, dict[str, int]]:
     return {"start": position(span.start), "end": position(span.end)}
 
 
+def description(told: Told) -> str:
+    """What a mutant makes of its statement, and the names of those that make the same of it."""
+    same = f" (the same program as {told.twins})" if told.twins else ""
+    return f"{NAMES.get(told.mutant.op, told.mutant.op)}: {told.mutant.text}{same}"
+
+
 def mutant_object(told: Told, places: Places, reason: str, written: InFile) -> dict[str, Any]:
     span, new = placed(places, told.before, told.mutant.text)
     found: dict[str, Any] = {
         "id": told.name,
         "mutatorName": told.mutant.op,
-        "description": f"{NAMES.get(told.mutant.op, told.mutant.op)}: {told.mutant.text}",
+        "description": description(told),
         "replacement": new,
         "location": location(written(span)),
         "status": told.status,

@@ -8,13 +8,14 @@ from typing import NamedTuple
 from mutants.checks.checking import Checked
 from mutants.texts.lines import Mutant
 from mutants.texts.reports import Row
+from mutants.texts.twins import name_of, names_text, others_by_name
 
-COLUMNS = "mutant operator line status declared before after killed_by covered_by".split()
+COLUMNS = "mutant operator line status declared before after killed_by covered_by twins".split()
 
 
 class Told(NamedTuple):
-    """A mutant, its statement, its status, whether it is declared equivalent,
-    and the tests that kill it and come to it."""
+    """A mutant, its statement, its status, whether it is declared equivalent, the tests that kill it and come to it,
+    and the names of those that are the same program."""
 
     mutant: Mutant
     before: str
@@ -22,10 +23,11 @@ class Told(NamedTuple):
     is_declared: bool
     killed_by: list[int]
     covered_by: list[int]
+    twins: str = ""
 
     @property
     def name(self) -> str:
-        return f"{self.mutant.op} {self.mutant.place}"
+        return name_of(self.mutant)
 
 
 def tests_in(bits: str) -> list[int]:
@@ -45,10 +47,11 @@ def status_of(row: Row, covered: str) -> str:
 def told_of(checked: Checked, covered: Mapping[int, str]) -> Iterator[Told]:
     """What is told of each mutant, in the order of the report;
     `covered` has for each line the tests that come to it."""
+    others = others_by_name(checked.listed)
     for mutant, row in zip(checked.listed, checked.report.rows):
-        bits = covered[mutant.line]
+        bits, twins = covered[mutant.line], names_text(others.get(name_of(mutant), []))
         before, status = checked.statements[mutant.line], status_of(row, bits)
-        yield Told(mutant, before, status, row.status in "EW", tests_in(row.bits), tests_in(bits))
+        yield Told(mutant, before, status, row.status in "EW", tests_in(row.bits), tests_in(bits), twins)
 
 
 def table_text(checked: Checked, covered: Mapping[int, str]) -> str:
@@ -60,5 +63,5 @@ def table_text(checked: Checked, covered: Mapping[int, str]) -> str:
         tests = [" ".join(map(str, numbers)) for numbers in (each.killed_by, each.covered_by)]
         declared = "yes" if each.is_declared else "no"
         row = [each.name, each.mutant.op, each.mutant.line, each.status, declared, each.before, each.mutant.text]
-        table.writerow([*row, *tests])
+        table.writerow([*row, *tests, each.twins])
     return kept.getvalue()

@@ -8,6 +8,7 @@ from mutants.pages.frame import Cell, joined_words, plural, table, text
 from mutants.pages.program import difference
 from mutants.texts.lines import Mutant
 from mutants.texts.reports import Row
+from mutants.texts.twins import name_of, names_text, twins_in
 
 # So many tests that kill a mutant are named.
 NAMED = 5
@@ -32,27 +33,36 @@ def killers_text(bits: str) -> str:
     return f"test{'s' if len(numbers) > 1 else ''} {joined_words([*numbers[:NAMED], *rest])}"
 
 
-def declared_row(mutant: Mutant, row: Row, statement: str, reason: str) -> list[Cell]:
+class Group(NamedTuple):
+    """Declared mutants that are one program and have one reason: all of them, and the row of the first."""
+
+    mutants: list[Mutant]
+    row: Row
+    reason: str
+
+
+def declared_groups(listed: Iterable[Mutant], rows: Iterable[Row], reasons: Mapping[str, str]) -> list[Group]:
+    """The declared mutants in their order, but those first that a test kills; twins of one reason together."""
+    found = {name_of(row): row for row in rows if row.status in "WE"}
+    groups: list[Group] = []
+    for twins in twins_in(mutant for mutant in listed if name_of(mutant) in found):
+        by_reason: dict[str, list[Mutant]] = {}
+        for mutant in twins:
+            by_reason.setdefault(reasons.get(name_of(mutant), ""), []).append(mutant)
+        groups += [Group(alike, found[name_of(alike[0])], reason) for reason, alike in by_reason.items()]
+    return sorted(groups, key=lambda group: group.row.status != "W")
+
+
+def declared_row(group: Group, statement: str) -> list[Cell]:
     """The row of a declared mutant; where tests kill it this comes before the reason."""
+    mutant, row = group.mutants[0], group.row
     killed = f'<b class="live">Killed by {killers_text(row.bits)}.</b> ' if row.status == "W" else ""
-    said = text(reason) if reason else f'<span class="soft">{NO_REASON}</span>'
+    said = text(group.reason) if group.reason else f'<span class="soft">{NO_REASON}</span>'
     return [
-        ("", f"<b>{text(mutant.op)} {mutant.place}</b>"),
+        ("", f"<b>{text(names_text(group.mutants))}</b>"),
         ("n", f'<a href="#line-{mutant.line}">{mutant.line}</a>'),
         ("", f"<code>{difference(statement, mutant.text)}</code>"),
         ("", killed + said),
-    ]
-
-
-def declared_rows(
-    listed: Iterable[Mutant], rows: Iterable[Row], statements: Mapping[int, str], reasons: Mapping[str, str]
-) -> list[list[Cell]]:
-    """The declared mutants in their order, but those first that a test kills."""
-    found = [(mutant, row) for mutant, row in zip(listed, rows) if row.status in "WE"]
-    found.sort(key=lambda pair: pair[1].status != "W")
-    return [
-        declared_row(mutant, row, statements[mutant.line], reasons.get(f"{mutant.op} {mutant.place}", ""))
-        for mutant, row in found
     ]
 
 
@@ -60,12 +70,14 @@ def declared_part(
     listed: Iterable[Mutant], rows: Sequence[Row], statements: Mapping[int, str], reasons: Mapping[str, str]
 ) -> str:
     """The table of all declared mutants; no text where there is none."""
-    shown = declared_rows(listed, rows, statements, reasons)
-    if not shown:
+    groups = declared_groups(listed, rows, reasons)
+    if not groups:
         return ""
+    shown = [declared_row(group, statements[group.mutants[0].line]) for group in groups]
+    count = sum(len(group.mutants) for group in groups)
     wrong = sum(row.status == "W" for row in rows)
-    told = f"{plural(len(shown), 'mutant')} {'is' if len(shown) == 1 else 'are'} declared equivalent: no test can kill"
-    told += f" {'it' if len(shown) == 1 else 'them'}, so it is said."
+    told = f"{plural(count, 'mutant')} {'is' if count == 1 else 'are'} declared equivalent: no test can kill"
+    told += f" {'it' if count == 1 else 'them'}, so it is said."
     told += f" Tests kill {wrong} of them all the same, and {wrong} counts as killed." if wrong else ""
     return f"<p>{told}</p>\n" + table([("", "Mutant"), ("n", "Line"), ("", "Change"), ("", "Why")], shown)
 

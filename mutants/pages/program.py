@@ -11,6 +11,7 @@ from mutants.pages.frame import bar, plural, text
 from mutants.texts.cards import cards_of, is_comment, last_lines, source_lines
 from mutants.texts.lines import Mutant
 from mutants.texts.reports import Count
+from mutants.texts.twins import name_of, names_text, twins_in
 
 # So many survivors of an operator on one line are shown unfolded.
 UNFOLDED = 12
@@ -36,22 +37,24 @@ def difference(old: str, new: str) -> str:
     return "".join(MARKS[mark].format(text(piece)) for mark, piece in pieces(old, new))
 
 
-def survivor_item(mutant: Mutant, statement: str, reason: str = "") -> str:
+def survivor_item(twins: Sequence[Mutant], statement: str, reason: str = "") -> str:
+    """A survivor with all its names."""
     why = f' <span class="soft">{text(reason)}</span>' if reason else ""
-    name = f'<abbr title="{text(NAMES.get(mutant.op, mutant.op))}">{text(mutant.op)}</abbr> {mutant.place}'
-    return f"<li><b>{name}</b><span><code>{difference(statement, mutant.text)}</code>{why}</span></li>\n"
+    told = "; ".join(dict.fromkeys(NAMES.get(twin.op, twin.op) for twin in twins))
+    name = f'<abbr title="{text(told)}">{text(names_text(twins))}</abbr>'
+    return f"<li><b>{name}</b><span><code>{difference(statement, twins[0].text)}</code>{why}</span></li>\n"
 
 
-def items(mutants: Iterable[Mutant], statement: str, reasons: Mapping[str, str] = NO_REASONS) -> str:
-    """The mutants of a line; declared ones have reasons by their names."""
-    parts = [survivor_item(mutant, statement, reasons.get(f"{mutant.op} {mutant.place}", "")) for mutant in mutants]
+def items(groups: Iterable[Sequence[Mutant]], statement: str, reasons: Mapping[str, str] = NO_REASONS) -> str:
+    """The mutants of a line in groups of twins; declared ones have reasons by their names."""
+    parts = [survivor_item(twins, statement, reasons.get(name_of(twins[0]), "")) for twins in groups]
     return "<ul>\n" + "".join(parts) + "</ul>\n"
 
 
 def survivors_part(survivors: Iterable[Mutant], statement: str) -> str:
     """The survivors of a line; where an operator has many they are folded."""
     parts = []
-    for op, alike in groupby(survivors, key=lambda mutant: mutant.op):
+    for op, alike in groupby(twins_in(survivors), key=lambda twins: twins[0].op):
         group = list(alike)
         shown = items(group, statement)
         summary = f"<summary><b>{text(op)}</b> {text(NAMES.get(op, ''))}: {len(group)} survivors</summary>"
@@ -62,7 +65,7 @@ def survivors_part(survivors: Iterable[Mutant], statement: str) -> str:
 def declared_part(declared: Sequence[Mutant], statement: str, reasons: Mapping[str, str]) -> str:
     """The mutants of a line that are declared equivalent and survived, folded."""
     summary = f"<summary>{len(declared)} declared equivalent</summary>"
-    return f'<div class="mutants declared"><details>{summary}{items(declared, statement, reasons)}</details></div>\n'
+    return f'<div class="mutants declared"><details>{summary}{items(twins_in(declared), statement, reasons)}</details></div>\n'
 
 
 def marks_of(count: Count, survived: int) -> str:

@@ -4,7 +4,7 @@
     mutants declare [OPTION..] PROGRAM.f --renew
 
 A mutant is a code and a number, as pages and reports name it; further numbers are of the same operator:
-ABS 7 9 12 ROR 1. An entry is put behind those of PROGRAM.equivalent.csv beside the program (of a unit that is picked
+ABS 7 9 12 ROR 1. Where other mutants are the same program, they are declared with it. An entry is put behind those of PROGRAM.equivalent.csv beside the program (of a unit that is picked
 among several, PROGRAM.UNIT.equivalent.csv): the mutant, its line before and after the change as mothra writes them, and
 the reason. Later calls look for an entry by these texts. Where they stand on one line alone the entry means that
 mutant, whatever its number has become; where they stand on several, the statements before or behind tell which is
@@ -25,10 +25,11 @@ from mutants.files import written
 from mutants.jobs.making import add_reading_options, made_of, told_of, wish_of
 from mutants.jobs.sources import decoded
 from mutants.operators import NAMES
-from mutants.pages.frame import plural
+from mutants.pages.frame import joined_words, plural
 from mutants.program.finding import add_mothra_option, find_program
 from mutants.statuses import SUCCESS
 from mutants.texts.lines import Mutant
+from mutants.texts.twins import name_of, others_by_name
 
 Name = tuple[str, int]
 
@@ -77,12 +78,22 @@ def renewed(entries: Sequence[Entry], found: Settled, present: Present) -> list[
 
 
 def new_entries(given: argparse.Namespace, names: Sequence[Name], found: Settled, present: Present) -> list[Entry]:
-    """The entries of mutants that are not declared yet."""
+    """The entries of mutants that are not declared yet, each with those of its twins behind it."""
     chosen = chosen_mutants(names, present)
-    declared = [mutant for mutant in chosen if f"{mutant.op} {mutant.place}" in found.names]
-    for mutant in declared:
-        raise ValueError(f"{mutant.op} {mutant.place} is declared already")
-    return [entry_for(mutant, " ".join(given.reason.split()), present) for mutant in chosen]
+    for mutant in chosen:
+        if name_of(mutant) in found.names:
+            raise ValueError(f"{name_of(mutant)} is declared already")
+    others = others_by_name(present.listed)
+    all_names = dict.fromkeys(twin for mutant in chosen for twin in [mutant, *others.get(name_of(mutant), [])])
+    wanted = [mutant for mutant in all_names if name_of(mutant) not in found.names]
+    return [entry_for(mutant, " ".join(given.reason.split()), present) for mutant in wanted]
+
+
+def told_of_new(new: Sequence[Entry], names: Sequence[Name], found: Settled) -> str:
+    """What was declared in one call, and which of it was not named."""
+    twins = [entry.name for entry in new if (entry.op, entry.place) not in names]
+    same = f", {joined_words(twins)} among them as the same program" if twins else ""
+    return f"{plural(len(new), 'mutant')} declared{same}, and {len(found.declared)} before"
 
 
 def run(given: argparse.Namespace, name: str) -> int:
@@ -92,16 +103,17 @@ def run(given: argparse.Namespace, name: str) -> int:
     made = made_of(given.program, None, wish_of(given))
     path = given.equivalent or path_beside(given.program, made.source.unit)
     entries = told_of(path, lambda: written_entries(path))
-    ops = sorted({op for op, _ in names} | {entry.op for entry in entries})
+    # Twins may be of any operator.
+    ops = list(NAMES) if names else sorted({entry.op for entry in entries})
     present = asked_present(find_program(given.mothra), ops, made.text().encode())
     found = settled(entries, present)
     if given.renew:
         written(path, entries_text(renewed(entries, found, present)).encode())
         told = f"{len(found.moved)} of {len(entries)} entries with a new number"
     else:
-        text = decoded(path.read_bytes()) if path.exists() else ""
-        written(path, appended(text, new_entries(given, names, found, present)).encode())
-        told = f"{plural(len(names), 'mutant')} declared, and {len(found.declared)} before"
+        text, new = decoded(path.read_bytes()) if path.exists() else "", new_entries(given, names, found, present)
+        written(path, appended(text, new).encode())
+        told = told_of_new(new, names, found)
     for remark in found.remarks() if not given.renew else [f"{entry.name}: {why}" for entry, why in found.refused]:
         sys.stderr.write(f"{name}: {path}: {remark}\n")
     sys.stdout.write(f"{path}: {told}\n")
