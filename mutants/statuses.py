@@ -4,6 +4,8 @@ SUCCESS = 0
 FAULT = 1
 WORDS = 2
 BELOW = 3
+# A comparison has the same where a mutant that was killed survives: in both cases the tests say too little.
+NEWLY_SURVIVING = BELOW
 UNEXPECTED = 4
 # A command that a signal ends has in a shell this and the number of the signal; Ctrl-C is signal 2.
 BY_SIGNAL = 128
@@ -13,7 +15,7 @@ MEANINGS = {
     SUCCESS: "done, or help was asked for",
     FAULT: "a fault: of the job, of a file, or of the program; or a pipe that nobody reads any more",
     WORDS: "words that are refused",
-    BELOW: "the score is below --fail-under",
+    BELOW: "the score is below --fail-under, or, of compare, a mutant that was killed survives",
     UNEXPECTED: "an outcome of the program is another than the expected one",
     INTERRUPTED: "interrupted by Ctrl-C",
 }

@@ -57,8 +57,8 @@ def twin_lines(checked: Checked) -> Iterator[str]:
     """The same of programs, where some mutants are one; the score counts mutants, as the report does."""
     count = count_of_programs(checked.listed, checked.report.rows)
     if count.total < len(checked.listed):
-        wanted = count.total - count.equivalent
-        yield f"Some of the mutants are the same program: {count.killed} of {plural(wanted, 'different program')} killed."
+        told = plural(count.total - count.equivalent, "different program")
+        yield f"Some of the mutants are the same program: {count.killed} of {told} killed."
 
 
 def wrong_lines(checked: Checked) -> Iterator[str]:

@@ -19,6 +19,8 @@ SCHEMA_VERSION = "2"
 # From this score on, in percent, a file is shown as good, and below that one as bad.
 HIGH, LOW = 80, 60
 EQUIVALENT = "declared equivalent"
+# What stands behind the text of a mutant that has twins.
+SAME = " (the same program as "
 
 
 # The span in the file of a span of the source as it is shown.
@@ -42,8 +44,25 @@ def location(span: Span) -> dict[str, dict[str, int]]:
 
 def description(told: Told) -> str:
     """What a mutant makes of its statement, and the names of those that make the same of it."""
-    same = f" (the same program as {told.twins})" if told.twins else ""
+    same = f"{SAME}{told.twins})" if told.twins else ""
     return f"{NAMES.get(told.mutant.op, told.mutant.op)}: {told.mutant.text}{same}"
+
+
+def text_in(described: str) -> str:
+    """The text of the mutant in its description."""
+    return described.partition(": ")[2].partition(SAME)[0]
+
+
+def config_object(checked: Checked) -> dict[str, Any]:
+    """What a comparison has to know beside the mutants: what was asked, the statements, all values of the tests."""
+    return {
+        "unit": checked.report.unit,
+        "steps": checked.report.steps,
+        "operators": list(checked.report.counts),
+        "leftOut": checked.left_out,
+        "statements": {str(line): told for line, told in checked.statements.items()},
+        "suite": checked.job.suite,
+    }
 
 
 def mutant_object(told: Told, places: Places, reason: str, written: InFile) -> dict[str, Any]:
@@ -86,6 +105,7 @@ def mutation_report(
     return {
         "schemaVersion": SCHEMA_VERSION,
         "thresholds": {"high": HIGH, "low": LOW},
+        "config": config_object(checked),
         "files": {program.as_posix(): source},
         "testFiles": {tests.as_posix(): tests_object(checked.job.suite)},
         "framework": {"name": f"mutants. {remark}" if remark else "mutants", "version": __version__},

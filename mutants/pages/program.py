@@ -65,7 +65,8 @@ def survivors_part(survivors: Iterable[Mutant], statement: str) -> str:
 def declared_part(declared: Sequence[Mutant], statement: str, reasons: Mapping[str, str]) -> str:
     """The mutants of a line that are declared equivalent and survived, folded."""
     summary = f"<summary>{len(declared)} declared equivalent</summary>"
-    return f'<div class="mutants declared"><details>{summary}{items(twins_in(declared), statement, reasons)}</details></div>\n'
+    shown = items(twins_in(declared), statement, reasons)
+    return f'<div class="mutants declared"><details>{summary}{shown}</details></div>\n'
 
 
 def marks_of(count: Count, survived: int) -> str:

@@ -4,12 +4,12 @@
     mutants declare [OPTION..] PROGRAM.f --renew
 
 A mutant is a code and a number, as pages and reports name it; further numbers are of the same operator:
-ABS 7 9 12 ROR 1. Where other mutants are the same program, they are declared with it. An entry is put behind those of PROGRAM.equivalent.csv beside the program (of a unit that is picked
-among several, PROGRAM.UNIT.equivalent.csv): the mutant, its line before and after the change as mothra writes them, and
-the reason. Later calls look for an entry by these texts. Where they stand on one line alone the entry means that
-mutant, whatever its number has become; where they stand on several, the statements before or behind tell which is
-meant. Else it is refused, and named. So a changed program has no declared mutant that nobody looked at. With --renew
-the numbers of now are written into the file.
+ABS 7 9 12 ROR 1. Where other mutants are the same program, they are declared with it. An entry is put behind those of
+PROGRAM.equivalent.csv beside the program (of a unit that is picked among several, PROGRAM.UNIT.equivalent.csv): the
+mutant, its line before and after the change as mothra writes them, and the reason. Later calls look for an entry by
+these texts. Where they stand on one line alone the entry means that mutant, whatever its number has become; where they
+stand on several, the statements before or behind tell which is meant. Else it is refused, and named. So a changed
+program has no declared mutant that nobody looked at. With --renew the numbers of now are written into the file.
 """
 
 import argparse

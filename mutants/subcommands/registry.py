@@ -37,6 +37,7 @@ SUBCOMMANDS = [
     Subcommand("check", "run the mutants of a program on its tests: score, survivors, page"),
     Subcommand("job", "make a job of a program and a table of its tests"),
     Subcommand("declare", "declare mutants equivalent, tied to the texts that this is said of"),
+    Subcommand("compare", "tell what is killed, and what survives, since an earlier check"),
     Subcommand("page", "make one HTML file of what mothra says of a job"),
     Subcommand("explain", "say in words what a fault means for a job"),
     Subcommand("course", "run the suites of a class, and make a table and a page of them"),

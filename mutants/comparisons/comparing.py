@@ -1,0 +1,92 @@
+"""A comparison of two states: what became of the mutants and of the tests that both have, and what one has alone."""
+
+from collections.abc import Sequence
+from typing import NamedTuple
+
+from mutants.comparisons.matching import Matched, matched, tests_matched
+from mutants.comparisons.states import State, Verdict
+from mutants.texts.lines import Mutant
+
+
+class Change(NamedTuple):
+    """A mutant of both states as it is now, and the tests that tell: those that kill it now, or did before."""
+
+    mutant: Mutant
+    tests: tuple[int, ...]
+    is_declared: bool
+
+
+class TestChange(NamedTuple):
+    """A test of both states, by its numbers, with the mutants of both that it kills now alone, or did before alone."""
+
+    old: int
+    new: int
+    gained: list[Mutant]
+    lost: list[Mutant]
+
+
+class Comparison(NamedTuple):
+    old: State
+    new: State
+    matched: Matched
+    newly_killed: list[Change]
+    newly_surviving: list[Change]
+    # Survivors that are declared equivalent since then, and those that are it no more.
+    declared: list[Mutant]
+    undeclared: list[Mutant]
+    tests: list[TestChange]
+    # The numbers of the tests that are in both states; of the others those of one are the rest.
+    same_tests: list[tuple[int, int]]
+    remarks: list[str]
+
+    @property
+    def how_of_tests(self) -> str:
+        return "by their values" if self.old.statements and self.new.statements else "by number"
+
+
+def with_ops(state: State, ops: Sequence[str]) -> State:
+    """What a state says of the mutants of some operators."""
+    return state._replace(ops=ops, verdicts=[each for each in state.verdicts if each.mutant.op in ops])
+
+
+def remarks_on(old: State, new: State, ops: Sequence[str]) -> list[str]:
+    """What has to be known beside the two lists, in sentences."""
+    told = []
+    rest = [op for state in (old, new) for op in state.ops if op not in ops]
+    if rest:
+        told.append(f"Compared are the mutants of {', '.join(ops) or 'no operator'}: the others are in one file alone.")
+    if old.steps != new.steps:
+        told.append(f"The limit on steps was {old.steps}, and is {new.steps}.")
+    told += [f"Left out of {name}: {each}." for name, state in (("OLD", old), ("NEW", new)) for each in state.left_out]
+    return told + list(dict.fromkeys(state.remark for state in (old, new) if state.remark))
+
+
+def change_of_test(old: int, new: int, found: Matched) -> TestChange:
+    gained = [now.mutant for before, now in found.pairs if new in now.killers and old not in before.killers]
+    lost = [now.mutant for before, now in found.pairs if old in before.killers and new not in now.killers]
+    return TestChange(old, new, gained, lost)
+
+
+def compared(old: State, new: State) -> Comparison:
+    """The comparison of two states, by the operators that both have."""
+    ops = [op for op in new.ops if op in old.ops]
+    one, other = with_ops(old, ops), with_ops(new, ops)
+    found = matched(one, other)
+    killed = [(b, n) for b, n in found.pairs if n.is_killed and not b.is_killed]
+    lost = [(b, n) for b, n in found.pairs if b.is_killed and not n.is_killed]
+    # Survivors before and now.
+    alive: list[tuple[Verdict, Verdict]] = [(b, n) for b, n in found.pairs if not b.is_killed and not n.is_killed]
+    tests = tests_matched(old.tests, new.tests)
+    changes = [change_of_test(*pair, found) for pair in tests]
+    return Comparison(
+        one,
+        other,
+        found,
+        [Change(n.mutant, n.killers, n.status == "W") for _, n in killed],
+        [Change(n.mutant, b.killers, n.status == "E") for b, n in lost],
+        [n.mutant for b, n in alive if (b.status, n.status) == ("S", "E")],
+        [n.mutant for b, n in alive if (b.status, n.status) == ("E", "S")],
+        [change for change in changes if change.gained or change.lost],
+        tests,
+        remarks_on(old, new, ops),
+    )

@@ -1,0 +1,112 @@
+"""A comparison in Markdown, for a review."""
+
+from collections.abc import Iterable, Iterator, Sequence
+
+from mutants.comparisons.comparing import Comparison
+from mutants.comparisons.states import State, Verdict, count_of
+from mutants.comparisons.telling import (
+    Item,
+    items_of,
+    items_of_changes,
+    kills_in,
+    score_text,
+    test_change_text,
+    tests_alone,
+    value_text,
+    verdicts_text,
+)
+from mutants.pages.frame import plural
+
+# So many rows stand unfolded.
+UNFOLDED = 10
+CHARACTERS = str.maketrans({"|": "\\|", "<": "&lt;", "`": "'", "\n": " "})
+
+
+def cell(value: object) -> str:
+    return str(value).translate(CHARACTERS)
+
+
+def code(value: str) -> str:
+    """A text in code; < stays as it is there."""
+    return f"`{value.replace('`', chr(39)).replace('|', chr(92) + '|')}`" if value else ""
+
+
+def row(cells: Iterable[object]) -> str:
+    return f"| {' | '.join(map(str, cells))} |"
+
+
+def table(head: Sequence[str], rows: Iterable[Sequence[object]]) -> list[str]:
+    return [row(head), row("---" for _ in head), *map(row, rows)]
+
+
+def folded(title: str, lines: Sequence[str], rows: int) -> list[str]:
+    """A table under its title, folded where it is long."""
+    if rows <= UNFOLDED:
+        return [f"**{title}**", "", *lines, ""]
+    return ["<details>", f"<summary>{title}</summary>", "", *lines, "", "</details>", ""]
+
+
+def items_part(title: str, items: Sequence[Item], told: str = "") -> list[str]:
+    """A table of mutants; nothing where there is none. `told` is over what is told of each."""
+    if not items:
+        return []
+    head = ["Mutant", "Line", "Change", *([told] if told else [])]
+    rows = [
+        [cell(item.names), item.line or "", code(item.change), *([cell(item.told)] if told else [])] for item in items
+    ]
+    return folded(title, table(head, rows), len(rows))
+
+
+def counts_table(old: State, new: State) -> list[str]:
+    one, other = count_of(old.verdicts), count_of(new.verdicts)
+    rows: list[list[object]] = [
+        ["Tests", len(old.tests), len(new.tests)],
+        ["Mutants", one.total, other.total],
+        ["Killed", one.killed, other.killed],
+        ["Declared equivalent, not killed", one.equivalent, other.equivalent],
+        ["Survivors", *(count.total - count.killed - count.equivalent for count in (one, other))],
+        ["Score", score_text(old), score_text(new)],
+    ]
+    return [*table(["", "Before", "Now"], rows), ""]
+
+
+def alone_part(title: str, verdicts: Sequence[Verdict], state: State) -> list[str]:
+    """The mutants of one state alone."""
+    if not verdicts:
+        return []
+    alive = [verdict.mutant for verdict in verdicts if verdict.status == "S"]
+    told = f"{title}: {verdicts_text(verdicts)}"
+    return items_part(f"{told}; the survivors", items_of(alive, state)) or [f"{told}.", ""]
+
+
+def test_rows(comparison: Comparison) -> Iterator[list[object]]:
+    gone, added = tests_alone(comparison)
+    old, new = comparison.old, comparison.new
+    for number in added:
+        yield ["new", number, code(value_text(new, number)), f"kills {kills_in(new, number)}"]
+    for number in gone:
+        yield ["gone", number, code(value_text(old, number)), f"killed {kills_in(old, number)}"]
+    for change in comparison.tests:
+        yield ["changed", change.new, code(value_text(new, change.new)), cell(test_change_text(change))]
+
+
+def comparison_markdown(comparison: Comparison) -> str:
+    """The whole text, without the paths of the files."""
+    old, new, found = comparison.old, comparison.new, comparison.matched
+    lost, killed = comparison.newly_surviving, comparison.newly_killed
+    lines = [f"### Mutants of {cell(new.unit)}: {score_text(old)} before, {score_text(new)} now", ""]
+    lines += counts_table(old, new)
+    told = f"{plural(len(lost), 'mutant')} that {'was' if len(lost) == 1 else 'were'} killed"
+    title = f"{told} {'survives' if len(lost) == 1 else 'survive'}"
+    none = ["No mutant survives that was killed.", ""]
+    lines += items_part(title, items_of_changes(lost, new), "Was killed by") or none
+    lines += items_part(f"{plural(len(killed), 'mutant')} newly killed", items_of_changes(killed, new), "Killed by")
+    lines += alone_part("New", found.added, new) + alone_part("Gone", found.gone, old)
+    lines += items_part("Declared equivalent since then", items_of(comparison.declared, new))
+    lines += items_part("Declared equivalent no more", items_of(comparison.undeclared, new))
+    rows = list(test_rows(comparison))
+    lines += folded("Tests", table(["", "Test", "Values", "What it kills"], rows), len(rows)) if rows else []
+    told = f"{plural(len(found.pairs), 'mutant')} in both, matched {found.how}."
+    lines += [f"{told} Tests are matched {comparison.how_of_tests}."]
+    lines += [cell(remark) for remark in comparison.remarks]
+    return "\n".join(lines) + "\n"

@@ -1,0 +1,76 @@
+"""States of files: of reports of `mothra run`, and of what `mutants check --json` writes."""
+
+import json
+from collections.abc import Mapping
+from pathlib import Path
+from typing import Any
+
+from mutants.comparisons.states import State, Verdict, state_of_job, state_of_report
+from mutants.exports.mutation_report import text_in
+from mutants.program.calling import read_as, text_of
+from mutants.texts.lines import Mutant
+from mutants.texts.reports import read_report
+
+# The names of a mutation report, and the statuses of mutants that are not declared and that are.
+STATUSES = {"Killed": "KW", "Survived": "SS", "NoCoverage": "SS", "Ignored": "EE"}
+NEITHER = "it is neither a report of mothra run nor a file of mutants check --json"
+
+
+def initial_line(statements: Mapping[int, str], line: int) -> int:
+    """The initial line of the statement that has a line."""
+    return max(first for first in statements if first <= line)
+
+
+def verdict_of(found: Mapping[str, Any], numbers: Mapping[str, int], statements: Mapping[int, str]) -> Verdict:
+    """The verdict of a mutant of a mutation report."""
+    op, place = found["id"].split(" ")
+    line = initial_line(statements, found["location"]["start"]["line"])
+    mutant = Mutant(op, numbers[found["id"]], int(place), line, text_in(found["description"]))
+    status = STATUSES[found["status"]]["statusReason" in found]
+    return Verdict(mutant, status, tuple(map(int, found["killedBy"])))
+
+
+def numbers_of(ids: list[str]) -> dict[str, int]:
+    """The numbers of mutants within their operators, from 1."""
+    counts: dict[str, int] = {}
+    found = {}
+    for name in ids:
+        op = name.partition(" ")[0]
+        counts[op] = found[name] = counts.get(op, 0) + 1
+    return found
+
+
+def state_of_mutation_report(text: str) -> State:
+    """What a mutation report says; it has to be one that a check has written."""
+    try:
+        report = json.loads(text)
+        config, (file,) = report["config"], report["files"].values()
+        statements = {int(line): told for line, told in config["statements"].items()}
+        numbers = numbers_of([found["id"] for found in file["mutants"]])
+        verdicts = [verdict_of(found, numbers, statements) for found in file["mutants"]]
+        tests = [json.dumps(test) for test in config["suite"]]
+        remark = report["framework"]["name"].removeprefix("mutants").removeprefix(". ")
+        told = config["operators"], verdicts, tests, statements, config["leftOut"], remark
+        return State(config["unit"], config["steps"], 1, *told)
+    except (KeyError, TypeError, AttributeError, ValueError, IndexError, RecursionError):
+        raise ValueError("it is no whole file of this version's mutants check --json") from None
+
+
+def is_mutation_report(text: str) -> bool:
+    return text.lstrip().startswith("{")
+
+
+def read_state(path: Path) -> State:
+    """The state of a file of either kind, by what it begins with."""
+    text = text_of(path)
+    if is_mutation_report(text):
+        return read_as(path, state_of_mutation_report, text)
+    if not text.startswith(("REPORT ", "FAULT ")):
+        raise ValueError(f"{path}: {NEITHER}")
+    return state_of_report(read_as(path, read_report, text))
+
+
+def read_state_with_job(path: Path, job: Path, program: str) -> State:
+    """The state of a report, and of the job that it is of."""
+    report = read_as(path, read_report, text_of(path))
+    return read_as(job, lambda text: state_of_job(report, text, program), job.read_bytes())

@@ -1,0 +1,114 @@
+"""What the texts of a comparison share: mutants of one program together, names, tests, sentences on counts."""
+
+from collections.abc import Iterable, Mapping, Sequence
+from typing import NamedTuple
+
+from mutants.checks.summary import changed_text
+from mutants.comparisons.comparing import Change, Comparison, TestChange
+from mutants.comparisons.states import State, Verdict, count_of
+from mutants.pages.frame import joined_words, plural
+from mutants.pages.suite import shortened
+from mutants.texts.lines import Mutant
+from mutants.texts.reports import score_of
+from mutants.texts.twins import names_text, twins_in
+
+# So many mutants are named in a sentence, and so many tests.
+NAMED = 5
+UNKNOWN = "its text is in neither report"
+
+
+class Item(NamedTuple):
+    """A program that several mutants may be: their names, its line (0: unknown), its change, what is told of it."""
+
+    names: str
+    line: int
+    change: str
+    told: str
+
+
+def groups_of(mutants: Iterable[Mutant]) -> list[list[Mutant]]:
+    """Twins together. Mutants whose text is unknown stand alone."""
+    every = list(mutants)
+    return twins_in(each for each in every if each.text) + [[each] for each in every if not each.text]
+
+
+def change_text(mutant: Mutant, statements: Mapping[int, str]) -> str:
+    """What a mutant changes; where its statement is unknown, what stands there then."""
+    if not mutant.text:
+        return UNKNOWN
+    return changed_text(statements[mutant.line], mutant.text) if mutant.line in statements else mutant.text
+
+
+def tests_text(numbers: Sequence[int]) -> str:
+    """Tests by number, the first few of many."""
+    rest = [f"{len(numbers) - NAMED} more"] if len(numbers) > NAMED else []
+    return f"test{'s' if len(numbers) > 1 else ''} {joined_words([*numbers[:NAMED], *rest])}"
+
+
+def mutants_text(mutants: Sequence[Mutant]) -> str:
+    """Mutants by name, the first few of many; twins count as one."""
+    groups = groups_of(mutants)
+    rest = [f"{len(groups) - NAMED} more"] if len(groups) > NAMED else []
+    return joined_words([*map(names_text, groups[:NAMED]), *rest])
+
+
+def items_of_changes(changes: Sequence[Change], state: State) -> list[Item]:
+    """Mutants that changed, each with the tests that tell."""
+    by_mutant = {change.mutant: change for change in changes}
+    found = []
+    for group in groups_of(by_mutant):
+        change = by_mutant[group[0]]
+        told = tests_text(change.tests) + (", declared equivalent" if change.is_declared else "")
+        found.append(Item(names_text(group), group[0].line, change_text(group[0], state.statements), told))
+    return sorted(found, key=lambda item: item.line)
+
+
+def items_of(mutants: Iterable[Mutant], state: State) -> list[Item]:
+    found = [Item(names_text(g), g[0].line, change_text(g[0], state.statements), "") for g in groups_of(mutants)]
+    return sorted(found, key=lambda item: item.line)
+
+
+def score_text(state: State) -> str:
+    """The score with its sign, and `no score` where there is none."""
+    score = score_of(count_of(state.verdicts))
+    return "no score" if score == "NONE" else f"{score} %"
+
+
+def counted_text(count: int, noun: str, killed: int) -> str:
+    """So many mutants, and how many of them are killed."""
+    return f"{plural(count, noun)}, {killed} killed"
+
+
+def verdicts_text(verdicts: Sequence[Verdict]) -> str:
+    count = count_of(verdicts)
+    told = counted_text(count.total, "mutant", count.killed)
+    return f"{told}, {count.equivalent} declared equivalent" if count.equivalent else told
+
+
+def test_change_text(change: TestChange) -> str:
+    """What a test kills now that it did not before, and the other way round."""
+    parts = [f"kills {len(change.gained)} more: {mutants_text(change.gained)}"] if change.gained else []
+    parts += [f"no longer kills {mutants_text(change.lost)}"] if change.lost else []
+    return "; ".join(parts)
+
+
+def value_text(state: State, number: int) -> str:
+    """The values of a test; of a report alone they are unknown, and nothing is told."""
+    told = state.tests[number - 1]
+    return "" if told == str(number) else shortened(told)
+
+
+def others(state: State, same: Iterable[int]) -> list[int]:
+    """The tests of a state that the other one has not."""
+    known = set(same)
+    return [number for number in range(1, len(state.tests) + 1) if number not in known]
+
+
+def tests_alone(comparison: Comparison) -> tuple[list[int], list[int]]:
+    """The tests of the old state alone, and those of the new one alone."""
+    same = comparison.same_tests
+    return others(comparison.old, (old for old, _ in same)), others(comparison.new, (new for _, new in same))
+
+
+def kills_in(state: State, number: int) -> int:
+    return sum(number in verdict.killers for verdict in state.verdicts)
