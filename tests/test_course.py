@@ -100,7 +100,7 @@ class OneProgram(Class):
         has(self, page, "<h1>class &lt;1&gt;: what the suites kill</h1>")
         has(self, page, "IF (J<del>.LT.</del><ins>.LE.</ins>I) K=J")
         has(self, page, "The smallest set that kills all 15 that the class kills has 2 tests.")
-        has(self, page, "<td><code>[2, 1, 0]</code></td><td>anna and emil</td>")
+        has(self, page, '<th scope="row"><code>[2, 1, 0]</code></th><td>anna and emil</td>')
         has(self, page, '<a href="jobs/emil.html">emil</a>')
         jobs = self.folder / "out" / "jobs"
         has(

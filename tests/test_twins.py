@@ -63,8 +63,8 @@ class Told(Room):
         has(self, out, "2 survivors on 1 line, 1 different program, each with what it changes:\n")
         has(self, out, "  AAR 1, ROR 1  IF (J[.LT. -> .LE.]I) K=J\n")
         page = (self.folder / "least.html").read_text()
-        has(self, page, 'title="array reference for array reference; relational operator replacement"')
-        self.assertEqual(page.count(">AAR 1, ROR 1</abbr>"), 1)
+        self.assertEqual(page.count("<li><b>AAR 1, ROR 1</b>"), 1)
+        has(self, page, "2 survivors on 1 line, 1 different program.")
 
     def test_exports(self) -> None:
         paths = [self.folder / name for name in ("m.csv", "m.json", "m.xml")]

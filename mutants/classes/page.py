@@ -178,11 +178,10 @@ def course_page(title: str, results: Sequence[Result], known: Mapping[str, View]
     reported = {name: reported_of(ours) for name, ours in programs.items()}
     classes = {name: class_of(ours) if ours else None for name, ours in reported.items()}
     done = len(reported_of(results))
-    head = (
-        f"<h1>{text(title)}: what the suites kill</h1>\n<p>{plural(len(results), 'job')}, {done} with a report.</p>\n"
-    )
+    told = f"<p>{plural(len(results), 'job')}, {done} with a report.</p>\n"
+    head = f"<h1>{text(title)}: what the suites kill</h1>\n{told}" + remark_part(remark)
     sections = [
         program_section(place, name, ours, classes[name], known.get(name))
         for place, (name, ours) in enumerate(programs.items(), 1)
     ]
-    return page(title, head + remark_part(remark) + overview(programs, classes) + "".join(sections))
+    return page(title, head, overview(programs, classes) + "".join(sections))

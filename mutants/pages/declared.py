@@ -60,7 +60,7 @@ def declared_row(group: Group, statement: str) -> list[Cell]:
     said = text(group.reason) if group.reason else f'<span class="soft">{NO_REASON}</span>'
     return [
         ("", f"<b>{text(names_text(group.mutants))}</b>"),
-        ("n", f'<a href="#line-{mutant.line}">{mutant.line}</a>'),
+        ("n", f'<a href="#L{mutant.line}">{mutant.line}</a>'),
         ("", f"<code>{difference(statement, mutant.text)}</code>"),
         ("", killed + said),
     ]
@@ -79,7 +79,8 @@ def declared_part(
     told = f"{plural(count, 'mutant')} {'is' if count == 1 else 'are'} declared equivalent: no test can kill"
     told += f" {'it' if count == 1 else 'them'}, so it is said."
     told += f" Tests kill {wrong} of them all the same, and {wrong} counts as killed." if wrong else ""
-    return f"<p>{told}</p>\n" + table([("", "Mutant"), ("n", "Line"), ("", "Change"), ("", "Why")], shown)
+    head: list[Cell] = [("", "Mutant"), ("n", "Line"), ("", "Change"), ("", "Why")]
+    return f"<p>{told}</p>\n" + table(head, shown, label="Declared equivalent")
 
 
 def remarks_part(remarks: Iterable[str]) -> str:

@@ -1,23 +1,38 @@
-"""The kill matrix as a picture: a panel for each operator, in it a row for each test and a column for each mutant.
+"""The kill matrix: a fold for each operator, with panels that have a row for each test and a column for each mutant.
 
-A cell is filled where the test kills the mutant. Under a column is a mark where no test kills it: filled for a
-survivor, hollow for one that is declared equivalent. Panels are as wide as a small screen: a long list has several.
+A cell is filled where the test kills the mutant. A column has a title with the change and the tests; those of one line
+are a link to it. Under a column is a mark where no test kills the mutant: filled for a survivor, hollow for one
+that is declared equivalent. Panels are as wide as a small screen, so a long list has several. The cells of a panel are
+a small picture: so a matrix of thousands of mutants takes little room.
 """
 
-import re
-from collections.abc import Iterable, Sequence
+from collections.abc import Mapping, Sequence
 from itertools import groupby
+from typing import NamedTuple
 
 from mutants.operators import NAMES
 from mutants.pages.frame import text
+from mutants.pages.kill_sets import kill_sets_part, numbers_of, ranges_of
+from mutants.pages.pixels import source_of
+from mutants.pages.spans import change_of
+from mutants.texts.lines import Mutant
 from mutants.texts.reports import Row
 
-# A cell is so wide; so many mutants stand in a panel; so many cells stand in a picture.
-WIDE = 4
-TOGETHER = 80
-MOST = 400_000
-# Where the cells begin: to the left stand the numbers of the tests, to the right what each kills there.
-LEFT, RIGHT = 22, 26
+# A cell is so wide; so many mutants stand in a panel, and have a number each tenth; so many cells stand in a matrix.
+WIDE, TOGETHER, TENTH, MOST = 4, 80, 10, 400_000
+# Up to so many mutants all operators but ABS are unfolded, and so many columns at most have titles.
+UNFOLDED, TITLED = 600, 4_000
+# So many characters of a piece of a change are in a title, and so many tests.
+PIECE, NAMED = 16, 4
+MARKS = {"S": "s", "E": "e"}
+
+
+class Column(NamedTuple):
+    """A mutant, its row of the report, and its statement."""
+
+    mutant: Mutant
+    row: Row
+    statement: str
 
 
 def height_of(tests: int) -> int:
@@ -25,96 +40,103 @@ def height_of(tests: int) -> int:
     return 12 if tests <= 20 else 10 if tests <= 40 else 4
 
 
-def thinned(rows: Sequence[Row], tests: int) -> tuple[list[Row], int]:
-    """Each q-th row of each operator, and q: 1 where the picture has room for all."""
-    every = -(-len(rows) * max(tests, 1) // MOST) or 1
-    kept = [row for _, group in groupby(rows, key=lambda row: row.op) for row in list(group)[::every]]
-    return kept, every
+def thinned(columns: Sequence[Column], tests: int) -> tuple[list[Column], int]:
+    """Each q-th column of each operator, and q: 1 where the picture has room for all."""
+    every = -(-len(columns) * max(tests, 1) // MOST) or 1
+    groups = groupby(columns, key=lambda column: column.row.op)
+    return [column for _, group in groups for column in list(group)[::every]], every
 
 
-def kill_path(rows: Sequence[Row], tests: int, high: int) -> str:
-    """The filled cells, as strokes along the rows."""
+def shortened(piece: str) -> str:
+    return piece if len(piece) <= PIECE else piece[: PIECE - 2] + ".."
+
+
+def title_of(column: Column) -> str:
+    """What a mutant changes, and the first tests that kill it."""
+    change = change_of(column.statement, column.mutant.text)
+    numbers = numbers_of(column.row.bits)
+    tests = ranges_of(numbers[:NAMED]) + (f" +{len(numbers) - NAMED}" if numbers[NAMED:] else "")
+    told = f"{column.row.op} {column.row.place}: {shortened(change.old)} \u2192 {shortened(change.new)}"
+    return text(f"{told}; {tests or 'no test'}")
+
+
+def column_part(column: Column, is_titled: bool) -> str:
+    mark = MARKS.get(column.row.status, "")
+    kind = f' class="{mark}"' if mark else ""
+    return f'<u{kind} title="{title_of(column)}"></u>' if is_titled else f"<u{kind}></u>"
+
+
+def link_parts(columns: Sequence[Column], is_titled: bool) -> str:
+    """The columns, those of one line as a link to it."""
     parts = []
-    for test in range(tests):
-        bits = "".join(row.bits[test] for row in rows)
-        for run in re.finditer("1+", bits):
-            parts.append(f"M{LEFT + run.start() * WIDE} {test * high + high / 2:g}h{len(run[0]) * WIDE}")
-    return f'<path d="{"".join(parts)}" stroke="#1d4f7c" stroke-width="{high - 1}" fill="none"/>' if parts else ""
-
-
-def grid_path(count: int, tests: int, high: int) -> str:
-    """A thin line between the tests, and one behind each tenth mutant."""
-    wide = count * WIDE
-    parts = [f"M{LEFT} {test * high}h{wide}" for test in range(tests + 1)]
-    parts += [f"M{LEFT + at * WIDE} 0v{tests * high}" for at in [*range(0, count, 10), count]]
-    return f'<path d="{"".join(parts)}" stroke="#c9c9c9" stroke-width=".5" fill="none"/>'
-
-
-def foot_marks(rows: Iterable[Row], below: int) -> str:
-    """The marks under the columns of mutants that no test kills."""
-    parts = []
-    for place, row in enumerate(rows):
-        left, fill = LEFT + place * WIDE, {"S": "#a63c06", "E": "#fff"}.get(row.status)
-        if fill:
-            shape = f"M{left + 0.5} {below + 8}l1.5 -6l1.5 6z"
-            parts.append(f'<path d="{shape}" fill="{fill}" stroke="#a63c06" stroke-width=".6"/>')
+    for line, group in groupby(columns, key=lambda column: column.mutant.line):
+        inner = "".join(column_part(column, is_titled) for column in group)
+        parts.append(f'<a href="#L{line}" aria-label="line {line}">{inner}</a>')
     return "".join(parts)
 
 
-def row_texts(rows: Sequence[Row], tests: int, high: int) -> str:
-    """The number of each test, and how many of these mutants it kills; of many tests each tenth number."""
-    parts = []
-    for test in range(tests):
-        base = test * high + high / 2 + 3
-        if high >= 10 or test % 10 == 9:
-            parts.append(f'<text x="{LEFT - 3}" y="{base:g}" text-anchor="end">{test + 1}</text>')
-        kills = sum(row.bits[test] == "1" for row in rows)
-        if high >= 10 and kills:
-            parts.append(f'<text x="{LEFT + len(rows) * WIDE + 3}" y="{base:g}">{kills}</text>')
-    return "".join(parts)
+def number_parts(tests: int, kills: Sequence[int], high: int) -> tuple[str, str]:
+    """The numbers of the tests, and how many of these mutants each kills; of many tests each tenth number alone."""
+    if high < TENTH:
+        return "<br>".join(map(str, range(TENTH, tests + 1, TENTH))), ""
+    return "<br>".join(map(str, range(1, tests + 1))), "<br>".join(str(count or "") for count in kills)
 
 
-def panel(rows: Sequence[Row], tests: int, title: str) -> str:
+def panel(columns: Sequence[Column], tests: int, is_titled: bool) -> str:
+    """Some mutants of an operator."""
     high = height_of(tests)
-    below = tests * high
-    wide, tall = LEFT + len(rows) * WIDE + RIGHT, below + 10
-    drawn = [grid_path(len(rows), tests, high), kill_path(rows, tests, high), foot_marks(rows, below)]
-    size = f'width="{wide}" height="{tall}" viewBox="0 0 {wide} {tall}"'
-    inner = "".join(drawn) + row_texts(rows, tests, high)
-    picture = f'<svg {size} role="img" aria-label="Which tests kill these mutants">{inner}</svg>'
-    return f"<figure><figcaption>{title}</figcaption>{picture}</figure>\n"
+    lines = ["".join(column.row.bits[test] for column in columns) for test in range(tests)]
+    first, last = columns[0].row, columns[-1].row
+    size = f'width="{len(columns) * WIDE}" height="{tests * high}"'
+    image = f'<img alt="Which tests kill {first.op} {first.place} to {last.place}" {size} src="{source_of(lines)}">'
+    axis = "".join(f"<b>{column.row.place}</b>" for column in columns[TENTH - 1 :: TENTH])
+    numbers, kills = number_parts(tests, [line.count("1") for line in lines], high)
+    return (
+        f'<figure class="panel"><div class="axis" aria-hidden="true">{axis}</div>'
+        f'<div class="tests h{high}" aria-hidden="true">{numbers}</div>'
+        f'<div class="cells">{image}<div>{link_parts(columns, is_titled)}</div></div>'
+        f'<div class="h{high}" aria-hidden="true">{kills}</div></figure>\n'
+    )
 
 
-def title_of(rows: Sequence[Row], whole: Sequence[Row]) -> str:
-    """What stands over a panel: the operator, and which of its mutants, where these are not all."""
-    op = rows[0].op
-    killed = sum(row.status in "KW" for row in whole)
-    which = f", {rows[0].place} to {rows[-1].place}" if len(rows) < len(whole) else ""
-    if rows[0].number > 1:
-        return f"<b>{text(op)}</b>{which}"
-    return f"<b>{text(op)}</b> {text(NAMES.get(op, ''))}: {killed} of {len(whole)} killed{which}"
+def in_panels(columns: Sequence[Column]) -> list[Sequence[Column]]:
+    """Columns in parts that are alike in length, and no longer than a panel."""
+    count = -(-len(columns) // TOGETHER)
+    return [columns[part * len(columns) // count : (part + 1) * len(columns) // count] for part in range(count)]
 
 
-def in_panels(rows: Sequence[Row]) -> list[Sequence[Row]]:
-    """Rows in parts that are alike in length, and no longer than a panel."""
-    count = -(-len(rows) // TOGETHER)
-    return [rows[part * len(rows) // count : (part + 1) * len(rows) // count] for part in range(count)]
+def fold(columns: Sequence[Column], killed: str, tests: int, count: int) -> str:
+    """An operator with its panels. ABS, whose mutants are equivalent most often, is folded."""
+    op = columns[0].row.op
+    is_open = " open" if count <= UNFOLDED and op != "ABS" else ""
+    panels = "".join(panel(part, tests, count <= TITLED) for part in in_panels(columns))
+    told = f"<b>{text(op)}</b> {text(NAMES.get(op, ''))}: {killed}"
+    return f'<details{is_open}><summary>{told}</summary><div class="panels">\n{panels}</div></details>\n'
 
 
-def matrix_part(rows: Sequence[Row], tests: int) -> str:
-    """The panels of all operators that have mutants, with a sentence on how to read them."""
+def key(every: int, is_titled: bool) -> str:
+    told = (
+        "A row is a test, a column a mutant of the operator, by its number; a cell is filled where the test kills the"
+        " mutant. A triangle stands under a mutant that no test kills; it is hollow where the mutant is declared"
+        " equivalent. The number behind a row is how many of these mutants the test kills."
+    )
+    told += " A column leads to the line of its mutant"
+    told += "; its title has the change and the first tests that kill it." if is_titled else "."
+    if every > 1:
+        told += f" So that there are no more than {MOST:,} cells, each {every}th mutant of each operator is shown."
+    return f"<p>{told}</p>\n"
+
+
+def matrix_part(listed: Sequence[Mutant], rows: Sequence[Row], statements: Mapping[int, str], tests: int) -> str:
+    """The folds of all operators that have mutants, with a sentence on how to read them, and the same as a table."""
     if not tests or not rows:
         return "<p>There is no test, or no mutant, and so no matrix.</p>\n"
-    shown, every = thinned(rows, tests)
-    whole = {op: list(group) for op, group in groupby(rows, key=lambda row: row.op)}
-    panels = []
-    for op, group in groupby(shown, key=lambda row: row.op):
-        panels += [panel(part, tests, title_of(part, whole[op])) for part in in_panels(list(group))]
-    told = (
-        "A row is a test, a column a mutant; a cell is filled where the test kills the mutant. A triangle stands under"
-        " a mutant that no test kills; it is hollow where the mutant is declared equivalent. The number behind a row is"
-        " how many of these mutants the test kills."
-    )
-    if every > 1:
-        told += f" So that the picture has no more than {MOST:,} cells, it has each {every}th mutant of each operator."
-    return f'<p>{told}</p>\n<div class="matrix">\n{"".join(panels)}</div>\n'
+    columns = [Column(mutant, row, statements[mutant.line]) for mutant, row in zip(listed, rows)]
+    shown, every = thinned(columns, tests)
+    folds = []
+    for op, group in groupby(shown, key=lambda column: column.row.op):
+        statuses = [row.status for row in rows if row.op == op]
+        killed = f"{sum(status in 'KW' for status in statuses)} of {len(statuses)} killed"
+        folds.append(fold(list(group), killed, tests, len(shown)))
+    told = key(every, len(shown) <= TITLED)
+    return f'{told}<div class="matrix">\n{"".join(folds)}{kill_sets_part(rows)}</div>\n'

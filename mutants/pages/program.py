@@ -1,22 +1,14 @@
 """The program on a page: each line with its marks, and under each statement its survivors with what they change."""
 
 import re
-from collections.abc import Iterable, Mapping, Sequence
-from itertools import groupby
-from types import MappingProxyType
+from collections.abc import Mapping, Sequence
 
-from mutants.operators import NAMES
 from mutants.pages.differences import pieces
-from mutants.pages.frame import bar, plural, text
+from mutants.pages.frame import bar, text
+from mutants.pages.survivors import MARKS, NO_REASONS, declared_part, survivors_part
 from mutants.texts.cards import cards_of, is_comment, last_lines, source_lines
 from mutants.texts.lines import Mutant
 from mutants.texts.reports import Count
-from mutants.texts.twins import name_of, names_text, twins_in
-
-# So many survivors of an operator on one line are shown unfolded.
-UNFOLDED = 12
-NO_REASONS: Mapping[str, str] = MappingProxyType({})
-MARKS = {"=": "{}", "-": "<del>{}</del>", "+": "<ins>{}</ins>"}
 
 
 def letters(statement: str) -> str:
@@ -37,54 +29,21 @@ def difference(old: str, new: str) -> str:
     return "".join(MARKS[mark].format(text(piece)) for mark, piece in pieces(old, new))
 
 
-def survivor_item(twins: Sequence[Mutant], statement: str, reason: str = "") -> str:
-    """A survivor with all its names."""
-    why = f' <span class="soft">{text(reason)}</span>' if reason else ""
-    told = "; ".join(dict.fromkeys(NAMES.get(twin.op, twin.op) for twin in twins))
-    name = f'<abbr title="{text(told)}">{text(names_text(twins))}</abbr>'
-    return f"<li><b>{name}</b><span><code>{difference(statement, twins[0].text)}</code>{why}</span></li>\n"
-
-
-def items(groups: Iterable[Sequence[Mutant]], statement: str, reasons: Mapping[str, str] = NO_REASONS) -> str:
-    """The mutants of a line in groups of twins; declared ones have reasons by their names."""
-    parts = [survivor_item(twins, statement, reasons.get(name_of(twins[0]), "")) for twins in groups]
-    return "<ul>\n" + "".join(parts) + "</ul>\n"
-
-
-def survivors_part(survivors: Iterable[Mutant], statement: str) -> str:
-    """The survivors of a line; where an operator has many they are folded."""
-    parts = []
-    for op, alike in groupby(twins_in(survivors), key=lambda twins: twins[0].op):
-        group = list(alike)
-        shown = items(group, statement)
-        summary = f"<summary><b>{text(op)}</b> {text(NAMES.get(op, ''))}: {len(group)} survivors</summary>"
-        parts.append(shown if len(group) <= UNFOLDED else f"<details>{summary}{shown}</details>\n")
-    return f'<div class="mutants">{"".join(parts)}</div>\n'
-
-
-def declared_part(declared: Sequence[Mutant], statement: str, reasons: Mapping[str, str]) -> str:
-    """The mutants of a line that are declared equivalent and survived, folded."""
-    summary = f"<summary>{len(declared)} declared equivalent</summary>"
-    shown = items(twins_in(declared), statement, reasons)
-    return f'<div class="mutants declared"><details>{summary}{shown}</details></div>\n'
-
-
 def marks_of(count: Count, survived: int) -> str:
     """The marks of a line: a bar, how many mutants are killed, and how many survive."""
-    said = f"{count.killed} of {plural(count.total, 'mutant')} killed"
     told = f"{count.killed} of {count.total}"
     if survived:
         last = f'<span class="live">{survived} survive{"s" if survived == 1 else ""}</span>'
     else:
         last = f"<span>{count.equivalent} equivalent</span>" if count.equivalent else "<span>all killed</span>"
-    return f'<span class="marks"><span>{bar(count.killed, count.total, said)}</span><span>{told}</span>{last}</span>'
+    return f'<span class="marks"><span>{bar(count.killed, count.total)}</span><span>{told}</span>{last}</span>'
 
 
 def line_part(number: int, line: str, count: Count | None, survived: int, has_link: bool) -> str:
     """A line of the source. On a page with one program it can be linked to."""
     marks = marks_of(count, survived) if count else '<span class="marks"></span>'
     kind = "line remark" if is_comment(line) else "line"
-    link = f' id="line-{number}"' if has_link and count else ""
+    link = f' id="L{number}"' if has_link and count else ""
     told = f'<span class="number">{number}</span><span class="source">{text(line) or " "}</span>{marks}'
     return f'<div class="{kind}"{link}>{told}</div>\n'
 

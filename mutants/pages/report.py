@@ -6,13 +6,14 @@ from typing import NamedTuple
 
 from mutants.operators import NAMES
 from mutants.pages.declared import NOTHING, Said, declared_part, remarks_part
-from mutants.pages.frame import Cell, bar, joined_words, page, plural, remark_part, table, text
+from mutants.pages.frame import Cell, bar, joined_words, page, plural, remark_part, sections, table, text
 from mutants.pages.matrix import matrix_part
 from mutants.pages.program import program_part, statements_by_line
 from mutants.pages.suite import tests_part
 from mutants.texts.jobs import Job
 from mutants.texts.lines import Mutant
 from mutants.texts.reports import Count, Report, Row, assert_same_mutants, score_of, summed, with_status
+from mutants.texts.twins import twins_in
 
 
 def counts_by_line(listed: Sequence[Mutant], rows: Iterable[Row]) -> dict[int, Count]:
@@ -38,7 +39,7 @@ def score_part(count: Count) -> str:
     said = f"{count.killed} of {plural(wanted, 'mutant')} killed"
     rest = f", not counting {count.equivalent} declared equivalent" if count.equivalent else ""
     figures = "no score" if score == "NONE" else f"{score} %"
-    return f'<div class="score"><b>{figures}</b>{bar(count.killed, wanted, said)}<span>{said}{rest}</span></div>\n'
+    return f'<div class="score"><b>{figures}</b>{bar(count.killed, wanted)}<span>{said}{rest}</span></div>\n'
 
 
 def facts_of(report: Report) -> str:
@@ -54,8 +55,9 @@ def first_look(survivors: Sequence[Mutant]) -> str:
         return "<p>No mutant survives that is not declared equivalent.</p>\n"
     lines = Counter(mutant.line for mutant in survivors)
     line, most = lines.most_common(1)[0]
-    told = f"{plural(len(survivors), 'survivor')} on {plural(len(lines), 'line')}"
-    told += f'; the most, {most}, on <a href="#line-{line}">line {line}</a>' if len(lines) > 1 else ""
+    told, different = f"{plural(len(survivors), 'survivor')} on {plural(len(lines), 'line')}", len(twins_in(survivors))
+    told += f", {plural(different, 'different program')}" if different < len(survivors) else ""
+    told += f'; the most, {most}, on <a href="#L{line}">line {line}</a>' if len(lines) > 1 else ""
     asked = "Each asks: on what values does the changed line do something else? Such values are a test that is missing;"
     asked += " where there are none, the mutant is equivalent."
     return f"<p>{told}. {asked}</p>\n"
@@ -72,7 +74,6 @@ def wrong_part(rows: Iterable[Row]) -> str:
 
 
 def operator_row(op: str, count: Count) -> list[Cell]:
-    said = f"{count.killed} of {count.total}"
     return [
         ("", f'<b>{text(op)}</b> <span class="name">{text(NAMES.get(op, ""))}</span>'),
         ("n", count.total),
@@ -80,7 +81,7 @@ def operator_row(op: str, count: Count) -> list[Cell]:
         ("n", count.equivalent),
         ("n", count.total - count.killed - count.equivalent),
         ("n", score_of(count)),
-        ("bar", bar(count.killed, count.total - count.equivalent, said)),
+        ("bar", bar(count.killed, count.total - count.equivalent)),
     ]
 
 
@@ -92,14 +93,7 @@ def operators_part(counts: Mapping[str, Count]) -> str:
     total = [("", "All"), *operator_row("All", summed(counts.values()))[1:]]
     without = [f"{op} ({NAMES.get(op, '')})" for op, count in counts.items() if not count.total]
     rest = f'<p class="soft">Without a mutant in this program: {text(joined_words(without))}.</p>\n' if without else ""
-    return table(head, rows, total) + rest
-
-
-def sections(parts: Sequence[tuple[str, str, str]]) -> tuple[str, str]:
-    """Sections with links to them: of each its name, its title and its HTML."""
-    links = "".join(f'<a href="#{name}">{title}</a> ' for name, title, _ in parts)
-    bodies = "".join(f'<h2 id="{name}">{title}</h2>\n{inner}' for name, title, inner in parts)
-    return f"<nav>{links}</nav>\n", bodies
+    return table(head, rows, total, label="The operators", does_sort=True) + rest
 
 
 class Outcomes(NamedTuple):
@@ -140,18 +134,28 @@ def report_page(
     reasons = declared_part(listed, report.rows, statements, said.reasons)
     links, bodies = sections(
         [
-            ("program", "The program", program_key() + listing),
+            ("program", "The program", program_key() + filter_part(survivors) + listing),
             *([("declared", "Declared equivalent", reasons)] if reasons else []),
             ("operators", "The operators", operators_part(report.counts)),
             ("tests", "The tests", tests_part(job.suite, report.rows, *outcomes)),
-            ("matrix", "The kill matrix", matrix_part(report.rows, report.tests)),
+            ("matrix", "The kill matrix", matrix_part(listed, report.rows, statements, report.tests)),
         ]
     )
     head = f"<h1>{text(report.unit)}: which mutants the tests kill</h1>\n" + remark_part(remark)
     head += unexpected_part(outcomes.unexpected) + score_part(summed(report.counts.values()))
     head += facts_of(report) + wrong_part(report.rows)
     head += remarks_part(said.remarks)
-    return page(f"{report.unit}: kills and survivors", head + first_look(survivors) + links + bodies)
+    return page(f"{report.unit}: kills and survivors", head + first_look(survivors) + links, bodies)
+
+
+def filter_part(survivors: Iterable[Mutant]) -> str:
+    """A choice of one operator, which only a script can serve: without one it is not seen."""
+    ops = sorted({mutant.op for mutant in survivors})
+    if len(ops) < 2:
+        return ""
+    options = "".join(f"<option>{text(op)}</option>" for op in ops)
+    choice = f'<select><option value="">all operators</option>{options}</select>'
+    return f'<p class="filter" hidden><label>Survivors of {choice}</label></p>\n'
 
 
 def program_key() -> str:

@@ -6,9 +6,10 @@ from collections.abc import Iterable, Mapping, Sequence
 from mutants.pages.cover import smallest_set
 from mutants.pages.frame import Cell, bar, joined_words, plural, table, text
 from mutants.texts.reports import Row
+from mutants.texts.twins import names_text
 
-# So many characters of a test's values are shown, and so many numbers of tests in a sentence.
-LONGEST, NUMBERS = 72, 20
+# So many characters of a test's values are shown, so many numbers of tests in a sentence, so many mutants of a test.
+LONGEST, NUMBERS, NAMED = 72, 20, 4
 
 
 def killers_of(bits: str) -> int:
@@ -71,36 +72,53 @@ def outcome_cell(outcome: str, expected: str | None) -> Cell:
     return "", told if expected is None else f'{told} <span class="live">expected {text(shortened(expected))}</span>'
 
 
-def test_cells(number: int, test: object, kills: int, alone: int, mutants: int) -> list[Cell]:
+def alone_by_test(rows: Iterable[Row], tests: int) -> list[list[Row]]:
+    """The mutants that each test kills and no other test does."""
+    found: list[list[Row]] = [[] for _ in range(tests)]
+    for row in rows:
+        if row.bits.count("1") == 1:
+            found[row.bits.index("1")].append(row)
+    return found
+
+
+def alone_text(alone: Sequence[Row]) -> str:
+    """The first few mutants that a test alone kills, by name."""
+    rest = f" and {len(alone) - NAMED} more" if len(alone) > NAMED else ""
+    return names_text(alone[:NAMED]) + rest
+
+
+def test_cells(number: int, test: object, kills: int, alone: Sequence[Row], mutants: int) -> list[Cell]:
     return [
         ("n", number),
         ("", f"<code>{text(values_of(test))}</code>"),
         ("n", kills),
-        ("n", f"<b>{alone}</b>" if alone else "none"),
-        ("bar", bar(kills, mutants, f"{kills} of {mutants}")),
+        ("n", f"<b>{len(alone)}</b>" if alone else "none"),
+        ("", text(alone_text(alone))),
+        ("bar", bar(kills, mutants)),
     ]
+
+
+HEAD: list[Cell] = [
+    ("n", "Test"), ("", "Values"), ("n", "Kills"), ("n", "It alone"), ("", "Which"), ("bar", "Share of all mutants"),
+]  # fmt: skip
 
 
 def tests_part(
     suite: Sequence[object], rows: Sequence[Row], outcomes: Sequence[str] = (), unexpected: Mapping[int, str] = {}
 ) -> str:
-    """The table of the tests of a suite, and what follows of it. The outcomes are those of the program, where known."""
+    """The table of the tests of a suite, those first that alone kill the most, and what follows of it.
+
+    The outcomes are those of the program, where known.
+    """
     if not suite:
         return "<p>The suite has no test.</p>\n"
-    kills, alone = kills_of(rows, len(suite)), alone_of(rows, len(suite))
-    head: list[Cell] = [
-        ("n", "Test"),
-        ("", "Values"),
-        ("n", "Kills"),
-        ("n", "It alone"),
-        ("bar", "Share of all mutants"),
-    ]
-    shown = [
-        test_cells(number, test, kills[number - 1], alone[number - 1], len(rows))
-        for number, test in enumerate(suite, 1)
-    ]
+    kills, alone = kills_of(rows, len(suite)), alone_by_test(rows, len(suite))
+    head, shown = [*HEAD], []
+    for place in sorted(range(len(suite)), key=lambda place: (-len(alone[place]), -kills[place], place)):
+        cells = test_cells(place + 1, suite[place], kills[place], alone[place], len(rows))
+        if outcomes:
+            cells.insert(2, outcome_cell(outcomes[place], unexpected.get(place + 1)))
+        shown.append(cells)
     if outcomes:
         head.insert(2, ("", "The program"))
-        for number, (cells, outcome) in enumerate(zip(shown, outcomes), 1):
-            cells.insert(2, outcome_cell(outcome, unexpected.get(number)))
-    return remarks_on(rows, alone) + table(head, shown)
+    return remarks_on(rows, alone_of(rows, len(suite))) + table(head, shown, label="The tests", does_sort=True)

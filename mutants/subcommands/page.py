@@ -9,7 +9,7 @@ with their texts and reasons; of a job the reasons are those of the file that --
 
 The program is asked for `print`, `list` and `run` with the job, and for `exec` with each test. Any of these texts can
 be given as a file instead, as the program wrote it, the outcomes a line each; with the first three the program is not
-needed. The page is one file with no script, and nothing in it is loaded from elsewhere.
+needed. The page is one file that needs no script, and nothing in it is loaded from elsewhere.
 
 `run` is asked for a few operators at a time, so that a line on standard error can say how far it is; the reports are
 joined. A text that is no such text, is cut short or is not of this job is refused with one line and status 1.

@@ -1,0 +1,55 @@
+"""The kill matrix as a table: a row for each set of tests that kills some mutants and no other test does."""
+
+from collections.abc import Iterable, Sequence
+from itertools import groupby
+
+from mutants.pages.frame import Cell, plural, table
+from mutants.texts.reports import Row
+
+
+def ranges_of(numbers: Iterable[int]) -> str:
+    """Numbers in ascending order in few words: 1, 3-9, 12."""
+    rows: list[list[int]] = []
+    for number in numbers:
+        if rows and rows[-1][-1] == number - 1:
+            rows[-1] = [rows[-1][0], number]
+        else:
+            rows.append([number])
+    return ", ".join("-".join(map(str, row)) for row in rows)
+
+
+def numbers_of(bits: str, digit: str = "1") -> list[int]:
+    """The numbers of the tests that have a digit."""
+    return [number for number, bit in enumerate(bits, 1) if bit == digit]
+
+
+def killers_text(bits: str) -> str:
+    """The tests that kill, or those that do not where that is shorter."""
+    if "1" not in bits or "0" not in bits:
+        return "all tests" if "1" in bits else "no test"
+    told, rest = ranges_of(numbers_of(bits)), f"all but {ranges_of(numbers_of(bits, '0'))}"
+    return told if bits.count("1") <= len(bits) / 2 else rest
+
+
+def names_of(rows: Iterable[Row]) -> str:
+    """Mutants by their operators, with their numbers."""
+    groups = groupby(rows, key=lambda row: row.op)
+    return "; ".join(f"{op} {ranges_of(row.place for row in alike)}" for op, alike in groups)
+
+
+def kill_sets(rows: Iterable[Row]) -> list[tuple[str, list[Row]]]:
+    """The mutants that have the same killers, those with the fewest killers first."""
+    found: dict[str, list[Row]] = {}
+    for row in rows:
+        found.setdefault(row.bits, []).append(row)
+    return sorted(found.items(), key=lambda pair: pair[0].count("1"))
+
+
+def kill_sets_part(rows: Sequence[Row]) -> str:
+    """The table, folded."""
+    shown = kill_sets(rows)
+    cells: list[list[Cell]] = [[("", killers_text(bits)), ("", names_of(alike))] for bits, alike in shown]
+    head: list[Cell] = [("", "Killed by"), ("", "Mutants")]
+    told = f"The same as a table: {plural(len(shown), 'set')} of tests, each with what just these tests kill"
+    inner = table(head, cells, label="Which tests kill which mutants")
+    return f"<details><summary>{told}</summary>\n{inner}</details>\n"

@@ -1,0 +1,111 @@
+"""The survivors of a line, each with what it changes; of many some are folded.
+
+A long statement is not shown whole for each of them: what is far from the change is marked, so that a small screen can
+leave it out, and what is very far is left out everywhere.
+"""
+
+from collections.abc import Iterable, Mapping, Sequence
+from types import MappingProxyType
+
+from mutants.operators import NAMES
+from mutants.pages.differences import WORD, pieces
+from mutants.pages.frame import joined_words, plural, text
+from mutants.texts.lines import Mutant
+from mutants.texts.twins import name_of, names_text, twins_in
+
+# So many survivors of a line are unfolded.
+UNFOLDED = 5
+# So many characters of a statement at least stand beside a change; so many more are worth to be left out on a small
+# screen; and so many are left out everywhere.
+NEAR, FAR, FARTHEST = 14, 8, 90
+NO_REASONS: Mapping[str, str] = MappingProxyType({})
+MARKS = {"=": "{}", "-": "<del>{}</del>", "+": "<ins>{}</ins>"}
+# The operator whose mutants are equivalent most often.
+ABS = "ABS"
+
+Twins = Sequence[Mutant]
+
+
+def near_front(same: str) -> int:
+    """How many characters at the end of what is the same stand near a change behind it: whole words."""
+    count = 0
+    for word in reversed(WORD.findall(same)):
+        if count >= NEAR:
+            break
+        count += len(word)
+    return count
+
+
+def near_back(same: str) -> int:
+    """How many characters at the front of what is the same stand near a change before it: whole words."""
+    count = 0
+    for word in WORD.findall(same):
+        if count >= NEAR:
+            break
+        count += len(word)
+    return count
+
+
+def far_part(far: str) -> str:
+    """What is far from a change: marked, or left out."""
+    if len(far) > FARTHEST:
+        return "\u2026"
+    return f"<i>{text(far)}</i>" if len(far) > FAR else text(far)
+
+
+def with_context(old: str, new: str) -> str:
+    """The two statements as one text in which what is gone and what is new are marked, and what is far from both."""
+    found = pieces(old, new)
+    shown = [MARKS[mark].format(text(piece)) for mark, piece in found]
+    if found and found[0][0] == "=":
+        front = found[0][1]
+        at = len(front) - near_front(front)
+        shown[0] = far_part(front[:at]) + text(front[at:])
+    if len(found) > 1 and found[-1][0] == "=":
+        back = found[-1][1]
+        at = near_back(back)
+        shown[-1] = text(back[:at]) + far_part(back[at:])
+    return "".join(shown)
+
+
+def survivor_item(twins: Twins, statement: str, reason: str = "") -> str:
+    """A survivor with all its names."""
+    why = f'<span class="soft">{text(reason)}</span>' if reason else ""
+    code = f"<code>{with_context(statement, twins[0].text)}</code>"
+    return f"<li><b>{text(names_text(twins))}</b>{code}{why}</li>\n"
+
+
+def items(groups: Iterable[Twins], statement: str, reasons: Mapping[str, str] = NO_REASONS) -> str:
+    """The mutants of a line in groups of twins; declared ones have reasons by their names."""
+    parts = [survivor_item(twins, statement, reasons.get(name_of(twins[0]), "")) for twins in groups]
+    return "<ul>\n" + "".join(parts) + "</ul>\n"
+
+
+def folded(told: str, groups: Sequence[Twins], statement: str) -> str:
+    if not groups:
+        return ""
+    return f"<details><summary>{told}</summary>{items(groups, statement)}</details>\n"
+
+
+def ops_of(groups: Iterable[Twins]) -> list[str]:
+    return list(dict.fromkeys(twin.op for twins in groups for twin in twins))
+
+
+def survivors_part(survivors: Iterable[Mutant], statement: str) -> str:
+    """The survivors of a line: the first few, the others folded, and those of ABS alone folded too."""
+    groups = twins_in(survivors)
+    others = [twins for twins in groups if ops_of([twins]) != [ABS]]
+    absolute = [twins for twins in groups if ops_of([twins]) == [ABS]]
+    shown, rest = others[:UNFOLDED], others[UNFOLDED:]
+    parts = items(shown, statement) if shown else ""
+    parts += folded(f"{len(rest)} more, of {joined_words(ops_of(rest))}", rest, statement)
+    told = f"<b>{ABS}</b> {NAMES[ABS]}: {plural(len(absolute), 'survivor')}"
+    return f'<div class="mutants">{parts}{folded(told, absolute, statement)}</div>\n'
+
+
+def declared_part(declared: Iterable[Mutant], statement: str, reasons: Mapping[str, str]) -> str:
+    """The mutants of a line that are declared equivalent and survived, folded."""
+    every = list(declared)
+    summary = f"<summary>{len(every)} declared equivalent</summary>"
+    shown = items(twins_in(every), statement, reasons)
+    return f'<div class="mutants declared"><details>{summary}{shown}</details></div>\n'
