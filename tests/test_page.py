@@ -245,7 +245,7 @@ class Matrices(unittest.TestCase):
         listed, statements = columns_of(report)
         part = matrix_part(listed, report.rows, statements, report.tests)
         has(self, part, '<a href="#L3" aria-label="line 3">', '<u title="ABS 3: I \u2192 J; 1-4 +6"></u>')
-        has(self, part, '<u class="s" title="ABS 1: I \u2192 J; no test"></u>', "<b>10</b><b>20</b>")
+        has(self, part, '<u class="s" title="ABS 1: I \u2192 J; no test"></u>', "<b><i>1</i>10</b><b>20</b>")
         self.assertIn("<details><summary><b>ABS</b>", part)
         self.assertIn("<details open><summary><b>ROR</b>", part)
 

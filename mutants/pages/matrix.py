@@ -89,7 +89,8 @@ def panel(columns: Sequence[Column], tests: int, is_titled: bool) -> str:
     first, last = columns[0].row, columns[-1].row
     size = f'width="{len(columns) * WIDE}" height="{tests * high}"'
     image = f'<img alt="Which tests kill {first.op} {first.place} to {last.place}" {size} src="{source_of(lines)}">'
-    axis = "".join(f"<b>{column.row.place}</b>" for column in columns[TENTH - 1 :: TENTH])
+    tenths = [str(column.row.place) for column in columns[TENTH - 1 :: TENTH]] or [""]
+    axis = f"<b><i>{first.place}</i>{tenths[0]}</b>" + "".join(f"<b>{place}</b>" for place in tenths[1:])
     numbers, kills = number_parts(tests, [line.count("1") for line in lines], high)
     return (
         f'<figure class="panel"><div class="axis" aria-hidden="true">{axis}</div>'

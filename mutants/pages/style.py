@@ -50,8 +50,8 @@ td.bar svg, .marks svg { width: 100%; height: .8rem }
 .line > .marks { order: 2; flex: 0 0 15.5rem; display: grid; grid-template-columns: 4.2rem 4.9rem 5.9rem; gap: .25rem;
   white-space: nowrap; font-size: .85rem; font-variant-numeric: tabular-nums }
 .line > .source { order: 3; flex: 1 1 0; min-width: 0; font-size: .85rem; white-space: pre-wrap;
-  overflow-wrap: anywhere }
-.line.remark > .source { color: var(--soft) }
+  word-break: break-all }
+.line.remark > .source { color: var(--soft); word-break: normal; overflow-wrap: anywhere }
 .live { color: var(--live); font-weight: bold }
 .mutants { margin: .1rem .6rem .5rem 16.4rem; padding-left: .7rem; border-left: .25rem solid var(--live) }
 .mutants.declared { border-left: .25rem double var(--soft) }
@@ -60,10 +60,13 @@ td.bar svg, .marks svg { width: 100%; height: .8rem }
   align-items: baseline; padding: .05rem 0; line-height: 1.4 }
 .mutants li > b { max-width: 9rem; font-size: .85rem }
 .mutants li > .soft { grid-column: 2 }
-.mutants code { font-size: .85rem }
+.mutants code { font-size: .85rem; word-break: break-all }
 summary { cursor: pointer; font-size: .85rem }
 del { color: var(--live); text-decoration: line-through; text-decoration-thickness: 1.5px }
 ins { font-weight: bold; text-decoration: underline; text-decoration-thickness: 2px; text-underline-offset: 2px }
+.matrix { display: flex; flex-wrap: wrap; align-items: flex-start; column-gap: 2rem }
+.matrix details { max-width: 100% }
+.matrix details:last-child { flex: 0 0 100% }
 .matrix summary { font-size: 1rem; padding: .15rem 0 }
 .panels { display: flex; flex-wrap: wrap; gap: .6rem 1.6rem; margin: .2rem 0 .8rem }
 figure { margin: 0; break-inside: avoid; display: grid; grid-template-columns: 1.7rem auto 1.7rem; column-gap: 3px;
@@ -71,6 +74,7 @@ figure { margin: 0; break-inside: avoid; display: grid; grid-template-columns: 1
 figcaption, .axis { grid-column: 2; font-size: .8rem; line-height: 1.3 }
 .axis { display: flex; font-size: 9px; line-height: 12px }
 .axis b { flex: 0 0 40px; font-weight: normal; text-align: right }
+.axis i { float: left; font-style: normal }
 .tests { grid-column: 1; text-align: right }
 .cells { position: relative; align-self: start; border: solid var(--line); border-width: 1px 0 }
 .cells img { display: block; image-rendering: pixelated }
