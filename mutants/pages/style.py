@@ -33,7 +33,7 @@ svg.full { vertical-align: middle; border: 1px solid var(--ink); fill: var(--kil
 table { border-collapse: collapse; margin: .6rem 0; font-variant-numeric: tabular-nums }
 th, td { padding: .18rem .7rem .18rem 0; text-align: left; vertical-align: top; border-bottom: 1px solid var(--line) }
 tbody th { font-weight: normal }
-thead th { border-bottom: 1.5px solid var(--ink); vertical-align: bottom; line-height: 1.2 }
+thead :is(th, td) { border-bottom: 1.5px solid var(--ink); vertical-align: bottom; line-height: 1.2 }
 thead button { all: unset; cursor: pointer; text-decoration: underline dotted }
 thead button:focus-visible { outline: 2px solid var(--kill) }
 tfoot th, tfoot td { border-top: 1.5px solid var(--ink); border-bottom: 0; font-weight: bold }
