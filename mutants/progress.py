@@ -65,3 +65,17 @@ class Estimate:
             # Lines that stay, as in the log of a build, are told where something was done since.
             self.next, self.told = now + (0 if self.progress.is_terminal else OFTEN), self.done
             self.progress.tell(self.text(now))
+
+
+class Paced:
+    """Tells how far work is that has no known end: on a terminal at once, else now and then where it takes long."""
+
+    def __init__(self, name: str) -> None:
+        self.progress = Progress(name)
+        self.next = time.monotonic() + (0 if self.progress.is_terminal else QUIET)
+
+    def tell(self, text: str) -> None:
+        now = time.monotonic()
+        if now >= self.next:
+            self.next = now + (0 if self.progress.is_terminal else OFTEN)
+            self.progress.tell(text)

@@ -193,9 +193,9 @@ def without_processes() -> ContextManager[object]:
     """While it holds, what is asked of the stand-in is answered by it as a module, so that a test takes less time."""
     module, call_process, answer_of_process = stand_in_module(), calling.call, many.Calls.answer
 
-    def call(program: str, words: Sequence[str], job: bytes) -> tuple[str, int]:
+    def call(program: str, words: Sequence[str], job: bytes, seconds: float | None = None) -> tuple[str, int]:
         if program != str(STAND_IN):
-            return call_process(program, words, job)
+            return call_process(program, words, job, seconds)
         text, status = module.answer(words, job)
         return str(text), int(status)
 

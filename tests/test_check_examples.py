@@ -90,7 +90,7 @@ class Examples(unittest.TestCase):
         for owner, attribute, value in (
             (batches, "MOST_TESTS", 3),
             (parts, "SHARE", 1),
-            (calling, "call", lambda program, words, job: (replay.answer(words, job), 0)),
+            (calling, "call", lambda program, words, job, seconds=None: (replay.answer(words, job), 0)),
             (many.Calls, "answer", lambda calls, words, job: replay.answer(words, job)),
         ):
             patches.enter_context(mock.patch.object(owner, attribute, value))

@@ -110,12 +110,13 @@ def is_open(value: object) -> bool:
 
 
 def with_settings(given: argparse.Namespace, add_options: AddOptions) -> Path | None:
-    """Fills in what the command line left open, from the file beside the program; its path, where there is one."""
+    """Fills in what the command line left open, from the file beside the program; its path, where there is one.
+    Options that the command has not are passed over."""
     path = file_beside(given.program)
     if path:
         kept = vars(read_settings(path, add_options))
-        overruled = {other for name, other in OVERRULES if getattr(given, name)}
+        overruled = {other for name, other in OVERRULES if getattr(given, name, None)}
         for name, value in kept.items():
-            if is_open(getattr(given, name)) and name not in overruled:
+            if name in given and is_open(getattr(given, name)) and name not in overruled:
                 setattr(given, name, value)
     return path

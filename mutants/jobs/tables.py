@@ -19,12 +19,14 @@ Cells = list[Any]
 
 
 class Table(NamedTuple):
-    """The tests; for each the row of the table where it stands; further columns by name; and what is told of it all."""
+    """The tests; for each the row of the table where it stands; further columns by name; what is told of it all; and
+    the columns that its first row names, if it does."""
 
     tests: list[list[Any]]
     rows: list[int]
     others: dict[str, list[Any]]
     remarks: list[str]
+    columns: list[str] = []
 
 
 class Cell(NamedTuple):
@@ -137,7 +139,7 @@ class Reading:
                 self.columns = columns_of(row, cells, self.names, self.others)
             else:
                 self.add(row, cells, read, is_text)
-        return self.table
+        return self.table._replace(columns=self.columns)
 
 
 def read_table(

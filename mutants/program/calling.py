@@ -19,18 +19,25 @@ class Fault(ValueError):
         self.line, self.status = line, status if status == WORDS else FAULT
 
 
-def call(program: str, words: Sequence[str], job: bytes) -> tuple[str, int]:
-    """What the program writes for these words and the bytes of a job, and its exit status."""
+class OutOfTime(Exception):
+    """A call was ended, since it took longer than it may."""
+
+
+def call(program: str, words: Sequence[str], job: bytes, seconds: float | None = None) -> tuple[str, int]:
+    """What the program writes for these words and the bytes of a job, and its exit status.
+    A call that takes longer than so many seconds is ended."""
     try:
-        ended = subprocess.run([program, *words], input=job, capture_output=True)
+        ended = subprocess.run([program, *words], input=job, capture_output=True, timeout=seconds)
+    except subprocess.TimeoutExpired:
+        raise OutOfTime from None
     except OSError as fault:
         raise ValueError(f"{program} cannot be run: {fault.strerror}") from None
     return ended.stdout.decode("utf-8", "replace"), ended.returncode
 
 
-def answer(program: str, words: Sequence[str], job: bytes) -> str:
+def answer(program: str, words: Sequence[str], job: bytes, seconds: float | None = None) -> str:
     """The text that the program answers; a fault, refused words and a failure are a Fault with one line."""
-    text, status = call(program, words, job)
+    text, status = call(program, words, job, seconds)
     if status == SUCCESS:
         return text
     raise Fault(words[0], failure_of(text, status), status)
