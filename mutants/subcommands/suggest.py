@@ -1,0 +1,133 @@
+"""Suggest tests that kill the survivors of a suite.
+
+    mutants suggest [OPTION..] PROGRAM.f TESTS.json|TESTS.csv
+
+The program and the table are those of `mutants check`, and so are the options that say which mutants are asked about.
+Rows are made by chance: near those of the table, of constants of the program, of other arguments, and some with values
+far from the table's, on which a mutant may overflow. They are run in rounds of 256, and each kill is a verdict of
+mothra. Rows on which the program itself fails are left out. Few rows that kill all that was found are chosen and made
+simpler. Then the table and they are run once more, and what is told rests on that run.
+
+Told are: the rows, as the table has them, those with far values apart; for each row what the program does on it, to be
+looked at before the row is taken, and the survivors that it kills, by line; and the survivors that no row killed, with
+how many of the rows that were tried came to their lines. A column `expect` of the table stays empty in new rows.
+
+An array of numbers that is in order in all tests stays so in all rows, and this is told; --free lifts it. Nothing else
+is known of what the arguments have to be: --ranges says it.
+
+With --rounds the same seed gives the same text; with --seconds it depends on the machine. Ctrl-C ends the search, and
+what was found until then is told; the exit status is that of an interrupted command.
+"""
+
+import argparse
+import sys
+from pathlib import Path
+
+from mutants.checks.checking import Asked, check, dummies_of
+from mutants.checks.outputs import Output, assert_free
+from mutants.checks.settings import with_settings
+from mutants.files import written
+from mutants.jobs.making import made_of, wish_of
+from mutants.jobs.tables import Table
+from mutants.pages.declared import Said
+from mutants.program.finding import add_mothra_option
+from mutants.program.unproved import remark_on
+from mutants.statuses import INTERRUPTED, SUCCESS
+from mutants.subcommands import check as checks
+from mutants.suggestions.aims import SECONDS, Aim, read_ranges
+from mutants.suggestions.clock import Clock
+from mutants.suggestions.suggesting import Suggested, suggested
+from mutants.suggestions.tables import Layout, layout_of, table_with
+from mutants.suggestions.told import summary
+from mutants.texts.jobs import Job
+from mutants.words import add_mothra_options, number_from_1, read_by, tell_remarks
+
+
+def seconds_word(word: str) -> float:
+    """A number of seconds above 0, as an option takes it."""
+    try:
+        found = float(word)
+    except ValueError:
+        found = 0.0
+    if not 0 < found < 1e6:
+        raise ValueError(f"{word} is no number of seconds")
+    return found
+
+
+def add_search(parser: argparse.ArgumentParser) -> None:
+    """The options that say how long is searched, and where."""
+    most = parser.add_mutually_exclusive_group()
+    told = f"how long, with the last run on top; {SECONDS:g} where nothing is said"
+    most.add_argument("--seconds", metavar="N", type=read_by(seconds_word), help=told)
+    told = "how many rounds of 256 rows, whatever time they take"
+    most.add_argument("--rounds", metavar="N", type=number_from_1, help=told)
+    parser.add_argument("--seed", metavar="S", type=number_from_1, default=1, help="where chance begins, else 1")
+    told = "arguments by number or name with their least and greatest values, as 2=0:8,KEY=-9:9; may be given again"
+    parser.add_argument(
+        "--ranges", metavar="ARG=A:B", type=read_by(read_ranges), action="append", default=[], help=told
+    )
+    told = "an array, by number or name, that need not stay in order; may be given again"
+    parser.add_argument("--free", metavar="ARG", action="append", default=[], help=told)
+    parser.add_argument("--nice", action="store_true", help="no value far from those of the tests")
+    parser.add_argument("--drop", action="store_true", help="tell which tests of the table are needless then")
+    told = "write the table with the rows, and with --drop without the needless tests"
+    parser.add_argument("--table", metavar="FILE", type=Path, help=told)
+
+
+def add_words(parser: argparse.ArgumentParser) -> None:
+    parser.add_argument("program", metavar="PROGRAM.f", type=Path)
+    parser.add_argument("tests", metavar="TESTS", type=Path, help="a table of tests, .json or .csv")
+    add_mothra_option(parser)
+    checks.add_choices(parser)
+    add_mothra_options(parser, "steps", "workers")
+    told = "how many parts at once, where a run is in parts"
+    parser.add_argument("--jobs", metavar="N", type=number_from_1, help=told)
+    add_search(parser)
+    # A file beside the program may say it for the check. Other machines are not asked.
+    parser.set_defaults(expect=None, sshlogin=[])
+
+
+def aim_of(given: argparse.Namespace) -> Aim:
+    """How is searched. With a number of rounds nothing goes by the clock."""
+    seconds = None if given.rounds else given.seconds or SECONDS
+    ranges = [each for ranges in given.ranges for each in ranges]
+    return Aim(seconds, given.rounds, given.seed, given.nice, ranges, given.free, given.drop)
+
+
+def assert_table_free(given: argparse.Namespace) -> None:
+    """The table that is to be written has a folder, and takes the place of no file that is read."""
+    reads = [given.program, given.tests, given.expect, given.changed, given.equivalent]
+    outputs = [Output("table", given.table, lambda shown: "")] if given.table else []
+    assert_free(outputs, [path for path in reads if path is not None and path.is_file()])
+
+
+def write_table(path: Path, given: argparse.Namespace, table: Table, found: Suggested, layout: Layout) -> str:
+    """Writes the table with the rows; a line on it."""
+    lines = [layout.line(row) for row in found.rows]
+    written(path, table_with(given.tests, table, lines, found.needless).encode())
+    return f"The table with the rows: {path}"
+
+
+def run(given: argparse.Namespace, name: str) -> int:
+    aim = aim_of(given)
+    clock = Clock(aim.seconds)
+    settings = with_settings(given, checks.add_options)
+    assert_table_free(given)
+    wish = wish_of(given)
+    made = made_of(given.program, given.tests, wish)
+    assert made.table
+    means = checks.means_of(given)
+    meant = checks.declared_of(given, made, means)
+    tell_remarks(name, made.remarks + meant.remarks)
+    job = Job(made.source.text, made.suite, meant.names)
+    said = Said(made.source.shown, meant.reasons, made.remarks + meant.remarks)
+    asked = Asked(given.program, given.tests, given.ops, given.without or [], given.lines, given.changed, wish)
+    start = check(asked, job, said, checks.expected_of(given, made), means, name)
+    found = suggested(start, aim, means, clock, name)
+    layout = layout_of(given.tests, made.table, dummies_of(start.printed))
+    more = [write_table(given.table, given, made.table, found, layout)] if given.table else []
+    more += [f"Options are from {settings}, too."] if settings else []
+    more += [remark_on(means.program)] if remark_on(means.program) else []
+    text = summary(found, given.program, given.tests, layout, aim)
+    sys.stdout.write(text + "".join(f"{line}\n" for line in more))
+    return INTERRUPTED if found.is_cut else SUCCESS

@@ -1,0 +1,1 @@
+"""Tests that kill survivors: rows made, run, chosen, made simpler, and told."""

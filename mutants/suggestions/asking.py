@@ -1,0 +1,139 @@
+"""Rows asked about: on which of them the program ends, and which of the survivors they kill."""
+
+import re
+from collections.abc import Mapping, Sequence
+
+from mutants.checks.batches import batch_text, batches
+from mutants.checks.checking import STEPS, Checked
+from mutants.checks.running import Means, words_of
+from mutants.program.calling import Fault, answer, read_as
+from mutants.program.many import processors
+from mutants.suggestions.clock import Clock
+from mutants.suggestions.failing import guarded, more_steps
+from mutants.suggestions.shapes import Row, test_of
+from mutants.texts.jobs import Job
+from mutants.texts.lines import Mutant
+from mutants.texts.reports import Report, read_report
+
+# Words by which an operator has one mutant at most; of DSA few programs have any, so the program alone is run.
+FIRST_ALONE = ("--every", "1048575")
+MOST_STEPS = 1_000_000
+# A run has so many threads at most.
+THREADS = 32
+
+
+def masks_of(report: Report, numbers: Mapping[tuple[str, int], int]) -> list[int]:
+    """For each test of a report the mutants that it kills, as bits by their numbers; others are left out."""
+    found = [0] * report.tests
+    for row in report.rows:
+        number = numbers.get((row.op, row.place))
+        at = row.bits.find("1") if number is not None else -1
+        while number is not None and at >= 0:
+            found[at] |= 1 << number
+            at = row.bits.find("1", at + 1)
+    return found
+
+
+class Asker:
+    """Asks which of some mutants rows kill. The verdicts are those of mothra alone."""
+
+    def __init__(self, checked: Checked, mutants: Sequence[Mutant], means: Means, clock: Clock) -> None:
+        self.checked, self.means, self.clock = checked, means, clock
+        self.mutants = list(mutants)
+        self.numbers = {(mutant.op, mutant.place): number for number, mutant in enumerate(mutants)}
+        self.steps = int(means.steps or STEPS)
+        self.guard: str | None = None
+        self.has_guard = False
+        self.calls = 0
+
+    @property
+    def whole(self) -> int:
+        """All mutants that are asked about, as bits."""
+        return (1 << len(self.mutants)) - 1
+
+    def of_mask(self, mask: int) -> list[Mutant]:
+        """The mutants whose bits are 1."""
+        return [mutant for number, mutant in enumerate(self.mutants) if mask >> number & 1]
+
+    def ops_of(self, mask: int) -> list[str]:
+        """The operators of the mutants whose bits are 1, in order."""
+        found = {mutant.op for mutant in self.of_mask(mask)}
+        return [op for op in self.checked.whole.counts if op in found]
+
+    def report(self, rows: Sequence[Row], words: Sequence[str], source: str | None = None) -> Report:
+        self.calls += 1
+        job = batch_text(Job(self.checked.job.source if source is None else source, list(map(test_of, rows))))
+        return read_as("mothra run", read_report, answer(self.means.program, words, job, self.clock.left()))
+
+    def words(self, ops: Sequence[str], steps: int) -> list[str]:
+        return words_of(self.means._replace(steps=str(steps)), ops, min(THREADS, processors()))
+
+    def parts(self, rows: Sequence[Row]) -> list[list[Row]]:
+        """The rows in parts that fit a job each."""
+        ends = batches(Job(self.checked.job.source, list(map(test_of, rows))))
+        return [list(rows[first:last]) for first, last in ends]
+
+    def kills(self, rows: Sequence[Row], ops: Sequence[str], steps: int) -> dict[Row, int]:
+        """For each row on which the program ends within the limit the mutants that it kills, as bits."""
+        found: dict[Row, int] = {}
+        for part in self.parts(rows):
+            found.update(self.kills_of_part(part, self.words(ops, steps)))
+        return found
+
+    def kills_of_part(self, rows: list[Row], words: Sequence[str]) -> dict[Row, int]:
+        while rows:
+            try:
+                report = self.report(rows, words)
+            except Fault as fault:
+                # This is told before a mutant is run.
+                del rows[failing_place(fault)]
+            else:
+                return dict(zip(rows, masks_of(report, self.numbers)))
+        return {}
+
+    def all_end(self, rows: Sequence[Row], steps: int) -> bool:
+        """Whether the program ends on each of these rows within a limit."""
+        try:
+            for part in self.parts(rows):
+                self.report(part, [*self.words(["DSA"], steps), *FIRST_ALONE])
+        except Fault as fault:
+            failing_place(fault)
+            return False
+        return True
+
+    def steps_needed(self, rows: Sequence[Row]) -> int:
+        """The least limit within which the program ends on each of these rows."""
+        low, high = 1, self.steps
+        while low < high:
+            middle = (low + high) // 2
+            low, high = (low, middle) if self.all_end(rows, middle) else (middle + 1, high)
+        return low
+
+    def ending(self, rows: Sequence[Row], steps: int) -> list[Row]:
+        """Those of the rows on which the program ends within a limit, or some more: what one call tells."""
+        if not rows:
+            return []
+        if not self.has_guard:
+            self.guard = guarded(self.checked.job.source, self.checked.printed, rows[0])
+            self.has_guard = True
+        if self.guard is None:
+            return list(rows)
+        words = [*self.words(["SDL"], min(MOST_STEPS, steps + more_steps(rows[0]))), *FIRST_ALONE]
+        try:
+            return [row for part in self.parts(rows) for row in self.let_through(part, words)]
+        except Fault:
+            # The made program is beyond a limit on names or elements.
+            self.guard = None
+            return list(rows)
+
+    def let_through(self, rows: Sequence[Row], words: Sequence[str]) -> list[Row]:
+        report = self.report(rows, words, self.guard)
+        return [row for row, bit in zip(rows, report.rows[0].bits) if bit == "0"]
+
+
+def failing_place(fault: Fault) -> int:
+    """The place, from 0, of the test on which the program fails; what says something else stays a fault."""
+    found = re.fullmatch(r"FAULT B4 (\d+)", fault.line)
+    if not found:
+        raise fault
+    return int(found[1]) - 1

@@ -1,0 +1,98 @@
+"""The rows that are suggested: few of those that were found, and these made simpler."""
+
+import time
+from collections import Counter
+from collections.abc import Sequence
+
+from mutants.pages.cover import bits_of
+from mutants.suggestions.covering import few_rows, needed_of, union_of
+from mutants.suggestions.rounds import SIZE, Search, Tell
+from mutants.suggestions.shapes import Row
+from mutants.suggestions.simpler import simpler_rows
+
+# So many rows that kill what few others do are run at the limit that is asked for.
+POOL = 2 * SIZE
+# Rows are made simpler in so many turns at most, and in so many even where nothing became simpler.
+TURNS, LEAST_TURNS = 12, 3
+# A row has so many simpler ones in a turn at least; and this share of the time is not gone beyond.
+LEAST_TRIES, SHARE = 4, 0.9
+
+
+class Choice:
+    """The chosen rows, with what each row that was run at the limit kills, and what they kill together."""
+
+    def __init__(self, search: Search) -> None:
+        self.search, self.shape, self.asker = search, search.shape, search.asker
+        self.exact = dict(search.exact)
+        self.wanted = self.asker.whole & ~search.alive
+        self.chosen: list[Row] = few_rows(self.wanted, self.exact, self.shape.cost)
+        self.cost = 0.0
+
+    def widen(self) -> None:
+        """Chooses among more of the rows that were found, which are run at the limit that is asked for first."""
+        self.run([row for row in self.pool() if row not in self.exact])
+        self.choose()
+
+    def choose(self) -> None:
+        """Takes the smallest set that is found; that of before only where it is smaller and kills as much."""
+        found = few_rows(self.wanted, self.exact, self.shape.cost)
+        if len(found) <= len(self.chosen) or self.killed() & self.wanted != self.wanted:
+            self.chosen = found
+
+    def killed(self) -> int:
+        """What the chosen rows kill."""
+        return union_of(self.exact[row] for row in self.chosen)
+
+    def pool(self) -> list[Row]:
+        """The rows of a small set within the limit of the search, and those that kill what few others do."""
+        seen = self.search.seen
+        killers = Counter(number for mask in seen.values() for number in bits_of(mask))
+        weights = {row: sum(1 / killers[number] for number in bits_of(mask)) for row, mask in seen.items()}
+        best = sorted(seen, key=lambda row: (-weights[row], self.shape.cost(row), row))[:POOL]
+        return list(dict.fromkeys([*few_rows(self.wanted, seen, self.shape.cost), *best]))
+
+    def run(self, rows: Sequence[Row]) -> None:
+        """Runs rows at the limit that is asked for. What they kill anew is wanted from here on."""
+        begun = time.monotonic()
+        ops = self.asker.ops_of(self.asker.whole)
+        for at in range(0, len(rows), SIZE):
+            ending = self.asker.ending(rows[at : at + SIZE], self.search.steps)
+            found = self.asker.kills(ending, ops, self.asker.steps)
+            self.exact.update(found)
+            self.search.tried += [row for row in found if row not in self.search.known]
+            self.search.known.update(found)
+            self.wanted |= union_of(found.values())
+        self.cost = time.monotonic() - begun
+
+    def simplify(self, tell: Tell) -> None:
+        """Makes the chosen rows simpler, as long as there is time."""
+        for turn in range(TURNS):
+            if not self.chosen or not self.search.clock.has(2 * self.cost, SHARE):
+                break
+            tell(f"{len(self.chosen)} rows are made simpler")
+            if not self.simplify_once() and turn >= LEAST_TURNS:
+                break
+
+    def simplify_once(self) -> bool:
+        """Takes simpler rows in the place of chosen ones. Whether anything changed."""
+        most = max(LEAST_TRIES, SIZE // len(self.chosen))
+        tries = {row: simpler_rows(self.shape, row, self.search.chance, most) for row in self.chosen}
+        new = dict.fromkeys(row for rows in tries.values() for row in rows if row not in self.exact)
+        before = list(self.chosen), self.wanted
+        self.run(list(new)[:SIZE])
+        # What these kill that none of the chosen did is wanted too.
+        more = {row: self.exact[row] for row in new if row in self.exact}
+        self.chosen += few_rows(self.wanted & ~self.killed(), more, self.shape.cost)
+        for place, row in enumerate(self.chosen):
+            needed = needed_of(row, self.chosen, self.wanted, self.exact)
+            known = [each for each in tries.get(row, []) if each in self.exact]
+            fitting = [row, *(each for each in known if self.exact[each] & needed == needed)]
+            self.chosen[place] = min(fitting, key=lambda each: (self.shape.cost(each), each))
+        self.choose_fewer()
+        return (self.chosen, self.wanted) != before
+
+    def choose_fewer(self) -> None:
+        """Takes another set of rows where it has fewer."""
+        found = few_rows(self.wanted, self.exact, self.shape.cost)
+        if len(found) < len(self.chosen):
+            self.chosen = found

@@ -1,0 +1,84 @@
+"""Few rows that kill as much as many do: the smallest set that pages tell of a suite, of rows as cheap as can be."""
+
+from collections.abc import Callable, Iterable, Mapping, Sequence
+
+from mutants.pages.cover import bits_of, least_rows, smallest_set
+from mutants.suggestions.shapes import Row
+
+# The search for a smallest set takes so many branches at most; then the greedy rule chooses.
+BRANCHES = 300
+Cost = Callable[[Row], int]
+# What rows kill, and the cheapest row that kills just this.
+Kinds = dict[int, Row]
+
+
+def union_of(masks: Iterable[int]) -> int:
+    found = 0
+    for mask in masks:
+        found |= mask
+    return found
+
+
+def kinds_of(pairs: Iterable[tuple[int, Row]], wanted: int, cost: Cost) -> Kinds:
+    """For each set of the wanted mutants that a row kills the cheapest such row; the widest sets first."""
+    found: Kinds = {}
+    for mask, row in pairs:
+        mask &= wanted
+        if mask and (mask not in found or (cost(row), row) < (cost(found[mask]), found[mask])):
+            found[mask] = row
+    return dict(sorted(found.items(), key=lambda pair: (-pair[0].bit_count(), cost(pair[1]), pair[1])))
+
+
+def killers_in(masks: Iterable[int]) -> dict[int, int]:
+    """For each mutant the places of the masks that have it, as bits."""
+    found: dict[int, int] = {}
+    for place, mask in enumerate(masks):
+        for number in bits_of(mask):
+            found[number] = found.get(number, 0) | 1 << place
+    return found
+
+
+def deciding(kinds: Kinds) -> int:
+    """The mutants that decide: whatever kills all of them kills the others too."""
+    killers = killers_in(kinds)
+    least = set(least_rows(killers.values()))
+    found = 0
+    for number, places in sorted(killers.items()):
+        if places in least:
+            least.discard(places)
+            found |= 1 << number
+    return found
+
+
+def few_rows(wanted: int, kills: Mapping[Row, int], cost: Cost) -> list[Row]:
+    """Few rows that kill all of the wanted mutants that any of these rows kill."""
+    kinds = kinds_of(((mask, row) for row, mask in kills.items()), wanted, cost)
+    kinds = kinds_of(kinds.items(), deciding(kinds), cost)
+    rows = list(kinds.values())
+    places, _ = smallest_set(killers_in(kinds).values(), BRANCHES)
+    chosen = without_needless([rows[place] for place in places], wanted, kills, cost)
+    return cheaper(chosen, wanted, kills, cost)
+
+
+def needed_of(row: Row, chosen: Sequence[Row], wanted: int, kills: Mapping[Row, int]) -> int:
+    """What a row kills of the wanted mutants that no other one of the chosen does."""
+    return kills[row] & wanted & ~union_of(kills[other] for other in chosen if other != row)
+
+
+def without_needless(chosen: Sequence[Row], wanted: int, kills: Mapping[Row, int], cost: Cost) -> list[Row]:
+    """The chosen rows without those that kill nothing alone, the dearest first."""
+    kept = list(chosen)
+    for row in sorted(chosen, key=lambda row: (-cost(row), row)):
+        if not needed_of(row, kept, wanted, kills):
+            kept.remove(row)
+    return kept
+
+
+def cheaper(chosen: Sequence[Row], wanted: int, kills: Mapping[Row, int], cost: Cost) -> list[Row]:
+    """The chosen rows, each changed for the cheapest one that kills what it alone kills."""
+    kept = list(chosen)
+    by_cost = sorted(kills, key=lambda row: (cost(row), row))
+    for place, row in enumerate(kept):
+        needed = needed_of(row, kept, wanted, kills)
+        kept[place] = next(other for other in by_cost if kills[other] & needed == needed)
+    return kept

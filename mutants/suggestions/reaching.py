@@ -1,0 +1,53 @@
+"""How many of the rows that were tried come to the lines of survivors, asked of the program."""
+
+import time
+from collections.abc import Collection, Mapping
+
+from mutants.checks.checking import Checked
+from mutants.checks.coverage import asked_traps, asked_watches
+from mutants.checks.running import Means
+from mutants.suggestions.asking import MOST_STEPS
+from mutants.suggestions.rounds import SIZE, Search
+from mutants.suggestions.shapes import test_of
+from mutants.texts.jobs import Job
+
+# So many rows are asked about at once: at first, and then.
+FIRST, AT_ONCE = SIZE, 8 * SIZE
+# Statements that have 1-0 in them may take so many times the steps.
+TIMES = 4
+
+
+class Reached:
+    """Of so many rows how many come to each line; a line that is not known has no number."""
+
+    def __init__(self) -> None:
+        self.asked = 0
+        self.by_line: dict[int, int] = {}
+
+    def add(self, rows: int, bits: Mapping[int, str]) -> None:
+        self.asked += rows
+        for line, digits in bits.items():
+            self.by_line[line] = self.by_line.get(line, 0) + digits.count("1")
+
+
+def reached_of(search: Search, lines: Collection[int], means: Means, name: str) -> Reached:
+    """Asks about as many rows as there is time for. Within the steps of the search the program ends on each of them."""
+    found, at, size, cost = Reached(), 0, FIRST, 0.0
+    few_steps = means._replace(steps=str(min(MOST_STEPS, TIMES * search.steps)))
+    while lines and at < len(search.tried) and search.clock.has(cost):
+        begun = time.monotonic()
+        part = list(map(test_of, search.tried[at : at + size]))
+        start = search.asker.checked
+        asked = start._replace(job=Job(start.job.source, part), whole=start.whole._replace(counts={}))
+        found.add(len(part), bits_of_lines(asked, lines, few_steps, name))
+        cost = (time.monotonic() - begun) * AT_ONCE / size
+        at, size = at + size, AT_ONCE
+    return found
+
+
+def bits_of_lines(asked: Checked, lines: Collection[int], means: Means, name: str) -> dict[int, str]:
+    """For each of the lines a digit for each row, 1 where it comes there."""
+    known = {line: "1" * len(asked.job.suite) for line in lines if asked.statements[line].startswith("DATA ")}
+    known |= asked_traps(asked, means, name) if set(lines) - set(known) else {}
+    known |= asked_watches(asked, means, name) if set(lines) - set(known) else {}
+    return {line: known[line] for line in lines if line in known}

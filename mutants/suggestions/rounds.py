@@ -1,0 +1,136 @@
+"""The search: rounds of rows, each of which keeps what kills a survivor."""
+
+import time
+from collections.abc import Callable, Sequence
+from random import Random
+
+from mutants.suggestions.asking import Asker
+from mutants.suggestions.clock import Clock
+from mutants.suggestions.experience import Experience
+from mutants.suggestions.rows import Rows
+from mutants.suggestions.shapes import Row, Shape
+
+# So many rows has a round, and a search ends after so many rounds without a kill.
+SIZE, PATIENCE = 256, 40
+LEAST_SIZE = 16
+# A search takes so much of the time, and a round so much of what is left of that.
+SHARE, OF_ROUND = 0.55, 6
+# The limit on steps of the search is this times what the tests need, or this at least.
+TIMES, LEAST_STEPS = 8, 300
+# Where the mutants of all operators times the limit are more, operators whose survivors are killed are left out.
+LARGE = 400_000
+# How many of the rows have far values: in the first rounds, later, and after some rounds without a kill.
+FAR_SHARES, FIRST_ROUNDS, SOME_DRY = (0.15, 0.35, 0.5), 3, 5
+# How many rows have all values anew: in the first rounds, and later.
+ANEW_SHARES = (0.35, 0.15)
+# A row with a value without hope is proposed with this chance, and so many proposals are made for each row.
+HOPE, PROPOSALS = 0.05, 20
+Tell = Callable[[str], None]
+
+
+class Search:
+    """The survivors that are left, and the rows that kill others."""
+
+    def __init__(self, asker: Asker, shape: Shape, suite: Sequence[Row], chance: Random, rounds: int | None) -> None:
+        self.asker, self.shape, self.chance, self.most = asker, shape, chance, rounds
+        self.rows, self.experience = Rows(shape, chance), Experience(shape)
+        self.suite, self.elite = list(suite), list(suite)
+        self.alive = asker.whole
+        # What each row kills: within the limit of the search, and as it is.
+        self.seen: dict[Row, int] = {}
+        self.exact: dict[Row, int] = {}
+        self.known: set[Row] = set(suite)
+        self.tried: list[Row] = []
+        self.round_number = self.last_round = self.dry = self.failed = 0
+        self.size, self.cost = SIZE, 0.0
+        self.steps = asker.steps
+
+    @property
+    def clock(self) -> Clock:
+        return self.asker.clock
+
+    def begin(self, tests: Sequence[Row], cost_of_row: float) -> None:
+        """Finds the limit on steps of the search, and how many rows a round may have."""
+        needed = self.asker.steps_needed(tests) if tests else self.steps // TIMES
+        self.steps = min(self.steps, max(LEAST_STEPS, TIMES * needed))
+        left = self.clock.left(SHARE)
+        if left is not None and cost_of_row * SIZE > left / OF_ROUND:
+            self.size = max(LEAST_SIZE, int(left / OF_ROUND / cost_of_row))
+
+    def go(self, tell: Tell) -> None:
+        """Makes rounds until nothing is left, the time or the rounds are over, or nothing is found any more."""
+        while self.alive and self.dry < PATIENCE and self.may_go_on():
+            begun = time.monotonic()
+            self.round()
+            self.learn_cost(time.monotonic() - begun)
+            left = self.alive.bit_count()
+            tell(f"round {self.round_number}: {left} of {len(self.asker.mutants)} survivors are left")
+
+    def may_go_on(self) -> bool:
+        if self.most is not None:
+            return self.round_number < self.most
+        return self.clock.has(1.3 * self.cost, SHARE)
+
+    def learn_cost(self, seconds: float) -> None:
+        """Makes rounds smaller that take too much of the time that is left."""
+        self.cost = seconds
+        left = self.clock.left(SHARE)
+        if left is not None and seconds > left / OF_ROUND and self.size > LEAST_SIZE:
+            self.size, self.cost = self.size // 2, seconds / 2
+
+    def far_share(self) -> float:
+        first, later, last = FAR_SHARES
+        if self.shape.keeps.is_near:
+            return 0.0
+        return first if self.round_number <= FIRST_ROUNDS else later if self.dry < SOME_DRY else last
+
+    def proposed(self) -> Row | None:
+        """A row that was not tried yet; None where what was proposed does not serve."""
+        is_far, chance = self.chance.random() < self.far_share(), self.chance
+        parent, partner = chance.choice(self.elite), chance.choice(self.elite)
+        is_anew = chance.random() < ANEW_SHARES[self.round_number > FIRST_ROUNDS]
+        row = self.shape.kept(self.rows.anew(parent, is_far) if is_anew else self.rows.child(parent, partner, is_far))
+        return None if row is None or row in self.known else row
+
+    def made(self) -> list[Row]:
+        """The rows of a round."""
+        found: list[Row] = []
+        for proposal in range(PROPOSALS * self.size):
+            row = self.proposed()
+            is_early = proposal < PROPOSALS * self.size // 2
+            if row is None or is_early and self.experience.is_hopeless(row) and self.chance.random() > HOPE:
+                continue
+            self.known.add(row)
+            found.append(row)
+            if len(found) == self.size:
+                break
+        return found
+
+    def ops(self) -> list[str]:
+        """The operators that are run: those with survivors at the start, or of large programs with those of now."""
+        all_ops = self.asker.ops_of(self.asker.whole)
+        mutants = sum(self.asker.checked.whole.counts[op].total for op in all_ops)
+        return self.asker.ops_of(self.alive) if mutants * self.steps > LARGE else all_ops
+
+    def round(self) -> None:
+        self.round_number += 1
+        rows = self.made()
+        found = self.asker.kills(self.asker.ending(rows, self.steps), self.ops(), self.steps)
+        self.experience.learn(rows, found)
+        self.failed += len(rows) - len(found)
+        self.tried += found
+        self.seen.update((row, mask) for row, mask in found.items() if mask)
+        if self.settle([row for row, mask in found.items() if mask & self.alive]):
+            self.last_round = self.round_number
+        self.dry = self.round_number - self.last_round
+
+    def settle(self, rows: Sequence[Row]) -> bool:
+        """Runs rows at the limit that is asked for: a kill under a lower one may be none. Whether one kills anew."""
+        exact = self.asker.kills(rows, self.asker.ops_of(self.asker.whole), self.asker.steps) if rows else {}
+        before = self.alive
+        for row, mask in exact.items():
+            self.seen[row] = self.exact[row] = mask
+            if mask & self.alive:
+                self.elite.append(row)
+                self.alive &= ~mask
+        return self.alive != before

@@ -1,0 +1,134 @@
+"""Suggestions: the search, the choice among what it found, and the last run, whose verdicts are told."""
+
+from random import Random
+from typing import NamedTuple
+
+from mutants.checks.checking import Checked, dummies_of
+from mutants.checks.choice import restricted
+from mutants.checks.outcomes import asked_outcomes
+from mutants.checks.running import Means, asked_in_parts
+from mutants.fortran.unit import read_unit
+from mutants.pages.cover import smallest_set
+from mutants.pages.suite import killers_of
+from mutants.program.calling import OutOfTime
+from mutants.progress import Paced
+from mutants.suggestions.aims import Aim, kept_of
+from mutants.suggestions.asking import Asker
+from mutants.suggestions.choosing import Choice
+from mutants.suggestions.clock import Clock
+from mutants.suggestions.covering import BRANCHES
+from mutants.suggestions.reaching import Reached, reached_of
+from mutants.suggestions.rounds import Search
+from mutants.suggestions.shapes import Row, Shape, Value, row_of, test_of
+from mutants.suggestions.values import constants_of
+from mutants.texts.jobs import Job
+
+
+class Suggested(NamedTuple):
+    """What came of a search. `start` is the check of the tests, `final` that of them and the rows, which come last.
+
+    `needless` has the numbers of tests that are needless then, from 1.
+    """
+
+    start: Checked
+    final: Checked
+    rows: list[Row]
+    search: Search
+    reached: Reached
+    needless: list[int]
+    is_cut: bool
+
+
+def first_row(checked: Checked) -> Row:
+    """A row of zeros and .FALSE., for a table that has no test."""
+    found: list[Value] = []
+    for kind, elements in read_unit(checked.job.source)[1]:
+        zero = False if kind == "logical" else 0
+        found.append(zero if elements is None else (zero,) * elements)
+    return tuple(found)
+
+
+def checked_with(start: Checked, rows: list[Row], means: Means, name: str) -> Checked:
+    """The check of the tests and these rows, run with all operators that are asked for."""
+    if not rows:
+        return start
+    tests = list(map(test_of, rows))
+    job = start.job._replace(suite=[*start.job.suite, *tests])
+    totals = {op: count.total for op, count in start.whole.counts.items()}
+    whole = asked_in_parts(job, totals, means, name)
+    report = whole if len(start.listed) == len(whole.rows) else restricted(whole, start.listed)
+    outcomes = asked_outcomes(Job(job.source, tests), means, None)
+    return start._replace(job=job, report=report, whole=whole, outcomes=[*start.outcomes, *outcomes])
+
+
+def needless_in(checked: Checked) -> list[int]:
+    """The tests, from 1, without which the others kill as much."""
+    kept, _ = smallest_set([killers_of(row.bits) for row in checked.whole.rows], BRANCHES)
+    return [place + 1 for place in range(len(checked.job.suite)) if place not in kept]
+
+
+class Suggesting:
+    """The course of a search, which Ctrl-C cuts short; what was found until then is told all the same."""
+
+    def __init__(self, start: Checked, aim: Aim, means: Means, clock: Clock, paced: Paced) -> None:
+        self.start, self.aim, self.means, self.paced = start, aim, means, paced
+        self.tests = [row_of(test) for test in start.job.suite]
+        suite = self.tests or [first_row(start)]
+        kept = kept_of(aim, dummies_of(start.printed), self.tests)
+        shape = Shape(suite, constants_of(start.printed), kept)
+        asker = Asker(start, start.report.survivors, means, clock)
+        self.search = Search(asker, shape, suite, Random(aim.seed), aim.rounds)
+        self.reached, self.is_cut = Reached(), False
+
+    def tell(self, text: str) -> None:
+        clock = self.search.clock
+        of_time = "" if clock.seconds is None else f", {clock.passed():.0f} of {clock.seconds:g} s"
+        self.paced.tell(f"{text}{of_time}")
+
+    def rows(self) -> list[Row]:
+        """The rows that are chosen. Ctrl-C, and a call that takes too long, end what is going on."""
+        clock = self.search.clock
+        try:
+            self.search.begin(self.tests, clock.passed() / max(len(self.tests), 1))
+            self.search.go(self.tell)
+        except KeyboardInterrupt:
+            self.is_cut = True
+        except OutOfTime:
+            pass
+        choice = Choice(self.search)
+        try:
+            if not self.is_cut:
+                self.better(choice)
+        except KeyboardInterrupt:
+            self.is_cut = True
+        except OutOfTime:
+            pass
+        finally:
+            self.paced.progress.end()
+        return self.in_order(choice)
+
+    def in_order(self, choice: Choice) -> list[Row]:
+        """The chosen rows, those with far values last, and of others those first that kill most."""
+        shape, kills = self.search.shape, choice.exact
+        return sorted(choice.chosen, key=lambda row: (not shape.is_near(row), -kills[row].bit_count(), row))
+
+    def better(self, choice: Choice) -> None:
+        """Chooses among more rows, makes these simpler, and asks which rows come to the survivors that are left."""
+        choice.widen()
+        choice.simplify(self.tell)
+        left = self.search.asker.of_mask(~choice.wanted)
+        self.reached = reached_of(self.search, {mutant.line for mutant in left}, self.means, self.paced.progress.name)
+
+
+def suggested(start: Checked, aim: Aim, means: Means, clock: Clock, name: str) -> Suggested:
+    """Searches, and runs the tests with the rows that are chosen."""
+    course = Suggesting(start, aim, means, clock, Paced(name))
+    rows = course.rows() if start.report.survivors else []
+    final = checked_with(start, rows, means, name)
+    needless = needless_in(final) if aim.drops and rows else []
+    kept = [row for number, row in enumerate(rows, len(course.tests) + 1) if number not in needless]
+    if len(kept) < len(rows):
+        # Where a smaller set does without a new row, that is not suggested.
+        rows, final = kept, checked_with(start, kept, means, name)
+    old = [number for number in needless if number <= len(course.tests)]
+    return Suggested(start, final, rows, course.search, course.reached, old, course.is_cut)

@@ -1,0 +1,64 @@
+"""Rows as the table of the tests has them, and the whole table with them."""
+
+import csv
+import io
+import json
+from collections.abc import Collection, Sequence
+from pathlib import Path
+from typing import NamedTuple
+
+from mutants.jobs.sources import decoded
+from mutants.jobs.tables import Table
+from mutants.suggestions.shapes import Row, Scalar, Value, items_of, test_of
+
+
+class Layout(NamedTuple):
+    """How a table is written: in JSON or CSV, with which columns, and which of these are arguments, by place."""
+
+    is_json: bool
+    places: list[int | None]
+
+    def line(self, row: Row) -> str:
+        """A row as a line of the table, without its end. Of other columns, such as `expect`, nothing is said."""
+        if self.is_json:
+            return json.dumps(test_of(row))
+        kept = io.StringIO()
+        writer = csv.writer(kept, lineterminator="")
+        writer.writerow(["" if place is None else cell_of(row[place]) for place in self.places])
+        return kept.getvalue()
+
+
+def word_of(item: Scalar) -> str:
+    return "FT"[item] if isinstance(item, bool) else str(item)
+
+
+def cell_of(value: Value) -> str:
+    """A value as a cell of CSV has it: an array with blanks between its elements."""
+    return " ".join(map(word_of, items_of(value)))
+
+
+def layout_of(path: Path, table: Table, names: Sequence[str]) -> Layout:
+    """How the rows of a table of this file are written for these dummy arguments."""
+    columns = table.columns or list(names)
+    return Layout(path.suffix.lower() != ".csv", [names.index(each) if each in names else None for each in columns])
+
+
+def table_with(path: Path, table: Table, lines: Sequence[str], needless: Collection[int]) -> str:
+    """The table of a file with these rows behind its own, and without some of its tests, by their numbers from 1."""
+    text = decoded(path.read_bytes())
+    if path.suffix.lower() != ".csv":
+        old = [json.dumps(test) for number, test in enumerate(table.tests, 1) if number not in needless]
+        return "[\n  " + ",\n  ".join([*old, *lines]) + "\n]\n"
+    end = "\r\n" if "\r\n" in text else "\n"
+    kept = without_rows(text, {table.rows[number - 1] for number in needless})
+    return kept + ("" if not kept or kept.endswith("\n") else end) + "".join(line + end for line in lines)
+
+
+def without_rows(text: str, ends: Collection[int]) -> str:
+    """The text of a table in CSV without the rows that end on these lines."""
+    lines = list(io.StringIO(text, newline=""))
+    reader, kept, begin = csv.reader(lines), [], 0
+    for _ in reader:
+        kept += lines[begin : reader.line_num] if reader.line_num not in ends else []
+        begin = reader.line_num
+    return "".join(kept)

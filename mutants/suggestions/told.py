@@ -1,0 +1,143 @@
+"""What is told of suggestions: the rows, what each of them does and kills, and the survivors that none killed."""
+
+from collections import defaultdict
+from collections.abc import Iterable, Iterator, Sequence
+from pathlib import Path
+from textwrap import wrap
+
+from mutants.checks.checking import dummies_of
+from mutants.checks.summary import WIDTH, difference_lines, line_lines, ranges_text, score_line, wrong_lines
+from mutants.pages.frame import joined_words, plural
+from mutants.pages.report import by_line
+from mutants.suggestions.aims import Aim, kept_lines
+from mutants.suggestions.shapes import Row
+from mutants.suggestions.suggesting import Suggested
+from mutants.suggestions.tables import Layout
+from mutants.texts.lines import Mutant
+
+LOOK = "What the program does on a row is its own outcome, right or wrong: look at it before you take the row."
+HINT = "That is a hint at equivalence, and no more than that."
+
+
+def new_number(found: Suggested, place: int) -> int:
+    """The number that a suggested row has as a test behind the others."""
+    return len(found.start.job.suite) + place + 1
+
+
+def killed_by(found: Suggested, number: int) -> tuple[list[Mutant], int]:
+    """The survivors of the tests that a suggested row kills, and how many of them it alone kills."""
+    alive = {mutant[:3] for mutant in found.start.report.survivors}
+    pairs = [pair for pair in zip(found.final.listed, found.final.report.rows) if pair[0][:3] in alive]
+    killed = [(mutant, row) for mutant, row in pairs if row.bits[number - 1] == "1"]
+    return [mutant for mutant, _ in killed], sum(row.bits.count("1") == 1 for _, row in killed)
+
+
+def mutants_text(mutants: Iterable[Mutant]) -> str:
+    """Mutants by operator, with their numbers: ROR 1 and 3 to 5; SDL 2."""
+    by_op: dict[str, list[int]] = defaultdict(list)
+    for mutant in mutants:
+        by_op[mutant.op].append(mutant.place)
+    return "; ".join(f"{op} {ranges_text(numbers)}" for op, numbers in by_op.items())
+
+
+def row_lines(found: Suggested, row: Row, place: int, layout: Layout) -> Iterator[str]:
+    """What a row does: the outcome of the program, and the survivors that it kills, by line."""
+    number = new_number(found, place)
+    killed, alone = killed_by(found, number)
+    yield f"test {number}  {layout.line(row)}: {found.final.outcomes[number - 1]}"
+    yield f"  kills {plural(len(killed), 'survivor')}, {alone} of them alone"
+    lines = by_line(killed)
+    for line in sorted(lines):
+        yield from wrap(f"  line {line}: {mutants_text(lines[line])}", WIDTH, subsequent_indent="    ")
+
+
+def block_lines(rows: Sequence[Row], layout: Layout) -> Iterator[str]:
+    """Rows, ready to be put behind those of the table."""
+    lines = [layout.line(row) for row in rows]
+    yield from (",\n".join(lines) if layout.is_json else "\n".join(lines)).split("\n")
+
+
+def suggestion_lines(found: Suggested, layout: Layout, tests: Path) -> Iterator[str]:
+    """The rows, those with far values apart, and then what each of them does."""
+    shape = found.search.shape
+    near = [row for row in found.rows if shape.is_near(row)]
+    far = found.rows[len(near) :]
+    yield f"{plural(len(found.rows), 'row')} to be put behind those of {tests}."
+    yield LOOK
+    for told, rows in (("values like those", near), ("a value far from those", far)):
+        if rows:
+            yield f"With {told} of the tests:"
+            yield from block_lines(rows, layout)
+    yield ""
+    for place, row in enumerate(found.rows):
+        yield from row_lines(found, row, place, layout)
+
+
+def tried_line(found: Suggested, seed: int) -> str:
+    """How much was searched."""
+    search = found.search
+    tried = f"{plural(len(search.tried), 'row')}, {plural(search.round_number, 'round')}, seed {seed}"
+    left_out = f" On {search.failed} more the program fails, or takes over {search.steps} steps: they were left out."
+    return f"Tried: {tried}.{left_out if search.failed else ''}"
+
+
+def reached_text(found: Suggested, line: int) -> str:
+    """How many of the rows came to a line, where that is known."""
+    count, asked = found.reached.by_line.get(line), found.reached.asked
+    if count is None:
+        return ""
+    of_first = " first" if asked < len(found.search.tried) else ""
+    return f"; {count} of the{of_first} {asked} rows came here"
+
+
+def left_lines(found: Suggested) -> Iterator[str]:
+    """The survivors that no row killed, by line."""
+    survivors = found.final.report.survivors
+    lines = by_line(survivors)
+    if not survivors:
+        yield "No mutant survives that is not declared equivalent."
+        return
+    verb = "is one survivor" if len(survivors) == 1 else f"are {len(survivors)} survivors"
+    yield f"There {verb} on {plural(len(lines), 'line')} that no row killed. {HINT}"
+    for line in sorted(lines):
+        statement = found.final.statements[line]
+        yield f"line {line}: {statement} ({len(lines[line])} left{reached_text(found, line)})"
+        yield from line_lines(lines[line], statement)
+
+
+def needless_lines(found: Suggested) -> Iterator[str]:
+    """The tests of the table that may be left out once the rows are in it."""
+    if not found.needless:
+        yield "No test of the table becomes needless." if found.rows else "Nothing is new, so no test becomes needless."
+        return
+    rest = len(found.final.job.suite) - len(found.needless)
+    which = f"{'Test' if len(found.needless) == 1 else 'Tests'} {joined_words(found.needless)}"
+    told = f"{which} of the table may be left out then: the other {plural(rest, 'test')} kill the same mutants"
+    yield f"{told}{' of those that were asked for' if found.final.left_out else ''}."
+
+
+def head_lines(found: Suggested, program: Path) -> Iterator[str]:
+    start = found.start
+    yield f"{start.report.unit} of {program}: {plural(len(start.job.suite), 'test')}"
+    yield from difference_lines(start) if start.unexpected else ()
+    yield from (f"Left out: {each}." for each in start.left_out)
+    yield f"The tests: {score_line(start)}"
+    if found.rows:
+        yield f"With the rows below: {score_line(found.final)}"
+    yield from wrong_lines(found.final)
+
+
+def summary(found: Suggested, program: Path, tests: Path, layout: Layout, aim: Aim) -> str:
+    """The whole text, but for what is said of files and of the program mothra."""
+    lines = [*head_lines(found, program), ""]
+    if not found.start.report.survivors:
+        lines += ["No mutant survives that is not declared equivalent: there is nothing to suggest."]
+        return "\n".join(lines) + "\n"
+    if found.is_cut:
+        lines += ["Cut short by Ctrl-C: what follows was found until then."]
+    lines += [tried_line(found, aim.seed)]
+    lines += kept_lines(found.search.shape.keeps, dummies_of(found.start.printed))
+    none = ["No row was found that kills a survivor."]
+    lines += ["", *(suggestion_lines(found, layout, tests) if found.rows else none)]
+    lines += needless_lines(found) if aim.drops else []
+    return "\n".join([*lines, "", *left_lines(found)]) + "\n"
