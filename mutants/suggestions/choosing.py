@@ -10,8 +10,8 @@ from mutants.suggestions.rounds import SIZE, Search, Tell
 from mutants.suggestions.shapes import Row
 from mutants.suggestions.simpler import simpler_rows
 
-# So many rows that kill what few others do are run at the limit that is asked for.
-POOL = 2 * SIZE
+# So many rows that kill what few others do are run at the limit that is asked for, and of so many a small set is taken.
+POOL, MOST = 2 * SIZE, 8 * SIZE
 # Rows are made simpler in so many turns at most, and in so many even where nothing became simpler.
 TURNS, LEAST_TURNS = 12, 3
 # A row has so many simpler ones in a turn at least; and this share of the time is not gone beyond.
@@ -30,8 +30,10 @@ class Choice:
 
     def widen(self) -> None:
         """Chooses among more of the rows that were found, which are run at the limit that is asked for first."""
+        begun = time.monotonic()
         self.run([row for row in self.pool() if row not in self.exact])
         self.choose()
+        self.cost = time.monotonic() - begun
 
     def choose(self) -> None:
         """Takes the smallest set that is found; that of before only where it is smaller and kills as much."""
@@ -48,12 +50,12 @@ class Choice:
         seen = self.search.seen
         killers = Counter(number for mask in seen.values() for number in bits_of(mask))
         weights = {row: sum(1 / killers[number] for number in bits_of(mask)) for row, mask in seen.items()}
-        best = sorted(seen, key=lambda row: (-weights[row], self.shape.cost(row), row))[:POOL]
-        return list(dict.fromkeys([*few_rows(self.wanted, seen, self.shape.cost), *best]))
+        best = sorted(seen, key=lambda row: (-weights[row], self.shape.cost(row), row))
+        few = few_rows(self.wanted, {row: seen[row] for row in best[:MOST]}, self.shape.cost)
+        return list(dict.fromkeys([*few, *best[:POOL]]))
 
     def run(self, rows: Sequence[Row]) -> None:
         """Runs rows at the limit that is asked for. What they kill anew is wanted from here on."""
-        begun = time.monotonic()
         ops = self.asker.ops_of(self.asker.whole)
         for at in range(0, len(rows), SIZE):
             ending = self.asker.ending(rows[at : at + SIZE], self.search.steps)
@@ -62,7 +64,6 @@ class Choice:
             self.search.tried += [row for row in found if row not in self.search.known]
             self.search.known.update(found)
             self.wanted |= union_of(found.values())
-        self.cost = time.monotonic() - begun
 
     def simplify(self, tell: Tell) -> None:
         """Makes the chosen rows simpler, as long as there is time."""
@@ -70,7 +71,10 @@ class Choice:
             if not self.chosen or not self.search.clock.has(2 * self.cost, SHARE):
                 break
             tell(f"{len(self.chosen)} rows are made simpler")
-            if not self.simplify_once() and turn >= LEAST_TURNS:
+            begun = time.monotonic()
+            has_changed = self.simplify_once()
+            self.cost = time.monotonic() - begun
+            if not has_changed and turn >= LEAST_TURNS:
                 break
 
     def simplify_once(self) -> bool:
