@@ -16,6 +16,7 @@ from mutants.suggestions.clock import Clock
 from mutants.suggestions.covering import few_rows
 from mutants.suggestions.experience import Experience
 from mutants.suggestions.failing import guarded, more_steps
+from mutants.suggestions.rounds import LEAST_SIZE, Search
 from mutants.suggestions.rows import Rows
 from mutants.suggestions.shapes import Kept, Order, Row, Shape, items_of, order_of, row_of, test_of
 from mutants.suggestions.simpler import simpler_rows
@@ -222,6 +223,35 @@ def report_text(tests: int, counts: str, row: str) -> str:
     text = "\n".join([*head, f"SCORE {'100.00' if killed == '1' else '0.00'}", row, *last, "END", ""])
     assert read_report(text).tests == tests
     return text
+
+
+class Sizes(unittest.TestCase):
+    def search(self, seconds: float | None, passed: float) -> Search:
+        """A search that has so many seconds, of which some have passed."""
+        asker = Failing().asker()
+        asker.clock = Clock(seconds)
+        asker.clock.begun -= passed
+        shape = Shape([Failing.ROW], [], FREE)
+        return Search(asker, shape, [Failing.ROW], Random(1), None)
+
+    def test_a_round_has_as_many_rows_as_fit_its_share_of_the_time(self) -> None:
+        for seconds, took, size in ((None, 99.0, 256), (120.0, 2.0, 256), (120.0, 22.0, 128), (120.0, 999.0, 16)):
+            search = self.search(seconds, 0)
+            search.learn_cost(took)
+            self.assertAlmostEqual(search.size, size, delta=1)
+        search = self.search(120.0, 0)
+        search.begin([], 1.0)
+        self.assertEqual(search.size, LEAST_SIZE)
+        sizes = []
+        for _ in range(3):
+            search.learn_cost(0.1)
+            sizes.append(search.size)
+        self.assertEqual(sizes, [64, 256, 256])
+
+    def test_a_search_ends_where_no_round_fits(self) -> None:
+        for passed, goes in ((0.0, True), (54.0, True), (56.0, False)):
+            self.assertEqual(self.search(100.0, passed).may_go_on(), goes)
+        self.assertTrue(self.search(None, 1e9).may_go_on())
 
 
 class Covers(unittest.TestCase):

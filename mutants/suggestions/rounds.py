@@ -15,6 +15,8 @@ SIZE, PATIENCE = 256, 40
 LEAST_SIZE = 16
 # A search takes so much of the time, and a round so much of what is left of that.
 SHARE, OF_ROUND = 0.55, 6
+# A round has so many times the rows of the one before at most.
+GROWTH = 4
 # The limit on steps of the search is this times what the tests need, or this at least.
 TIMES, LEAST_STEPS = 8, 300
 # Where the mutants of all operators times the limit are more, operators whose survivors are killed are left out.
@@ -72,11 +74,12 @@ class Search:
         return self.clock.has(1.3 * self.cost, SHARE)
 
     def learn_cost(self, seconds: float) -> None:
-        """Makes rounds smaller that take too much of the time that is left."""
-        self.cost = seconds
-        left = self.clock.left(SHARE)
-        if left is not None and seconds > left / OF_ROUND and self.size > LEAST_SIZE:
-            self.size, self.cost = self.size // 2, seconds / 2
+        """Gives the next round as many rows as fit its share of the time that is left."""
+        self.cost, left = seconds, self.clock.left(SHARE)
+        if left is not None:
+            fitting = int(self.size * left / OF_ROUND / max(seconds, 1e-9))
+            size = max(LEAST_SIZE, min(SIZE, fitting, GROWTH * self.size))
+            self.size, self.cost = size, seconds * size / self.size
 
     def far_share(self) -> float:
         first, later, last = FAR_SHARES
