@@ -12,6 +12,7 @@ from mutants.jobs.tables import Table
 from mutants.program.calling import Fault
 from mutants.suggestions import asking
 from mutants.suggestions.asking import Asker, masks_of
+from mutants.suggestions.borders import Borders, flat
 from mutants.suggestions.clock import Clock
 from mutants.suggestions.covering import few_rows
 from mutants.suggestions.experience import Experience
@@ -118,8 +119,8 @@ class Made(unittest.TestCase):
 
     def test_variables_are_tied_together(self) -> None:
         rows = Rows(Shape([(1, 20, 300)], [], FREE), Random(3))
-        made = {rows.child((1, 20, 300), (1, 20, 300), False) for _ in range(600)}
-        self.assertLessEqual({(20, 1, 300), (1, 1, 300), (1, 20, 21), (280, 20, 300)}, made)
+        made = {rows.child((1, 20, 300), (1, 20, 300), False) for _ in range(2500)}
+        self.assertLessEqual({(20, 1, 300), (1, 1, 300), (1, 20, 21), (280, 20, 300), (20, 20, 20)}, made)
 
     def test_simpler_rows_cost_less_and_are_near(self) -> None:
         shape = Shape(SUITE, [], Kept({1: Order(False, False)}, {}))
@@ -223,6 +224,41 @@ def report_text(tests: int, counts: str, row: str) -> str:
     text = "\n".join([*head, f"SCORE {'100.00' if killed == '1' else '0.00'}", row, *last, "END", ""])
     assert read_report(text).tests == tests
     return text
+
+
+class Border(unittest.TestCase):
+    """A line with two mutants: the first is killed by rows below 700, the second by those above."""
+
+    SHAPE = Shape([(0, 5), (1000, 5)], [], FREE)
+
+    def kills(self, rows: list[Row]) -> dict[Row, int]:
+        return {row: 1 if items_of(row[0])[0] < 700 else 2 for row in rows}
+
+    def test_ways_between_rows_that_kill_others_lead_to_what_decides(self) -> None:
+        borders, known = Borders(self.SHAPE, Random(1), [3]), self.kills([(0, 5), (1000, 5)])
+        for _ in range(6):
+            borders.begin(3, known)
+            known |= self.kills(rows := borders.rows(known, 64))
+            self.assertLessEqual(len(rows), 64)
+            borders.learn(known)
+        self.assertIn((699, 5), known)
+        self.assertIn((700, 5), known)
+        self.assertTrue(all(0 < items_of(row[0])[0] < 1000 for row in known if row not in ((0, 5), (1000, 5))))
+
+    def test_there_is_no_way_where_the_same_is_killed_or_nothing_is_left(self) -> None:
+        for lines, alive, rows in (([3], 3, [(0, 5), (9, 5)]), ([4], 4, [(0, 5), (1000, 5)])):
+            borders = Borders(self.SHAPE, Random(1), lines)
+            borders.begin(alive, self.kills(list(rows)))
+            self.assertEqual(borders.rows([], 64), [])
+
+    def test_where_several_values_differ_some_of_them_change(self) -> None:
+        borders = Borders(Shape(SUITE, [], FREE), Random(1), [1])
+        found = borders.between(*SUITE)
+        self.assertTrue(found)
+        for row in found:
+            pairs = zip(flat(row), zip(flat(SUITE[0]), flat(SUITE[1])))
+            self.assertTrue(all(item in pair for item, pair in pairs))
+            self.assertNotIn(row, SUITE)
 
 
 class Sizes(unittest.TestCase):

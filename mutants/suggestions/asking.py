@@ -55,6 +55,13 @@ class Asker:
         """The mutants whose bits are 1."""
         return [mutant for number, mutant in enumerate(self.mutants) if mask >> number & 1]
 
+    def lines(self) -> list[int]:
+        """For each line that has some of the mutants these, as bits."""
+        found: dict[int, int] = {}
+        for number, mutant in enumerate(self.mutants):
+            found[mutant.line] = found.get(mutant.line, 0) | 1 << number
+        return list(found.values())
+
     def ops_of(self, mask: int) -> list[str]:
         """The operators of the mutants whose bits are 1, in order."""
         found = {mutant.op for mutant in self.of_mask(mask)}

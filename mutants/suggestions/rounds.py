@@ -5,6 +5,7 @@ from collections.abc import Callable, Sequence
 from random import Random
 
 from mutants.suggestions.asking import Asker
+from mutants.suggestions.borders import Borders
 from mutants.suggestions.clock import Clock
 from mutants.suggestions.experience import Experience
 from mutants.suggestions.rows import Rows
@@ -36,6 +37,7 @@ class Search:
     def __init__(self, asker: Asker, shape: Shape, suite: Sequence[Row], chance: Random, rounds: int | None) -> None:
         self.asker, self.shape, self.chance, self.most = asker, shape, chance, rounds
         self.rows, self.experience = Rows(shape, chance), Experience(shape)
+        self.borders = Borders(shape, chance, asker.lines())
         self.suite, self.elite = list(suite), list(suite)
         self.alive = asker.whole
         # What each row kills: within the limit of the search, and as it is.
@@ -97,7 +99,8 @@ class Search:
 
     def made(self) -> list[Row]:
         """The rows of a round."""
-        found: list[Row] = []
+        found = self.at_borders()
+        self.known.update(found)
         for proposal in range(PROPOSALS * self.size):
             row = self.proposed()
             is_early = proposal < PROPOSALS * self.size // 2
@@ -105,9 +108,17 @@ class Search:
                 continue
             self.known.add(row)
             found.append(row)
-            if len(found) == self.size:
+            if len(found) >= self.size:
                 break
         return found
+
+    def at_borders(self) -> list[Row]:
+        """In every other round rows between those that kill different mutants; in the others, and first, none."""
+        if self.round_number <= FIRST_ROUNDS or self.round_number % 2:
+            return []
+        # The tests kill no survivor.
+        self.borders.begin(self.alive, {**dict.fromkeys(self.suite, 0), **self.exact})
+        return self.borders.rows(self.known, self.size // 2)
 
     def ops(self) -> list[str]:
         """The operators that are run: those with survivors at the start, or of large programs with those of now."""
@@ -123,6 +134,7 @@ class Search:
         self.failed += len(rows) - len(found)
         self.tried += found
         self.seen.update((row, mask) for row, mask in found.items() if mask)
+        self.borders.learn(found)
         if self.settle([row for row, mask in found.items() if mask & self.alive]):
             self.last_round = self.round_number
         self.dry = self.round_number - self.last_round

@@ -7,8 +7,8 @@ from mutants.suggestions.shapes import Row, Shape, Value
 from mutants.suggestions.values import Values, clamped
 
 # The ways to change a row, with how often each is taken, and how many INTEGER variables it needs.
-WAYS = ((15, "swapped", 2), (12, "with_equal", 2), (6, "permuted", 3), (7, "with_sum", 3), (7, "mixed", 0),
-        (53, "changed", 0))  # fmt: skip
+WAYS = ((15, "swapped", 2), (12, "with_equal", 2), (6, "permuted", 3), (7, "with_sum", 3), (5, "alike", 2),
+        (7, "mixed", 0), (48, "changed", 0))  # fmt: skip
 
 
 class Rows:
@@ -34,7 +34,14 @@ class Rows:
             way = self.chance.choice(("mixed", "changed"))
         if way == "mixed":
             return tuple(one if self.chance.random() < 0.5 else other for one, other in zip(row, partner))
+        if way == "alike":
+            return self.alike(row, is_far)
         return self.changed(row, is_far) if way == "changed" else self.tied(row, way)
+
+    def alike(self, row: Row, is_far: bool) -> Row:
+        """All INTEGER variables have the same value."""
+        value = self.values.value(self.chance.choice(self.scalars), row, is_far)
+        return tuple(value if place in self.scalars else other for place, other in enumerate(row))
 
     def changed(self, row: Row, is_far: bool) -> Row:
         """One to three arguments are others."""
