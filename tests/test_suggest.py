@@ -10,7 +10,7 @@ import running
 from mutants import statuses
 from mutants.program.calling import OutOfTime
 from mutants.subcommands import suggest  # noqa: F401  read once, for all copies of this process
-from mutants.suggestions import rounds
+from mutants.suggestions import choosing, rounds
 from mutants.suggestions.asking import Asker
 from mutants.suggestions.clock import Clock
 from room import Room
@@ -28,8 +28,8 @@ class Search(Room):
     def setUp(self) -> None:
         super().setUp()
         self.tests = self.put("tests.csv", ONE)
-        for name, value in (("SIZE", 16), ("PATIENCE", 3)):
-            running.holds(self, mock.patch.object(rounds, name, value))
+        for module, name, value in ((rounds, "SIZE", 16), (rounds, "PATIENCE", 3), (choosing, "SIZE", 16)):
+            running.holds(self, mock.patch.object(module, name, value))
 
     def suggest(self, *words: object) -> running.Ended:
         """What comes of a search; the stand-in is a part of the process."""

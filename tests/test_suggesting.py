@@ -9,7 +9,7 @@ from mutants import statuses
 from mutants.gate import suggesting
 from mutants.gate.suggesting import BEGIN, CASES, END, Case
 from mutants.jobs.making import made_of
-from mutants.suggestions import rounds
+from mutants.suggestions import choosing, rounds
 from room import Room
 from running import STAND_IN, has, refuses, run
 
@@ -17,7 +17,8 @@ from running import STAND_IN, has, refuses, run
 class Sweep(Room):
     def setUp(self) -> None:
         super().setUp()
-        running.holds(self, mock.patch.object(rounds, "SIZE", 16))
+        for module in (choosing, rounds):
+            running.holds(self, mock.patch.object(module, "SIZE", 16))
 
     def sweep(self, *words: object, **goals: float) -> running.Ended:
         """What comes of the sweep of one program, whose search begins with the first of its two tests."""
