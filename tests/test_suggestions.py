@@ -22,6 +22,7 @@ from mutants.suggestions.rows import Rows
 from mutants.suggestions.shapes import Kept, Order, Row, Shape, items_of, order_of, row_of, test_of
 from mutants.suggestions.simpler import simpler_rows
 from mutants.suggestions.tables import layout_of
+from mutants.suggestions.told import mutants_text
 from mutants.suggestions.values import Values, constants_of
 from mutants.texts.jobs import Job
 from mutants.texts.lines import Mutant
@@ -315,6 +316,17 @@ def sum_of(masks: list[int]) -> int:
     for mask in masks:
         found |= mask
     return found
+
+
+class Told(unittest.TestCase):
+    def test_mutants_of_a_line_by_operator_and_twins_together(self) -> None:
+        mutants = [Mutant("ROR", n, n, 3, f"IF (I.GT.{n}) K=1") for n in (1, 3, 4, 5)]
+        twins = [Mutant("AAR", 1, 1, 3, "K=I"), Mutant("SDL", 1, 2, 3, "CONTINUE"), Mutant("SVR", 15, 15, 3, "K=I")]
+        self.assertEqual(mutants_text(mutants + twins), "ROR 1 and 3 to 5; SDL 2; AAR 1, SVR 15 as one")
+
+    def test_the_same_text_on_another_line_is_another_program(self) -> None:
+        mutants = [Mutant("AAR", 1, 1, 3, "K=I"), Mutant("SVR", 15, 15, 4, "K=I")]
+        self.assertEqual(mutants_text(mutants), "AAR 1; SVR 15")
 
 
 class Lines(unittest.TestCase):

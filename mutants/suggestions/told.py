@@ -14,6 +14,7 @@ from mutants.suggestions.shapes import Row
 from mutants.suggestions.suggesting import Suggested
 from mutants.suggestions.tables import Layout
 from mutants.texts.lines import Mutant
+from mutants.texts.twins import names_text, twins_in
 
 LOOK = "What the program does on a row is its own outcome, right or wrong: look at it before you take the row."
 HINT = "That is a hint at equivalence, and no more than that."
@@ -33,11 +34,14 @@ def killed_by(found: Suggested, number: int) -> tuple[list[Mutant], int]:
 
 
 def mutants_text(mutants: Iterable[Mutant]) -> str:
-    """Mutants by operator, with their numbers: ROR 1 and 3 to 5; SDL 2."""
+    """Mutants by operator, with their numbers, and twins together: ROR 1 and 3 to 5; SDL 2; AAR 1, SVR 15 as one."""
+    groups = twins_in(mutants)
     by_op: dict[str, list[int]] = defaultdict(list)
-    for mutant in mutants:
-        by_op[mutant.op].append(mutant.place)
-    return "; ".join(f"{op} {ranges_text(numbers)}" for op, numbers in by_op.items())
+    for first, *others in groups:
+        if not others:
+            by_op[first.op].append(first.place)
+    alone = [f"{op} {ranges_text(numbers)}" for op, numbers in by_op.items()]
+    return "; ".join([*alone, *(f"{names_text(twins)} as one" for twins in groups if len(twins) > 1)])
 
 
 def row_lines(found: Suggested, row: Row, place: int, layout: Layout) -> Iterator[str]:
