@@ -105,12 +105,15 @@ def output_of(mothra: str, *words: str) -> str:
 def class_pages(mothra: str, folder: Path) -> list[Path]:
     """The page of a class and those of its suites; none where the class cannot be run, which is said."""
     shutil.copytree(ROOT / "examples" / "class", folder, ignore=shutil.ignore_patterns("out"))
+    page = folder / "out" / "course.html"
     try:
         output_of(mothra, "course", str(folder))
     except ValueError as fault:
-        print(f"The pages of a class were not looked at: {fault}")
-        return []
-    return [folder / "out" / "course.html", *sorted((folder / "out" / "jobs").glob("*.html"))]
+        # One suite of the example cannot be run, and is a row of the page.
+        if not page.is_file():
+            print(f"The pages of a class were not looked at: {fault}")
+            return []
+    return [page, *sorted((folder / "out" / "jobs").glob("*.html"))]
 
 
 def made_pages(mothra: str, folder: Path) -> list[Path]:
