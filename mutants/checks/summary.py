@@ -12,6 +12,7 @@ from mutants.pages.report import by_line, counts_by_line
 from mutants.pages.suite import NUMBERS, alone_of, needless_text, values_of
 from mutants.pages.spans import change_of
 from mutants.texts.lines import Mutant
+from mutants.texts.ranges import rows_of
 from mutants.texts.reports import score_of, summed
 from mutants.texts.twins import count_of_programs, name_of, names_text, twins_in
 
@@ -135,13 +136,7 @@ def unreached_lines(checked: Checked) -> Iterator[str]:
 
 def ranges_text(numbers: Sequence[int]) -> str:
     """Numbers in ascending order, those in a row as a range: 1, 3 to 9 and 12."""
-    rows: list[list[int]] = []
-    for number in numbers:
-        if rows and rows[-1][-1] == number - 1:
-            rows[-1] = [rows[-1][0], number]
-        else:
-            rows.append([number])
-    return joined_words(" to ".join(map(str, row)) for row in rows)
+    return joined_words(" to ".join(map(str, row)) for row in rows_of(numbers))
 
 
 def suite_lines(checked: Checked) -> Iterator[str]:

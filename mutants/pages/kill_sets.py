@@ -4,18 +4,13 @@ from collections.abc import Iterable, Sequence
 from itertools import groupby
 
 from mutants.pages.frame import Cell, plural, table
+from mutants.texts.ranges import rows_of
 from mutants.texts.reports import Row
 
 
 def ranges_of(numbers: Iterable[int]) -> str:
     """Numbers in ascending order in few words: 1, 3-9, 12."""
-    rows: list[list[int]] = []
-    for number in numbers:
-        if rows and rows[-1][-1] == number - 1:
-            rows[-1] = [rows[-1][0], number]
-        else:
-            rows.append([number])
-    return ", ".join("-".join(map(str, row)) for row in rows)
+    return ", ".join("-".join(map(str, row)) for row in rows_of(numbers))
 
 
 def numbers_of(bits: str, digit: str = "1") -> list[int]:
