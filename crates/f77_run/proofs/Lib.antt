@@ -25,7 +25,6 @@ mod KeptLists
 mod SameStates
 mod Runs
 mod Following
-mod Followed
 pub mod Unreached
 mod Pairs
 mod Misfits

@@ -5,3 +5,4 @@ pub mod Copies
 pub mod Names
 pub mod Comparisons
 pub mod Forms
+pub mod Letters

@@ -1,15 +1,14 @@
 //! Names.
 
-ghost use Rattle.std.specs.Prelude.{◌≡◌, ◌&&◌, List, ℕ, Some, None, if◌then◌else◌, true};
+ghost use Rattle.std.specs.Prelude.{◌≡◌, ◌&&◌, List, [], ◌∷◌, ℕ, Some, None, if◌then◌else◌, true};
 ghost use Rattle.std.specs.List.{list_all};
 ghost use Rattle.std.specs.Str.{bytes_eq};
 ghost use Rattle.std.specs.Cmp.Lexicographic.{nat_list_eq_equiv};
 ghost use Rattle.std.specs.Cmp.{partial_equiv_from_equiv};
 ghost use Rattle.std.specs.Cmp.Rules.{hashing};
-ghost use Rattle.std.specs.Hash as fed;
 ghost use Rattle.std.proofs.Common.{rules};
 ghost use Rattle.f77_tree.specs.Grammar as grammar;
-ghost use Rattle.f77_tree.specs.Name.{cut, is_short};
+ghost use Rattle.f77_tree.specs.Name.{cut, is_short, padded};
 
 use crate::characters::{is_name, split_word};
 use std::fmt::{self, Debug, Display, Formatter};
@@ -46,13 +45,25 @@ impl Model for Name {
     ghost inverse_ok = { λ n h. ap (λ z. record { letters = z }) (sym h.padding) };
 }
 
+/// Whether two names lie in the same characters: most names differ in one of the first.
+fn are_same(one: &[u8; LONGEST_NAME], other: &[u8; LONGEST_NAME]) -> bool
+    ensures { result ≡ bytes_eq one.now other.now }
+{
+    for place in 0..LONGEST_NAME {
+        if one[place] != other[place] {
+            return false;
+        }
+    }
+    true
+}
+
 impl PartialEq for Name {
     ghost eq = { bytes_eq };
 
     ghost laws = { partial_equiv_from_equiv nat_list_eq_equiv };
 
     fn eq(&self, other: &Name) -> bool {
-        self.as_str() == other.as_str()
+        are_same(&self.letters, &other.letters)
     }
 }
 
@@ -61,12 +72,12 @@ impl Eq for Name {
 }
 
 impl Hash for Name {
-    ghost hash_input = { fed.str };
+    ghost hash_input = { λ name. padded name ∷ [] };
 
     ghost respects_eq = { Prim.search (hashing, rules) };
 
     fn hash<H: Hasher>(&self, state: &mut H) {
-        self.as_str().hash(state);
+        state.write(&self.letters);
     }
 }
 
