@@ -20,10 +20,9 @@ from typing import NamedTuple
 
 from mutants.checks.checking import Asked, Checked, check
 from mutants.checks.running import Means
-from mutants.files import written
+from mutants.files import put_between
 from mutants.jobs.expecting import Expected
 from mutants.jobs.making import made_of
-from mutants.jobs.sources import decoded
 from mutants.pages.declared import NOTHING
 from mutants.pages.frame import plural
 from mutants.program.roots import ROOT
@@ -156,15 +155,6 @@ def table_of(results: Sequence[Result]) -> str:
     return "".join(f"{line}\n" for line in lines)
 
 
-def put_into(path: Path, text: str) -> None:
-    """Puts a text between the two lines of a page that stand there for it."""
-    front, begin, rest = decoded(path.read_bytes()).partition(BEGIN)
-    _, end, back = rest.partition(END)
-    if not begin or not end:
-        raise ValueError(f"{path}: it has not the two lines {BEGIN} and {END}")
-    written(path, f"{front}{BEGIN}\n\n{text}\n{END}{back}".encode())
-
-
 def add_words(parser: argparse.ArgumentParser) -> None:
     parser.add_argument("mothra", metavar="MOTHRA", type=whole_path)
     parser.add_argument("--rounds", metavar="N", type=number_from_1, help="rounds of each search, else 40 or 60")
@@ -188,5 +178,5 @@ def run(given: argparse.Namespace, name: str) -> int:
     faults = [told for result in results for told in unmet(result)]
     sys.stdout.write(text + "".join(f"NOT MET: {fault}\n" for fault in faults))
     if given.page:
-        put_into(given.page, text)
+        put_between(given.page, BEGIN, END, text)
     return FAULT if faults else SUCCESS
