@@ -1,5 +1,5 @@
 -- One statement in the place of another.
-use Rattle.std.proofs.Common.{arith, ◌≡◌, ◌∙◌, ◌-◌, ◌<◌, ℕ, zero, suc, List, [], ◌∷◌, length, map, Option, Some, None, refl, sym, ap, subst}
+use Rattle.std.proofs.Common.{arith, ◌≡◌, ◌≢◌, ◌∙◌, ◌-◌, ◌<◌, ℕ, zero, suc, List, [], ◌∷◌, length, map, Option, Some, None, refl, sym, ap, subst}
 use Rattle.std.specs.Prelude.{option_map, slice_get, slice_set}
 use Rattle.std.proofs.lemmas.List.{length-map}
 use Rattle.std.proofs.lemmas.Option.{same_Some, slice_get_within}
@@ -19,6 +19,7 @@ use Rattle.f77_run.specs.declared.changed.Change.{Change}
 use Rattle.f77_run.specs.declared.visits.Visited.{Visited}
 use Rattle.f77_run.specs.declared.visits.Visits.{Visits}
 use Rattle.f77_run.specs.Changed.{ChangedFields, IsChanged, changed_fields, changed_program}
+use Rattle.f77_run.specs.Effect.{AgreeBut}
 use Rattle.f77_run.specs.Interpreter.{AreFitting, values_in}
 use Rattle.f77_run.specs.Parting.{IsParting, parting_of, site_in, start_in}
 use Rattle.f77_run.specs.Reached.{AreSameBut}
@@ -31,6 +32,17 @@ set_back : {X : Type 0} (xs : List X) (i : ℕ) (x y : X) → slice_get xs i ≡
 set_back [] i x y at = refl
 set_back (z ∷ xs) zero x y at = ap (λ y. y ∷ xs) (sym (same_Some z y at))
 set_back (z ∷ xs) (suc i) x y at = ap (λ rest. z ∷ rest) (set_back xs i x y at)
+
+set_other : {X : Type 0} (xs : List X) (i j : ℕ) (x : X) → j ≢ i → slice_get (slice_set xs i x) j ≡ slice_get xs j
+set_other [] i j x other = refl
+set_other (y ∷ xs) zero zero x other = absurd (other refl)
+set_other (y ∷ xs) zero (suc j) x other = refl
+set_other (y ∷ xs) (suc i) zero x other = refl
+set_other (y ∷ xs) (suc i) (suc j) x other = set_other xs i j x (λ same. other (ap suc same))
+
+-- the statements of the two programs are the same but for the changed one
+pub agree_but : (own changed : List Resolved) (i : ℕ) (old : Resolved) → slice_set changed i old ≡ own → AgreeBut i own changed
+agree_but own changed i old is j other = ap (λ list. slice_get list j) (sym is) ∙ set_other changed i j old other
 
 pub set_same : {X : Type 0} (xs : List X) (i : ℕ) (x : X) → slice_get xs i ≡ Some x → slice_set xs i x ≡ xs
 set_same [] i x at = refl

@@ -42,3 +42,5 @@ mod Alongside
 mod Parted
 mod Visiting
 mod Exchanged
+mod Effects
+mod DoingAlike

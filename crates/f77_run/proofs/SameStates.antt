@@ -1,6 +1,6 @@
 -- What is equal by the tests of places, values and turns is the same.
 use Rattle.std.proofs.Common.{◌≡◌, ◌∙◌, Bool, true, true≢false, Option, Some, None, refl, sym, ap}
-use Rattle.std.specs.Prelude.{Ok, option_map}
+use Rattle.std.specs.Prelude.{option_map}
 use Rattle.std.specs.Bool.{Decides}
 use Rattle.std.specs.Cmp.{unsigned_Decides, booleans_Decides, first_so, second_so}
 use Rattle.std.specs.Cmp.Derive.{both_true}
@@ -12,13 +12,11 @@ use Rattle.std.proofs.lemmas.Slice.Eq.{slice_eq-Decides}
 use Rattle.f77_source.specs.SameCards.{decided_by, option_decides}
 use Rattle.f77_run.specs.contracts.machine.TurnPartialEq.TheImpl as turn
 use Rattle.f77_run.specs.contracts.value.ValuePartialEq.TheImpl as value
-use Rattle.f77_run.specs.declared.machine.Control.TheVariants as control
-use Rattle.f77_run.specs.declared.machine.Machine.{Machine}
 use Rattle.f77_run.specs.declared.machine.Place.{Place}
 use Rattle.f77_run.specs.declared.machine.Turn.{Turn}
 use Rattle.f77_run.specs.declared.value.Value.{Value}
 use Rattle.f77_run.specs.declared.value.Value.TheVariants.{Number, Truth}
-use Rattle.f77_run.specs.Moves.{Cells, Turns, State, state, Goes, move_of}
+use Rattle.f77_run.specs.Moves.{Cells, Turns, State, state}
 
 same_value : (a b : Value) → value.ghosts.eq a b ≡ true → a ≡ b
 same_value (Number x) (Number y) e = ap Number ((Decides-int_eq x y).0 e)
@@ -55,10 +53,3 @@ module _ (cells : Cells) (turns : Turns) (s : State) where
   pub kept_whole : (o : Option Place) → o ≡ Some s.place → turns ≡ s.turns → cells ≡ s.cells → option_map (λ place. state place cells turns) o ≡ Some s
   kept_whole o place same_turns same_cells =
       ap (option_map (λ place. state place cells turns)) place ∙ (λ i. Some (record { place = s.place; cells = same_cells i; turns = same_turns i }))
-
--- two machines whose parts are the same
-pub same_state : (m b : Machine) → Some m.place ≡ Some b.place → m.cells.items ≡ b.cells.items → m.turns.items ≡ b.turns.items
-    → move_of (Ok control.Goes) m ≡ move_of (Ok control.Goes) b
-same_state m b place cells turns =
-    let one : m.place ≡ b.place = same_Some m.place b.place place in
-    λ i. Goes (record { place = one i; cells = cells i; turns = turns i })

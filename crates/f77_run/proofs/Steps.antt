@@ -70,13 +70,20 @@ pub executed_within : (statements : List Resolved) (m : Machine) (i : ℕ) → m
 executed_within statements m i is some =
     among (λ r. if is_executed r.action then Some (acted statements i r r.action m.cells.items m.turns.items) else None) statements i (rw is at some)
 
+-- it is one that is executed
+pub executed_so : (statements : List Resolved) (m : Machine) (i : ℕ) (r : Resolved) → m.place ≡ Execute i → r ≡ get_or statements i r → IsSome (moved statements (state_of m))
+    → is_executed r.action ≡ true
+executed_so statements m i r is here some =
+    let got = slice_get_read statements (length statements) i r refl (executed_within statements m i is some) here in
+    let done : IsSome (if is_executed r.action then Some (acted statements i r r.action m.cells.items m.turns.items) else None) = rw (is, got) at some in
+    (tested (is_executed r.action) (Some (acted statements i r r.action m.cells.items m.turns.items)) done).0
+
 -- what it does is the step
 pub executed_moves : (statements : List Resolved) (m : Machine) (i : ℕ) (r : Resolved) → m.place ≡ Execute i → r ≡ get_or statements i r → IsSome (moved statements (state_of m))
     → moved statements (state_of m) ≡ Some (acted statements i r r.action m.cells.items m.turns.items)
 executed_moves statements m i r is here some =
     let got = slice_get_read statements (length statements) i r refl (executed_within statements m i is some) here in
-    let done : IsSome (if is_executed r.action then Some (acted statements i r r.action m.cells.items m.turns.items) else None) = rw (is, got) at some in
-    let test = (tested (is_executed r.action) (Some (acted statements i r r.action m.cells.items m.turns.items)) done).0 in
+    let test = executed_so statements m i r is here some in
     rw (is, got, test) refl
 
 -- the DO that is incremented is among the statements

@@ -8,6 +8,7 @@ pub mod Control
 pub mod Evaluation
 pub mod Machine
 pub mod Moves
+pub mod Effect
 pub mod Interpreter
 pub mod Typed
 pub mod Spans

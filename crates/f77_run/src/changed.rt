@@ -131,11 +131,9 @@ fn workspace(alloc: Global, checked: &Checked) -> Result<Workspace, RunFault>
 {
     let initial = initial(alloc, &checked.start().initial)?;
     let machine = room(alloc, initial.len(), checked.count())?;
-    let beside = room(alloc, initial.len(), checked.count())?;
     Ok(Workspace {
         initial,
         machine,
-        beside,
         earlier: Snapshot::new(alloc),
     })
 }

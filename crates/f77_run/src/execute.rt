@@ -122,7 +122,7 @@ fn jump_by_sign(
 }
 
 /// The jump of this number, counted from 1.
-fn numbered(jumps: &[Jump], number: i32) -> Option<&Jump>
+pub(crate) fn numbered(jumps: &[Jump], number: i32) -> Option<&Jump>
     ensures { option_map (λ jump. jump.now) result ≡ choice.numbered jumps.now number }
 {
     let number = usize::try_from(number).ok()?;
@@ -210,15 +210,15 @@ fn pass_at(
 }
 
 /// The values of the parameters of a DO (11.10).
-#[derive(Clone, Copy)]
-struct Parameters {
-    first: i32,
-    last: i32,
-    step: i32,
+#[derive(Clone, Copy, Debug, PartialEq, Eq)]
+pub(crate) struct Parameters {
+    pub(crate) first: i32,
+    pub(crate) last: i32,
+    pub(crate) step: i32,
 }
 
 impl Parameters {
-    fn of(
+    pub(crate) fn of(
         first: &Number,
         last: &Number,
         step: &Number,

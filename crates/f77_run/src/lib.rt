@@ -1,9 +1,11 @@
 //! What a program means, and the interpreter.
 #![tactic(auto)]
 
+mod alike;
 mod argument;
 mod changed;
 mod course;
+mod effect;
 mod evaluate;
 mod execute;
 mod finish;

@@ -1,11 +1,11 @@
 //! Where the run of a changed program parts from that of the program, and what it comes to from there.
 
-ghost use Rattle.std.specs.Prelude.{◌≡◌, ◌<◌, ◌≤◌, true, Ok, map, option_map, length, IfOk, IfErr, IfSome, IfNone, Bool, ℕ};
+ghost use Rattle.std.specs.Prelude.{◌≡◌, ◌<◌, ◌≤◌, true, map, option_map, length, IfOk, IfErr, IfSome, IfNone, Bool, ℕ};
 ghost use Rattle.std.specs.Bool.{Decides};
 ghost use Rattle.f77_program.specs.Program.{line_of};
+ghost use Rattle.f77_run.specs.Effect.{AgreeBut};
 ghost use Rattle.f77_run.specs.Endless.{Reaches};
 ghost use Rattle.f77_run.specs.Interpreter.{IsOutcomeOf};
-ghost use Rattle.f77_run.specs.Moves.{move_of};
 ghost use Rattle.f77_run.specs.Parting.{Parting, IsParting, DoesAlikeIn, DoAlikeBefore, changed_site, parting_of, site_in, start_in};
 ghost use Rattle.f77_run.specs.Running.{IsRunning, config_at};
 ghost use Rattle.f77_run.specs.Start.{constant_value};
@@ -13,84 +13,41 @@ ghost use Rattle.f77_run.specs.Visits.{AreVisits, IsVisit, config_in};
 ghost use Rattle.f77_run.specs.declared.outcome.Outcome.{Outcome};
 ghost use Rattle.f77_run.specs.declared.outcome.RunFault.TheVariants as fault;
 
+use crate::alike::{act_alike, increment_alike};
 use crate::argument::Arg;
 use crate::changed::Change;
-use crate::execute::step;
-use crate::finish::Fault;
-use crate::machine::{Control, Machine};
+use crate::machine::{Machine, Place};
 use crate::outcome::{Outcome, RunFault};
 use crate::runner::{is_told, restart};
 use crate::running::go;
-use crate::snapshot::{Snapshot, same_place};
+use crate::snapshot::Snapshot;
 use crate::value::Value;
 use crate::visits::{Visit, Visited};
 use f77_check::{Checked, Resolved};
 use f77_tree::Shared;
 
-/// What runs need: what DATA gives each slot, a machine, one of the program itself, and a state by which it is known that a run comes back.
+/// What runs need: what DATA gives each slot, a machine, and a state by which it is known that a run comes back.
 #[derive(Drop)]
 pub(crate) struct Workspace {
     pub(crate) initial: Vec<Option<Value>>,
     pub(crate) machine: Machine,
-    pub(crate) beside: Machine,
     pub(crate) earlier: Snapshot,
 }
 
-/// Whether two machines are in one state.
-fn are_alike(machine: &Machine, beside: &Machine) -> bool
-    ensures { result ≡ true → move_of (Ok Control.Goes) machine.now ≡ move_of (Ok Control.Goes) beside.now }
-{
-    if !same_place(Some(machine.place), beside.place) {
-        return false;
-    }
-    hold_alike(machine, beside) && machine.turns == beside.turns
-}
-
-/// Whether their slots hold the same.
-fn hold_alike(machine: &Machine, beside: &Machine) -> bool
-    ensures { result ≡ true → machine.now.cells.items ≡ beside.now.cells.items }
-{
-    machine.cells == beside.cells
-}
-
-/// Whether two steps led to the same.
-fn led_alike(
-    one: Result<Control, Fault>,
-    machine: &Machine,
-    other: Result<Control, Fault>,
-    beside: &Machine,
-) -> bool
-    ensures { result ≡ true → move_of one machine.now ≡ move_of other beside.now }
-{
-    match (one, other) {
-        (Ok(Control::Goes), Ok(Control::Goes)) => are_alike(machine, beside),
-        (Ok(Control::Returns), Ok(Control::Returns)) => hold_alike(machine, beside),
-        (Ok(Control::Stops), Ok(Control::Stops)) => hold_alike(machine, beside),
-        (Ok(_) | Err(_), _) => false,
-    }
-}
-
 /// Whether the changed program does in a state that is kept what the program does: its run has come there.
-fn does_alike(
-    statements: &[Shared<Resolved>],
-    changed: &[Shared<Resolved>],
-    visit: &Visit,
-    machine: &mut Machine,
-    beside: &mut Machine,
-) -> Result<bool, RunFault>
+fn does_alike(statements: &[Shared<Resolved>], changed: &[Shared<Resolved>], visit: &Visit) -> bool
     ghost parting: { Parting }
     requires parting { IsParting parting changed.now }
     requires statements { statements.now ≡ parting.checked.statements }
+    requires others { AgreeBut parting.place statements.now changed.now }
     requires visit { IsVisit (site_in parting) parting.place (start_in parting) visit.now }
     requires together { Reaches parting.program visit.now.made (start_in parting) (config_in (site_in parting) visit.now) }
-    ensures alike { IfOk result (λ alike. alike ≡ true → DoesAlikeIn parting visit.now) }
-    ensures memory { IfErr result (λ e. e ≡ fault.Memory) }
+    ensures { result ≡ true → DoesAlikeIn parting visit.now }
 {
-    visit.load(machine)?;
-    visit.load(beside)?;
-    let one = step(changed, machine);
-    let other = step(statements, beside);
-    Ok(led_alike(one, machine, other, beside))
+    match visit.place {
+        Place::Execute(i) => act_alike(&statements[i], &changed[i], i, &visit.cells),
+        Place::Increment(d) => increment_alike(&statements[d], &changed[d], d),
+    }
 }
 
 /// The first of these states in which the changed program may do something else.
@@ -98,24 +55,22 @@ pub(crate) fn first_other(
     statements: &[Shared<Resolved>],
     changed: &[Shared<Resolved>],
     visits: &[Visit],
-    machine: &mut Machine,
-    beside: &mut Machine,
-) -> Result<Option<usize>, RunFault>
+) -> Option<usize>
     ghost parting: { Parting }
     requires parting { IsParting parting changed.now }
     requires statements { statements.now ≡ parting.checked.statements }
+    requires others { AgreeBut parting.place statements.now changed.now }
     requires visits { (n : ℕ) × (more : Bool) × AreVisits (site_in parting) parting.place (start_in parting) 0 n visits.now more }
-    ensures within { IfOk result (λ found. IfSome found (λ k. k < length visits.now)) }
-    ensures before { IfOk result (λ found. IfSome found (DoAlikeBefore parting visits.now)) }
-    ensures all { IfOk result (λ found. IfNone found (DoAlikeBefore parting visits.now (length visits.now))) }
-    ensures memory { IfErr result (λ e. e ≡ fault.Memory) }
+    ensures within { IfSome result (λ k. k < length visits.now) }
+    ensures before { IfSome result (DoAlikeBefore parting visits.now) }
+    ensures all { IfNone result (DoAlikeBefore parting visits.now (length visits.now)) }
 {
     for k in 0..visits.len() {
-        if !does_alike(statements, changed, &visits[k], machine, beside)? {
-            return Ok(Some(k));
+        if !does_alike(statements, changed, &visits[k]) {
+            return Some(k);
         }
     }
-    Ok(None)
+    None
 }
 
 /// Whether the run of the changed program has this outcome, where the machine is in its state behind so many steps. The first state by
@@ -226,6 +181,7 @@ pub(crate) fn comes_alike(
     ghost parting: { Parting }
     requires of { parting ≡ parting_of change.now arguments.now }
     requires parting { IsParting parting change.now.statements.items }
+    requires others { AgreeBut parting.place parting.checked.statements change.now.statements.items }
     requires visits { AreVisits (site_in parting) parting.place (start_in parting) 0 steps visited.now.visits.items visited.now.more }
     requires outcome { IsOutcomeOf (map line_of parting.checked.program) parting.arguments steps outcome.now }
     requires initial { space.old.initial.items ≡ map (option_map constant_value) parting.checked.start.initial.items }
@@ -238,7 +194,7 @@ pub(crate) fn comes_alike(
     let changed = change.statements.as_slice();
     let visits = visited.visits.as_slice();
     let own = checked.statements();
-    match first_other(own, changed, visits, &mut space.machine, &mut space.beside)? {
+    match first_other(own, changed, visits) {
         Some(k) => comes_from(
             checked, changed, &visits[k], space, patience, steps, outcome,
         ),

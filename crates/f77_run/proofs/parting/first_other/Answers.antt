@@ -10,15 +10,18 @@ use Rattle.f77_run.proofs.parting.first_other.Goals as goal
 pub does_alike-requires : goal.does_alike-requires
 does_alike-requires g c =
     let visits = c.args.visits.now in
-    let are = c.requires.1.1 in
+    let are = c.requires.1.1.1 in
     let at : slice_get visits c.loop-k.k ≡ Some c.index-visits-k.result
     = slice_get_read visits (length visits) c.loop-k.k c.index-visits-k.result refl c.loop-k-test.true c.index-visits-k.is in (
       c.requires.0,
       (
         c.requires.1.0,
         (
-          visited_at g.parting c.args.changed.now c.requires.0 are.0 visits are.1 are.2 c.loop-k.k c.index-visits-k.result at,
-          come_together g.parting c.args.changed.now c.requires.0 are.0 visits are.1 are.2 c.loop-k.k c.index-visits-k.result at c.loop-k.invariant,
+          c.requires.1.1.0,
+          (
+            visited_at g.parting c.args.changed.now c.requires.0 are.0 visits are.1 are.2 c.loop-k.k c.index-visits-k.result at,
+            come_together g.parting c.args.changed.now c.requires.0 are.0 visits are.1 are.2 c.loop-k.k c.index-visits-k.result at c.loop-k.invariant,
+          ),
         ),
       ),
     )
@@ -33,5 +36,5 @@ loop-k-preserved g c = λ j visit below here.
       | inr late ↦
           let same : j ≡ c.loop-k.k = omega (arith, below, late) in
           let one : c.index-visits-k.result ≡ visit = same_Some _ _ (sym at ∙ ap (slice_get visits) (sym same) ∙ here) in
-          subst (λ (visit : Visit). DoesAlikeIn g.parting visit) one (c.in_ok-does_alike.ensures.alike c.if-not-branch.false)
+          subst (λ (visit : Visit). DoesAlikeIn g.parting visit) one (c.does_alike.ensures c.if-not-does_alike.false)
     ]

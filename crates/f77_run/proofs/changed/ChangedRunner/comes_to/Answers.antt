@@ -5,7 +5,7 @@ use Rattle.f77_check.specs.Checked.{CheckedFields}
 use Rattle.f77_run.specs.Changed.{ChangedFields}
 use Rattle.f77_run.specs.Interpreter.{IsOutcomeOf}
 use Rattle.f77_run.specs.Visits.{IsFollowed}
-use Rattle.f77_run.proofs.Exchanged.{are_parting, visits_there, visits_within}
+use Rattle.f77_run.proofs.Exchanged.{agree_but, are_parting, visits_there, visits_within}
 use Rattle.f77_run.proofs.changed.ChangedRunner.comes_to.Goals as goal
 
 pub comes_alike-requires : goal.comes_alike-requires
@@ -20,12 +20,15 @@ comes_alike-requires c =
       (
         are_parting change arguments is follows.fitting,
         (
-          visits_there change arguments is c.args.steps c.args.visits.now c.index-visited.result.now follows
-              (slice_get_read c.args.visits.now.list.items (length c.args.visits.now.list.items) change.place c.index-visited.result.now refl
-              (visits_within change arguments is c.args.steps c.args.visits.now follows) c.index-visited.ensures),
+          agree_but change.checked.now.statements change.statements.items change.place change.own is.own,
           (
-            subst (λ (checked : CheckedFields). IsOutcomeOf (map line_of checked.program) arguments c.args.steps c.args.outcome.now) (sym same) c.requires.outcome,
-            c.self.invariant.1,
+            visits_there change arguments is c.args.steps c.args.visits.now c.index-visited.result.now follows
+                (slice_get_read c.args.visits.now.list.items (length c.args.visits.now.list.items) change.place c.index-visited.result.now refl
+                (visits_within change arguments is c.args.steps c.args.visits.now follows) c.index-visited.ensures),
+            (
+              subst (λ (checked : CheckedFields). IsOutcomeOf (map line_of checked.program) arguments c.args.steps c.args.outcome.now) (sym same) c.requires.outcome,
+              c.self.invariant.1,
+            ),
           ),
         ),
       ),

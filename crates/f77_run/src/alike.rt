@@ -1,0 +1,105 @@
+//! Whether two statements do the same in a state.
+
+ghost use Rattle.std.specs.Prelude.{◌≡◌, ℕ, List, true, length};
+ghost use Rattle.f77_check.specs.declared.resolved.Resolved.{Resolved as Statement};
+ghost use Rattle.f77_run.specs.declared.machine.Turn.{Turn};
+ghost use Rattle.f77_run.specs.Effect.{AgreeBut, GoOnAlike, effected};
+ghost use Rattle.f77_run.specs.Moves.{Cells, Turns, acted, action_within, incremented, is_executed};
+
+use crate::effect::{Effect, effect_of};
+use crate::value::Value;
+use f77_check::{Action, Jump, Resolved};
+
+/// Whether control goes on from both in one way.
+#[tactic(auto, using(crate::proofs::Effects::same_numbers))]
+fn go_on_alike(own: &Resolved, other: &Resolved) -> bool
+    ensures { result ≡ true → GoOnAlike own.now other.now }
+{
+    own.next == other.next && own.ends == other.ends
+}
+
+/// Whether both jumps lead to one statement, and leave the same DOs.
+#[tactic(auto, using(crate::proofs::Effects::same_numbers))]
+fn jump_alike(one: &Jump, other: &Jump) -> bool
+    ensures target { result ≡ true → one.now.target ≡ other.now.target }
+    ensures leaves { result ≡ true → one.now.leaves.items ≡ other.now.leaves.items }
+{
+    one.target == other.target && one.leaves == other.leaves
+}
+
+/// The effect, which changes nothing where the slot holds the value that is stored there.
+fn without_change<'a>(told: Effect<'a>, cells: &[Option<Value>]) -> Effect<'a>
+    ensures { (statements : List Statement) (i : ℕ) (r : Statement) (turns : Turns) → effected statements i r told.entry cells.now turns
+        ≡ effected statements i r result cells.now turns }
+{
+    match told {
+        Effect::Stores(slot, value) if cells.get(slot) == Some(&Some(value)) => Effect::GoesOn,
+        told => told,
+    }
+}
+
+/// Whether the effects of two statements in the place `i` are the same.
+fn are_same(one: Effect<'_>, other: Effect<'_>, i: usize) -> bool
+    ensures { result ≡ true → (statements others : List Statement) (r s : Statement) (cells : Cells) (turns : Turns)
+        → AgreeBut i statements others → GoOnAlike r s
+        → effected statements i r one.entry cells turns ≡ effected others i s other.entry cells turns }
+{
+    match (one, other) {
+        (Effect::Stores(slot, value), Effect::Stores(second, held)) => {
+            slot == second && value == held
+        }
+        (Effect::GoesOn, Effect::GoesOn)
+        | (Effect::Returns, Effect::Returns)
+        | (Effect::Stops, Effect::Stops) => true,
+        (Effect::Jumps(jump), Effect::Jumps(second)) => jump_alike(jump, second),
+        (Effect::Skips(end), Effect::Skips(second)) => end == second,
+        (Effect::Begins(variable, terminal, parameters), Effect::Begins(name, end, values)) => {
+            variable == name && terminal == end && terminal != i && parameters == values
+        }
+        _ => false,
+    }
+}
+
+/// Whether two statements that stand in the place `i` do the same where the slots hold these values.
+pub(crate) fn act_alike(own: &Resolved, other: &Resolved, i: usize, cells: &[Option<Value>]) -> bool
+    requires own { is_executed own.now.action ≡ true }
+    requires other { is_executed other.now.action ≡ true }
+    requires within { (n : ℕ) × (action_within (length cells.now) n own.now.action ≡ true) × (action_within (length cells.now) n other.now.action ≡ true) }
+    ensures { result ≡ true → (statements others : List Statement) (turns : Turns) → AgreeBut i statements others
+        → acted statements i own.now own.now.action cells.now turns ≡ acted others i other.now other.now.action cells.now turns }
+{
+    if !go_on_alike(own, other) {
+        return false;
+    }
+    match (
+        effect_of(&own.action, cells),
+        effect_of(&other.action, cells),
+    ) {
+        (Ok(one), Ok(other)) => {
+            are_same(without_change(one, cells), without_change(other, cells), i)
+        }
+        (Ok(_) | Err(_), _) => false,
+    }
+}
+
+/// Whether two DOs that stand in the place `d` are incremented alike: they have one variable, and one terminal statement behind them.
+pub(crate) fn increment_alike(own: &Resolved, other: &Resolved, d: usize) -> bool
+    ensures { result ≡ true → (statements others : List Statement) (turn : Turn) (cells : Cells) (turns : Turns) → AgreeBut d statements others
+        → incremented statements d own.now.action turn cells turns ≡ incremented others d other.now.action turn cells turns }
+{
+    match (&own.action, &other.action) {
+        (
+            Action::Loop {
+                variable,
+                terminal,
+                ..
+            },
+            Action::Loop {
+                variable: second,
+                terminal: end,
+                ..
+            },
+        ) => variable == second && terminal == end && *terminal != d,
+        _ => false,
+    }
+}
