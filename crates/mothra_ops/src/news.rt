@@ -19,7 +19,7 @@ pub(crate) fn expressions(alloc: Global, list: Vec<Ref>) -> Result<Vec<Expr>, Op
     ensures made { IfOk result (λ made. map tree_of made.items ≡ map reference_of list.items) }
     ensures memory { IfErr result (λ fault. fault ≡ Memory) }
 {
-    let mut made = Vec::new(alloc);
+    let mut made = Vec::with_capacity(alloc, list.len())?;
     for reference in list {
         made.push(Expr::Reference(reference))?;
     }
@@ -30,7 +30,7 @@ pub(crate) fn in_parts(alloc: Global, list: Vec<Expr>) -> Result<Vec<New>, OpsFa
     ensures made { IfOk result (λ made. map new_of made.items ≡ map NodeOf.Part (map tree_of list.items)) }
     ensures memory { IfErr result (λ fault. fault ≡ Memory) }
 {
-    let mut made = Vec::new(alloc);
+    let mut made = Vec::with_capacity(alloc, list.len())?;
     for expr in list {
         made.push(New::Expression(expr))?;
     }
@@ -41,7 +41,7 @@ pub(crate) fn in_targets(alloc: Global, list: Vec<Ref>) -> Result<Vec<New>, OpsF
     ensures made { IfOk result (λ made. map new_of made.items ≡ map target_of list.items) }
     ensures memory { IfErr result (λ fault. fault ≡ Memory) }
 {
-    let mut made = Vec::new(alloc);
+    let mut made = Vec::with_capacity(alloc, list.len())?;
     for reference in list {
         made.push(New::Target(reference))?;
     }
@@ -53,7 +53,7 @@ pub(crate) fn in_variables(alloc: Global, list: Vec<Ref>) -> Result<Vec<New>, Op
     ensures made { IfOk result (λ made. map new_of made.items ≡ map variable_of list.items) }
     ensures memory { IfErr result (λ fault. fault ≡ Memory) }
 {
-    let mut made = Vec::new(alloc);
+    let mut made = Vec::with_capacity(alloc, list.len())?;
     for reference in list {
         made.push(New::Name(reference.name))?;
     }
@@ -64,7 +64,7 @@ pub(crate) fn in_labels(alloc: Global, list: Vec<u32>) -> Result<Vec<New>, OpsFa
     ensures made { IfOk result (λ made. map new_of made.items ≡ map NodeOf.Labelled list.items) }
     ensures memory { IfErr result (λ fault. fault ≡ Memory) }
 {
-    let mut made = Vec::new(alloc);
+    let mut made = Vec::with_capacity(alloc, list.len())?;
     for label in list {
         made.push(New::Label(label))?;
     }
@@ -81,7 +81,7 @@ pub(crate) fn in_values(
         ≡ map (λ constant. NodeOf.Initial (record { times = times; constant = constant })) list.items) }
     ensures memory { IfErr result (λ fault. fault ≡ Memory) }
 {
-    let mut made = Vec::new(alloc);
+    let mut made = Vec::with_capacity(alloc, list.len())?;
     for constant in list {
         made.push(New::Value(Value { times, constant }))?;
     }
