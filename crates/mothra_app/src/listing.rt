@@ -24,11 +24,12 @@ fn push_count(text: &mut String, op: Op, count: u32) -> Result<(), AllocError>
 /// Adds the line of an operator's mutant.
 fn push_mutant(
     text: &mut String,
-    mutants: &Mutants<'_>,
+    mutants: &mut Mutants<'_>,
     op: Op,
     number: u32,
 ) -> Result<(), OpsFault>
-    ensures line { OnOk result (string_bytes text.new ≡ string_bytes text.old ++ (mutant_text mutants.now op number ++ codes "\n")) }
+    ensures plan { mutants.new ≡ mutants.old }
+    ensures line { OnOk result (string_bytes text.new ≡ string_bytes text.old ++ (mutant_text mutants.old op number ++ codes "\n")) }
     ensures memory { IfErr result (λ fault. fault ≡ Memory) }
 {
     mutants.push_text(text, op, number)?;
@@ -40,10 +41,11 @@ fn push_mutant(
 fn push_operator(
     text: &mut String,
     plan: &Plan,
-    mutants: &Mutants<'_>,
+    mutants: &mut Mutants<'_>,
     op: Op,
 ) -> Result<(), OpsFault>
-    requires { mutants.now ≡ plan.now }
+    requires { mutants.old ≡ plan.now }
+    ensures plan { mutants.new ≡ mutants.old }
     ensures lines { OnOk result (string_bytes text.new ≡ string_bytes text.old ++ plan_lines plan.now op) }
     ensures memory { IfErr result (λ fault. fault ≡ Memory) }
 {
@@ -56,8 +58,13 @@ fn push_operator(
 }
 
 /// Adds the lines of each operator that was asked for, in their order. It answers how many mutants there are in all.
-fn push_operators(text: &mut String, plan: &Plan, mutants: &Mutants<'_>) -> Result<u64, OpsFault>
-    requires { mutants.now ≡ plan.now }
+fn push_operators(
+    text: &mut String,
+    plan: &Plan,
+    mutants: &mut Mutants<'_>,
+) -> Result<u64, OpsFault>
+    requires { mutants.old ≡ plan.now }
+    ensures plan { mutants.new ≡ mutants.old }
     ensures lines { OnOk result (string_bytes text.new ≡ string_bytes text.old ++ asked_lines plan.now) }
     ensures total { IfOk result (λ total. total ≡ asked_total plan.now) }
     ensures memory { IfErr result (λ fault. fault ≡ Memory) }
@@ -77,9 +84,9 @@ fn text_of(alloc: Global, plan: &Plan) -> Result<String, OpsFault>
     ensures text { IfOk result (λ text. string_bytes text ≡ plan_text plan.now) }
     ensures memory { IfErr result (λ fault. fault ≡ Memory) }
 {
-    let mutants = Mutants::of(alloc, plan)?;
+    let mut mutants = Mutants::of(alloc, plan)?;
     let mut text = String::new(alloc);
-    let total = push_operators(&mut text, plan, &mutants)?;
+    let total = push_operators(&mut text, plan, &mut mutants)?;
     write!(text, "TOTAL {total}\n")?;
     Ok(text)
 }

@@ -139,17 +139,18 @@ fn push_survivors(text: &mut String, plan: &Plan, entries: &[Entry]) -> Result<(
     ensures text { OnOk result (string_bytes text.new ≡ string_bytes text.old ++ flat_map (survivor_line plan.now) entries.now) }
     ensures memory { IfErr result (λ fault. fault ≡ Memory) }
 {
-    let Ok(mutants) = Mutants::of(*text.allocator(), plan) else {
+    let Ok(mut mutants) = Mutants::of(*text.allocator(), plan) else {
         return Err(BenchFault::Memory);
     };
     for entry in entries {
-        push_survivor(text, &mutants, entry)?;
+        push_survivor(text, &mut mutants, entry)?;
     }
     Ok(())
 }
 
-fn push_survivor(text: &mut String, mutants: &Mutants, entry: &Entry) -> Result<(), BenchFault>
-    ensures text { OnOk result (string_bytes text.new ≡ string_bytes text.old ++ survivor_line mutants.now entry.now) }
+fn push_survivor(text: &mut String, mutants: &mut Mutants, entry: &Entry) -> Result<(), BenchFault>
+    ensures plan { mutants.new ≡ mutants.old }
+    ensures text { OnOk result (string_bytes text.new ≡ string_bytes text.old ++ survivor_line mutants.old entry.now) }
     ensures memory { IfErr result (λ fault. fault ≡ Memory) }
 {
     if entry.declared || entry.is_killed() {

@@ -16,6 +16,7 @@ mod Made
 mod Applied
 mod Plans
 mod Numbered
+mod GivenMakes
 mod Shapes
 mod FormedNodes
 mod FormedSites

@@ -2,6 +2,7 @@ pub mod Pools
 pub mod Replacements
 pub mod Edits
 pub mod Original
+pub mod Given
 pub mod Listing
 pub mod Plan
 pub mod InPlaces

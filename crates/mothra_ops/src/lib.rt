@@ -5,6 +5,7 @@ mod edit;
 mod editing;
 mod expressions;
 mod fault;
+mod given;
 mod in_expressions;
 mod in_places;
 pub mod law;

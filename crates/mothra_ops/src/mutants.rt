@@ -14,6 +14,7 @@ ghost use Rattle.mothra_ops.specs.declared.fault.OpsFault.TheVariants.{Memory};
 
 use crate::edit::Edit;
 use crate::fault::OpsFault;
+use crate::given::Given;
 use crate::original::Original;
 use crate::plan::Plan;
 use f77_program::{SyntaxFault, print_stmt};
@@ -31,11 +32,14 @@ pub struct Mutant {
     pub stmt: Stmt,
 }
 
-/// The mutants of a plan. What the operators draw from its program is found once, and not for each mutant.
+/// The mutants of a plan. What the operators draw from its program is found once, and what an operator gives a node once for
+/// mutants of that node in a row.
 #[derive(Drop)]
 pub struct Mutants<'a> {
     plan: &'a Plan,
     original: Original<'a>,
+    /// What was given for the mutant before.
+    given: Given,
 }
 
 impl<'a> Model for Mutants<'a> {
@@ -47,6 +51,7 @@ impl<'a> Model for Mutants<'a> {
     ghost use Rattle.f77_check.specs.contracts.expression.Condition as condition;
     ghost use Rattle.f77_check.specs.contracts.expression.Element as element;
     ghost use Rattle.f77_check.specs.contracts.expression.Number as number;
+    ghost use Rattle.mothra_ops.specs.Given.{IsGiven};
     ghost use Rattle.mothra_ops.specs.Original.{IsOriginal};
     ghost use Rattle.mothra_ops.specs.Plan.{PlanFields};
 
@@ -64,7 +69,8 @@ impl<'a> Model for Mutants<'a> {
 
     ghost view = { λ mutants. mutants.plan.now };
 
-    ghost invariant = { λ mutants. IsOriginal mutants.original × (mutants.original.checked.now ≡ mutants.plan.now.checked) };
+    ghost invariant = { λ mutants. IsOriginal mutants.original × (mutants.original.checked.now ≡ mutants.plan.now.checked)
+        × IsGiven mutants.original mutants.given };
 }
 
 impl<'a> Mutants<'a> {
@@ -74,18 +80,23 @@ impl<'a> Mutants<'a> {
         ensures memory { IfErr result (λ fault. fault ≡ Memory) }
     {
         let original = Original::of(alloc, plan.program())?;
-        Ok(Mutants { plan, original })
+        Ok(Mutants {
+            plan,
+            original,
+            given: Given::nothing(alloc),
+        })
     }
 
     /// The operator's mutant of this number, from 1; none where the plan has no such mutant.
-    pub fn mutant(&self, alloc: Global, op: Op, number: u32) -> Result<Option<Mutant>, OpsFault>
-        ensures mutant { IfOk result (λ mutant. option_map mutant_fields mutant ≡ mutant_of self.now op number) }
+    pub fn mutant(&mut self, alloc: Global, op: Op, number: u32) -> Result<Option<Mutant>, OpsFault>
+        ensures plan { self.new ≡ self.old }
+        ensures mutant { IfOk result (λ mutant. option_map mutant_fields mutant ≡ mutant_of self.old op number) }
         // What it makes is legal, and another program.
-        ensures legal { IfOk result (λ mutant. IfSome mutant (λ m. IsMutant (program_of self.now) m.number (statement_of m.stmt))) }
+        ensures legal { IfOk result (λ mutant. IfSome mutant (λ m. IsMutant (program_of self.old) m.number (statement_of m.stmt))) }
         // It takes the arguments that the program takes.
         ensures shapes { IfOk result (λ mutant. IfSome mutant
-            (λ m. shapes (patched (program_of self.now) m.number (statement_of m.stmt)) ≡ shapes (program_of self.now))) }
-        ensures none { IfOk result (λ mutant. IfNone mutant (numbered (edits_of self.now op) number ≡ None)) }
+            (λ m. shapes (patched (program_of self.old) m.number (statement_of m.stmt)) ≡ shapes (program_of self.old))) }
+        ensures none { IfOk result (λ mutant. IfNone mutant (numbered (edits_of self.old op) number ≡ None)) }
         ensures memory { IfErr result (λ fault. fault ≡ Memory) }
     {
         match self.plan.edit(op, number) {
@@ -95,11 +106,13 @@ impl<'a> Mutants<'a> {
     }
 
     /// What an edit of the plan makes.
-    fn made(&self, alloc: Global, edit: &Edit) -> Result<Option<Mutant>, OpsFault>
-        ensures made { IfOk result (λ mutant. option_map mutant_fields mutant ≡ mutant_made (program_of self.now) edit.now) }
+    fn made(&mut self, alloc: Global, edit: &Edit) -> Result<Option<Mutant>, OpsFault>
+        ensures plan { self.new ≡ self.old }
+        ensures made { IfOk result (λ mutant. option_map mutant_fields mutant ≡ mutant_made (program_of self.old) edit.now) }
         ensures memory { IfErr result (λ fault. fault ≡ Memory) }
     {
-        match self.original.statement_made(alloc, edit)? {
+        self.given.turn_to(alloc, &self.original, edit)?;
+        match self.given.made(alloc, &self.original, edit)? {
             Some(stmt) => Ok(Some(Mutant {
                 number: edit.statement,
                 stmt,
@@ -132,8 +145,9 @@ impl<'a> Mutants<'a> {
     }
 
     /// How the operator's mutant of this number is told; no text where the plan has no such mutant.
-    fn text_of(&self, alloc: Global, op: Op, number: u32) -> Result<String, OpsFault>
-        ensures text { IfOk result (λ text. string_bytes text ≡ mutant_text self.now op number) }
+    fn text_of(&mut self, alloc: Global, op: Op, number: u32) -> Result<String, OpsFault>
+        ensures plan { self.new ≡ self.old }
+        ensures text { IfOk result (λ text. string_bytes text ≡ mutant_text self.old op number) }
         ensures memory { IfErr result (λ fault. fault ≡ Memory) }
     {
         match self.mutant(alloc, op, number)? {
@@ -144,8 +158,9 @@ impl<'a> Mutants<'a> {
 
     /// Appends how the operator's mutant of this number is told: its name, the line number of the statement that it
     /// changes, and the canonical text of what stands there. Nothing where the plan has no such mutant.
-    pub fn push_text(&self, text: &mut String, op: Op, number: u32) -> Result<(), OpsFault>
-        ensures text { OnOk result (string_bytes text.new ≡ string_bytes text.old ++ mutant_text self.now op number) }
+    pub fn push_text(&mut self, text: &mut String, op: Op, number: u32) -> Result<(), OpsFault>
+        ensures plan { self.new ≡ self.old }
+        ensures text { OnOk result (string_bytes text.new ≡ string_bytes text.old ++ mutant_text self.old op number) }
         ensures unchanged { OnErr result (string_bytes text.new ≡ string_bytes text.old) }
         ensures memory { IfErr result (λ fault. fault ≡ Memory) }
     {

@@ -1,16 +1,18 @@
 //! The program that mutants are made of.
 
-ghost use Rattle.std.specs.Prelude.{◌≡◌, ◌↔◌, ◌<◌, ◌+◌, ◌^◌, map, option_map, IfOk, IfErr, IsTrue};
+ghost use Rattle.std.specs.Prelude.{◌≡◌, ◌↔◌, ◌<◌, ◌+◌, ◌^◌, length, map, option_map, IfOk, IfErr, IsTrue};
 ghost use Rattle.f77_tree.specs.Statement.{statement_of};
 ghost use Rattle.f77_sites.specs.New.{new_of};
 ghost use Rattle.f77_sites.specs.Sites.{changed};
-ghost use Rattle.mothra_ops.specs.Edits.{IsMadeBy, IsMutant, made};
+ghost use Rattle.mothra_ops.specs.Edits.{IsMadeBy, IsMutant};
+ghost use Rattle.mothra_ops.specs.Given.{given_at};
 ghost use Rattle.mothra_ops.specs.Original.{IsOriginal, lines_of};
 ghost use Rattle.mothra_ops.specs.Pools.{fields_of};
 ghost use Rattle.mothra_ops.specs.declared.fault.OpsFault.TheVariants.{Memory};
 
 use crate::edit::Edit;
 use crate::fault::OpsFault;
+use crate::given::Given;
 use crate::pools::Pools;
 use crate::replacing::gives;
 use f77_check::{CheckFault, Checked};
@@ -63,28 +65,22 @@ impl<'a> Original<'a> {
         }
     }
 
-    /// The statement that the edit makes; none where there is no such site, or where its operator has no such replacement.
-    pub(crate) fn statement_made(
-        &self,
-        alloc: Global,
-        edit: &Edit,
-    ) -> Result<Option<Stmt>, OpsFault>
-        ensures made { IfOk result (λ statement. option_map statement_of statement ≡ made (fields_of self.now.pools) (lines_of self.now) edit.now) }
+    /// What the operator of the edit puts in the place of the node of the edit, in the order of the ranks; nothing where
+    /// there is no such node.
+    pub(crate) fn given(&self, alloc: Global, edit: &Edit) -> Result<Vec<New>, OpsFault>
+        ensures list { IfOk result (λ list. map new_of list.items
+            ≡ given_at (fields_of self.now.pools) (lines_of self.now) edit.now.op edit.now.statement edit.now.position) }
+        ensures counted { IfOk result (λ list. 0 < length list.items → edit.now.position + 1 < 2 ^ 64) }
         ensures memory { IfErr result (λ fault. fault ≡ Memory) }
     {
         let Some(line) = self.checked.program().line(edit.statement) else {
-            return Ok(None);
+            return Ok(Vec::new(alloc));
         };
         let nodes = nodes(alloc, &line.stmt)?;
-        let Some(node) = nodes.get(edit.position) else {
-            return Ok(None);
-        };
-        let news = gives(alloc, edit.op, &self.pools, &line.stmt, *node)?;
-        if edit.rank == 0 || edit.rank > news.len() {
-            return Ok(None);
+        match nodes.get(edit.position) {
+            Some(node) => gives(alloc, edit.op, &self.pools, &line.stmt, *node),
+            None => Ok(Vec::new(alloc)),
         }
-        let new = &news[edit.rank - 1];
-        Ok(Some(put(alloc, &line.stmt, edit.position, new)?))
     }
 
     /// The statement that the edit makes, where that makes a mutant.
@@ -92,7 +88,8 @@ impl<'a> Original<'a> {
         ensures made { IfOk result (λ made. IsOriginal self.now → IsMadeBy (lines_of self.now) edit.now (option_map statement_of made)) }
         ensures memory { IfErr result (λ fault. fault ≡ Memory) }
     {
-        let Some(made) = self.statement_made(alloc, edit)? else {
+        let given = Given::of(alloc, self, edit)?;
+        let Some(made) = given.made(alloc, self, edit)? else {
             return Ok(None);
         };
         if self.is_mutant(edit.statement, &made)? {

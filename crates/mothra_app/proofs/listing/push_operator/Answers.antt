@@ -9,19 +9,25 @@ pub loop-index-init : goal.loop-index-init
 loop-index-init c =
     let plan = c.args.plan.now in
     let op = c.args.op in
-    ap (λ t. t ++ lines_behind plan op 0) c.in_ok-push_count.ensures
-    ∙ append_assoc (string_bytes c.args.text.now) (count_line op c.count-count.result) (lines_behind plan op 0)
-    ∙ ap (λ n. string_bytes c.args.text.now ++ (count_line op n ++ lines_behind plan op 0)) c.count-count.ensures.count
+    record {
+      plan = c.requires;
+      lines = ap (λ t. t ++ lines_behind plan op 0) c.in_ok-push_count.ensures
+          ∙ append_assoc (string_bytes c.args.text.now) (count_line op c.count-count.result) (lines_behind plan op 0)
+          ∙ ap (λ n. string_bytes c.args.text.now ++ (count_line op n ++ lines_behind plan op 0)) c.count-count.ensures.count;
+    }
 
 pub loop-index-preserved : goal.loop-index-preserved
 loop-index-preserved c =
     let plan = c.args.plan.now in
     let i = c.loop-index.index in
-    part_more (string_bytes c.loop-index.text) (string_bytes c.push_mutant.new.text) _ (lines_behind plan c.args.op i) (lines_behind plan c.args.op (i + 1)) _
-    (c.in_ok-push_mutant.ensures.line
-    ∙ ap (λ (p : PlanFields). string_bytes c.loop-index.text ++ (mutant_text p c.args.op (i + 1) ++ codes "\n")) c.requires)
-    (mutant_more plan c.args.op i (omega (arith, c.count-count.ensures.count, c.loop-index-test.true)))
-    c.loop-index.invariant
+    record {
+      plan = c.in_ok-push_mutant.ensures.plan ∙ c.loop-index.invariant.plan;
+      lines = part_more (string_bytes c.loop-index.text) (string_bytes c.push_mutant.new.text) _ (lines_behind plan c.args.op i) (lines_behind plan c.args.op (i + 1)) _
+          (c.in_ok-push_mutant.ensures.line
+          ∙ ap (λ (p : PlanFields). string_bytes c.loop-index.text ++ (mutant_text p c.args.op (i + 1) ++ codes "\n")) c.loop-index.invariant.plan)
+          (mutant_more plan c.args.op i (omega (arith, c.count-count.ensures.count, c.loop-index-test.true)))
+          c.loop-index.invariant.lines;
+    }
 
 pub returns-clause-lines : goal.returns-clause-lines
 returns-clause-lines c =
@@ -29,4 +35,4 @@ returns-clause-lines c =
     let i = c.loop-index.index in
     sym (append-nil (string_bytes c.loop-index.text))
     ∙ ap (λ rest. string_bytes c.loop-index.text ++ rest) (sym (no_mutant_more plan c.args.op i (omega (arith, c.count-count.ensures.count, c.loop-index-test.false))))
-    ∙ c.loop-index.invariant
+    ∙ c.loop-index.invariant.lines

@@ -19,8 +19,8 @@ returns-then-branch-clause-made c own =
     sym (ap (option_map statement_of) c.in-Some.is) ∙ c.in_ok-made.ensures.made in
     mutant_made (fields_of original.pools) (lines_of original) c.args.edit.now own (statement_of c.in-Some.made) makes (c.in_ok-is_mutant.ensures.decided.0 c.if-branch.true)
 
-pub returns-else-branch-clause-made : goal.returns-else-branch-clause-made
-returns-else-branch-clause-made c own =
+pub returns-clause-made : goal.returns-clause-made
+returns-clause-made c own =
     let original = c.args.self.now in
     let makes : Some (statement_of c.in-Some.made) ≡ made (fields_of original.pools) (lines_of original) c.args.edit.now =
     sym (ap (option_map statement_of) c.in-Some.is) ∙ c.in_ok-made.ensures.made in

@@ -1,0 +1,40 @@
+use Rattle.std.proofs.Common.{arith, ◌≡◌, ◌<◌, ◌≤◌, List, Some, length, map, ap, sym, ◌∙◌, inl, inr}
+use Rattle.std.specs.Prelude.{◌⊎◌}
+use Rattle.std.proofs.lemmas.List.{length-map}
+use Rattle.f77_nodes.specs.Node.{NodeOf}
+use Rattle.f77_program.specs.Program.{line_at}
+use Rattle.f77_program.specs.declared.program.Line.{Line}
+use Rattle.f77_sites.specs.New.{new_of}
+use Rattle.mothra_ops.specs.Edits.{numbered}
+use Rattle.mothra_ops.specs.Pools.{fields_of}
+use Rattle.mothra_ops.proofs.GivenMakes.{given_for, given_made, ungiven_unmade}
+use Rattle.mothra_ops.proofs.Made.{item_numbered, past}
+use Rattle.mothra_ops.proofs.given.Given.made.Goals.{then-edit-eq0-via-then-edit-eq0, then-edit-eq0-via-else-edit-eq0+then-edit-len}
+use Rattle.mothra_ops.proofs.given.Given.made.Goals as goal
+
+pub returns-then-edit-eq0-clause-made : goal.returns-then-edit-eq0-clause-made
+returns-then-edit-eq0-clause-made c =
+    let original = c.args.original.now in
+    let given = c.args.self.now in
+    let edit = c.args.edit.now in
+    let over : (edit.rank ≡ 0) ⊎ (length (map new_of given.news.items) < edit.rank) = elim c.then-edit-eq0.branch [
+      | then-edit-eq0-via-then-edit-eq0 w ↦ inl w.if-edit-eq0.true
+      | then-edit-eq0-via-else-edit-eq0+then-edit-len w ↦ inr (omega (arith, length-map given.news.items new_of, w.len.ensures, w.if-edit-len.true))
+    ] in
+    sym (ungiven_unmade (fields_of original.pools) original.checked.now.program edit
+    (ap (λ (ns : List NodeOf). numbered ns edit.rank) (sym (given_for original given edit c.requires.given c.requires.edit)) ∙ past (map new_of given.news.items) edit.rank over))
+
+pub returns-clause-made : goal.returns-clause-made
+returns-clause-made c =
+    let original = c.args.original.now in
+    let given = c.args.self.now in
+    let edit = c.args.edit.now in
+    let line = c.in-Some.line.now in
+    let at : line_at original.checked.now.program edit.statement ≡ Some line =
+    ap (λ (ls : List Line). line_at ls edit.statement) (sym c.program.ensures.program) ∙ sym c.in-Some.ensures in
+    let low : 1 ≤ edit.rank = omega (arith, c.if-edit-eq0.false) in
+    let high : edit.rank ≤ length given.news.items = omega (arith, c.len.ensures, c.if-edit-len.false) in
+    let new = c.index-new.result.now in
+    ap Some c.in_ok-put.ensures.made
+    ∙ sym (given_made (fields_of original.pools) original.checked.now.program edit line at (new_of new)
+    (ap (λ (ns : List NodeOf). numbered ns edit.rank) (sym (given_for original given edit c.requires.given c.requires.edit)) ∙ item_numbered given.news.items edit.rank new low high c.index-new.ensures))
