@@ -1,18 +1,19 @@
 -- How far a list has come, step by step.
-use Rattle.std.proofs.Common.{arith, ◌≡◌, ◌<◌, ◌≤◌, ◌+◌, ℕ, zero, suc, length, List, [], ◌∷◌, ◌++◌, refl, Some, ap, sym, subst, inl, inr, get_or}
+use Rattle.std.proofs.Common.{arith, ◌≡◌, ◌<◌, ◌≤◌, ◌+◌, ℕ, zero, suc, length, List, [], ◌∷◌, ◌++◌, refl, Some, ap, sym, ◌∙◌, subst, inl, inr, get_or}
 use Rattle.std.specs.Prelude.{◌⊎◌}
 use Rattle.f77_nodes.specs.Node.{NodeOf, nodes_of}
 use Rattle.f77_program.specs.Program.{LineFields}
 use Rattle.f77_tree.specs.Statement.{Statement}
 use Rattle.f77_sites.specs.Sites.{changed}
 use Rattle.mothra_ops.specs.Edits.{IsCountedList, IsMember, IsMutant, IsNoList, IsTooLong, Lists, most_edits, most_whole, numbered, thinned}
-use Rattle.mothra_ops.specs.Listing.{HasCome, Holds, So}
+use Rattle.mothra_ops.specs.Listing.{HasCome, Holds, So, longest}
 use Rattle.mothra_ops.specs.Original.{Has, StandsAt}
 use Rattle.mothra_ops.specs.Pools.{pools_of}
 use Rattle.mothra_ops.specs.Replacements.{gives}
 use Rattle.mothra_ops.specs.declared.edit.Edit.{Edit}
 use Rattle.mothra_ops.specs.declared.fault.OpsFault.{OpsFault}
 use Rattle.mothra_ops.specs.declared.fault.OpsFault.TheVariants.{Memory, TooMany}
+use Rattle.mothra_ops.specs.declared.listing.Limits.{Limits}
 use Rattle.mothra_ops.specs.declared.listing.Listing.{Listing}
 use Rattle.mothra_codes.specs.declared.op.Op.{Op}
 use Rattle.mothra_ops.proofs.Cursor.{edit_at, kept, passed_by, first_rank, next_node, next_statement, starts, ends}
@@ -23,20 +24,23 @@ abbrev pub Adds : Listing → Listing → Edit → Type 0
 Adds old new edit = (whole : List Edit) → Holds old whole → Holds new (whole ++ edit ∷ [])
 
 abbrev pub Overflows : Listing → Edit → Type 0
-Overflows old edit = (whole : List Edit) → Holds old whole → (most_edits < length (thinned old.every (whole ++ edit ∷ []))) ⊎ (most_whole < length (whole ++ edit ∷ []))
+Overflows old edit = (whole : List Edit) → Holds old whole
+    → (old.limits.kept < length (thinned old.every (whole ++ edit ∷ []))) ⊎ (old.limits.whole < length (whole ++ edit ∷ []))
 
 -- the same list with other memory
 pub come_first : (l : Listing) (program : List LineFields) (s p : ℕ) → HasCome l program s p 0 → HasCome l program s p 1
 come_first l program s p come = record {
+  limits = come.limits;
   found = come.found;
   lists = first_rank (IsMember l.op program) come.found s p come.lists (rank_first l.op program);
   holds = come.holds;
 }
 
 module _ (program : List LineFields) (s p r : ℕ) (stmt : Statement) (node new : NodeOf) (here : StandsAt program s p stmt node) where
-  pub come_kept : (old made : Listing) → made.op ≡ old.op → numbered (gives old.op (pools_of program) stmt node) r ≡ Some new → IsMutant program s (changed stmt p new)
+  pub come_kept : (old made : Listing) → made.op ≡ old.op → made.limits ≡ old.limits → numbered (gives old.op (pools_of program) stmt node) r ≡ Some new → IsMutant program s (changed stmt p new)
       → Adds old made (edit_at old.op s p r) → HasCome old program s p r → HasCome made program s p (r + 1)
-  come_kept old made same at mutant adds come = record {
+  come_kept old made same limits at mutant adds come = record {
+    limits = limits ∙ come.limits;
     found = come.found ++ edit_at old.op s p r ∷ [];
     lists = subst (λ (op : Op). Lists (So op program s p (r + 1)) (come.found ++ edit_at old.op s p r ∷ [])) (sym same)
         (kept old.op (IsMember old.op program) (own_op old.op program) come.found s p r come.lists (member_here old.op program s p r stmt node new here at mutant));
@@ -46,6 +50,7 @@ module _ (program : List LineFields) (s p r : ℕ) (stmt : Statement) (node new 
   pub come_passed : (l : Listing) → numbered (gives l.op (pools_of program) stmt node) r ≡ Some new → ¬ (IsMutant program s (changed stmt p new))
       → HasCome l program s p r → HasCome l program s p (r + 1)
   come_passed l at isnt come = record {
+    limits = come.limits;
     found = come.found;
     lists = passed_by l.op (IsMember l.op program) (own_op l.op program) come.found s p r come.lists (λ m. isnt (mutant_here l.op program s p r stmt node new here at m));
     holds = come.holds;
@@ -60,7 +65,8 @@ module _ (program : List LineFields) (s p r : ℕ) (stmt : Statement) (node new 
         some = come.found ++ edit_at old.op s p r ∷ [];
         ordered = more.ordered;
         members = λ k d low. ((more.exactly (get_or (come.found ++ edit_at old.op s p r ∷ []) k d)).0 (within (come.found ++ edit_at old.op s p r ∷ []) k d low)).0;
-        many = over come.found come.holds;
+        many = subst (λ (limits : Limits). (limits.kept < length (thinned old.every (come.found ++ edit_at old.op s p r ∷ [])))
+            ⊎ (limits.whole < length (come.found ++ edit_at old.op s p r ∷ []))) come.limits (over come.found come.holds);
       }
     where
       within : (xs : List Edit) (k : ℕ) (d : Edit) → k < length xs → (i : ℕ) × (i < length xs) × (get_or xs i (get_or xs k d) ≡ get_or xs k d)
@@ -71,6 +77,7 @@ module _ (program : List LineFields) (s p r : ℕ) (stmt : Statement) (node new 
 pub node_done : (l : Listing) (program : List LineFields) (s p r : ℕ) (stmt : Statement) (node : NodeOf) → StandsAt program s p stmt node
     → length (gives l.op (pools_of program) stmt node) < r → HasCome l program s p r → HasCome l program s (p + 1) 0
 node_done l program s p r stmt node here past come = record {
+  limits = come.limits;
   found = come.found;
   lists = next_node (IsMember l.op program) come.found s p r come.lists
       (λ e m same at. let low = rank_last l.op program s p stmt node here e m same at in omega (arith, low, past));
@@ -80,22 +87,19 @@ node_done l program s p r stmt node here past come = record {
 pub statement_done : (l : Listing) (program : List LineFields) (s p : ℕ) (stmt : Statement) → Has program s stmt → length (nodes_of stmt) ≤ p
     → HasCome l program s p 0 → HasCome l program (s + 1) 0 0
 statement_done l program s p stmt has past come = record {
+  limits = come.limits;
   found = come.found;
   lists = next_statement (IsMember l.op program) come.found s p come.lists
       (λ e m same. let low = position_last l.op program s stmt has e m same in omega (arith, low, past));
   holds = come.holds;
 }
 
-pub come_at_start : (l : Listing) (program : List LineFields) → l.edits.items ≡ [] → l.whole ≡ 0 → HasCome l program 1 0 0
-come_at_start l program none zero_whole = record {
+pub come_at_start : (l : Listing) (program : List LineFields) → l.limits ≡ longest → Holds l [] → HasCome l program 1 0 0
+come_at_start l program limits holds = record {
+  limits = limits;
   found = [];
   lists = starts (IsMember l.op program) (statement_first l.op program);
-  holds = record {
-    edits = none;
-    whole = zero_whole;
-    few = let e : length l.edits.items ≡ 0 = ap length none in omega (arith, e);
-    few_whole = omega arith;
-  };
+  holds = holds;
 }
 
 pub come_to_end : (l : Listing) (program : List LineFields) (s : ℕ) → length program < s → HasCome l program s 0 0
@@ -105,8 +109,8 @@ come_to_end l program s past come = record {
     whole = come.found;
     lists = ends (IsMember l.op program) come.found s come.lists (λ e m. let low = statement_last l.op program e m in omega (arith, low, past));
     is = come.holds.edits;
-    few = come.holds.few;
-    few_whole = come.holds.few_whole;
+    few = let e : l.limits.kept ≡ most_edits = ap (λ (limits : Limits). limits.kept) come.limits in omega (arith, e, come.holds.few);
+    few_whole = let e : l.limits.whole ≡ most_whole = ap (λ (limits : Limits). limits.whole) come.limits in omega (arith, e, come.holds.few_whole);
   };
   counted = come.holds.whole;
 }

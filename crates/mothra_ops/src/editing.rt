@@ -13,7 +13,7 @@ ghost use Rattle.mothra_ops.specs.declared.fault.OpsFault.TheVariants.{Memory, N
 
 use crate::edit::Edit;
 use crate::fault::{OpsFault, memory_fault};
-use crate::listing::Listing;
+use crate::listing::{Limits, Listing};
 use crate::original::{Original, put};
 use crate::replacing::gives;
 use crate::site::Site;
@@ -106,12 +106,7 @@ impl Original<'_> {
         ensures list { IfOk result (λ listing. IsOriginal self.now → IsCountedList op (lines_of self.now) every listing.edits.items listing.whole) }
         ensures refused { IfErr result (λ fault. IsOriginal self.now → IsNoList op (lines_of self.now) every fault) }
     {
-        let mut listing = Listing {
-            op,
-            every,
-            edits: Vec::new(alloc),
-            whole: 0,
-        };
+        let mut listing = Listing::new(alloc, op, every, Limits::of_lists());
         let lines = self.checked.program().lines();
         for i in 0..lines.len() {
             self.list_statement(alloc, i + 1, &lines[i].stmt, &mut listing)?;

@@ -9,7 +9,7 @@ mod given;
 mod in_expressions;
 mod in_places;
 pub mod law;
-mod listing;
+pub mod listing;
 mod mutants;
 mod news;
 mod original;

@@ -1,8 +1,8 @@
 //! A list of edits as far as it has come.
 
 ghost use Rattle.std.specs.Prelude.{◌≡◌, ◌⊎◌, ◌++◌, ◌∷◌, [], ◌<◌, ◌≤◌, List, OnOk, IfErr, length};
-ghost use Rattle.mothra_ops.specs.Edits.{thinned, most_edits, most_whole};
-ghost use Rattle.mothra_ops.specs.Listing.{Holds};
+ghost use Rattle.mothra_ops.specs.Edits.{thinned};
+ghost use Rattle.mothra_ops.specs.Listing.{Holds, longest};
 ghost use Rattle.mothra_ops.specs.declared.edit.Edit.{Edit};
 ghost use Rattle.mothra_ops.specs.declared.fault.OpsFault.TheVariants.{Memory, TooMany};
 
@@ -11,36 +11,87 @@ use crate::fault::OpsFault;
 use mothra_codes::Op;
 use std::alloc::Global;
 
-/// The most edits of a list.
-const MOST_EDITS: usize = 1_048_575;
+/// How many edits a list may have.
+#[derive(Clone, Copy, Debug, Drop)]
+pub struct Limits {
+    /// The most that are kept.
+    pub kept: usize,
+    /// The most of the whole list.
+    pub whole: u32,
+}
+
+impl Limits {
+    /// Those of the lists of operators.
+    pub fn of_lists() -> Limits
+        ensures { result ≡ longest }
+    {
+        Limits {
+            kept: 1_048_575,
+            whole: u32::MAX,
+        }
+    }
+}
 
 /// An operator's list, thinned, with the number of edits of the whole one.
 #[derive(Debug, Drop)]
-pub(crate) struct Listing {
+pub struct Listing {
     pub(crate) op: Op,
     /// Of the whole list each such, from the first, is kept.
     pub(crate) every: u32,
+    pub(crate) limits: Limits,
     pub(crate) edits: Vec<Edit>,
     /// How many edits the whole list has.
     pub(crate) whole: u32,
 }
 
 impl Listing {
+    /// A list of no edit.
+    pub fn new(alloc: Global, op: Op, every: u32, limits: Limits) -> Listing
+        ensures op { result.op ≡ op }
+        ensures every { result.every ≡ every }
+        ensures limits { result.limits ≡ limits }
+        ensures empty { Holds result [] }
+    {
+        Listing {
+            op,
+            every,
+            limits,
+            edits: Vec::new(alloc),
+            whole: 0,
+        }
+    }
+
+    /// The edits that are kept. It takes no memory.
+    pub fn edits(&self) -> &[Edit]
+        ensures { result.now ≡ self.now.edits.items }
+    {
+        self.edits.as_slice()
+    }
+
+    /// How many edits the whole list has. It takes no memory.
+    pub fn whole(&self) -> u32
+        ensures { result ≡ self.now.whole }
+    {
+        self.whole
+    }
+
     /// Puts the next edit of the whole list into it.
-    pub(crate) fn add(&mut self, edit: Edit) -> Result<(), OpsFault>
+    pub fn add(&mut self, edit: Edit) -> Result<(), OpsFault>
         requires { 1 ≤ self.now.every }
         ensures same_op { self.new.op ≡ self.old.op }
         ensures same_every { self.new.every ≡ self.old.every }
+        ensures same_limits { self.new.limits ≡ self.old.limits }
         ensures added { OnOk result ((whole : List Edit) → Holds self.old whole → Holds self.new (whole ++ edit ∷ [])) }
         ensures refused { IfErr result (λ fault. (fault ≡ Memory) ⊎ ((fault ≡ TooMany self.old.op)
             × ((whole : List Edit) → Holds self.old whole
-            → (most_edits < length (thinned self.old.every (whole ++ edit ∷ []))) ⊎ (most_whole < length (whole ++ edit ∷ []))))) }
+            → (self.old.limits.kept < length (thinned self.old.every (whole ++ edit ∷ [])))
+            ⊎ (self.old.limits.whole < length (whole ++ edit ∷ []))))) }
     {
-        if self.whole == u32::MAX {
+        if self.whole >= self.limits.whole {
             return Err(OpsFault::TooMany(self.op));
         }
         if self.whole % self.every == 0 {
-            if self.edits.len() >= MOST_EDITS {
+            if self.edits.len() >= self.limits.kept {
                 return Err(OpsFault::TooMany(self.op));
             }
             self.edits.push(edit)?;

@@ -13,6 +13,8 @@ mod expressions;
 #[cfg(test)]
 mod labels;
 #[cfg(test)]
+mod limits;
+#[cfg(test)]
 mod listed;
 #[cfg(test)]
 mod made;

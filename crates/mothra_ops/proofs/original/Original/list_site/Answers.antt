@@ -56,7 +56,7 @@ loop-k-preserved c =
       | then-branch+in_ok-add w ↦ rw w.listing-is (record {
         same_op = w.in_ok-add.ensures.same_op ∙ c.loop-k.invariant.same_op;
         same_every = w.in_ok-add.ensures.same_every ∙ c.loop-k.invariant.same_every;
-        come = λ own here come. come_kept program site.number site.position (c.loop-k.k + 1) s node (new_of new) here old w.add.new.self w.in_ok-add.ensures.same_op
+        come = λ own here come. come_kept program site.number site.position (c.loop-k.k + 1) s node (new_of new) here old w.add.new.self w.in_ok-add.ensures.same_op w.in_ok-add.ensures.same_limits
             (given_next c.args.listing.now.op old.op (fields_of c.args.self.now.pools) (pools_of program) s node c.in_ok-news.news.items c.loop-k.invariant.same_op own c.in_ok-news.ensures.list
             c.loop-k.k new low c.index.ensures)
             (c.in_ok-makes_mutant.ensures.decided.0 w.if-branch.true) w.in_ok-add.ensures.added (c.loop-k.invariant.come own here come);

@@ -1,4 +1,4 @@
-use Rattle.std.proofs.Common.{arith, ◌≡◌, ◌+◌, ◌<◌, List, map, length, subst, ap, sym, ◌∙◌, refl}
+use Rattle.std.proofs.Common.{arith, ◌≡◌, ◌+◌, ◌<◌, List, map, length, subst, ap, sym, ◌∙◌}
 use Rattle.std.proofs.lemmas.List.{length-map}
 use Rattle.std.proofs.lemmas.Result.{err_from_is_err_and}
 use Rattle.f77_program.specs.Program.{line_of}
@@ -11,9 +11,9 @@ use Rattle.mothra_ops.proofs.original.Original.listing.Goals as goal
 
 pub loop-i-init : goal.loop-i-init
 loop-i-init c = record {
-  op = refl;
-  every = refl;
-  come = λ own. come_at_start _ (lines_of c.args.self.now) c.new.ensures.items refl;
+  op = c.new-listing.ensures.op;
+  every = c.new-listing.ensures.every;
+  come = λ own. come_at_start _ (lines_of c.args.self.now) (c.new-listing.ensures.limits ∙ c.of_lists.ensures) c.new-listing.ensures.empty;
 }
 
 pub returns-in_err-list_statement-clause-refused : goal.returns-in_err-list_statement-clause-refused
