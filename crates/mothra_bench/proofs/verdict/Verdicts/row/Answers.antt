@@ -1,8 +1,9 @@
-use Rattle.std.proofs.Common.{rules, ◌≡◌, ◌∙◌, Some, sym, ap}
+use Rattle.std.proofs.Common.{rules, ◌≡◌, ◌∙◌, Some, sym, ap, subst}
 use Rattle.std.specs.Prelude.{option_map}
-use Rattle.mothra_ops.specs.Mutants.{mutant_fields, mutant_of}
+use Rattle.mothra_ops.specs.Mutants.{mutant_fields, mutant_of, program_of}
 use Rattle.mothra_ops.specs.Plan.{PlanFields}
 use Rattle.mothra_bench.specs.Bench.{BenchFields}
+use Rattle.mothra_bench.specs.Verdict.{IsAlone, mutated}
 use Rattle.mothra_bench.proofs.verdict.Verdicts.row.Goals as goal
 
 pub returns-in-Ok-clause-kills : goal.returns-in-Ok-clause-kills
@@ -12,5 +13,7 @@ returns-in-Ok-clause-kills c =
     record {
       mutant = mutant_fields c.in-Ok-Some.mutant;
       is = ap (λ (plan : PlanFields). mutant_of plan c.args.ticket.op c.args.ticket.number) (sym plan) ∙ sym c.in-Ok-Some.ensures.mutant ∙ ap (option_map mutant_fields) some;
-      alone = c.in-Ok.ensures.kills;
+      alone = subst
+          (λ (bench : BenchFields). IsAlone (program_of bench.plan) (mutated (program_of bench.plan) (mutant_fields c.in-Ok-Some.mutant)) bench.steps bench.tests c.in-Ok.kills)
+          c.self.view_is c.in-Ok.ensures.kills;
     }
