@@ -18,7 +18,7 @@ use Rattle.f77_legal.specs.Labels.{statement_at}
 use Rattle.f77_legal.specs.Legal.{IsLegal}
 use Rattle.f77_legal.specs.Names.{Symbol, kind_of, bounds_of}
 use Rattle.f77_legal.specs.Patches.{IsStock}
-use Rattle.f77_legal.specs.Presets.{elements, groups_of}
+use Rattle.f77_legal.specs.Presets.{groups_of}
 use Rattle.f77_legal.proofs.Frames.{groups_of-framed}
 use Rattle.f77_legal.proofs.FrameNames.{by_frame, kind_of_same, bounds_of_same, is_array_same, elements_same, dummies_same}
 use Rattle.f77_legal.proofs.SameFrame.{length_same, place_of_same, left_by_same, branch_end_same, terminal_same, behind_same, loops_ending_same}
@@ -27,12 +27,12 @@ use Rattle.f77_check.specs.Action.{IsJump, AreJumps, IsAction}
 use Rattle.f77_check.specs.Checked.{shapes}
 use Rattle.f77_check.specs.Ready.{CanResolve}
 use Rattle.f77_check.specs.Resolved.{IsResolved, AreResolved}
-use Rattle.f77_check.specs.Slots.{first_slot}
+use Rattle.f77_check.specs.Slots.{first_slot, slot_kinds}
 use Rattle.f77_check.specs.Start.{Cell, cells, is_cell, presets, preset_at, is_executable, IsStartOf}
-use Rattle.f77_check.specs.declared.action.Action.{Action, Goto, ComputedGoto, ArithmeticIf, LogicalIf', Branch, Loop}
-use Rattle.f77_check.specs.declared.action.Jump.{Jump}
+use Rattle.f77_actions.specs.declared.action.Action.{Action, Goto, ComputedGoto, ArithmeticIf, LogicalIf', Branch, Loop}
+use Rattle.f77_actions.specs.declared.action.Jump.{Jump}
 use Rattle.f77_check.specs.declared.resolve.Resolver.{Resolver}
-use Rattle.f77_check.specs.declared.resolved.Resolved.{Resolved}
+use Rattle.f77_actions.specs.declared.resolved.Resolved.{Resolved}
 use Rattle.f77_check.specs.declared.start.Start.{Start}
 
 is_executable-framed : (s : Statement) → is_executable (framed s) ≡ is_executable s
@@ -149,6 +149,7 @@ module _ (p q : List LineFields) (same : HaveOneFrame p q) where
     entry = sym entry_same ∙ is.entry;
     dummies = (λ k. map (first_slot (sym bounds_same k) names) (sym (dummies_same p q same) k)) ∙ is.dummies;
     initial = is.initial ∙ (λ k. flat_map (λ name. map (λ n. preset_at_same name n k) (first_numbers (elements_same p q same name k))) names);
+    kinds = is.kinds ∙ (λ k. slot_kinds (kinds_same k) (bounds_same k) names);
   }
 
   pub can_resolve_same : (r : Resolver) → CanResolve r p → IsStock (keys r.tables.names.facts) q → IsProgram None q → IsLegal q → CanResolve r q

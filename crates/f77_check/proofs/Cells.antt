@@ -78,7 +78,7 @@ module _ (bounds : Symbol → List ℕ) where
       ap (option_map (λ n. slot_count bounds (take n names))) (found_there (bytes_eq name) names among) ∙ ap Some (counted names name)
 
   -- the slots of a name are among all
-  slots_within : (names : List Symbol) (name : Symbol) → list_any (bytes_eq name) names ≡ true → slot_from names name + product (bounds name) ≤ slot_count bounds names
+  pub slots_within : (names : List Symbol) (name : Symbol) → list_any (bytes_eq name) names ≡ true → slot_from names name + product (bounds name) ≤ slot_count bounds names
   slots_within [] name among = absurd (cc (among))
   slots_within (x ∷ names) name among = by (bytes_eq name x) refl (slots_within names name)
     where

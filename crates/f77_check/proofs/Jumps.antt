@@ -7,7 +7,7 @@ use Rattle.f77_program.specs.Program.{LineFields}
 use Rattle.f77_legal.specs.Labels.{place_of}
 use Rattle.f77_check.specs.Action.{IsJump, AreJumps}
 use Rattle.f77_check.specs.Ready.{AreFound}
-use Rattle.f77_check.specs.declared.action.Jump.{Jump}
+use Rattle.f77_actions.specs.declared.action.Jump.{Jump}
 
 pub jumps_more : (p : List LineFields) (i : ℕ) (labels : List ℕ) (jumps : List Jump) (k otherwise : ℕ) (jump : Jump) → k < length labels
     → AreJumps p i (take k labels) jumps → IsJump p i (get_or labels k otherwise) jump → AreJumps p i (take (k + 1) labels) (jumps ++ jump ∷ [])

@@ -10,9 +10,10 @@ mod KeptNames
 mod Cells
 mod Giving
 mod DataNames
+mod SlotKinds
 mod Presetting
 pub mod FirstExecutable
-mod Operands
+pub mod Operands
 mod Items
 mod Deepest
 mod Chosen

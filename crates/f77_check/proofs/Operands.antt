@@ -3,11 +3,11 @@ use Rattle.std.proofs.Common.{◌≡◌, Some, refl}
 use Rattle.f77_tree.specs.declared.operator.Operator.{Operator}
 use Rattle.f77_tree.specs.declared.operator.Operator.TheVariants.{Equivalent, NotEquivalent, Or, And, Less, LessOrEqual, Equal, NotEqual, GreaterOrEqual, Greater}
 use Rattle.f77_tree.specs.declared.tree.Kind.TheVariants.{Integer, Logical}
-use Rattle.f77_check.specs.Expression.{arithmetic_of, relation_of, connective_of}
+use Rattle.f77_actions.specs.Operators.{arithmetic_of, relation_of, connective_of}
 use Rattle.f77_legal.specs.Kinds.{operand_kind}
-use Rattle.f77_check.specs.declared.expression.Arithmetic.{Arithmetic}
-use Rattle.f77_check.specs.declared.expression.Relation.{Relation}
-use Rattle.f77_check.specs.declared.expression.Connective.{Connective}
+use Rattle.f77_actions.specs.declared.expression.Arithmetic.{Arithmetic}
+use Rattle.f77_actions.specs.declared.expression.Relation.{Relation}
+use Rattle.f77_actions.specs.declared.expression.Connective.{Connective}
 
 pub arithmetic_takes : (op : Operator) (o : Arithmetic) → arithmetic_of op ≡ Some o → operand_kind op ≡ Integer
 arithmetic_takes Equivalent o e = absurd (cc (e))

@@ -13,7 +13,7 @@ use Rattle.f77_tree.specs.declared.statement.Stmt.{Stmt}
 use Rattle.f77_tree.specs.declared.statement.Stmt.TheVariants as forms
 use Rattle.f77_tree.specs.declared.statement.Stmt.TheViews as boxed
 use Rattle.f77_tree.proofs.Views.{computed_view, logical_view}
-use Rattle.f77_check.specs.Expression.{relation_of}
+use Rattle.f77_actions.specs.Operators.{relation_of}
 use Rattle.f77_legal.specs.Dimensions.{count, fits, all_fit}
 use Rattle.f77_check.specs.Kept.{is_kept, tree_kept, items_kept}
 use Rattle.f77_legal.specs.Kinds.{same_kind, result_kind, is_of, are_integer}
@@ -22,7 +22,7 @@ use Rattle.f77_legal.specs.NameTable.{kind_at, bounds_at}
 use Rattle.f77_tree.specs.declared.operator.Operator.{Operator}
 use Rattle.f77_tree.specs.declared.tree.Kind.{Kind}
 use Rattle.f77_tree.specs.declared.tree.Kind.TheVariants.{Integer, Logical}
-use Rattle.f77_check.specs.declared.expression.Relation.{Relation}
+use Rattle.f77_actions.specs.declared.expression.Relation.{Relation}
 use Rattle.f77_check.proofs.Operands.{relation_takes}
 use Rattle.f77_legal.specs.Names.{Symbol}
 use Rattle.f77_check.specs.Ready.{IsReady, AreFound, HasEnd}

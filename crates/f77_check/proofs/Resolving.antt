@@ -14,14 +14,15 @@ use Rattle.f77_tree.specs.declared.tree.Expr.TheFolds.{fold-roll-Expr}
 use Rattle.f77_tree.specs.Tree.{Tree}
 use Rattle.f77_tree.specs.View.{tree_of, expr_step, ref_step}
 use Rattle.f77_check.specs.Boxed.{HoldsNumber, HoldsCondition}
-use Rattle.f77_check.specs.Expression.{IsNumber, IsCondition, arithmetic_of, connective_of}
+use Rattle.f77_check.specs.Expression.{IsNumber, IsCondition}
+use Rattle.f77_actions.specs.Operators.{arithmetic_of, connective_of}
 use Rattle.f77_legal.specs.Names.{Symbol}
-use Rattle.f77_check.specs.declared.expression.Arithmetic.{Arithmetic}
-use Rattle.f77_check.specs.declared.expression.Element.TheViews as resolved
-use Rattle.f77_check.specs.declared.expression.Number.{Number}
-use Rattle.f77_check.specs.declared.expression.Connective.{Connective}
-use Rattle.f77_check.specs.declared.expression.Condition.{Condition}
-use Rattle.f77_check.specs.declared.expression.Condition.TheViews as conditions
+use Rattle.f77_actions.specs.declared.expression.Arithmetic.{Arithmetic}
+use Rattle.f77_actions.specs.declared.expression.Element.TheViews as resolved
+use Rattle.f77_actions.specs.declared.expression.Number.{Number}
+use Rattle.f77_actions.specs.declared.expression.Connective.{Connective}
+use Rattle.f77_actions.specs.declared.expression.Condition.{Condition}
+use Rattle.f77_actions.specs.declared.expression.Condition.TheViews as conditions
 
 number_view : (n : ℕ) → tree_of (forms.Number n) ≡ Tree.Number n
 number_view n = ap tree_of (sym (rolls-Number n)) ∙ fold-roll-Expr Tree (List ℕ × List Tree) expr_step ref_step (Expr-F.Number n)

@@ -21,7 +21,7 @@ use Rattle.f77_legal.specs.NameTable.{bounds_at}
 use Rattle.f77_check.specs.Ready.{CanResolve, IsReady, AreFound, HasEnd, Does}
 use Rattle.f77_check.specs.Resolved.{IsResolved, AreResolved}
 use Rattle.f77_check.specs.declared.resolve.Resolver.{Resolver}
-use Rattle.f77_check.specs.declared.resolved.Resolved.{Resolved}
+use Rattle.f77_actions.specs.declared.resolved.Resolved.{Resolved}
 use Rattle.f77_legal.proofs.Actions.{inner_acts}
 use Rattle.f77_legal.proofs.Flow.{some_branch, some_terminal, some_place}
 use Rattle.f77_check.proofs.KeptNames.{all_kept, dimensions_two}

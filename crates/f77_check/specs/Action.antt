@@ -6,11 +6,11 @@ use Rattle.f77_tree.specs.Tree.{Tree, Trees}
 use Rattle.f77_tree.specs.Statement.{Statement}
 use Rattle.f77_tree.specs.declared.tree.Kind.{Kind}
 use Rattle.f77_tree.specs.declared.tree.Kind.TheVariants.{Integer, Logical}
-use Rattle.f77_check.specs.declared.action.Action.{Action, Declaration, AssignNumber, AssignTruth, Goto, ComputedGoto, ArithmeticIf}
-use Rattle.f77_check.specs.declared.action.Action.{LogicalIf', Branch, Continue, Loop, Return, Stop, Trap}
-use Rattle.f77_check.specs.declared.action.Jump.{Jump}
-use Rattle.f77_check.specs.declared.expression.Number.{Number}
-use Rattle.f77_check.specs.declared.expression.Number as number
+use Rattle.f77_actions.specs.declared.action.Action.{Action, Declaration, AssignNumber, AssignTruth, Goto, ComputedGoto, ArithmeticIf}
+use Rattle.f77_actions.specs.declared.action.Action.{LogicalIf', Branch, Continue, Loop, Return, Stop, Trap}
+use Rattle.f77_actions.specs.declared.action.Jump.{Jump}
+use Rattle.f77_actions.specs.declared.expression.Number.{Number}
+use Rattle.f77_actions.specs.declared.expression.Number as number
 use Rattle.f77_legal.specs.Blocks.{branch_end}
 use Rattle.f77_check.specs.Expression.{IsElement, IsNumber, IsCondition}
 use Rattle.f77_legal.specs.Labels.{place_of}

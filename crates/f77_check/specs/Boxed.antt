@@ -2,8 +2,8 @@
 use Rattle.std.specs.Prelude.{ℕ, List, Box}
 use Rattle.std.specs.declared.alloc.Global.{Global}
 use Rattle.f77_tree.specs.Tree.{Tree}
-use Rattle.f77_check.specs.declared.expression.Number.{Number}
-use Rattle.f77_check.specs.declared.expression.Condition.{Condition}
+use Rattle.f77_actions.specs.declared.expression.Number.{Number}
+use Rattle.f77_actions.specs.declared.expression.Condition.{Condition}
 use Rattle.f77_check.specs.Expression.{IsNumber, IsCondition}
 use Rattle.f77_legal.specs.Names.{Symbol}
 

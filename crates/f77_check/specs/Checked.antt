@@ -11,7 +11,7 @@ use Rattle.f77_check.specs.Resolved.{AreResolved}
 use Rattle.f77_check.specs.Slots.{slot_count}
 use Rattle.f77_legal.specs.Heading.{dummies}
 use Rattle.f77_check.specs.Start.{IsStartOf}
-use Rattle.f77_check.specs.declared.resolved.Resolved.{Resolved}
+use Rattle.f77_actions.specs.declared.resolved.Resolved.{Resolved}
 use Rattle.f77_check.specs.declared.start.Start.{Start}
 
 -- the kind of a name, and the number of its elements where it is an array

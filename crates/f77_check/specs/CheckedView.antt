@@ -5,7 +5,7 @@ use Rattle.f77_program.specs.declared.program.Line.{Line}
 use Rattle.f77_check.specs.Checked.{CheckedFields}
 use Rattle.f77_check.specs.declared.checked.Shape.{Shape}
 use Rattle.f77_check.specs.declared.resolve.Resolver.{Resolver}
-use Rattle.f77_check.specs.declared.resolved.Resolved.{Resolved}
+use Rattle.f77_actions.specs.declared.resolved.Resolved.{Resolved}
 use Rattle.f77_check.specs.declared.start.Start.{Start}
 
 abbrev pub fields_of : List Line → List Shape → Resolver → List Resolved → Start → CheckedFields

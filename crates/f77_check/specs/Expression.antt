@@ -1,48 +1,18 @@
 -- Which expression is which with its names looked up: by cases on both. Names have these bounds, and slots in the order of this list.
-use Rattle.std.specs.Prelude.{◌≡◌, ℕ, ◌<◌, ◌≤◌, List, [], ◌∷◌, Option, Some, None, pos}
+use Rattle.std.specs.Prelude.{◌≡◌, ℕ, ◌<◌, ◌≤◌, List, [], ◌∷◌, Some, pos}
 use Rattle.f77_tree.specs.Tree.{Tree, Trees}
 use Rattle.f77_tree.specs.declared.intrinsic.Intrinsic.TheVariants.{Mod, Iabs, Min0, Max0}
-use Rattle.f77_tree.specs.declared.operator.Operator.{Operator}
-use Rattle.f77_tree.specs.declared.operator.Operator.TheVariants as operator
 use Rattle.f77_tree.specs.declared.operator.Sign.TheVariants.{Plus, Minus}
-use Rattle.f77_check.specs.declared.expression.Arithmetic.{Arithmetic}
-use Rattle.f77_check.specs.declared.expression.Arithmetic.TheVariants as arithmetic
-use Rattle.f77_check.specs.declared.expression.Relation.{Relation}
-use Rattle.f77_check.specs.declared.expression.Relation.TheVariants as relation
-use Rattle.f77_check.specs.declared.expression.Connective.{Connective}
-use Rattle.f77_check.specs.declared.expression.Connective.TheVariants as connective
-use Rattle.f77_check.specs.declared.expression.Element.{Element, Variable, Vector', Matrix'}
-use Rattle.f77_check.specs.declared.expression.Number.{Number, Constant, TooLarge, Negated', Absolute', ZeroPush', Binary'}
-use Rattle.f77_check.specs.declared.expression.Number as number
-use Rattle.f77_check.specs.declared.expression.Condition.{Condition, Not', Related, Connected'}
-use Rattle.f77_check.specs.declared.expression.Condition as condition
+use Rattle.f77_actions.specs.declared.expression.Arithmetic.{Arithmetic}
+use Rattle.f77_actions.specs.declared.expression.Arithmetic.TheVariants as arithmetic
+use Rattle.f77_actions.specs.declared.expression.Element.{Element, Variable, Vector', Matrix'}
+use Rattle.f77_actions.specs.declared.expression.Number.{Number, Constant, TooLarge, Negated', Absolute', ZeroPush', Binary'}
+use Rattle.f77_actions.specs.declared.expression.Number as number
+use Rattle.f77_actions.specs.declared.expression.Condition.{Condition, Not', Related, Connected'}
+use Rattle.f77_actions.specs.declared.expression.Condition as condition
 use Rattle.f77_legal.specs.Names.{Symbol}
+use Rattle.f77_actions.specs.Operators.{arithmetic_of, relation_of, connective_of}
 use Rattle.f77_check.specs.Slots.{first_slot}
-
--- the operators by kind
-abbrev pub arithmetic_of : Operator → Option Arithmetic
-arithmetic_of operator.Add = Some arithmetic.Add
-arithmetic_of operator.Subtract = Some arithmetic.Subtract
-arithmetic_of operator.Multiply = Some arithmetic.Multiply
-arithmetic_of operator.Divide = Some arithmetic.Divide
-arithmetic_of operator.Power = Some arithmetic.Power
-arithmetic_of _ = None
-
-abbrev pub relation_of : Operator → Option Relation
-relation_of operator.Less = Some relation.Less
-relation_of operator.LessOrEqual = Some relation.LessOrEqual
-relation_of operator.Equal = Some relation.Equal
-relation_of operator.NotEqual = Some relation.NotEqual
-relation_of operator.GreaterOrEqual = Some relation.GreaterOrEqual
-relation_of operator.Greater = Some relation.Greater
-relation_of _ = None
-
-abbrev pub connective_of : Operator → Option Connective
-connective_of operator.And = Some connective.And
-connective_of operator.Or = Some connective.Or
-connective_of operator.Equivalent = Some connective.Equivalent
-connective_of operator.NotEquivalent = Some connective.NotEquivalent
-connective_of _ = None
 
 abbrev mutual
   -- a reference to a variable or an array element

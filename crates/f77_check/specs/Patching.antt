@@ -9,7 +9,7 @@ use Rattle.f77_legal.specs.Names.{Symbol}
 use Rattle.f77_legal.specs.Patches.{StandsAlone}
 use Rattle.f77_check.specs.Checked.{CheckedFields}
 use Rattle.f77_check.specs.Resolved.{AreResolved}
-use Rattle.f77_check.specs.declared.resolved.Resolved.{Resolved}
+use Rattle.f77_actions.specs.declared.resolved.Resolved.{Resolved}
 
 -- the other program is legal, and this one but for the statement i, which stands alone
 pub record IsChangedAlone (names : List Symbol) (program : List LineFields) (i : ℕ) (other : List LineFields) : Type 0 where

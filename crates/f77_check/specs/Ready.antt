@@ -20,7 +20,7 @@ use Rattle.f77_check.specs.SlotTable.{IsSlotTable}
 use Rattle.f77_legal.specs.Names.{Symbol}
 use Rattle.f77_legal.specs.Patches.{IsStock}
 use Rattle.f77_legal.specs.Tables.{Serve}
-use Rattle.f77_check.specs.declared.action.Action.{Action}
+use Rattle.f77_actions.specs.declared.action.Action.{Action}
 use Rattle.f77_check.specs.declared.resolve.Resolver.{Resolver}
 
 -- the tables serve a legal program, and have its names

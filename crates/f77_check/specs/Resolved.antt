@@ -2,7 +2,7 @@
 use Rattle.std.specs.Prelude.{◌≡◌, ℕ, List, length, Some, slice_get}
 use Rattle.f77_program.specs.Program.{LineFields}
 use Rattle.f77_tree.specs.Statement.{Statement}
-use Rattle.f77_check.specs.declared.resolved.Resolved.{Resolved}
+use Rattle.f77_actions.specs.declared.resolved.Resolved.{Resolved}
 use Rattle.f77_check.specs.Action.{IsAction}
 use Rattle.f77_legal.specs.Blocks.{behind}
 use Rattle.f77_legal.specs.Labels.{statement_at}

@@ -11,9 +11,9 @@ use Rattle.f77_tree.specs.declared.data.Constant.{Constant}
 use Rattle.f77_check.specs.declared.start.Start.{Start}
 use Rattle.f77_legal.specs.Blocks.{first_numbers}
 use Rattle.f77_legal.specs.Heading.{dummies}
-use Rattle.f77_legal.specs.Names.{Symbol, bounds_of}
+use Rattle.f77_legal.specs.Names.{Symbol, kind_of, bounds_of}
 use Rattle.f77_legal.specs.Presets.{elements, groups_of}
-use Rattle.f77_check.specs.Slots.{first_slot}
+use Rattle.f77_check.specs.Slots.{first_slot, slot_kinds}
 
 -- an element of a name
 abbrev pub Cell : Type 0
@@ -42,8 +42,10 @@ is_executable (Statement.Dimension declarations) = false
 is_executable (Statement.Preset groups) = false
 is_executable _ = true
 
--- What a run of a program starts with: its first executable statement, the first slot of each dummy argument, and what DATA gives each slot.
+-- What a run of a program starts with: its first executable statement, the first slot of each dummy argument, what DATA gives each slot, and
+-- the kind of each slot.
 pub record IsStartOf (program : List LineFields) (names : List Symbol) (start : Start) : Type 0 where
   pub entry : position (λ line. is_executable line.stmt) program ≡ Some start.entry
   pub dummies : map (first_slot (bounds_of program) names) (dummies program) ≡ map (λ slot. Some slot) start.dummies.items
   pub initial : start.initial.items ≡ flat_map (λ name. map (preset_at program name) (first_numbers (elements program name))) names
+  pub kinds : start.kinds.items ≡ slot_kinds (kind_of program) (bounds_of program) names

@@ -9,14 +9,15 @@ ghost use Rattle.f77_tree.specs.declared.tree.Kind.{Kind};
 ghost use Rattle.f77_tree.specs.declared.tree.Kind.TheVariants.{Integer, Logical};
 ghost use Rattle.f77_check.specs.Action.{IsStep};
 ghost use Rattle.f77_check.specs.Boxed.{HoldsNumber, HoldsCondition};
-ghost use Rattle.f77_check.specs.Expression.{IsElement, IsNumber, IsChosen, IsCondition, arithmetic_of, relation_of, connective_of};
+ghost use Rattle.f77_check.specs.Expression.{IsElement, IsNumber, IsChosen, IsCondition};
+ghost use Rattle.f77_actions.specs.Operators.{arithmetic_of, relation_of, connective_of};
 ghost use Rattle.f77_legal.specs.Kinds.{same_kind, result_kind};
 ghost use Rattle.f77_check.specs.Lookup.{IsReadyTree, by_tables};
 ghost use Rattle.f77_legal.specs.Names.{Symbol};
 ghost use Rattle.f77_legal.specs.declared.fault.CheckFault.TheVariants.{Memory};
 
-use crate::expression::{Arithmetic, Condition, Connective, Element, Number, Relation};
 use crate::resolve::Resolver;
+use f77_actions::{Arithmetic, Condition, Connective, Element, Number, Relation};
 use f77_legal::CheckFault;
 use f77_tree::{Expr, Intrinsic, Name, Operator, Sign};
 use std::alloc::Global;

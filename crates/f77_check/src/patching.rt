@@ -13,7 +13,7 @@ ghost use Rattle.f77_legal.specs.declared.fault.CheckFault.TheVariants.{Memory};
 
 use crate::checked::Checked;
 use crate::checking::{check, judged};
-use crate::resolved::Resolved;
+use f77_actions::Resolved;
 use f77_legal::{CheckFault, is_terminal, keeps_frame};
 use f77_program::{Line, Program, is_formed};
 use f77_tree::{Shared, Stmt};

@@ -16,9 +16,8 @@ ghost use Rattle.f77_check.specs.Resolved.{IsResolved, AreResolved};
 ghost use Rattle.f77_legal.specs.Tables.{Serve};
 ghost use Rattle.f77_legal.specs.declared.fault.CheckFault.TheVariants.{Memory};
 
-use crate::action::{Action, Jump};
-use crate::resolved::Resolved;
 use crate::slots::Slots;
+use f77_actions::{Action, Jump, Resolved};
 use f77_legal::blocks::{next, statement};
 use f77_legal::{CheckFault, Tables};
 use f77_program::Line;

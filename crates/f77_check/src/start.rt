@@ -1,6 +1,6 @@
 //! What a run of a program starts with.
 
-ghost use Rattle.std.specs.Prelude.{◌≡◌, ◌++◌, true, Some, map, position, IfOk, IfErr, OnOk};
+ghost use Rattle.std.specs.Prelude.{◌≡◌, ◌++◌, true, Some, map, position, replicate, IfOk, IfErr, OnOk};
 ghost use Rattle.std.specs.List.{flat_map, list_all};
 ghost use Rattle.indexmap.specs.IndexMap.{keys};
 ghost use Rattle.f77_tree.specs.Data.{data_group_of};
@@ -11,10 +11,11 @@ ghost use Rattle.f77_check.specs.Initial as given;
 ghost use Rattle.f77_check.specs.Initial.{HasSlots, slots_of, groups_kept};
 ghost use Rattle.f77_check.specs.Kept.{is_kept};
 ghost use Rattle.f77_check.specs.Lookup.{by_tables};
+ghost use Rattle.f77_legal.specs.NameTable.{bounds_at, kind_at};
 ghost use Rattle.f77_legal.specs.Presets as presets;
 ghost use Rattle.f77_legal.specs.Presets.{elements};
 ghost use Rattle.f77_check.specs.Ready.{CanResolve};
-ghost use Rattle.f77_check.specs.Slots.{first_slot};
+ghost use Rattle.f77_check.specs.Slots.{first_slot, slot_kinds};
 ghost use Rattle.f77_check.specs.Start as start;
 ghost use Rattle.f77_check.specs.Start.{IsStartOf, preset_at};
 ghost use Rattle.f77_legal.specs.declared.fault.CheckFault.TheVariants.{Memory};
@@ -24,7 +25,7 @@ use f77_legal::CheckFault;
 use f77_legal::heading::arguments;
 use f77_legal::names::product;
 use f77_program::Line;
-use f77_tree::{Constant, DataGroup, Form, Name, Shared, Stmt, Value};
+use f77_tree::{Constant, DataGroup, Form, Kind, Name, Shared, Stmt, Value};
 use std::alloc::Global;
 
 /// What a run of a program starts with. Statements and slots are numbered from 0.
@@ -36,6 +37,8 @@ pub struct Start {
     pub dummies: Vec<usize>,
     /// What DATA gives each slot (section 9).
     pub initial: Vec<Option<Constant>>,
+    /// The kind of each slot.
+    pub kinds: Vec<Kind>,
 }
 
 fn is_executable(stmt: &Stmt) -> bool
@@ -176,6 +179,36 @@ impl Resolver {
         Ok(held)
     }
 
+    /// Adds the kind of a name for each of its slots.
+    fn add_kinds(&self, kinds: &mut Vec<Kind>, name: &Name) -> Result<(), CheckFault>
+        requires slots { HasSlots self.now }
+        requires kept { is_kept self.now.tables.names name.now ≡ true }
+        ensures kinds { OnOk result (kinds.new.items ≡ kinds.old.items
+            ++ replicate (presets.product (bounds_at self.now.tables.names name.now)) (kind_at self.now.tables.names name.now)) }
+        ensures memory { IfErr result (λ fault. fault ≡ Memory) }
+    {
+        let names = &self.tables.names;
+        let kind = names.kind(name);
+        for _slot in 0..product(names.bounds(name)) as usize {
+            kinds.push(kind)?;
+        }
+        Ok(())
+    }
+
+    /// The kind of each slot.
+    fn kinds(&self, alloc: Global) -> Result<Vec<Kind>, CheckFault>
+        requires { HasSlots self.now }
+        ensures kinds { IfOk result (λ kinds. kinds.items ≡ by_tables self.now (slot_kinds (kind_at self.now.tables.names))) }
+        ensures memory { IfErr result (λ fault. fault ≡ Memory) }
+    {
+        let names = &self.tables.names;
+        let mut kinds = Vec::with_capacity(alloc, self.slots.count)?;
+        for name in names.facts.keys() {
+            self.add_kinds(&mut kinds, name)?;
+        }
+        Ok(kinds)
+    }
+
     /// What a run of a legal program starts with.
     pub(crate) fn start(&self, alloc: Global, lines: &[Shared<Line>]) -> Result<Start, CheckFault>
         requires { CanResolve self.now (map line_of lines.now) }
@@ -187,10 +220,12 @@ impl Resolver {
         };
         let dummies = self.first_slots(alloc, arguments(lines))?;
         let initial = self.initial(alloc, lines)?;
+        let kinds = self.kinds(alloc)?;
         Ok(Start {
             entry,
             dummies,
             initial,
+            kinds,
         })
     }
 }

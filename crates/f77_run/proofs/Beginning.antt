@@ -20,16 +20,16 @@ use Rattle.f77_check.specs.Start.{preset_at}
 use Rattle.f77_legal.proofs.Among.{among_holds}
 use Rattle.f77_check.proofs.Unpreset.{unpreset}
 use Rattle.f77_run.specs.declared.argument.Arg.{Arg}
-use Rattle.f77_run.specs.declared.value.Value.{Value}
+use Rattle.f77_values.specs.declared.value.Value.{Value}
 use Rattle.f77_run.specs.Interpreter.{AreFitting, AreArguments, values_in}
 use Rattle.f77_run.specs.Machine.{values_of, turns_of, turn_of, placed}
-use Rattle.f77_run.specs.Moves.{Cells, turn_at}
+use Rattle.f77_code.specs.Moves.{Cells, turn_at}
 use Rattle.f77_run.specs.Site.{site_of, held}
 use Rattle.f77_run.specs.Spans.{HaveRoom, AreWithin, AllHold, size_of, span, all_filled}
 use Rattle.f77_run.specs.Start.{IsStart, constant_value, start_values}
-use Rattle.f77_run.specs.declared.finish.Finish.{Finish}
+use Rattle.f77_values.specs.declared.finish.Finish.{Finish}
 use Rattle.f77_run.specs.declared.machine.Machine.{Machine}
-use Rattle.f77_run.specs.declared.machine.Place.TheVariants as places
+use Rattle.f77_code.specs.declared.control.Place.TheVariants as places
 use Rattle.f77_run.specs.Control.{Comes}
 use Rattle.f77_run.specs.Outcome.{IsOutcome}
 use Rattle.f77_run.specs.Running.{IsRunning, config_at}

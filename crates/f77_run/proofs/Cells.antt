@@ -10,11 +10,11 @@ use Rattle.f77_legal.specs.Blocks.{first_numbers}
 use Rattle.f77_legal.specs.Names.{Symbol}
 use Rattle.f77_legal.specs.Presets.{product}
 use Rattle.f77_check.specs.Slots.{first_slot}
-use Rattle.f77_run.specs.declared.finish.Fault.{Fault}
-use Rattle.f77_run.specs.declared.value.Value.{Value}
-use Rattle.f77_run.specs.Evaluation.{held_in}
+use Rattle.f77_values.specs.declared.finish.Fault.{Fault}
+use Rattle.f77_values.specs.declared.value.Value.{Value}
+use Rattle.f77_code.specs.Evaluation.{held_in}
 use Rattle.f77_run.specs.Machine.{values_of}
-use Rattle.f77_run.specs.Value.{element}
+use Rattle.f77_values.specs.Value.{element}
 
 length-numbers : (n : ℕ) → length (first_numbers n) ≡ n
 length-numbers zero = refl

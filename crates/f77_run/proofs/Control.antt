@@ -13,15 +13,15 @@ use Rattle.f77_legal.specs.Labels.{place_of, statement_at, terminal_label}
 use Rattle.f77_legal.specs.Loops.{terminal, is_left}
 use Rattle.f77_legal.specs.Names.{Symbol, kind_of, bounds_of}
 use Rattle.f77_check.specs.Start.{is_executable}
-use Rattle.f77_run.specs.declared.finish.Fault.{Fault}
+use Rattle.f77_values.specs.declared.finish.Fault.{Fault}
 use Rattle.f77_run.specs.Control.{Stands, IsPlacedAt, AreLoops, IsPlaced, is_last, Leads, IsSound}
-use Rattle.f77_run.specs.Number.{in_range, trip_count}
+use Rattle.f77_values.specs.Number.{in_range, trip_count}
 use Rattle.f77_run.specs.Value.{Store, put, number, truth, value, place}
-use Rattle.f77_run.specs.Choice.{by_sign, numbered}
+use Rattle.f77_code.specs.Choice.{by_sign, numbered}
 use Rattle.f77_run.specs.Step.{Place, Execute, Increment, Turn, Turns, Config, config, Next, Goes, Ends, Step, with_turn, left_behind, step_number}
 use Rattle.f77_run.proofs.Stepping.{sound_step, innermost, Found, is_found, chosen, goes_on, jumps, last_pass, passes, begins, unless_fault, either, of_option, jumps_or_on, executes, increments, next_at}
 use Rattle.f77_run.proofs.Numbered.{numbered_among}
-use Rattle.f77_run.specs.declared.value.Value.TheVariants as held
+use Rattle.f77_values.specs.declared.value.Value.TheVariants as held
 
 -- what comes next is there, and control may be where it goes
 abbrev pub Fine : List LineFields → Next → Type 0
@@ -107,12 +107,12 @@ moves_either p true x y f g = f
 moves_either p false x y f g = g
 
 -- the label that the sign chooses is one of the three
-chosen_label : (z : ℤ) (l m r : ℕ) → list_any (λ x. x == by_sign z l m r) (l ∷ (m ∷ (r ∷ []))) ≡ true
+pub chosen_label : (z : ℤ) (l m r : ℕ) → list_any (λ x. x == by_sign z l m r) (l ∷ (m ∷ (r ∷ []))) ≡ true
 chosen_label (negsuc k) l m r = grind (arith, nat_tests)
 chosen_label (pos zero) l m r = grind (arith, nat_tests)
 chosen_label (pos (suc k)) l m r = grind (arith, nat_tests)
 
-one_label : (l : ℕ) → list_any (λ x. x == l) (l ∷ []) ≡ true
+pub one_label : (l : ℕ) → list_any (λ x. x == l) (l ∷ []) ≡ true
 one_label l = grind (arith, nat_tests)
 
 -- what a statement needs where it is executed by itself or in a logical IF

@@ -2,15 +2,16 @@
 use Rattle.std.proofs.Common.{arith, ◌≡◌, ◌∙◌, ◌*◌, ◌<◌, ℕ, true, List, length, Option, Some, None, Fits, w64, get_or, refl, sym, subst}
 use Rattle.std.specs.Prelude.{IsSome}
 use Rattle.std.proofs.lemmas.Bool.{false≢true}
-use Rattle.f77_check.specs.declared.resolved.Resolved.{Resolved}
+use Rattle.f77_actions.specs.declared.resolved.Resolved.{Resolved}
 use Rattle.f77_run.specs.declared.machine.Machine.{Machine}
-use Rattle.f77_run.specs.declared.machine.Place.TheVariants.{Execute, Increment}
-use Rattle.f77_run.specs.declared.machine.Turn.{Turn}
+use Rattle.f77_code.specs.declared.control.Place.TheVariants.{Execute, Increment}
+use Rattle.f77_code.specs.declared.control.Turn.{Turn}
 use Rattle.f77_run.specs.declared.visits.Visit.{Visit}
 use Rattle.f77_run.specs.Effect.{AgreeBut}
 use Rattle.f77_run.specs.Endless.{Reaches}
 use Rattle.f77_run.specs.Machine.{placed}
-use Rattle.f77_run.specs.Moves.{Move, acted, action_within, incremented, is_executed, moved, state_of, turn_at}
+use Rattle.f77_code.specs.Moves.{Move, acted, action_within, incremented, is_executed, moved, turn_at}
+use Rattle.f77_run.specs.Machine.{state_of}
 use Rattle.f77_run.specs.Parting.{Parting, IsParting, DoesAlikeIn, changed_site, site_in, start_in}
 use Rattle.f77_run.specs.Reached.{number_of}
 use Rattle.f77_run.specs.Running.{Site, IsRunning}

@@ -1,8 +1,8 @@
 -- Steps one after another; a run that comes back to a configuration never ends.
 use Rattle.std.proofs.Common.{arith, ◌≡◌, ℕ, zero, suc, ◌+◌, ◌-◌, ◌≤◌, inr, List, refl, sym, ap, subst, ◌∙◌}
 use Rattle.f77_program.specs.Program.{LineFields}
-use Rattle.f77_run.specs.declared.finish.Finish.{Finish}
-use Rattle.f77_run.specs.declared.finish.Finish.TheVariants.{StepLimit}
+use Rattle.f77_values.specs.declared.finish.Finish.{Finish}
+use Rattle.f77_values.specs.declared.finish.Finish.TheVariants.{StepLimit}
 use Rattle.f77_run.specs.Endless.{Reaches, IsEndless, ComesBack, MeetsLimits}
 use Rattle.f77_run.specs.Outcome.{IsOutcome}
 use Rattle.f77_run.specs.Step.{Config, Goes, Step}

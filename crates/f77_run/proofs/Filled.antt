@@ -10,9 +10,9 @@ use Rattle.f77_tree.specs.declared.tree.Kind.{Kind}
 use Rattle.f77_legal.specs.Blocks.{first_numbers}
 use Rattle.f77_check.specs.declared.checked.Shape.{Shape}
 use Rattle.f77_run.specs.declared.argument.Arg.{Arg}
-use Rattle.f77_run.specs.declared.value.Value.{Value}
-use Rattle.f77_run.specs.Evaluation.{held_in}
-use Rattle.f77_run.specs.Moves.{Cells}
+use Rattle.f77_values.specs.declared.value.Value.{Value}
+use Rattle.f77_code.specs.Evaluation.{held_in}
+use Rattle.f77_code.specs.Moves.{Cells}
 use Rattle.f77_run.specs.Interpreter.{values_in}
 use Rattle.f77_run.specs.Spans.{HaveRoom, all_filled, filled, size_of, span}
 use Rattle.f77_run.specs.Typed.{HasValues, has_kind}

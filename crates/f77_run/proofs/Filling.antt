@@ -15,10 +15,10 @@ use Rattle.f77_legal.specs.Names.{Symbol, bounds_of}
 use Rattle.f77_legal.specs.Presets.{product}
 use Rattle.f77_check.specs.Slots.{slot_count, first_slot}
 use Rattle.f77_run.specs.declared.argument.Arg.{Arg}
-use Rattle.f77_run.specs.declared.value.Value.{Value}
-use Rattle.f77_run.specs.Evaluation.{held_in}
+use Rattle.f77_values.specs.declared.value.Value.{Value}
+use Rattle.f77_code.specs.Evaluation.{held_in}
 use Rattle.f77_run.specs.Machine.{values_of}
-use Rattle.f77_run.specs.Moves.{Cells}
+use Rattle.f77_code.specs.Moves.{Cells}
 use Rattle.f77_run.specs.Interpreter.{values_in, has_shape, AreFitting}
 use Rattle.f77_run.specs.Spans.{filled, all_filled}
 use Rattle.f77_run.proofs.Cells.{length-table, get_or-table}

@@ -7,13 +7,13 @@ use Rattle.std.proofs.lemmas.Bool.{cases_lt}
 use Rattle.std.proofs.lemmas.Bool.Decides.{nat_tests}
 use Rattle.std.proofs.lemmas.Option.{same_Some, slice_get_cases}
 use Rattle.f77_program.specs.Program.{LineFields}
-use Rattle.f77_check.specs.declared.resolved.Resolved.{Resolved}
-use Rattle.f77_run.specs.declared.finish.Finish.{Finish}
-use Rattle.f77_run.specs.declared.machine.Place.{Place}
-use Rattle.f77_run.specs.declared.machine.Place.TheVariants.{Execute, Increment}
+use Rattle.f77_actions.specs.declared.resolved.Resolved.{Resolved}
+use Rattle.f77_values.specs.declared.finish.Finish.{Finish}
+use Rattle.f77_code.specs.declared.control.Place.{Place}
+use Rattle.f77_code.specs.declared.control.Place.TheVariants.{Execute, Increment}
 use Rattle.f77_run.specs.Endless.{Reaches}
 use Rattle.f77_run.specs.Machine.{placed}
-use Rattle.f77_run.specs.Moves.{State, state, acted, incremented, is_executed, is_loop, moved, turn_at}
+use Rattle.f77_code.specs.Moves.{State, state, acted, incremented, is_executed, is_loop, moved, turn_at}
 use Rattle.f77_run.specs.Reached.{number_of, IsReached, AreReachedFrom}
 use Rattle.f77_run.specs.Step.{Config, Goes, Ends, Step}
 use Rattle.f77_run.specs.Value.{Store}

@@ -6,29 +6,30 @@ use Rattle.std.proofs.lemmas.Option.{option_and_then_some}
 use Rattle.f77_program.specs.Program.{LineFields}
 use Rattle.f77_tree.specs.Tree.{Tree, Trees}
 use Rattle.f77_tree.specs.Statement.{Statement}
-use Rattle.f77_check.specs.declared.action.Action.{Loop}
-use Rattle.f77_check.specs.declared.expression.Element.{Variable}
-use Rattle.f77_check.specs.declared.expression.Number as number
-use Rattle.f77_check.specs.declared.expression.Number.{Number}
-use Rattle.f77_check.specs.declared.resolved.Resolved.{Resolved}
+use Rattle.f77_actions.specs.declared.action.Action.{Loop}
+use Rattle.f77_actions.specs.declared.expression.Element.{Variable}
+use Rattle.f77_actions.specs.declared.expression.Number as number
+use Rattle.f77_actions.specs.declared.expression.Number.{Number}
+use Rattle.f77_actions.specs.declared.resolved.Resolved.{Resolved}
 use Rattle.f77_legal.specs.Labels.{bears, place_of, statement_at, terminal_label}
 use Rattle.f77_legal.specs.Loops.{terminal}
 use Rattle.f77_legal.specs.Names.{Symbol, bounds_of}
 use Rattle.f77_legal.specs.Presets.{product}
 use Rattle.f77_check.specs.Resolved.{IsResolved, AreResolved}
 use Rattle.f77_check.specs.Slots.{slot_count, first_slot}
-use Rattle.f77_run.specs.declared.finish.Fault.{Fault}
-use Rattle.f77_run.specs.declared.machine.Place.TheVariants.{Execute}
-use Rattle.f77_run.specs.declared.machine.Turn.{Turn}
-use Rattle.f77_run.specs.declared.value.Value.{Value}
-use Rattle.f77_run.specs.declared.value.Value.TheVariants as held
+use Rattle.f77_values.specs.declared.finish.Fault.{Fault}
+use Rattle.f77_code.specs.declared.control.Place.TheVariants.{Execute}
+use Rattle.f77_code.specs.declared.control.Turn.{Turn}
+use Rattle.f77_values.specs.declared.value.Value.{Value}
+use Rattle.f77_values.specs.declared.value.Value.TheVariants as held
 use Rattle.f77_run.specs.Machine.{values_of, turn_of, turns_of, next_of}
-use Rattle.f77_run.specs.Moves as moves
-use Rattle.f77_run.specs.Moves.{Cells, Turns, Move, state, used, passing, passing_at, begun, incremented}
-use Rattle.f77_run.specs.Number.{in_range, trip_count}
+use Rattle.f77_code.specs.Moves as moves
+use Rattle.f77_code.specs.Moves.{Cells, Turns, Move, state, used, passing, passing_at, begun, incremented}
+use Rattle.f77_values.specs.Number.{in_range, trip_count}
 use Rattle.f77_run.specs.Step as run
 use Rattle.f77_run.specs.Step.{Next, config, with_turn, GoesOn, Passes, Begins, With, Increments}
-use Rattle.f77_run.specs.Value.{put, given}
+use Rattle.f77_run.specs.Value.{put}
+use Rattle.f77_values.specs.Value.{given}
 use Rattle.f77_run.proofs.SameValue.{same_number}
 use Rattle.f77_run.proofs.Stored.{stored}
 use Rattle.f77_run.proofs.Soundness.{place_within, there}

@@ -13,7 +13,7 @@ use Rattle.f77_run.specs.Step.{Config, config, Execute, Goes}
 use Rattle.f77_run.proofs.Control.{Fine, kept}
 use Rattle.f77_run.proofs.OneWay.{one_successor}
 use Rattle.f77_run.proofs.Soundness.{legal_is_sound}
-use Rattle.f77_run.specs.declared.value.Value.{Value}
+use Rattle.f77_values.specs.declared.value.Value.{Value}
 
 placed_start : (p : List LineFields) (given : List (List Value)) (c : Config) → IsStart p given c → IsPlaced p c
 placed_start [] given c start = absurd (cc (start.1))
@@ -23,7 +23,7 @@ placed_start (line ∷ p) given c start =
     let stands : Stands (line ∷ p) start.0 = ap (λ o. option_map_or is_executable (option_map (λ x. x.stmt) o) false) at ∙ found.1 in
     subst (IsPlaced (line ∷ p)) (sym start.2) (record { at = stands; loops = λ d some. absurd (cc (some)) })
 
-placed : (p : List LineFields) (given : List (List Value)) (c : Config) → IsSound p → Comes p given c → IsPlaced p c
+pub placed : (p : List LineFields) (given : List (List Value)) (c : Config) → IsSound p → Comes p given c → IsPlaced p c
 placed p given c sound (Comes.at_start start) = placed_start p given c start
 placed p given c sound (Comes.by_step {b = b} before step) =
     let on = kept p b sound (placed p given b sound before) in

@@ -4,10 +4,10 @@ use Rattle.std.specs.Prelude.{slice_get}
 use Rattle.std.specs.List.{list_all, list_any}
 use Rattle.std.proofs.lemmas.Bool.{and_parts, eq-eqb, or_left, or_right}
 use Rattle.f77_program.specs.Program.{LineFields}
-use Rattle.f77_check.specs.declared.action.Jump.{Jump}
+use Rattle.f77_actions.specs.declared.action.Jump.{Jump}
 use Rattle.f77_check.specs.Action.{IsJump, AreJumps}
-use Rattle.f77_run.specs.Choice.{numbered}
-use Rattle.f77_run.specs.Moves.{jump_within}
+use Rattle.f77_code.specs.Choice.{numbered}
+use Rattle.f77_code.specs.Moves.{jump_within}
 
 label_among : (labels : List ℕ) (k label : ℕ) → slice_get labels k ≡ Some label → list_any (λ x. x == label) labels ≡ true
 label_among [] k label e = absurd (cc (e))

@@ -10,11 +10,11 @@ use Rattle.f77_legal.specs.Kinds.{same_kind}
 use Rattle.f77_check.specs.declared.checked.Shape.{Shape}
 use Rattle.f77_run.specs.declared.argument.Arg.{Arg}
 use Rattle.f77_run.specs.declared.argument.Arg.TheVariants.{Int, Truth, Ints, Truths}
-use Rattle.f77_run.specs.declared.finish.Finish.{Finish}
-use Rattle.f77_run.specs.declared.finish.Finish.TheVariants as finish
+use Rattle.f77_values.specs.declared.finish.Finish.{Finish}
+use Rattle.f77_values.specs.declared.finish.Finish.TheVariants as finish
 use Rattle.f77_run.specs.declared.outcome.Outcome.{Outcome}
 use Rattle.f77_run.specs.declared.outcome.Outcome.TheVariants as outcome
-use Rattle.f77_run.specs.declared.value.Value.{Value}
+use Rattle.f77_values.specs.declared.value.Value.{Value}
 use Rattle.f77_run.specs.Interpreter.{values_in, is_count, is_single, has_shape, AreFitting, AreArguments, Tells, OneAnswer}
 use Rattle.f77_run.specs.Outcome.{IsOutcome}
 use Rattle.f77_run.specs.Start.{IsStart, start_values}

@@ -6,13 +6,13 @@ use Rattle.f77_tree.specs.Tree.{Tree, Trees}
 use Rattle.f77_tree.specs.Statement.{Statement}
 use Rattle.f77_legal.specs.Labels.{statement_at}
 use Rattle.f77_legal.specs.Names.{Symbol, kind_of, bounds_of}
-use Rattle.f77_run.specs.declared.finish.Fault.{Fault}
-use Rattle.f77_run.specs.Number.{in_range, trip_count}
+use Rattle.f77_values.specs.declared.finish.Fault.{Fault}
+use Rattle.f77_values.specs.Number.{in_range, trip_count}
 use Rattle.f77_run.specs.Value.{Store, put, number, truth, value, place}
-use Rattle.f77_run.specs.Choice.{by_sign, numbered}
+use Rattle.f77_code.specs.Choice.{by_sign, numbered}
 use Rattle.f77_run.specs.Step.{Place, Execute, Increment, Turn, Turns, config, Next, Goes, with_turn, left_behind, IsInnermost, GoesOn, Jumps, Passes, Begins, With, Either, Skips, step_number, Executes, Increments, StepAt}
 use Rattle.f77_run.specs.Outcome.{IsOutcome, OneSuccessor, OneOutcome}
-use Rattle.f77_run.specs.declared.value.Value.TheVariants as held
+use Rattle.f77_values.specs.declared.value.Value.TheVariants as held
 
 none_is_not_some : {A : Type 0} (o : Option A) → o ≡ None → IsSome o → ⊥
 none_is_not_some None e h = cc

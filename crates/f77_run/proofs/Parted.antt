@@ -5,25 +5,27 @@ use Rattle.std.specs.Bool.{Decides}
 use Rattle.std.specs.List.{list_all, list_any}
 use Rattle.std.specs.Str.{bytes_eq}
 use Rattle.f77_program.specs.Program.{LineFields, line_of}
-use Rattle.f77_legal.specs.Names.{bounds_of}
+use Rattle.f77_legal.specs.Names.{kind_of, bounds_of}
 use Rattle.f77_legal.proofs.FrameNames.{kind_of_same, bounds_of_same, elements_same, dummies_same}
 use Rattle.f77_legal.proofs.SameFrame.{length_same}
-use Rattle.f77_check.specs.Slots.{slot_count}
-use Rattle.f77_check.specs.declared.resolved.Resolved.{Resolved}
+use Rattle.f77_check.specs.Slots.{slot_count, slot_kinds}
+use Rattle.f77_actions.specs.declared.resolved.Resolved.{Resolved}
 use Rattle.f77_check.proofs.Carried.{shapes_same}
-use Rattle.f77_run.specs.declared.finish.Finish.{Finish}
+use Rattle.f77_values.specs.declared.finish.Finish.{Finish}
+use Rattle.f77_values.specs.declared.finish.Finish.TheVariants.{StepLimit}
 use Rattle.f77_run.specs.declared.machine.Machine.{Machine}
 use Rattle.f77_run.specs.declared.outcome.Outcome.{Outcome}
-use Rattle.f77_run.specs.declared.value.Value.{Value}
+use Rattle.f77_values.specs.declared.value.Value.{Value}
 use Rattle.f77_run.specs.declared.visits.Visit.{Visit}
 use Rattle.f77_run.specs.Control.{Comes}
 use Rattle.f77_run.specs.Endless.{Reaches}
 use Rattle.f77_run.specs.Interpreter.{AreFitting, IsOutcomeOf, Tells, values_in}
 use Rattle.f77_run.specs.Machine.{config_of, next_of, values_of}
-use Rattle.f77_run.specs.Moves.{Cells, Move, State, moved, state_of}
+use Rattle.f77_code.specs.Moves.{Cells, Move, State, moved}
+use Rattle.f77_run.specs.Machine.{state_of}
 use Rattle.f77_run.specs.Outcome.{IsOutcome}
 use Rattle.f77_run.specs.Parting.{Parting, IsParting, DoesAlikeIn, DoAlikeBefore, changed_site, site_in, start_in}
-use Rattle.f77_run.specs.Running.{IsRunning, ComesToEnd, config_at, values_at}
+use Rattle.f77_run.specs.Running.{IsRunning, AgreeOnDummies, ComesToEnd, config_at, values_at}
 use Rattle.f77_run.specs.Site.{HoldsDummies, held}
 use Rattle.f77_run.specs.Start.{IsStart}
 use Rattle.f77_run.specs.Step.{Config, Step}
@@ -31,12 +33,12 @@ use Rattle.f77_run.specs.Typed.{has_kind, IsTyped}
 use Rattle.f77_run.specs.Value.{Store}
 use Rattle.f77_run.specs.Visits.{AreVisits, IsVisit, config_in, state_in}
 use Rattle.f77_run.proofs.Alongside.{before, come_to_the_same, comes_there, follows, throughout, visit_of}
-use Rattle.f77_run.proofs.Endless.{whole}
+use Rattle.f77_run.proofs.Endless.{limit_met, whole}
 use Rattle.f77_run.proofs.Held.{decided_of}
 use Rattle.f77_run.proofs.OneAnswer.{one_start}
 use Rattle.f77_run.proofs.OneWay.{one_successor}
 use Rattle.f77_run.proofs.Runs.{is_step}
-use Rattle.f77_run.proofs.Telling.{same_told}
+use Rattle.f77_run.proofs.Retold.{same_shown, typed_alike}
 use Rattle.f77_run.proofs.Typing.{outcome_typed, start_typed}
 use Rattle.f77_run.proofs.Unreached.{starts_same, tells_same}
 
@@ -52,6 +54,13 @@ module _ (parting : Parting) (changed : List Resolved) (is : IsParting parting c
 
   bounds : bounds_of q ≡ bounds_of p
   bounds = λ k name. sym (bounds_of_same p q is.frame name) k
+
+  kinds : kind_of q ≡ kind_of p
+  kinds = λ k name. sym (kind_of_same p q is.frame name) k
+
+  -- the slots have the same kinds in both
+  pub kinds_there : parting.checked.start.kinds.items ≡ slot_kinds (kind_of q) (bounds_of q) parting.checked.names
+  kinds_there = is.checked.start.kinds ∙ (λ k. slot_kinds (sym kinds k) (sym bounds k) parting.checked.names)
 
   -- states stand for the same in both
   same_config : (s : State) → config_of (bounds_of q) parting.checked.names s ≡ config_of (bounds_of p) parting.checked.names s
@@ -185,19 +194,26 @@ module _ (parting : Parting) (changed : List Resolved) (is : IsParting parting c
     typed_there : IsTyped q s
     typed_there = changed_typed (behind + made) end s from_start.ends
 
-    pub holds_dummies : (m : Machine) → s ≡ values_at (changed_site parting) m.cells.items → length m.cells.items ≡ slot_count (bounds_of q) parting.checked.names
-        → HoldsDummies parting.checked m
-    holds_dummies m here size = record {
+    pub holds_dummies : (m : Machine) → AgreeOnDummies q s (values_at (changed_site parting) m.cells.items)
+        → length m.cells.items ≡ slot_count (bounds_of q) parting.checked.names → HoldsDummies parting.checked m
+    holds_dummies m agree size = record {
       cells = size ∙ ap (λ b. slot_count b parting.checked.names) bounds;
-      typed = own_typed (held parting.checked m.cells.items) (subst (IsTyped q) (here ∙ same_held m.cells.items) typed_there);
+      typed = own_typed (held parting.checked m.cells.items)
+          (subst (IsTyped q) (same_held m.cells.items) (typed_alike q s (values_at (changed_site parting) m.cells.items) agree typed_there));
     }
 
-    pub told_there : (cells : Cells) → s ≡ values_at (changed_site parting) cells → (outcome : Outcome) (same : Bool)
+    pub told_there : (cells : Cells) → AgreeOnDummies q s (values_at (changed_site parting) cells) → (outcome : Outcome) (same : Bool)
         → Decides same (Tells p end (held parting.checked cells) outcome)
         → (other : Outcome) × IsOutcomeOf q parting.arguments steps other × Decides same (outcome ≡ other)
-    told_there cells here outcome same decides =
-        same_told q parting.arguments steps (start_in parting) (behind + made) end s outcome same changed_starts from_start typed_there
-        (subst (λ s. Decides same (Tells q end s outcome)) (sym here) (told_in_both cells end outcome same decides))
+    told_there cells agree outcome same decides =
+        same_shown q parting.arguments steps (start_in parting) (behind + made) end s (values_at (changed_site parting) cells) outcome same changed_starts from_start
+        typed_there agree (told_in_both cells end outcome same decides)
+
+  -- the dummy arguments have values where the run of the changed program comes to
+  pub typed_behind : (behind : ℕ) (cells : Cells) (c : Config) → Reaches q behind (start_in parting) c → c.values ≡ values_at (changed_site parting) cells
+      → IsTyped q (values_at (changed_site parting) cells)
+  typed_behind behind cells c reaches here =
+      subst (IsTyped q) here (changed_typed behind StepLimit c.values (limit_met q behind (start_in parting) c reaches))
 
   -- the times at which control was at the changed statement
   module _ (n : ℕ) (visits : List Visit) (more : Bool) (are : AreVisits (site_in parting) parting.place (start_in parting) 0 n visits more) where

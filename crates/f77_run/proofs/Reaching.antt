@@ -9,11 +9,11 @@ use Rattle.std.proofs.lemmas.List.Folds.{list_all-append}
 use Rattle.f77_program.specs.Program.{LineFields}
 use Rattle.f77_tree.specs.Tree.{Tree, Trees}
 use Rattle.f77_tree.specs.Statement.{Statement}
-use Rattle.f77_check.specs.declared.action.Action.{Action, Declaration, AssignNumber, AssignTruth, Goto, ComputedGoto, ArithmeticIf, LogicalIf', Branch, Continue, Loop, Return, Stop, Trap}
-use Rattle.f77_check.specs.declared.action.Jump.{Jump}
-use Rattle.f77_check.specs.declared.expression.Element.{Variable}
-use Rattle.f77_check.specs.declared.expression.Number.{Number}
-use Rattle.f77_check.specs.declared.resolved.Resolved.{Resolved}
+use Rattle.f77_actions.specs.declared.action.Action.{Action, Declaration, AssignNumber, AssignTruth, Goto, ComputedGoto, ArithmeticIf, LogicalIf', Branch, Continue, Loop, Return, Stop, Trap}
+use Rattle.f77_actions.specs.declared.action.Jump.{Jump}
+use Rattle.f77_actions.specs.declared.expression.Element.{Variable}
+use Rattle.f77_actions.specs.declared.expression.Number.{Number}
+use Rattle.f77_actions.specs.declared.resolved.Resolved.{Resolved}
 use Rattle.f77_check.specs.Action.{IsJump, AreJumps, IsStep, IsAssignment, IsAction}
 use Rattle.f77_legal.specs.Blocks.{first_numbers}
 use Rattle.f77_legal.specs.Dimensions.{dimensions_fit}
@@ -22,13 +22,13 @@ use Rattle.f77_legal.specs.Loops.{is_left, ends_at}
 use Rattle.f77_legal.specs.Names.{Symbol, kind_of, bounds_of}
 use Rattle.f77_check.specs.Resolved.{IsResolved, AreResolved}
 use Rattle.f77_check.specs.Slots.{slot_count}
-use Rattle.f77_run.specs.Evaluation.{number_within}
-use Rattle.f77_run.specs.Moves.{are_below, jump_within, action_within, resolved_within, all_within}
+use Rattle.f77_code.specs.Evaluation.{number_within}
+use Rattle.f77_code.specs.Moves.{are_below, jump_within, action_within, resolved_within, all_within}
 use Rattle.f77_run.proofs.Within.{number_fits, element_fits, condition_fits}
 use Rattle.f77_run.proofs.Looping.{terminal_within}
 use Rattle.f77_run.proofs.Simulation.{statement_of, legal_fits, no_bounds}
 
-all_from_each : (test : Resolved → Bool) (rs : List Resolved) → ((i : ℕ) (r : Resolved) → slice_get rs i ≡ Some r → test r ≡ true) → list_all test rs ≡ true
+pub all_from_each : (test : Resolved → Bool) (rs : List Resolved) → ((i : ℕ) (r : Resolved) → slice_get rs i ≡ Some r → test r ≡ true) → list_all test rs ≡ true
 all_from_each test [] each = refl
 all_from_each test (r ∷ rs) each = rw (each 0 r refl) (all_from_each test rs (λ i. each (suc i)))
 

@@ -15,7 +15,7 @@ use Rattle.f77_legal.specs.Names.{Symbol, some_items, kind_of, bounds_of}
 use Rattle.f77_legal.specs.Presets.{product, elements}
 use Rattle.f77_check.specs.Slots.{slot_count, first_slot}
 use Rattle.f77_run.specs.Machine.{values_of}
-use Rattle.f77_run.specs.Moves.{Cells}
+use Rattle.f77_code.specs.Moves.{Cells}
 use Rattle.f77_run.specs.Spans.{size_of, span, AllHold}
 use Rattle.f77_run.specs.Typed.{has_kind, HasValues, IsTyped}
 use Rattle.f77_run.proofs.Dummies.{or_later}

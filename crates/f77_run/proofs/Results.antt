@@ -1,8 +1,8 @@
 -- What results are used for: in one order or another, with the same end.
 use Rattle.std.proofs.Common.{◌≡◌, List, [], ◌∷◌, ℤ, refl}
 use Rattle.std.specs.Prelude.{Result, Ok, Err, IfOk}
-use Rattle.f77_run.specs.declared.finish.Fault.{Fault}
-use Rattle.f77_run.specs.Value.{given, both}
+use Rattle.f77_values.specs.declared.finish.Fault.{Fault}
+use Rattle.f77_values.specs.Value.{given, both}
 
 pub used : {A B : Type 0} (r : Result A Fault) (f g : A → Result B Fault) → ((v : A) → r ≡ Ok v → f v ≡ g v) → given r f ≡ given r g
 used (Ok v) f g each = each v refl

@@ -9,14 +9,14 @@ use Rattle.f77_tree.specs.declared.tree.Kind.TheVariants.{Integer}
 use Rattle.f77_tree.specs.declared.intrinsic.Intrinsic.TheVariants.{Mod}
 use Rattle.f77_tree.specs.declared.operator.Operator.TheVariants.{Add, Divide, Power, Less}
 use Rattle.f77_check.specs.Start.{is_executable}
-use Rattle.f77_run.specs.declared.finish.Fault.TheVariants.{Overflow, DivideByZero, ZeroPower, BadSubscript, ZeroStep, Undefined}
-use Rattle.f77_run.specs.declared.finish.Finish.{Finish}
-use Rattle.f77_run.specs.declared.finish.Finish.TheVariants.{Returned, Failed, StepLimit}
+use Rattle.f77_values.specs.declared.finish.Fault.TheVariants.{Overflow, DivideByZero, ZeroPower, BadSubscript, ZeroStep, Undefined}
+use Rattle.f77_values.specs.declared.finish.Finish.{Finish}
+use Rattle.f77_values.specs.declared.finish.Finish.TheVariants.{Returned, Failed, StepLimit}
 use Rattle.f77_run.specs.Step.{config, Execute}
 use Rattle.f77_run.specs.Start.{start_values, argument_values}
 use Rattle.f77_run.proofs.Stepping.{run}
-use Rattle.f77_run.specs.declared.value.Value.{Value}
-use Rattle.f77_run.specs.declared.value.Value.TheVariants as held
+use Rattle.f77_values.specs.declared.value.Value.{Value}
+use Rattle.f77_values.specs.declared.value.Value.TheVariants as held
 
 abbrev line : ℕ → Statement → LineFields
 line n s = record { label = None; stmt = s; line = n }

@@ -4,20 +4,20 @@ use Rattle.std.specs.Prelude.{⊤, IsSome, nat_lt, Result, Ok}
 use Rattle.std.proofs.lemmas.Bool.{or_parts}
 use Rattle.std.proofs.lemmas.Bool.Decides.{nat_tests}
 use Rattle.f77_program.specs.Program.{LineFields}
-use Rattle.f77_check.specs.declared.resolved.Resolved.{Resolved}
+use Rattle.f77_actions.specs.declared.resolved.Resolved.{Resolved}
 use Rattle.f77_legal.specs.Legal.{IsLegal, is_too_large, size_faults}
 use Rattle.f77_legal.specs.Names.{bounds_of}
 use Rattle.f77_legal.proofs.LegalGives.{kept_by}
-use Rattle.f77_run.specs.declared.finish.Finish.{Finish}
-use Rattle.f77_run.specs.declared.finish.Finish.TheVariants.{StepLimit}
-use Rattle.f77_run.specs.declared.finish.Fault.{Fault}
+use Rattle.f77_values.specs.declared.finish.Finish.{Finish}
+use Rattle.f77_values.specs.declared.finish.Finish.TheVariants.{StepLimit}
+use Rattle.f77_values.specs.declared.finish.Fault.{Fault}
 use Rattle.f77_run.specs.declared.machine.Control.{Control}
 use Rattle.f77_run.specs.declared.machine.Machine.{Machine}
 use Rattle.f77_run.specs.Control.{Comes}
 use Rattle.f77_run.specs.Endless.{Reaches}
-use Rattle.f77_run.specs.Machine.{KeepsLengths, config_of, next_of}
-use Rattle.f77_run.specs.Moves.{Cells, State, Move, state_of, move_of, moved, all_within}
-use Rattle.f77_run.specs.Moves as moves
+use Rattle.f77_run.specs.Machine.{KeepsLengths, config_of, next_of, state_of, move_of}
+use Rattle.f77_code.specs.Moves.{Cells, State, Move, moved, all_within}
+use Rattle.f77_code.specs.Moves as moves
 use Rattle.f77_run.specs.Outcome.{IsOutcome}
 use Rattle.f77_run.specs.Running.{Site, IsRunning, ComesToEnd, values_at, config_at}
 use Rattle.f77_run.specs.Step.{Config, Step}
@@ -129,7 +129,7 @@ module _ (at : Site) (statements : List Resolved) where
       (done, 0, left.reached, one_step at.program (config_at at m) (config_at at n) (is_step m (moves.Goes (state_of n)) left.running e))
 
 -- a legal program is short
-few_lines : (p : List LineFields) → IsLegal p → length p ≤ 500
+pub few_lines : (p : List LineFields) → IsLegal p → length p ≤ 500
 few_lines p legal = by (is_too_large p) refl (kept_by p legal).sizes
   where
     by : (b : Bool) → is_too_large p ≡ b → size_faults p ≡ [] → length p ≤ 500

@@ -1,31 +1,18 @@
--- What is equal by the tests of places, values and turns is the same.
-use Rattle.std.proofs.Common.{◌≡◌, ◌∙◌, Bool, true, true≢false, Option, Some, None, refl, sym, ap}
+-- What is equal by the tests of registers and counters is the same, and so is where the code stands.
+use Rattle.std.proofs.Common.{◌≡◌, Bool, true, ℕ, ℤ, List, Option, Some, None, refl, ap, ◌∙◌}
 use Rattle.std.specs.Prelude.{option_map}
 use Rattle.std.specs.Bool.{Decides}
-use Rattle.std.specs.Cmp.{unsigned_Decides, booleans_Decides, first_so, second_so}
+use Rattle.std.specs.Cmp.{unsigned_Decides, first_so, second_so}
 use Rattle.std.specs.Cmp.Derive.{both_true}
 use Rattle.std.specs.Cmp.Lexicographic.{pointwise}
-use Rattle.std.specs.Option.{option_eq}
+use Rattle.std.specs.Ordering.{int_eq}
 use Rattle.std.proofs.lemmas.Bool.Decides.{Decides-int_eq}
 use Rattle.std.proofs.lemmas.Option.{same_Some}
 use Rattle.std.proofs.lemmas.Slice.Eq.{slice_eq-Decides}
-use Rattle.f77_source.specs.SameCards.{decided_by, option_decides}
-use Rattle.f77_run.specs.contracts.machine.TurnPartialEq.TheImpl as turn
-use Rattle.f77_run.specs.contracts.value.ValuePartialEq.TheImpl as value
-use Rattle.f77_run.specs.declared.machine.Place.{Place}
-use Rattle.f77_run.specs.declared.machine.Turn.{Turn}
-use Rattle.f77_run.specs.declared.value.Value.{Value}
-use Rattle.f77_run.specs.declared.value.Value.TheVariants.{Number, Truth}
-use Rattle.f77_run.specs.Moves.{Cells, Turns, State, state}
-
-same_value : (a b : Value) → value.ghosts.eq a b ≡ true → a ≡ b
-same_value (Number x) (Number y) e = ap Number ((Decides-int_eq x y).0 e)
-same_value (Truth x) (Truth y) e = ap Truth ((booleans_Decides x y).0 e)
-same_value _ _ e = absurd (true≢false (sym e))
-
-own_value : (a : Value) → value.ghosts.eq a a ≡ true
-own_value (Number x) = (Decides-int_eq x x).1 refl
-own_value (Truth x) = (booleans_Decides x x).1 refl
+use Rattle.f77_source.specs.SameCards.{decided_by}
+use Rattle.f77_code.specs.contracts.control.TurnPartialEq.TheImpl as turn
+use Rattle.f77_code.specs.declared.control.Turn.{Turn}
+use Rattle.f77_code.specs.Operation.{Point, point}
 
 same_turn : (a b : Turn) → turn.ghosts.eq a b ≡ true → a ≡ b
 same_turn a b e =
@@ -36,20 +23,23 @@ same_turn a b e =
 own_turn : (a : Turn) → turn.ghosts.eq a a ≡ true
 own_turn a = both_true ((unsigned_Decides a.passes a.passes).1 refl) ((Decides-int_eq a.step a.step).1 refl)
 
-pub cells_decide : (xs ys : Cells) (r : Bool) → r ≡ pointwise (option_eq value.ghosts.eq) xs ys → Decides r (xs ≡ ys)
-cells_decide xs ys r e = slice_eq-Decides (option_decides value.ghosts.eq (decided_by value.ghosts.eq same_value own_value)) xs ys r e
+pub registers_decide : (xs ys : List ℤ) (r : Bool) → r ≡ pointwise int_eq xs ys → Decides r (xs ≡ ys)
+registers_decide xs ys r e = slice_eq-Decides (decided_by int_eq (λ x y. (Decides-int_eq x y).0) (λ x. (Decides-int_eq x x).1 refl)) xs ys r e
 
-pub turns_decide : (xs ys : Turns) (r : Bool) → r ≡ pointwise (option_eq turn.ghosts.eq) xs ys → Decides r (xs ≡ ys)
-turns_decide xs ys r e = slice_eq-Decides (option_decides turn.ghosts.eq (decided_by turn.ghosts.eq same_turn own_turn)) xs ys r e
+pub counters_decide : (xs ys : List Turn) (r : Bool) → r ≡ pointwise turn.ghosts.eq xs ys → Decides r (xs ≡ ys)
+counters_decide xs ys r e = slice_eq-Decides (decided_by turn.ghosts.eq same_turn own_turn) xs ys r e
 
--- the parts of a state that is kept
-module _ (cells : Cells) (turns : Turns) (s : State) where
-  pub kept_parts : (o : Option Place) → option_map (λ place. state place cells turns) o ≡ Some s → (o ≡ Some s.place) × (turns ≡ s.turns) × (cells ≡ s.cells)
+-- the parts of what is kept
+module _ (registers : List ℤ) (counters : List Turn) (p : Point) where
+  pub kept_parts : (o : Option ℕ) → option_map (λ place. point place registers counters) o ≡ Some p
+      → (o ≡ Some p.place) × (counters ≡ p.turns) × (registers ≡ p.registers)
   kept_parts None e = absurd (cc (e))
   kept_parts (Some place) e =
-      let same = same_Some (state place cells turns) s e in
-      (ap (λ (t : State). Some t.place) same, ap (λ (t : State). t.turns) same, ap (λ (t : State). t.cells) same)
+      let same = same_Some (point place registers counters) p e in
+      (ap (λ (q : Point). Some q.place) same, ap (λ (q : Point). q.turns) same, ap (λ (q : Point). q.registers) same)
 
-  pub kept_whole : (o : Option Place) → o ≡ Some s.place → turns ≡ s.turns → cells ≡ s.cells → option_map (λ place. state place cells turns) o ≡ Some s
-  kept_whole o place same_turns same_cells =
-      ap (option_map (λ place. state place cells turns)) place ∙ (λ i. Some (record { place = s.place; cells = same_cells i; turns = same_turns i }))
+  pub kept_whole : (o : Option ℕ) → o ≡ Some p.place → counters ≡ p.turns → registers ≡ p.registers
+      → option_map (λ place. point place registers counters) o ≡ Some p
+  kept_whole o place same_counters same_registers =
+      ap (option_map (λ place. point place registers counters)) place
+      ∙ (λ i. Some (record { place = p.place; registers = same_registers i; turns = same_counters i }))

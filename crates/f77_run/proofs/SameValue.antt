@@ -10,26 +10,28 @@ use Rattle.f77_tree.specs.declared.operator.Operator.{Operator}
 use Rattle.f77_tree.specs.declared.operator.Operator.TheVariants as operator
 use Rattle.f77_tree.specs.declared.operator.Sign.{Sign}
 use Rattle.f77_tree.specs.declared.operator.Sign.TheVariants.{Plus, Minus}
-use Rattle.f77_check.specs.declared.expression.Arithmetic.{Arithmetic}
-use Rattle.f77_check.specs.declared.expression.Arithmetic.TheVariants as arithmetics
-use Rattle.f77_check.specs.declared.expression.Relation.{Relation}
-use Rattle.f77_check.specs.declared.expression.Relation.TheVariants as relation
-use Rattle.f77_check.specs.declared.expression.Connective.{Connective}
-use Rattle.f77_check.specs.declared.expression.Connective.TheVariants as connective
-use Rattle.f77_check.specs.declared.expression.Element.{Element, Variable, Vector', Matrix'}
-use Rattle.f77_check.specs.declared.expression.Number.{Number, Constant, TooLarge, Negated', Absolute', ZeroPush', Binary'}
-use Rattle.f77_check.specs.declared.expression.Number as numeric
-use Rattle.f77_check.specs.declared.expression.Condition.{Condition, Not', Related, Connected'}
-use Rattle.f77_check.specs.declared.expression.Condition as condition
-use Rattle.f77_check.specs.Expression.{IsElement, IsNumber, IsChosen, IsCondition, arithmetic_of, relation_of, connective_of}
+use Rattle.f77_actions.specs.declared.expression.Arithmetic.{Arithmetic}
+use Rattle.f77_actions.specs.declared.expression.Arithmetic.TheVariants as arithmetics
+use Rattle.f77_actions.specs.declared.expression.Relation.{Relation}
+use Rattle.f77_actions.specs.declared.expression.Relation.TheVariants as relation
+use Rattle.f77_actions.specs.declared.expression.Connective.{Connective}
+use Rattle.f77_actions.specs.declared.expression.Connective.TheVariants as connective
+use Rattle.f77_actions.specs.declared.expression.Element.{Element, Variable, Vector', Matrix'}
+use Rattle.f77_actions.specs.declared.expression.Number.{Number, Constant, TooLarge, Negated', Absolute', ZeroPush', Binary'}
+use Rattle.f77_actions.specs.declared.expression.Number as numeric
+use Rattle.f77_actions.specs.declared.expression.Condition.{Condition, Not', Related, Connected'}
+use Rattle.f77_actions.specs.declared.expression.Condition as condition
+use Rattle.f77_check.specs.Expression.{IsElement, IsNumber, IsChosen, IsCondition}
+use Rattle.f77_actions.specs.Operators.{arithmetic_of, relation_of, connective_of}
 use Rattle.f77_legal.specs.Names.{Symbol}
 use Rattle.f77_check.specs.Slots.{first_slot}
-use Rattle.f77_run.specs.declared.finish.Fault.{Fault}
-use Rattle.f77_run.specs.declared.value.Value.{Value}
-use Rattle.f77_run.specs.Evaluation.{held_in, slot_in, number_in, truth_in, calculated, compared, joined}
+use Rattle.f77_values.specs.declared.finish.Fault.{Fault}
+use Rattle.f77_values.specs.declared.value.Value.{Value}
+use Rattle.f77_code.specs.Evaluation.{held_in, slot_in, number_in, truth_in, calculated, compared, joined}
 use Rattle.f77_run.specs.Machine.{values_of}
-use Rattle.f77_run.specs.Number.{fits, in_range, least, greatest, called, signed, modulus, size}
-use Rattle.f77_run.specs.Value.{Store, given, both, whole, logic, element, pushed, arithmetic, related, connected, is_relation, number, numbers, place, truth}
+use Rattle.f77_values.specs.Number.{fits, in_range, least, greatest, called, signed, modulus, size}
+use Rattle.f77_run.specs.Value.{Store, arithmetic, related, connected, is_relation, number, numbers, place, truth}
+use Rattle.f77_values.specs.Value.{given, both, whole, logic, element, pushed}
 use Rattle.f77_run.proofs.Cells.{place_within, held_value}
 use Rattle.f77_run.proofs.Choices.{least_first, greatest_first}
 use Rattle.f77_run.proofs.Results.{used, kept, in_turn, used_for, both_same, one_given, two_given}

@@ -9,12 +9,12 @@ use Rattle.f77_program.specs.Formed.{is_action}
 use Rattle.f77_program.specs.Program.{LineFields, IsProgram}
 use Rattle.f77_tree.specs.Tree.{Tree, Trees}
 use Rattle.f77_tree.specs.Statement.{Statement}
-use Rattle.f77_check.specs.declared.action.Action.{Action, Declaration, AssignNumber, AssignTruth, Goto, ComputedGoto, ArithmeticIf, LogicalIf', Branch, Continue, Loop, Return, Stop, Trap}
-use Rattle.f77_check.specs.declared.action.Jump.{Jump}
+use Rattle.f77_actions.specs.declared.action.Action.{Action, Declaration, AssignNumber, AssignTruth, Goto, ComputedGoto, ArithmeticIf, LogicalIf', Branch, Continue, Loop, Return, Stop, Trap}
+use Rattle.f77_actions.specs.declared.action.Jump.{Jump}
 use Rattle.f77_legal.specs.declared.clause.Clause.TheVariants.{Bounds}
-use Rattle.f77_check.specs.declared.expression.Element.{Element, Variable, Vector', Matrix'}
-use Rattle.f77_check.specs.declared.expression.Number.{Number}
-use Rattle.f77_check.specs.declared.resolved.Resolved.{Resolved}
+use Rattle.f77_actions.specs.declared.expression.Element.{Element, Variable, Vector', Matrix'}
+use Rattle.f77_actions.specs.declared.expression.Number.{Number}
+use Rattle.f77_actions.specs.declared.resolved.Resolved.{Resolved}
 use Rattle.f77_check.specs.Action.{IsJump, IsStep, IsAssignment, IsAction}
 use Rattle.f77_legal.specs.Dimensions.{dimensions_fit}
 use Rattle.f77_check.specs.Expression.{IsElement}
@@ -26,19 +26,20 @@ use Rattle.f77_check.specs.Resolved.{IsResolved, AreResolved}
 use Rattle.f77_check.specs.Slots.{slot_count, first_slot}
 use Rattle.f77_legal.proofs.Actions.{inner_acts}
 use Rattle.f77_legal.proofs.LegalGives.{clause_kept, kept_by, not_false}
-use Rattle.f77_run.specs.declared.finish.Fault.{Fault}
-use Rattle.f77_run.specs.declared.machine.Place.{Place}
-use Rattle.f77_run.specs.declared.machine.Place.TheVariants.{Execute, Increment}
-use Rattle.f77_run.specs.declared.machine.Turn.{Turn}
-use Rattle.f77_run.specs.declared.value.Value.{Value}
-use Rattle.f77_run.specs.declared.value.Value.TheVariants as held
-use Rattle.f77_run.specs.Choice.{by_sign, numbered}
-use Rattle.f77_run.specs.Evaluation.{slot_in, number_in}
+use Rattle.f77_values.specs.declared.finish.Fault.{Fault}
+use Rattle.f77_code.specs.declared.control.Place.{Place}
+use Rattle.f77_code.specs.declared.control.Place.TheVariants.{Execute, Increment}
+use Rattle.f77_code.specs.declared.control.Turn.{Turn}
+use Rattle.f77_values.specs.declared.value.Value.{Value}
+use Rattle.f77_values.specs.declared.value.Value.TheVariants as held
+use Rattle.f77_code.specs.Choice.{by_sign, numbered}
+use Rattle.f77_code.specs.Evaluation.{slot_in, number_in}
 use Rattle.f77_run.specs.Machine.{values_of, turn_of, turns_of, placed, config_of, next_of}
-use Rattle.f77_run.specs.Moves.{Cells, Turns, State, Move, state, used, turn_at, go_on, without, jump_to, chosen, acted, incremented, is_executed, is_loop, moved}
+use Rattle.f77_code.specs.Moves.{Cells, Turns, State, Move, state, used, turn_at, go_on, without, jump_to, chosen, acted, incremented, is_executed, is_loop, moved}
 use Rattle.f77_run.specs.Step as run
 use Rattle.f77_run.specs.Step.{Next, config, GoesOn, Jumps, Begins, With, Either, step_number, Executes, Increments, StepAt, Step}
-use Rattle.f77_run.specs.Value.{Store, put, given, element, value, place}
+use Rattle.f77_run.specs.Value.{Store, put, value, place}
+use Rattle.f77_values.specs.Value.{given, element}
 use Rattle.f77_run.proofs.SameValue.{same_number, same_slot, same_truth}
 use Rattle.f77_run.proofs.Stored.{stored}
 use Rattle.f77_run.proofs.Looping.{with_used, with_slot, row_at, begins, increments}

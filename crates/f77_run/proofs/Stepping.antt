@@ -12,16 +12,16 @@ use Rattle.f77_legal.specs.Blocks.{branch_end, behind}
 use Rattle.f77_legal.specs.Labels.{place_of, statement_at, terminal_label}
 use Rattle.f77_legal.specs.Loops.{terminal, ends_at}
 use Rattle.f77_legal.specs.Names.{Symbol, kind_of, bounds_of}
-use Rattle.f77_run.specs.declared.finish.Fault.{Fault}
-use Rattle.f77_run.specs.declared.finish.Fault.TheVariants.{ZeroStep, Trapped}
-use Rattle.f77_run.specs.declared.finish.Finish.{Finish}
-use Rattle.f77_run.specs.declared.finish.Finish.TheVariants.{Returned, Stopped, Failed, StepLimit}
-use Rattle.f77_run.specs.Number.{in_range, trip_count}
+use Rattle.f77_values.specs.declared.finish.Fault.{Fault}
+use Rattle.f77_values.specs.declared.finish.Fault.TheVariants.{ZeroStep, Trapped}
+use Rattle.f77_values.specs.declared.finish.Finish.{Finish}
+use Rattle.f77_values.specs.declared.finish.Finish.TheVariants.{Returned, Stopped, Failed, StepLimit}
+use Rattle.f77_values.specs.Number.{in_range, trip_count}
 use Rattle.f77_run.specs.Value.{Store, put, number, truth, value, place}
-use Rattle.f77_run.specs.Choice.{by_sign, numbered}
+use Rattle.f77_code.specs.Choice.{by_sign, numbered}
 use Rattle.f77_run.specs.Step.{Place, Execute, Increment, Turn, Turns, Config, config, Next, Goes, Ends, with_turn, left_behind, GoesOn, Jumps, Passes, Begins, With, Either, Skips, step_number, Executes, Increments, StepAt, Step}
 use Rattle.f77_run.specs.Outcome.{IsOutcome}
-use Rattle.f77_run.specs.declared.value.Value.TheVariants as held
+use Rattle.f77_values.specs.declared.value.Value.TheVariants as held
 
 -- the innermost active DO that ends at t, of those before n
 abbrev pub innermost : List LineFields → Turns → ℕ → ℕ → Option ℕ

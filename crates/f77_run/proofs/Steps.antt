@@ -6,17 +6,18 @@ use Rattle.std.specs.Option.{option_and_then}
 use Rattle.std.proofs.lemmas.Bool.{false≢true, ltb-true}
 use Rattle.std.proofs.lemmas.List.{length-set, take-append-le, take_all}
 use Rattle.std.proofs.lemmas.Option.{slice_get_read}
-use Rattle.f77_check.specs.declared.action.Action.{Action, Loop}
-use Rattle.f77_check.specs.declared.expression.Number.{Number}
-use Rattle.f77_check.specs.declared.resolved.Resolved.{Resolved}
+use Rattle.f77_actions.specs.declared.action.Action.{Action, Loop}
+use Rattle.f77_actions.specs.declared.expression.Number.{Number}
+use Rattle.f77_actions.specs.declared.resolved.Resolved.{Resolved}
 use Rattle.f77_run.specs.declared.machine.Machine.{Machine}
-use Rattle.f77_run.specs.declared.machine.Place.TheVariants.{Execute, Increment}
-use Rattle.f77_run.specs.declared.machine.Turn.{Turn}
-use Rattle.f77_run.specs.Evaluation.{number_within}
-use Rattle.f77_run.specs.declared.value.Value.{Value}
-use Rattle.f77_run.specs.declared.value.Value.TheVariants as held
-use Rattle.f77_run.specs.Moves.{Cells, Turns, state_of, moved, acted, begun, incremented, is_executed, is_loop, passing_at, turn_at, are_below, action_within, resolved_within, all_within}
-use Rattle.f77_run.specs.Number.{trip_count}
+use Rattle.f77_code.specs.declared.control.Place.TheVariants.{Execute, Increment}
+use Rattle.f77_code.specs.declared.control.Turn.{Turn}
+use Rattle.f77_code.specs.Evaluation.{number_within}
+use Rattle.f77_values.specs.declared.value.Value.{Value}
+use Rattle.f77_values.specs.declared.value.Value.TheVariants as held
+use Rattle.f77_code.specs.Moves.{Cells, Turns, moved, acted, begun, incremented, is_executed, is_loop, passing_at, turn_at, are_below, action_within, resolved_within, all_within}
+use Rattle.f77_run.specs.Machine.{state_of}
+use Rattle.f77_values.specs.Number.{trip_count}
 
 among : {A B : Type 0} (f : A → Option B) (xs : List A) (i : ℕ) → IsSome (option_and_then f (slice_get xs i)) → i < length xs
 among f [] i some = absurd (false≢true some)

@@ -11,8 +11,8 @@ use Rattle.f77_legal.specs.Blocks.{first_numbers}
 use Rattle.f77_legal.specs.Names.{Symbol}
 use Rattle.f77_legal.specs.Presets.{product}
 use Rattle.f77_check.specs.Slots.{slot_count, first_slot}
-use Rattle.f77_run.specs.declared.value.Value.{Value}
-use Rattle.f77_run.specs.Evaluation.{held_in}
+use Rattle.f77_values.specs.declared.value.Value.{Value}
+use Rattle.f77_code.specs.Evaluation.{held_in}
 use Rattle.f77_run.specs.Machine.{values_of}
 use Rattle.f77_run.specs.Value.{put}
 use Rattle.f77_run.proofs.Cells.{length-table, get_or-table}

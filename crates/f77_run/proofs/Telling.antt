@@ -16,15 +16,15 @@ use Rattle.f77_legal.specs.Names.{Symbol, kind_of, bounds_of}
 use Rattle.f77_legal.specs.Presets.{elements}
 use Rattle.f77_run.specs.declared.argument.Arg.{Arg}
 use Rattle.f77_run.specs.declared.argument.Arg.TheVariants.{Int, Truth, Ints, Truths}
-use Rattle.f77_run.specs.declared.finish.Finish.{Finish}
-use Rattle.f77_run.specs.declared.finish.Finish.TheVariants as finish
+use Rattle.f77_values.specs.declared.finish.Finish.{Finish}
+use Rattle.f77_values.specs.declared.finish.Finish.TheVariants as finish
 use Rattle.f77_run.specs.declared.outcome.Outcome.{Outcome}
 use Rattle.f77_run.specs.declared.outcome.Outcome.TheVariants as outcome
-use Rattle.f77_run.specs.declared.value.Value.{Value}
-use Rattle.f77_run.specs.declared.value.Value.TheVariants as held_value
+use Rattle.f77_values.specs.declared.value.Value.{Value}
+use Rattle.f77_values.specs.declared.value.Value.TheVariants as held_value
 use Rattle.f77_run.specs.Holding.{AreHeld}
 use Rattle.f77_run.specs.Interpreter.{values_in, has_shape, told, AreFitting, AreArguments, IsOutcomeOf, Tells}
-use Rattle.f77_run.specs.Moves.{Cells}
+use Rattle.f77_code.specs.Moves.{Cells}
 use Rattle.f77_run.specs.Running.{ComesToEnd}
 use Rattle.f77_run.specs.Site.{held}
 use Rattle.f77_run.specs.Spans.{HaveRoom, size_of, span}
@@ -104,7 +104,7 @@ tells_one p (finish.Failed fault) s typed = (told fault, refl)
 tells_one p finish.StepLimit s typed = (outcome.StepLimit, refl)
 
 -- what is told where steps end is told within the limit
-told_within : (p : List LineFields) (steps : ℕ) (c : Config) (made : ℕ) (end : Finish) (s : Store) (answer : Outcome) (is : ComesToEnd p steps c made end s)
+pub told_within : (p : List LineFields) (steps : ℕ) (c : Config) (made : ℕ) (end : Finish) (s : Store) (answer : Outcome) (is : ComesToEnd p steps c made end s)
     → Tells p end s answer → Tells p end is.held answer
 told_within p steps c made finish.Returned s answer is tells = subst (λ s. Tells p finish.Returned s answer) (sym (is.told (λ e. cc))) tells
 told_within p steps c made finish.Stopped s answer is tells = subst (λ s. Tells p finish.Stopped s answer) (sym (is.told (λ e. cc))) tells

@@ -12,15 +12,15 @@ use Rattle.std.proofs.lemmas.Map.Views.{any-filter_same}
 use Rattle.std.proofs.lemmas.Option.{slice_get_past}
 use Rattle.f77_program.specs.Program.{LineFields}
 use Rattle.f77_tree.specs.Statement.{Statement}
-use Rattle.f77_check.specs.declared.resolved.Resolved.{Resolved}
+use Rattle.f77_actions.specs.declared.resolved.Resolved.{Resolved}
 use Rattle.f77_legal.specs.Blocks.{first_numbers}
 use Rattle.f77_legal.specs.Loops.{is_left, left_by, ends_at}
 use Rattle.f77_legal.specs.Names.{Symbol}
 use Rattle.f77_check.specs.Resolved.{IsResolved}
-use Rattle.f77_run.specs.declared.machine.Place.TheVariants.{Execute, Increment}
-use Rattle.f77_run.specs.declared.machine.Turn.{Turn}
+use Rattle.f77_code.specs.declared.control.Place.TheVariants.{Execute, Increment}
+use Rattle.f77_code.specs.declared.control.Turn.{Turn}
 use Rattle.f77_run.specs.Machine.{turn_of, turns_of, placed}
-use Rattle.f77_run.specs.Moves.{Turns, turn_at, innermost, place_behind, without}
+use Rattle.f77_code.specs.Moves.{Turns, turn_at, innermost, place_behind, without}
 use Rattle.f77_run.specs.Step as run
 use Rattle.f77_run.specs.Step.{config, with_turn, left_behind, GoesOn}
 use Rattle.f77_run.specs.Value.{Store}

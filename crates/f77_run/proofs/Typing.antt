@@ -23,18 +23,19 @@ use Rattle.f77_legal.specs.Presets.{product, elements}
 use Rattle.f77_legal.proofs.LegalGives.{clause_kept, kept_by, not_false}
 use Rattle.f77_run.specs.declared.argument.Arg.{Arg}
 use Rattle.f77_run.specs.declared.argument.Arg.TheVariants.{Int, Truth, Ints, Truths}
-use Rattle.f77_run.specs.declared.finish.Fault.{Fault}
-use Rattle.f77_run.specs.declared.finish.Finish.{Finish}
-use Rattle.f77_run.specs.declared.value.Value.{Value}
-use Rattle.f77_run.specs.declared.value.Value.TheVariants as held
-use Rattle.f77_run.specs.Number.{in_range, trip_count}
+use Rattle.f77_values.specs.declared.finish.Fault.{Fault}
+use Rattle.f77_values.specs.declared.finish.Finish.{Finish}
+use Rattle.f77_values.specs.declared.value.Value.{Value}
+use Rattle.f77_values.specs.declared.value.Value.TheVariants as held
+use Rattle.f77_values.specs.Number.{in_range, trip_count}
 use Rattle.f77_run.specs.Outcome.{IsOutcome}
 use Rattle.f77_run.specs.Interpreter.{values_in, has_shape, is_count, is_single, AreFitting}
 use Rattle.f77_run.specs.Start.{IsStart}
-use Rattle.f77_run.specs.Choice.{by_sign, numbered}
+use Rattle.f77_code.specs.Choice.{by_sign, numbered}
 use Rattle.f77_run.specs.Step.{Place, Execute, Increment, Turn, Turns, Config, Next, Goes, Ends, Step, with_turn, GoesOn, Jumps, Passes, Begins, With, Either, Skips, step_number, Executes, Increments, StepAt}
 use Rattle.f77_run.specs.Typed.{has_kind, HasValues, IsTyped}
-use Rattle.f77_run.specs.Value.{Store, put, given, number, truth, value, place}
+use Rattle.f77_run.specs.Value.{Store, put, number, truth, value, place}
+use Rattle.f77_values.specs.Value.{given}
 
 -- an element put in keeps what holds of each
 set_keeps : (q : Option Value → Bool) (cells : List (Option Value)) (k : ℕ) (cell : Option Value) → q cell ≡ true → list_all q cells ≡ true

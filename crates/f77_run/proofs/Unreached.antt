@@ -14,16 +14,16 @@ use Rattle.f77_legal.proofs.FrameNames.{kind_of_same, bounds_of_same, elements_s
 use Rattle.f77_legal.proofs.SameFrame.{place_of_same, range_holds_same, branch_end_same, terminal_same, behind_same}
 use Rattle.f77_check.proofs.Carried.{entry_same, preset_at_same, shapes_same}
 use Rattle.f77_run.specs.declared.argument.Arg.{Arg}
-use Rattle.f77_run.specs.declared.finish.Fault.{Fault}
-use Rattle.f77_run.specs.declared.finish.Finish.{Finish}
-use Rattle.f77_run.specs.declared.finish.Finish.TheVariants as finish
+use Rattle.f77_values.specs.declared.finish.Fault.{Fault}
+use Rattle.f77_values.specs.declared.finish.Finish.{Finish}
+use Rattle.f77_values.specs.declared.finish.Finish.TheVariants as finish
 use Rattle.f77_run.specs.declared.outcome.Outcome.{Outcome}
 use Rattle.f77_run.specs.declared.outcome.Outcome.TheVariants as outcome
-use Rattle.f77_run.specs.declared.value.Value.{Value}
-use Rattle.f77_run.specs.declared.value.Value.TheVariants as held
-use Rattle.f77_run.specs.Choice.{by_sign, numbered}
+use Rattle.f77_values.specs.declared.value.Value.{Value}
+use Rattle.f77_values.specs.declared.value.Value.TheVariants as held
+use Rattle.f77_code.specs.Choice.{by_sign, numbered}
 use Rattle.f77_run.specs.Interpreter.{AreFitting, AreArguments, Tells, values_in}
-use Rattle.f77_run.specs.Number.{in_range, trip_count}
+use Rattle.f77_values.specs.Number.{in_range, trip_count}
 use Rattle.f77_run.specs.Outcome.{IsOutcome}
 use Rattle.f77_run.specs.Reached.{number_of, IsReached, AreSameBut, MayBeAnother}
 use Rattle.f77_run.specs.Start.{IsStart, start_values, constant_value}

@@ -10,17 +10,18 @@ use Rattle.std.proofs.lemmas.Option.{same_Some, slice_get_cases, slice_get-map, 
 use Rattle.f77_program.specs.Program.{LineFields}
 use Rattle.f77_legal.specs.Names.{bounds_of}
 use Rattle.f77_check.specs.Slots.{slot_count}
-use Rattle.f77_check.specs.declared.resolved.Resolved.{Resolved}
+use Rattle.f77_actions.specs.declared.resolved.Resolved.{Resolved}
 use Rattle.f77_run.specs.declared.argument.Arg.{Arg}
-use Rattle.f77_run.specs.declared.finish.Finish.{Finish}
+use Rattle.f77_values.specs.declared.finish.Finish.{Finish}
 use Rattle.f77_run.specs.declared.machine.Machine.{Machine}
 use Rattle.f77_run.specs.declared.visits.Visit.{Visit}
 use Rattle.f77_run.specs.declared.visits.Visited.{Visited}
 use Rattle.f77_run.specs.Endless.{Reaches}
 use Rattle.f77_run.specs.Interpreter.{values_in}
 use Rattle.f77_run.specs.Machine.{config_of, placed}
-use Rattle.f77_run.specs.Moves.{Cells, State, moved, state_of}
-use Rattle.f77_run.specs.Moves as moves
+use Rattle.f77_code.specs.Moves.{Cells, State, moved}
+use Rattle.f77_run.specs.Machine.{state_of}
+use Rattle.f77_code.specs.Moves as moves
 use Rattle.f77_run.specs.Reached.{number_of, IsReached, ComesTo, AreReached}
 use Rattle.f77_run.specs.Running.{Site, config_at, values_at}
 use Rattle.f77_run.specs.Start.{IsStart}

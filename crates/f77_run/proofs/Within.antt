@@ -5,18 +5,18 @@ use Rattle.f77_tree.specs.Tree.{Tree, Trees}
 use Rattle.f77_tree.specs.declared.intrinsic.Intrinsic.{Intrinsic}
 use Rattle.f77_tree.specs.declared.intrinsic.Intrinsic.TheVariants.{Mod, Iabs, Min0, Max0}
 use Rattle.f77_tree.specs.declared.operator.Sign.TheVariants.{Plus, Minus}
-use Rattle.f77_check.specs.declared.expression.Arithmetic.{Arithmetic}
-use Rattle.f77_check.specs.declared.expression.Arithmetic.TheVariants as arithmetic
-use Rattle.f77_check.specs.declared.expression.Element.{Element, Variable, Vector', Matrix'}
-use Rattle.f77_check.specs.declared.expression.Number.{Number, Constant, TooLarge, Negated', Absolute', ZeroPush', Binary'}
-use Rattle.f77_check.specs.declared.expression.Number as numeric
-use Rattle.f77_check.specs.declared.expression.Condition.{Condition, Not', Related, Connected'}
-use Rattle.f77_check.specs.declared.expression.Condition as condition
+use Rattle.f77_actions.specs.declared.expression.Arithmetic.{Arithmetic}
+use Rattle.f77_actions.specs.declared.expression.Arithmetic.TheVariants as arithmetic
+use Rattle.f77_actions.specs.declared.expression.Element.{Element, Variable, Vector', Matrix'}
+use Rattle.f77_actions.specs.declared.expression.Number.{Number, Constant, TooLarge, Negated', Absolute', ZeroPush', Binary'}
+use Rattle.f77_actions.specs.declared.expression.Number as numeric
+use Rattle.f77_actions.specs.declared.expression.Condition.{Condition, Not', Related, Connected'}
+use Rattle.f77_actions.specs.declared.expression.Condition as condition
 use Rattle.f77_check.specs.Expression.{IsElement, IsNumber, IsChosen, IsCondition}
 use Rattle.f77_legal.specs.Names.{Symbol}
 use Rattle.f77_legal.specs.Presets.{product}
 use Rattle.f77_check.specs.Slots.{slot_count, first_slot}
-use Rattle.f77_run.specs.Evaluation.{element_within, number_within, condition_within}
+use Rattle.f77_code.specs.Evaluation.{element_within, number_within, condition_within}
 use Rattle.f77_run.proofs.Spans.{span_within}
 
 module _ (bounds : Symbol → List ℕ) (names : List Symbol) where

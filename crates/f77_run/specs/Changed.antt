@@ -9,7 +9,9 @@ use Rattle.f77_legal.specs.Frames.{HaveOneFrame}
 use Rattle.f77_legal.specs.Legal.{IsLegal}
 use Rattle.f77_check.specs.Checked.{CheckedFields, IsChecked}
 use Rattle.f77_check.specs.Resolved.{AreResolved}
-use Rattle.f77_check.specs.declared.resolved.Resolved.{Resolved}
+use Rattle.f77_actions.specs.declared.resolved.Resolved.{Resolved}
+use Rattle.f77_code.specs.declared.code.Code.{Code}
+use Rattle.f77_code.specs.Program.{IsCode}
 use Rattle.f77_run.specs.declared.changed.Change.{Change}
 
 -- the program, the number of a statement, and what stands in its place, if anything does
@@ -37,3 +39,8 @@ pub record IsChanged (changed : ChangedFields) (statements : List Resolved) (old
   pub frame : HaveOneFrame (map line_of changed.checked.program) (changed_program changed)
   pub resolved : AreResolved (changed_program changed) changed.checked.names statements
   pub own : slice_set statements changed.place old ≡ changed.checked.statements
+
+-- this is code of these statements over the slots of a checked program
+pub record IsCodeOf (checked : CheckedFields) (statements : List Resolved) (code : Code) : Type 0 where
+  pub compiled : IsCode statements code
+  pub slots : code.constants.slots ≡ checked.slots

@@ -13,7 +13,7 @@ use Rattle.f77_legal.specs.Legal.{IsLegal}
 use Rattle.f77_check.specs.Start.{is_executable}
 use Rattle.f77_run.specs.Start.{IsStart}
 use Rattle.f77_run.specs.Step.{Config, Place, Execute, Increment, Turns, Next, Goes, Step}
-use Rattle.f77_run.specs.declared.value.Value.{Value}
+use Rattle.f77_values.specs.declared.value.Value.{Value}
 
 -- control may be there
 abbrev pub Stands : List LineFields → ℕ → Type 0

@@ -1,11 +1,11 @@
 -- What a statement does in a state, told without doing it. Statements are numbered from 0 here.
 use Rattle.std.specs.Prelude.{◌≡◌, ◌≢◌, ℕ, List, Some, slice_get, slice_set}
-use Rattle.f77_check.specs.declared.resolved.Resolved.{Resolved}
+use Rattle.f77_actions.specs.declared.resolved.Resolved.{Resolved}
 use Rattle.f77_run.specs.declared.effect.Effect.{Effect}
 use Rattle.f77_run.specs.declared.effect.Effect.TheVariants.{Stores, GoesOn, Jumps, Skips, Begins, Returns, Stops}
-use Rattle.f77_run.specs.declared.finish.Finish.TheVariants as finish
-use Rattle.f77_run.specs.declared.machine.Place.TheVariants.{Execute}
-use Rattle.f77_run.specs.Moves.{Cells, Turns, Move, Goes, Ends, state, go_on, jump_to, begun}
+use Rattle.f77_values.specs.declared.finish.Finish.TheVariants as finish
+use Rattle.f77_code.specs.declared.control.Place.TheVariants.{Execute}
+use Rattle.f77_code.specs.Moves.{Cells, Turns, Move, Goes, Ends, state, go_on, jump_to, begun}
 
 -- what comes of it, where it is that of the statement i
 abbrev pub effected : List Resolved → ℕ → Resolved → Effect → Cells → Turns → Move

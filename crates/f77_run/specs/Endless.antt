@@ -1,7 +1,7 @@
 -- Runs that come back to where they were, and so never end.
 use Rattle.std.specs.Prelude.{◌≡◌, ℕ, zero, suc, List}
 use Rattle.f77_program.specs.Program.{LineFields}
-use Rattle.f77_run.specs.declared.finish.Finish.TheVariants.{StepLimit}
+use Rattle.f77_values.specs.declared.finish.Finish.TheVariants.{StepLimit}
 use Rattle.f77_run.specs.Outcome.{IsOutcome}
 use Rattle.f77_run.specs.Step.{Config, Goes, Step}
 use Rattle.f77_run.specs.Value.{Store}

@@ -2,7 +2,7 @@
 use Rattle.std.specs.Prelude.{⊤, ◌≡◌, ℕ, List, [], ◌∷◌, length, map, Some}
 use Rattle.f77_run.specs.declared.argument.Arg.{Arg}
 use Rattle.f77_run.specs.Interpreter.{values_in}
-use Rattle.f77_run.specs.Moves.{Cells}
+use Rattle.f77_code.specs.Moves.{Cells}
 use Rattle.f77_run.specs.Spans.{span}
 
 -- the slots from this one on hold the elements of an argument

@@ -1,13 +1,9 @@
-pub mod Number
-pub mod Choice
 pub mod Value
 pub mod Step
 pub mod Outcome
 pub mod Start
 pub mod Control
-pub mod Evaluation
 pub mod Machine
-pub mod Moves
 pub mod Effect
 pub mod Interpreter
 pub mod Typed
@@ -17,8 +13,10 @@ pub mod Running
 pub mod Site
 pub mod Endless
 pub mod Reached
+pub mod Active
 pub mod Snapshot
 pub mod Visits
 pub mod Together
 pub mod Changed
 pub mod Parting
+pub mod Registers

@@ -1,19 +1,33 @@
 -- What a machine stands for: its slots are the values of names, its places and its active DOs those of a run.
-use Rattle.std.specs.Prelude.{◌≡◌, ℕ, ◌+◌, List, length, map, option_map}
+use Rattle.std.specs.Prelude.{◌≡◌, ℕ, ◌+◌, List, length, map, option_map, Result, Ok, Err}
 use Rattle.std.specs.Option.{option_and_then}
 use Rattle.f77_legal.specs.Blocks.{first_numbers}
 use Rattle.f77_legal.specs.Names.{Symbol}
 use Rattle.f77_legal.specs.Presets.{product}
 use Rattle.f77_check.specs.Slots.{first_slot}
+use Rattle.f77_run.specs.declared.machine.Control.{Control}
+use Rattle.f77_run.specs.declared.machine.Control.TheVariants as control
 use Rattle.f77_run.specs.declared.machine.Machine.{Machine}
-use Rattle.f77_run.specs.declared.machine.Place.{Place}
-use Rattle.f77_run.specs.declared.machine.Place.TheVariants.{Execute, Increment}
-use Rattle.f77_run.specs.declared.machine.Turn.{Turn}
-use Rattle.f77_run.specs.Evaluation.{held_in}
-use Rattle.f77_run.specs.Moves.{Cells, Turns, State, Move, Goes, Ends, turn_at}
+use Rattle.f77_values.specs.declared.finish.Fault.{Fault}
+use Rattle.f77_values.specs.declared.finish.Finish.TheVariants.{Returned, Stopped, Failed}
+use Rattle.f77_code.specs.declared.control.Place.{Place}
+use Rattle.f77_code.specs.declared.control.Place.TheVariants.{Execute, Increment}
+use Rattle.f77_code.specs.declared.control.Turn.{Turn}
+use Rattle.f77_code.specs.Evaluation.{held_in}
+use Rattle.f77_code.specs.Moves.{Cells, Turns, State, state, Move, Goes, Ends, turn_at}
 use Rattle.f77_run.specs.Step as run
 use Rattle.f77_run.specs.Step.{Config, Next, config}
 use Rattle.f77_run.specs.Value.{Store}
+
+abbrev pub state_of : Machine → State
+state_of m = state m.place m.cells.items m.turns.items
+
+-- what the answer of a step says, with the machine behind it
+abbrev pub move_of : Result Control Fault → Machine → Move
+move_of (Ok control.Goes) m = Goes (state_of m)
+move_of (Ok control.Returns) m = Ends Returned m.cells.items
+move_of (Ok control.Stops) m = Ends Stopped m.cells.items
+move_of (Err fault) m = Ends (Failed fault) m.cells.items
 
 -- what each name holds, where names have these bounds, and slots in the order of this list
 abbrev pub values_of : (Symbol → List ℕ) → List Symbol → Cells → Store

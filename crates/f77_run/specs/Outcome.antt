@@ -1,8 +1,8 @@
 -- How a run ends within a limit on steps.
 use Rattle.std.specs.Prelude.{◌≡◌, ℕ, zero, suc, ◌⊎◌, List}
 use Rattle.f77_program.specs.Program.{LineFields}
-use Rattle.f77_run.specs.declared.finish.Finish.{Finish}
-use Rattle.f77_run.specs.declared.finish.Finish.TheVariants.{StepLimit}
+use Rattle.f77_values.specs.declared.finish.Finish.{Finish}
+use Rattle.f77_values.specs.declared.finish.Finish.TheVariants.{StepLimit}
 use Rattle.f77_run.specs.Value.{Store}
 use Rattle.f77_run.specs.Step.{Config, Next, Goes, Ends, Step}
 

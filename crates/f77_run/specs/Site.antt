@@ -6,7 +6,7 @@ use Rattle.f77_legal.specs.Names.{bounds_of}
 use Rattle.f77_check.specs.Slots.{slot_count}
 use Rattle.f77_run.specs.declared.argument.Arg.{Arg}
 use Rattle.f77_run.specs.declared.machine.Machine.{Machine}
-use Rattle.f77_run.specs.Moves.{Cells}
+use Rattle.f77_code.specs.Moves.{Cells}
 use Rattle.f77_run.specs.Interpreter.{values_in}
 use Rattle.f77_run.specs.Running.{Site}
 use Rattle.f77_run.specs.Machine.{values_of}

@@ -11,8 +11,8 @@ use Rattle.f77_legal.specs.Heading.{dummies}
 use Rattle.f77_check.specs.Start.{preset_at, is_executable}
 use Rattle.f77_run.specs.Value.{Store}
 use Rattle.f77_run.specs.Step.{Config, config, Execute}
-use Rattle.f77_run.specs.declared.value.Value.{Value}
-use Rattle.f77_run.specs.declared.value.Value.TheVariants as held
+use Rattle.f77_values.specs.declared.value.Value.{Value}
+use Rattle.f77_values.specs.declared.value.Value.TheVariants as held
 
 abbrev pub constant_value : Constant → Value
 constant_value (Number z) = held.Number z

@@ -8,14 +8,14 @@ use Rattle.f77_legal.specs.Blocks.{branch_end, behind}
 use Rattle.f77_legal.specs.Labels.{place_of, statement_at}
 use Rattle.f77_legal.specs.Loops.{terminal, is_left}
 use Rattle.f77_legal.specs.Names.{Symbol, kind_of, bounds_of}
-use Rattle.f77_run.specs.declared.finish.Fault.{Fault}
-use Rattle.f77_run.specs.declared.finish.Fault.TheVariants.{ZeroStep, Trapped}
-use Rattle.f77_run.specs.declared.finish.Finish.{Finish}
-use Rattle.f77_run.specs.declared.finish.Finish.TheVariants.{Returned, Stopped, Failed}
-use Rattle.f77_run.specs.Choice.{by_sign, numbered}
-use Rattle.f77_run.specs.Number.{in_range, trip_count}
+use Rattle.f77_values.specs.declared.finish.Fault.{Fault}
+use Rattle.f77_values.specs.declared.finish.Fault.TheVariants.{ZeroStep, Trapped}
+use Rattle.f77_values.specs.declared.finish.Finish.{Finish}
+use Rattle.f77_values.specs.declared.finish.Finish.TheVariants.{Returned, Stopped, Failed}
+use Rattle.f77_code.specs.Choice.{by_sign, numbered}
+use Rattle.f77_values.specs.Number.{in_range, trip_count}
 use Rattle.f77_run.specs.Value.{Store, put, number, truth, value, place}
-use Rattle.f77_run.specs.declared.value.Value.TheVariants as held
+use Rattle.f77_values.specs.declared.value.Value.TheVariants as held
 
 -- where control is: at a statement that is to be executed, or at a DO that is to be incremented
 pub data Place : Type 0 where

@@ -1,7 +1,7 @@
 -- Runs of two programs that go together: where the steps of the one are steps of the other, they come to the same.
 use Rattle.std.specs.Prelude.{ℕ, ◌+◌, ◌<◌, List}
 use Rattle.f77_program.specs.Program.{LineFields}
-use Rattle.f77_run.specs.declared.finish.Finish.{Finish}
+use Rattle.f77_values.specs.declared.finish.Finish.{Finish}
 use Rattle.f77_run.specs.Endless.{Reaches}
 use Rattle.f77_run.specs.Outcome.{IsOutcome}
 use Rattle.f77_run.specs.Step.{Config, Next, Step}

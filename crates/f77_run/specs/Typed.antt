@@ -8,8 +8,8 @@ use Rattle.f77_tree.specs.declared.tree.Kind.TheVariants.{Integer, Logical}
 use Rattle.f77_legal.specs.Heading.{dummies}
 use Rattle.f77_legal.specs.Names.{Symbol, kind_of}
 use Rattle.f77_legal.specs.Presets.{elements}
-use Rattle.f77_run.specs.declared.value.Value.{Value}
-use Rattle.f77_run.specs.declared.value.Value.TheVariants as held
+use Rattle.f77_values.specs.declared.value.Value.{Value}
+use Rattle.f77_values.specs.declared.value.Value.TheVariants as held
 use Rattle.f77_run.specs.Value.{Store}
 
 -- it has a value of this kind

@@ -1,6 +1,6 @@
 -- What variables and arrays hold, and the values of expressions (ANSI X3.9-1978, sections 5 and 6).
-use Rattle.std.specs.Prelude.{◌+◌, ◌*◌, ◌&&◌, ◌||◌, if◌then◌else◌, ◌∷◌, ◌+ℤ◌, ◌-ℤ◌, ◌*ℤ◌}
-use Rattle.std.specs.Prelude.{ℕ, zero, suc, Bool, true, false, not, nat_lt, List, [], Option, Some, slice_get, slice_set, ℤ, pos, Result, Ok, Err}
+use Rattle.std.specs.Prelude.{◌&&◌, ◌||◌, if◌then◌else◌, ◌∷◌, ◌+ℤ◌, ◌-ℤ◌, ◌*ℤ◌}
+use Rattle.std.specs.Prelude.{ℕ, Bool, true, false, not, List, [], Option, Some, slice_get, slice_set, ℤ, pos, Result, Ok, Err}
 use Rattle.std.specs.Option.{option_and_then}
 use Rattle.std.specs.Str.{bytes_eq}
 use Rattle.f77_tree.specs.Tree.{Tree, Trees}
@@ -10,11 +10,12 @@ use Rattle.f77_tree.specs.declared.operator.Operator.TheVariants.{GreaterOrEqual
 use Rattle.f77_tree.specs.declared.tree.Kind.{Kind}
 use Rattle.f77_tree.specs.declared.tree.Kind.TheVariants.{Integer, Logical}
 use Rattle.f77_legal.specs.Names.{Symbol}
-use Rattle.f77_run.specs.declared.finish.Fault.{Fault}
-use Rattle.f77_run.specs.declared.finish.Fault.TheVariants.{BadSubscript, Undefined, Trapped}
-use Rattle.f77_run.specs.Number.{in_range, quotient, power, signed, called, is_below, is_same}
-use Rattle.f77_run.specs.declared.value.Value.TheVariants as held
-use Rattle.f77_run.specs.declared.value.Value.{Value}
+use Rattle.f77_values.specs.declared.finish.Fault.{Fault}
+use Rattle.f77_values.specs.declared.finish.Fault.TheVariants.{Undefined}
+use Rattle.f77_values.specs.Number.{in_range, quotient, power, signed, called, is_below, is_same}
+use Rattle.f77_values.specs.Value.{given, both, whole, logic, element, same_truth, pushed}
+use Rattle.f77_values.specs.declared.value.Value.TheVariants as held
+use Rattle.f77_values.specs.declared.value.Value.{Value}
 
 -- the elements of each name, with a value or without: a variable has one, an array's first subscript varies fastest
 abbrev pub Store : Type 0
@@ -22,30 +23,6 @@ Store = Symbol → List (Option Value)
 
 abbrev pub put : Store → Symbol → ℕ → Value → Store
 put s name k v = λ other. if bytes_eq name other then slice_set (s other) k (Some v) else s other
-
--- what a result is used for, unless it is a fault
-abbrev pub given : {A B : Type 0} → Result A Fault → (A → Result B Fault) → Result B Fault
-given (Ok x) f = f x
-given (Err e) f = Err e
-
--- both operands, from left to right, before the operator
-abbrev pub both : {A B : Type 0} → (A → A → Result B Fault) → Result A Fault → Result A Fault → Result B Fault
-both f a b = given a (λ x. given b (λ y. f x y))
-
-abbrev pub whole : Option Value → Result ℤ Fault
-whole (Some (held.Number z)) = Ok z
-whole _ = Err Undefined
-
-abbrev pub logic : Option Value → Result Bool Fault
-logic (Some (held.Truth b)) = Ok b
-logic _ = Err Undefined
-
--- The place of an element, from 0. No legal program has other subscripts than bounds.
-abbrev pub element : List ℕ → List ℤ → Result ℕ Fault
-element [] [] = Ok 0
-element (bound ∷ bounds) (pos (suc n) ∷ zs) =
-    if nat_lt n bound then given (element bounds zs) (λ rest. Ok (n + bound * rest)) else Err BadSubscript
-element _ _ = Err BadSubscript
 
 -- An operator on numbers, a relation, and a logical operator. No legal program has another one there.
 abbrev pub arithmetic : Operator → ℤ → ℤ → Result ℤ Fault
@@ -65,10 +42,6 @@ related GreaterOrEqual a b = not (is_below a b)
 related Greater a b = is_below b a
 related _ a b = false
 
-abbrev pub same_truth : Bool → Bool → Bool
-same_truth true b = b
-same_truth false b = not b
-
 abbrev pub connected : Operator → Bool → Bool → Bool
 connected And a b = a && b
 connected Or a b = a || b
@@ -84,10 +57,6 @@ is_relation NotEqual = true
 is_relation GreaterOrEqual = true
 is_relation Greater = true
 is_relation _ = false
-
-abbrev pub pushed : ℤ → Result ℤ Fault
-pushed (pos zero) = Err Trapped
-pushed z = Ok z
 
 -- The value of an INTEGER expression where names have these bounds. No legal program asks it of a LOGICAL one, and only a program made
 -- of parts has a constant beyond the range.

@@ -13,7 +13,7 @@ use Rattle.f77_run.specs.declared.visits.Visits.{Visits}
 use Rattle.f77_run.specs.Endless.{Reaches}
 use Rattle.f77_run.specs.Interpreter.{AreFitting, values_in}
 use Rattle.f77_run.specs.Machine.{config_of, placed}
-use Rattle.f77_run.specs.Moves.{State, state}
+use Rattle.f77_code.specs.Moves.{State, state}
 use Rattle.f77_run.specs.Reached.{number_of}
 use Rattle.f77_run.specs.Running.{Site}
 use Rattle.f77_run.specs.Site.{site_of}

@@ -1,14 +1,14 @@
 //! Whether two statements do the same in a state.
 
 ghost use Rattle.std.specs.Prelude.{◌≡◌, ℕ, List, true, length};
-ghost use Rattle.f77_check.specs.declared.resolved.Resolved.{Resolved as Statement};
-ghost use Rattle.f77_run.specs.declared.machine.Turn.{Turn};
+ghost use Rattle.f77_actions.specs.declared.resolved.Resolved.{Resolved as Statement};
+ghost use Rattle.f77_code.specs.declared.control.Turn.{Turn};
 ghost use Rattle.f77_run.specs.Effect.{AgreeBut, GoOnAlike, effected};
-ghost use Rattle.f77_run.specs.Moves.{Cells, Turns, acted, action_within, incremented, is_executed};
+ghost use Rattle.f77_code.specs.Moves.{Cells, Turns, acted, action_within, incremented, is_executed};
 
 use crate::effect::{Effect, effect_of};
-use crate::value::Value;
 use f77_check::{Action, Jump, Resolved};
+use f77_values::Value;
 
 /// Whether control goes on from both in one way.
 #[tactic(auto, using(crate::proofs::Effects::same_numbers))]
@@ -45,16 +45,22 @@ fn are_same(one: Effect<'_>, other: Effect<'_>, i: usize) -> bool
         → effected statements i r one.entry cells turns ≡ effected others i s other.entry cells turns }
 {
     match (one, other) {
-        (Effect::Stores(slot, value), Effect::Stores(second, held)) => {
-            slot == second && value == held
+        (Effect::Stores(slot, value), Effect::Stores(other_slot, other_value)) => {
+            slot == other_slot && value == other_value
         }
         (Effect::GoesOn, Effect::GoesOn)
         | (Effect::Returns, Effect::Returns)
         | (Effect::Stops, Effect::Stops) => true,
-        (Effect::Jumps(jump), Effect::Jumps(second)) => jump_alike(jump, second),
-        (Effect::Skips(end), Effect::Skips(second)) => end == second,
-        (Effect::Begins(variable, terminal, parameters), Effect::Begins(name, end, values)) => {
-            variable == name && terminal == end && terminal != i && parameters == values
+        (Effect::Jumps(jump), Effect::Jumps(other_jump)) => jump_alike(jump, other_jump),
+        (Effect::Skips(end), Effect::Skips(other_end)) => end == other_end,
+        (
+            Effect::Begins(variable, terminal, parameters),
+            Effect::Begins(other_variable, other_terminal, other_parameters),
+        ) => {
+            variable == other_variable
+                && terminal == other_terminal
+                && terminal != i
+                && parameters == other_parameters
         }
         _ => false,
     }
@@ -95,11 +101,11 @@ pub(crate) fn increment_alike(own: &Resolved, other: &Resolved, d: usize) -> boo
                 ..
             },
             Action::Loop {
-                variable: second,
-                terminal: end,
+                variable: other_variable,
+                terminal: other_terminal,
                 ..
             },
-        ) => variable == second && terminal == end && *terminal != d,
+        ) => variable == other_variable && terminal == other_terminal && *terminal != d,
         _ => false,
     }
 }

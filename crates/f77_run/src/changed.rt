@@ -9,18 +9,16 @@ ghost use Rattle.f77_legal.specs.Legal.{IsLegal};
 ghost use Rattle.f77_check.specs.Patching.{IsInPlace};
 ghost use Rattle.f77_run.specs.Changed.{IsChanged, changed_fields, changed_program};
 ghost use Rattle.f77_run.specs.Interpreter.{IsOutcomeOf};
-ghost use Rattle.f77_run.specs.Start.{constant_value};
 ghost use Rattle.f77_run.specs.Visits.{IsFollowed};
 ghost use Rattle.f77_run.specs.declared.outcome.Outcome.{Outcome};
 ghost use Rattle.f77_run.specs.declared.outcome.RunFault.TheVariants as fault;
 
 use crate::argument::Arg;
-use crate::interpreter::initial;
 use crate::outcome::{Outcome, RunFault};
-use crate::parting::{Workspace, comes_alike};
-use crate::runner::room;
-use crate::snapshot::Snapshot;
+use crate::parting::comes_alike;
+use crate::recompiled::Recompiled;
 use crate::visits::Visits;
+use crate::workspace::Workspace;
 use f77_check::{Checked, Resolved};
 use f77_tree::{Shared, Stmt};
 use std::alloc::Global;
@@ -73,19 +71,20 @@ impl Change<'_> {
 #[derive(Drop)]
 pub struct ChangedRunner<'a> {
     change: Change<'a>,
+    code: Recompiled,
     space: Workspace,
 }
 
 impl<'a> Model for ChangedRunner<'a> {
-    ghost use Rattle.std.specs.Prelude.{◌≡◌, map, option_map};
+    ghost use Rattle.std.specs.Prelude.{◌≡◌, map, option_map, IfSome};
     ghost use Rattle.std.specs.Coded.{codes};
     ghost use Rattle.f77_tree.specs.contracts.tree.Expr as expr;
     ghost use Rattle.f77_tree.specs.contracts.statement.Stmt as stmt;
-    ghost use Rattle.f77_check.specs.contracts.action.Action as action;
-    ghost use Rattle.f77_check.specs.contracts.expression.Condition as condition;
-    ghost use Rattle.f77_check.specs.contracts.expression.Element as element;
-    ghost use Rattle.f77_check.specs.contracts.expression.Number as number;
-    ghost use Rattle.f77_run.specs.Changed.{ChangedFields, IsChanged, changed_fields};
+    ghost use Rattle.f77_actions.specs.contracts.action.Action as action;
+    ghost use Rattle.f77_actions.specs.contracts.expression.Condition as condition;
+    ghost use Rattle.f77_actions.specs.contracts.expression.Element as element;
+    ghost use Rattle.f77_actions.specs.contracts.expression.Number as number;
+    ghost use Rattle.f77_run.specs.Changed.{ChangedFields, IsChanged, IsCodeOf, changed_fields};
     ghost use Rattle.f77_run.specs.Start.{constant_value};
 
     ghost Value = { ChangedFields };
@@ -103,7 +102,9 @@ impl<'a> Model for ChangedRunner<'a> {
     ghost view = { λ runner. changed_fields runner.change };
 
     ghost invariant = { λ runner. IsChanged (changed_fields runner.change) runner.change.statements.items runner.change.own
-        × (runner.space.initial.items ≡ map (option_map constant_value) runner.change.checked.now.start.initial.items) };
+        × (runner.space.initial.items ≡ map (option_map constant_value) runner.change.checked.now.start.initial.items)
+        × IsCodeOf runner.change.checked.now runner.change.checked.now.statements runner.code.own
+        × IfSome runner.code.changed (IsCodeOf runner.change.checked.now runner.change.statements.items) };
 }
 
 /// The program, with no statement changed.
@@ -124,20 +125,6 @@ fn unchanged<'a>(alloc: Global, checked: &'a Checked) -> Result<Change<'a>, RunF
     })
 }
 
-/// What the runs of a program need.
-fn workspace(alloc: Global, checked: &Checked) -> Result<Workspace, RunFault>
-    ensures initial { IfOk result (λ space. space.initial.items ≡ map (option_map constant_value) checked.now.start.initial.items) }
-    ensures memory { IfErr result (λ e. e ≡ fault.Memory) }
-{
-    let initial = initial(alloc, &checked.start().initial)?;
-    let machine = room(alloc, initial.len(), checked.count())?;
-    Ok(Workspace {
-        initial,
-        machine,
-        earlier: Snapshot::new(alloc),
-    })
-}
-
 impl<'a> ChangedRunner<'a> {
     /// The runs of this program, with no statement changed. All the memory that they need is taken here, but that in which a state
     /// of a long run is kept.
@@ -147,8 +134,13 @@ impl<'a> ChangedRunner<'a> {
         ensures memory { IfErr result (λ e. e ≡ fault.Memory) }
     {
         let change = unchanged(alloc, checked)?;
-        let space = workspace(alloc, checked)?;
-        Ok(ChangedRunner { change, space })
+        let code = Recompiled::of(alloc, checked)?;
+        let space = Workspace::of(alloc, checked)?;
+        Ok(ChangedRunner {
+            change,
+            code,
+            space,
+        })
     }
 
     /// From now on the runs are those of the program with this statement in the place of the one of this number, from 1, and every other
@@ -161,6 +153,7 @@ impl<'a> ChangedRunner<'a> {
         ensures changed { changed_program self.new ≡ patched (map line_of self.old.checked.program) number (statement_of stmt) }
     {
         self.change.put(number, stmt, resolved);
+        self.code.forget();
     }
 
     /// Whether the run of the changed program with these values of the dummy arguments, in order, for so many steps at most, has this outcome,
@@ -187,6 +180,7 @@ impl<'a> ChangedRunner<'a> {
         let patience = visits.made;
         comes_alike(
             change,
+            &mut self.code,
             visited,
             arguments,
             &mut self.space,

@@ -1,16 +1,15 @@
 //! What a statement does in a state, told without doing it.
 
 ghost use Rattle.std.specs.Prelude.{◌≡◌, ℕ, List, true, length};
-ghost use Rattle.f77_check.specs.declared.resolved.Resolved.{Resolved as Statement};
-ghost use Rattle.f77_run.specs.Choice as choice;
+ghost use Rattle.f77_actions.specs.declared.resolved.Resolved.{Resolved as Statement};
+ghost use Rattle.f77_code.specs.Choice as choice;
 ghost use Rattle.f77_run.specs.Effect.{effected};
-ghost use Rattle.f77_run.specs.Moves.{Turns, acted, action_within, is_executed, used};
+ghost use Rattle.f77_code.specs.Moves.{Turns, acted, action_within, is_executed, used};
 
 use crate::evaluate::{holds, operand, target, truth};
 use crate::execute::{Parameters, numbered};
-use crate::finish::Fault;
-use crate::value::Value;
 use f77_check::{Action, Jump};
+use f77_values::{Fault, Value};
 
 /// What a statement does where the slots hold some values.
 #[derive(Clone, Copy, Drop)]

@@ -1,18 +1,17 @@
 //! The values of expressions over slots (ANSI X3.9-1978, section 6).
 
 ghost use Rattle.std.specs.Prelude.{◌≡◌, ◌<◌, ◌*◌, [], ◌∷◌, true, length, Ok, IfOk, IfSome};
-ghost use Rattle.f77_run.specs.Evaluation as resolved;
-ghost use Rattle.f77_run.specs.Evaluation.{slot_in, number_in, truth_in, element_within, number_within, condition_within};
-ghost use Rattle.f77_run.specs.Value as meaning;
+ghost use Rattle.f77_code.specs.Evaluation as resolved;
+ghost use Rattle.f77_code.specs.Evaluation.{slot_in, number_in, truth_in, element_within, number_within, condition_within};
+ghost use Rattle.f77_values.specs.Value as meaning;
 
-use crate::finish::Fault;
 use crate::machine::{held_number, held_truth, number_at};
-use crate::number::{
+use f77_check::{Arithmetic, Condition, Connective, Element, Number, Relation};
+use f77_values::number::{
     absolute, difference, greater, is_below, is_same, lesser, modulus, negated, power, product,
     pushed, quotient, sum,
 };
-use crate::value::Value;
-use f77_check::{Arithmetic, Condition, Connective, Element, Number, Relation};
+use f77_values::{Fault, Value};
 
 /// The place of an element in an array of one dimension, from 0.
 fn offset(bound: u32, subscript: i32) -> Result<usize, Fault>

@@ -3,26 +3,24 @@
 ghost use Rattle.std.specs.Prelude.{◌≡◌, ◌<◌, ◌+◌, ◌^◌, Ok, true, length, slice_set, Some, IsSome, option_map};
 ghost use Rattle.std.specs.List.{list_all};
 ghost use Rattle.std.specs.Option.{option_map_or};
-ghost use Rattle.f77_check.specs.declared.action.Action.{Loop};
-ghost use Rattle.f77_check.specs.declared.expression.Number.{Number};
-ghost use Rattle.f77_run.specs.Choice as choice;
-ghost use Rattle.f77_run.specs.Evaluation.{element_within, number_within, condition_within, slot_in, number_in, truth_in};
-ghost use Rattle.f77_run.specs.Machine.{KeepsLengths};
-ghost use Rattle.f77_run.specs.Moves as moves;
-ghost use Rattle.f77_run.specs.Moves.{Goes, state, state_of, move_of, used, chosen, jump_to};
-ghost use Rattle.f77_run.specs.Moves.{are_below, jump_within, action_within, all_within};
-ghost use Rattle.f77_run.specs.Moves.{passing, passing_at, begun, acted, incremented, is_executed, moved};
-ghost use Rattle.f77_run.specs.Value.{given};
+ghost use Rattle.f77_actions.specs.declared.action.Action.{Loop};
+ghost use Rattle.f77_actions.specs.declared.expression.Number.{Number};
+ghost use Rattle.f77_code.specs.Choice as choice;
+ghost use Rattle.f77_code.specs.Evaluation.{element_within, number_within, condition_within, slot_in, number_in, truth_in};
+ghost use Rattle.f77_run.specs.Machine.{KeepsLengths, state_of, move_of};
+ghost use Rattle.f77_code.specs.Moves as moves;
+ghost use Rattle.f77_code.specs.Moves.{Goes, state, used, chosen, jump_to};
+ghost use Rattle.f77_code.specs.Moves.{are_below, jump_within, action_within, all_within};
+ghost use Rattle.f77_code.specs.Moves.{passing, passing_at, begun, acted, incremented, is_executed, moved};
+ghost use Rattle.f77_values.specs.Value.{given};
 
 use crate::evaluate::{holds, operand, target, truth};
-use crate::finish::Fault;
-use crate::machine::{
-    Control, Machine, Place, Turn, held_number, innermost, leave, set_turn, store,
-};
-use crate::number::{sum, trip_count};
-use crate::value::Value;
+use crate::machine::{Control, Machine, held_number, innermost, leave, set_turn, store};
 use f77_check::{Action, Condition, Element, Jump, Number, Resolved};
+use f77_code::{Place, Turn};
 use f77_tree::Shared;
+use f77_values::number::{sum, trip_count};
+use f77_values::{Fault, Value};
 
 /// Where control goes on from a statement that did not jump.
 fn place_behind(resolved: &Resolved, turns: &[Option<Turn>]) -> Place

@@ -6,10 +6,10 @@ ghost use Rattle.std.specs.List.{zip};
 ghost use Rattle.f77_run.specs.Holding.{IsHeld, AreHeld};
 ghost use Rattle.f77_run.specs.Interpreter.{values_in};
 ghost use Rattle.f77_run.specs.Spans.{HaveRoom};
-ghost use Rattle.f77_run.specs.declared.value.Value.TheVariants as held;
+ghost use Rattle.f77_values.specs.declared.value.Value.TheVariants as held;
 
 use crate::argument::Arg;
-use crate::value::Value;
+use f77_values::Value;
 
 fn is_number(cell: Option<Value>, number: i32) -> bool
     ensures { Decides result (Some (held.Number number) ≡ cell) }

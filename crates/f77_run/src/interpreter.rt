@@ -11,17 +11,19 @@ ghost use Rattle.f77_run.specs.declared.outcome.Outcome.{Outcome};
 ghost use Rattle.f77_run.specs.declared.outcome.RunFault.TheVariants as fault;
 
 use crate::argument::Arg;
-use crate::finish::{Fault, Finish};
 use crate::fitting::fit;
-use crate::machine::{Machine, Place, Turn};
+use crate::machine::Machine;
 use crate::outcome::{Outcome, RunFault};
 use crate::passing::{arguments as held_arguments, fill_all};
+use crate::registers::Registers;
 use crate::running::go;
 use crate::snapshot::Snapshot;
-use crate::value::Value;
 use crate::values::Values;
+use crate::workspace::code_of;
 use f77_check::Checked;
+use f77_code::{Place, Turn};
 use f77_tree::Constant;
+use f77_values::{Fault, Finish, Value};
 use std::alloc::Global;
 
 fn value(constant: Option<Constant>) -> Option<Value>
@@ -157,9 +159,21 @@ fn outcome(
     ensures made { IfOk result (λ told. (told.1 ≤ steps) × IsOutcomeOf (map line_of checked.now.program) arguments.now told.1 told.0) }
     ensures memory { IfErr result (λ e. e ≡ fault.Memory) }
 {
+    let code = code_of(alloc, checked)?;
     let mut machine = begin(alloc, checked, arguments)?;
+    let mut registers = Registers::new(alloc);
     let mut earlier = Snapshot::new(alloc);
-    let end = go(checked.statements(), &mut machine, &mut earlier, steps)?;
+    let start = checked.start();
+    let statements = checked.statements();
+    let end = go(
+        &start.kinds,
+        statements,
+        &code,
+        &mut machine,
+        &mut registers,
+        &mut earlier,
+        steps,
+    )?;
     Ok((answer(alloc, checked, end.finish, &machine)?, end.made))
 }
 

@@ -1,5 +1,6 @@
 //! What holds of steps and runs of every program.
 
+ghost use Rattle.f77_run.specs.Active.{ActiveByPlace};
 ghost use Rattle.f77_run.specs.Control.{Starts, LeadsOn};
 ghost use Rattle.f77_run.specs.Endless.{ComesBack, MeetsLimits};
 ghost use Rattle.f77_run.specs.Interpreter.{OneAnswer};
@@ -21,6 +22,13 @@ pub fn one_outcome()
 pub fn control_is_never_lost()
     ensures starts { Starts }
     ensures leads_on { LeadsOn }
+{}
+
+/// The active DOs are told from where control is: those whose range holds the statement that is to be executed, or, where a DO is to be
+/// incremented, that DO and those whose range holds it (11.10.2 to 11.10.5).
+#[tactic(auto, using(crate::proofs::Active::active_by_place))]
+pub fn active_loops()
+    ensures { ActiveByPlace }
 {}
 
 /// A run that comes back to a configuration never ends, and a run that never ends meets every limit on steps.

@@ -1,42 +1,24 @@
 //! A machine over slots.
 
 ghost use Rattle.std.specs.Prelude.{◌≡◌, ◌<◌, ◌+◌, Some, Ok, true, length, slice_set, is_some, IfSome};
-ghost use Rattle.f77_run.specs.Evaluation.{held_in};
+ghost use Rattle.f77_code.specs.Evaluation.{held_in};
 ghost use Rattle.f77_run.specs.Machine.{placed};
 ghost use Rattle.f77_run.specs.Reached.{number_of};
-ghost use Rattle.f77_run.specs.Moves as moves;
-ghost use Rattle.f77_run.specs.Moves.{are_below};
-ghost use Rattle.f77_run.specs.Value.{whole, logic};
+ghost use Rattle.f77_code.specs.Moves as moves;
+ghost use Rattle.f77_code.specs.Moves.{are_below};
+ghost use Rattle.f77_values.specs.Value.{whole, logic};
 
-use crate::finish::Fault;
-use crate::value::Value;
+use f77_code::{Place, Turn};
+use f77_values::{Fault, Value};
 
-/// Where control is. Statements are numbered from 0 here.
-#[derive(Clone, Copy, Debug, PartialEq, Eq)]
-pub(crate) enum Place {
-    /// At a statement that is to be executed.
-    Execute(usize),
-    /// At a DO that is to be incremented.
-    Increment(usize),
-}
-
-impl Place {
-    /// The statement where control is.
-    pub(crate) fn number(self) -> usize
-        ensures { result ≡ number_of (placed self) }
-    {
-        match self {
-            Place::Execute(i) => i,
-            Place::Increment(d) => d,
-        }
+/// The statement where control is.
+pub(crate) fn number(place: Place) -> usize
+    ensures { result ≡ number_of (placed place) }
+{
+    match place {
+        Place::Execute(i) => i,
+        Place::Increment(d) => d,
     }
-}
-
-/// What an active DO has left: its passes, and its incrementation parameter.
-#[derive(Clone, Copy, Debug, PartialEq, Eq)]
-pub(crate) struct Turn {
-    pub(crate) passes: u64,
-    pub(crate) step: i32,
 }
 
 /// The state of a run: where control is, what the slots hold, and which DOs are active.

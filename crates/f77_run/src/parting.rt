@@ -3,6 +3,8 @@
 ghost use Rattle.std.specs.Prelude.{◌≡◌, ◌<◌, ◌≤◌, true, map, option_map, length, IfOk, IfErr, IfSome, IfNone, Bool, ℕ};
 ghost use Rattle.std.specs.Bool.{Decides};
 ghost use Rattle.f77_program.specs.Program.{line_of};
+ghost use Rattle.f77_code.specs.Program.{IsCode};
+ghost use Rattle.f77_run.specs.Changed.{IsChanged, IsCodeOf, changed_fields};
 ghost use Rattle.f77_run.specs.Effect.{AgreeBut};
 ghost use Rattle.f77_run.specs.Endless.{Reaches};
 ghost use Rattle.f77_run.specs.Interpreter.{IsOutcomeOf};
@@ -16,23 +18,19 @@ ghost use Rattle.f77_run.specs.declared.outcome.RunFault.TheVariants as fault;
 use crate::alike::{act_alike, increment_alike};
 use crate::argument::Arg;
 use crate::changed::Change;
-use crate::machine::{Machine, Place};
 use crate::outcome::{Outcome, RunFault};
+use crate::recompiled::Recompiled;
 use crate::runner::{is_told, restart};
 use crate::running::go;
-use crate::snapshot::Snapshot;
-use crate::value::Value;
 use crate::visits::{Visit, Visited};
+use crate::walking::walk;
+use crate::workspace::Workspace;
 use f77_check::{Checked, Resolved};
+use f77_code::{Code, Place};
 use f77_tree::Shared;
 
-/// What runs need: what DATA gives each slot, a machine, and a state by which it is known that a run comes back.
-#[derive(Drop)]
-pub(crate) struct Workspace {
-    pub(crate) initial: Vec<Option<Value>>,
-    pub(crate) machine: Machine,
-    pub(crate) earlier: Snapshot,
-}
+/// How many steps a run makes before it needs code: to load registers takes as long.
+const FEW: u32 = 16;
 
 /// Whether the changed program does in a state that is kept what the program does: its run has come there.
 fn does_alike(statements: &[Shared<Resolved>], changed: &[Shared<Resolved>], visit: &Visit) -> bool
@@ -78,8 +76,8 @@ pub(crate) fn first_other(
 fn finish(
     checked: &Checked,
     changed: &[Shared<Resolved>],
-    machine: &mut Machine,
-    earlier: &mut Snapshot,
+    code: &Code,
+    space: &mut Workspace,
     patience: u32,
     behind: u32,
     steps: u32,
@@ -88,22 +86,121 @@ fn finish(
     ghost parting: { Parting }
     requires parting { IsParting parting changed.now }
     requires checked { checked.now ≡ parting.checked }
-    requires running { IsRunning (changed_site parting) changed.now machine.old }
-    requires behind { Reaches parting.program behind (start_in parting) (config_at (changed_site parting) machine.old) }
+    requires code { IsCode changed.now code.now }
+    requires slots { code.now.constants.slots ≡ checked.now.slots }
+    requires running { IsRunning (changed_site parting) changed.now space.old.machine }
+    requires behind { Reaches parting.program behind (start_in parting) (config_at (changed_site parting) space.old.machine) }
     requires within { behind ≤ steps }
     ensures outcome { IfOk result (λ same. (other : Outcome)
         × IsOutcomeOf parting.program parting.arguments steps other × Decides same (outcome.now ≡ other)) }
+    ensures initial { space.new.initial.items ≡ space.old.initial.items }
     ensures memory { IfErr result (λ e. e ≡ fault.Memory) }
 {
-    earlier.forget(patience);
-    let end = go(changed, machine, earlier, steps - behind)?;
-    Ok(is_told(checked, end.finish, machine, outcome))
+    space.earlier.forget(patience);
+    let start = checked.start();
+    let end = go(
+        &start.kinds,
+        changed,
+        code,
+        &mut space.machine,
+        &mut space.registers,
+        &mut space.earlier,
+        steps - behind,
+    )?;
+    Ok(is_told(checked, end.finish, &space.machine, outcome))
+}
+
+/// The same, where the code of the changed program may have to be compiled first.
+fn comes_by_code(
+    change: &Change<'_>,
+    codes: &mut Recompiled,
+    space: &mut Workspace,
+    patience: u32,
+    behind: u32,
+    steps: u32,
+    outcome: &Outcome,
+) -> Result<bool, RunFault>
+    ghost parting: { Parting }
+    requires parting { IsParting parting change.now.statements.items }
+    requires checked { change.now.checked.now ≡ parting.checked }
+    requires change { IsChanged (changed_fields change.now) change.now.statements.items change.now.own }
+    requires own { IsCodeOf change.now.checked.now change.now.checked.now.statements codes.old.own }
+    requires code { IfSome codes.old.changed (IsCodeOf change.now.checked.now change.now.statements.items) }
+    requires running { IsRunning (changed_site parting) change.now.statements.items space.old.machine }
+    requires behind { Reaches parting.program behind (start_in parting) (config_at (changed_site parting) space.old.machine) }
+    requires within { behind ≤ steps }
+    ensures outcome { IfOk result (λ same. (other : Outcome)
+        × IsOutcomeOf parting.program parting.arguments steps other × Decides same (outcome.now ≡ other)) }
+    ensures code { IfSome codes.new.changed (IsCodeOf change.now.checked.now change.now.statements.items) }
+    ensures own { codes.new.own ≡ codes.old.own }
+    ensures initial { space.new.initial.items ≡ space.old.initial.items }
+    ensures memory { IfErr result (λ e. e ≡ fault.Memory) }
+{
+    codes.compile(change)?;
+    let Some(code) = &codes.changed else {
+        unreachable!()
+    };
+    let changed = change.statements.as_slice();
+    finish(
+        change.checked,
+        changed,
+        code,
+        space,
+        patience,
+        behind,
+        steps,
+        outcome,
+    )
+}
+
+/// How many steps are made each by itself, behind so many and of so many that are left, where the program itself made so many in all: none,
+/// where it made many more.
+fn few_steps(made: u32, behind: u32, left: u32) -> u32
+    ensures { result ≤ left }
+{
+    if made.saturating_sub(behind) > FEW {
+        return 0;
+    }
+    FEW.min(left)
+}
+
+/// The same, where a run that is soon over needs no code.
+fn comes_from_there(
+    change: &Change<'_>,
+    codes: &mut Recompiled,
+    space: &mut Workspace,
+    patience: u32,
+    behind: u32,
+    steps: u32,
+    outcome: &Outcome,
+) -> Result<bool, RunFault>
+    ghost parting: { Parting }
+    requires parting { IsParting parting change.now.statements.items }
+    requires checked { change.now.checked.now ≡ parting.checked }
+    requires change { IsChanged (changed_fields change.now) change.now.statements.items change.now.own }
+    requires own { IsCodeOf change.now.checked.now change.now.checked.now.statements codes.old.own }
+    requires code { IfSome codes.old.changed (IsCodeOf change.now.checked.now change.now.statements.items) }
+    requires running { IsRunning (changed_site parting) change.now.statements.items space.old.machine }
+    requires behind { Reaches parting.program behind (start_in parting) (config_at (changed_site parting) space.old.machine) }
+    requires within { behind ≤ steps }
+    ensures outcome { IfOk result (λ same. (other : Outcome)
+        × IsOutcomeOf parting.program parting.arguments steps other × Decides same (outcome.now ≡ other)) }
+    ensures code { IfSome codes.new.changed (IsCodeOf change.now.checked.now change.now.statements.items) }
+    ensures own { codes.new.own ≡ codes.old.own }
+    ensures initial { space.new.initial.items ≡ space.old.initial.items }
+    ensures memory { IfErr result (λ e. e ≡ fault.Memory) }
+{
+    let few = few_steps(patience, behind, steps - behind);
+    match walk(&change.statements, &mut space.machine, few) {
+        Some(end) => Ok(is_told(change.checked, end.finish, &space.machine, outcome)),
+        None => comes_by_code(change, codes, space, patience, behind + few, steps, outcome),
+    }
 }
 
 /// Whether the run of the changed program has this outcome, which comes to the state that is kept.
 fn comes_from(
-    checked: &Checked,
-    changed: &[Shared<Resolved>],
+    change: &Change<'_>,
+    codes: &mut Recompiled,
     visit: &Visit,
     space: &mut Workspace,
     patience: u32,
@@ -111,33 +208,30 @@ fn comes_from(
     outcome: &Outcome,
 ) -> Result<bool, RunFault>
     ghost parting: { Parting }
-    requires parting { IsParting parting changed.now }
-    requires checked { checked.now ≡ parting.checked }
+    requires parting { IsParting parting change.now.statements.items }
+    requires checked { change.now.checked.now ≡ parting.checked }
+    requires change { IsChanged (changed_fields change.now) change.now.statements.items change.now.own }
+    requires own { IsCodeOf change.now.checked.now change.now.checked.now.statements codes.old.own }
+    requires code { IfSome codes.old.changed (IsCodeOf change.now.checked.now change.now.statements.items) }
     requires visit { IsVisit (site_in parting) parting.place (start_in parting) visit.now }
     requires together { Reaches parting.program visit.now.made (start_in parting) (config_in (site_in parting) visit.now) }
     requires within { visit.now.made ≤ steps }
     ensures outcome { IfOk result (λ same. (other : Outcome)
         × IsOutcomeOf parting.program parting.arguments steps other × Decides same (outcome.now ≡ other)) }
+    ensures code { IfSome codes.new.changed (IsCodeOf change.now.checked.now change.now.statements.items) }
+    ensures own { codes.new.own ≡ codes.old.own }
     ensures initial { space.new.initial.items ≡ space.old.initial.items }
     ensures memory { IfErr result (λ e. e ≡ fault.Memory) }
 {
     visit.load(&mut space.machine)?;
-    finish(
-        checked,
-        changed,
-        &mut space.machine,
-        &mut space.earlier,
-        patience,
-        visit.made,
-        steps,
-        outcome,
-    )
+    let behind = visit.made;
+    comes_from_there(change, codes, space, patience, behind, steps, outcome)
 }
 
 /// Whether the run of the changed program has this outcome, begun at the start.
 fn comes_from_start(
-    checked: &Checked,
-    changed: &[Shared<Resolved>],
+    change: &Change<'_>,
+    codes: &mut Recompiled,
     arguments: &[Arg],
     space: &mut Workspace,
     patience: u32,
@@ -145,32 +239,34 @@ fn comes_from_start(
     outcome: &Outcome,
 ) -> Result<bool, RunFault>
     ghost parting: { Parting }
-    requires parting { IsParting parting changed.now }
-    requires checked { checked.now ≡ parting.checked }
+    requires parting { IsParting parting change.now.statements.items }
+    requires checked { change.now.checked.now ≡ parting.checked }
+    requires change { IsChanged (changed_fields change.now) change.now.statements.items change.now.own }
+    requires own { IsCodeOf change.now.checked.now change.now.checked.now.statements codes.old.own }
+    requires code { IfSome codes.old.changed (IsCodeOf change.now.checked.now change.now.statements.items) }
     requires arguments { arguments.now ≡ parting.arguments }
-    requires initial { space.old.initial.items ≡ map (option_map constant_value) checked.now.start.initial.items }
+    requires initial { space.old.initial.items ≡ map (option_map constant_value) change.now.checked.now.start.initial.items }
     ensures outcome { IfOk result (λ same. (other : Outcome)
         × IsOutcomeOf parting.program parting.arguments steps other × Decides same (outcome.now ≡ other)) }
+    ensures code { IfSome codes.new.changed (IsCodeOf change.now.checked.now change.now.statements.items) }
+    ensures own { codes.new.own ≡ codes.old.own }
     ensures initial { space.new.initial.items ≡ space.old.initial.items }
     ensures memory { IfErr result (λ e. e ≡ fault.Memory) }
 {
-    restart(checked, &space.initial, &mut space.machine, arguments)?;
-    finish(
-        checked,
-        changed,
+    restart(
+        change.checked,
+        &space.initial,
         &mut space.machine,
-        &mut space.earlier,
-        patience,
-        0,
-        steps,
-        outcome,
-    )
+        arguments,
+    )?;
+    comes_from_there(change, codes, space, patience, 0, steps, outcome)
 }
 
 /// Whether the run of the changed program has the outcome of that of the program, by the times at which control was at the changed
 /// statement: begun at the first of them at which the two part, or at the last that is kept, and not made where they do not part.
 pub(crate) fn comes_alike(
     change: &Change<'_>,
+    codes: &mut Recompiled,
     visited: &Visited,
     arguments: &[Arg],
     space: &mut Workspace,
@@ -182,34 +278,36 @@ pub(crate) fn comes_alike(
     requires of { parting ≡ parting_of change.now arguments.now }
     requires parting { IsParting parting change.now.statements.items }
     requires others { AgreeBut parting.place parting.checked.statements change.now.statements.items }
+    requires change { IsChanged (changed_fields change.now) change.now.statements.items change.now.own }
+    requires own { IsCodeOf change.now.checked.now change.now.checked.now.statements codes.old.own }
+    requires code { IfSome codes.old.changed (IsCodeOf change.now.checked.now change.now.statements.items) }
     requires visits { AreVisits (site_in parting) parting.place (start_in parting) 0 steps visited.now.visits.items visited.now.more }
     requires outcome { IsOutcomeOf (map line_of parting.checked.program) parting.arguments steps outcome.now }
     requires initial { space.old.initial.items ≡ map (option_map constant_value) parting.checked.start.initial.items }
     ensures outcome { IfOk result (λ same. (other : Outcome)
         × IsOutcomeOf parting.program parting.arguments steps other × Decides same (outcome.now ≡ other)) }
+    ensures code { IfSome codes.new.changed (IsCodeOf change.now.checked.now change.now.statements.items) }
+    ensures own { codes.new.own ≡ codes.old.own }
     ensures initial { space.new.initial.items ≡ space.old.initial.items }
     ensures memory { IfErr result (λ e. e ≡ fault.Memory) }
 {
-    let checked = change.checked;
     let changed = change.statements.as_slice();
     let visits = visited.visits.as_slice();
-    let own = checked.statements();
+    let own = change.checked.statements();
     match first_other(own, changed, visits) {
-        Some(k) => comes_from(
-            checked, changed, &visits[k], space, patience, steps, outcome,
-        ),
+        Some(k) => comes_from(change, codes, &visits[k], space, patience, steps, outcome),
         None if !visited.more => Ok(true),
         None => match visits.len().checked_sub(1) {
             Some(last) => comes_from(
-                checked,
-                changed,
+                change,
+                codes,
                 &visits[last],
                 space,
                 patience,
                 steps,
                 outcome,
             ),
-            None => comes_from_start(checked, changed, arguments, space, patience, steps, outcome),
+            None => comes_from_start(change, codes, arguments, space, patience, steps, outcome),
         },
     }
 }

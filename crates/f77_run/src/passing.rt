@@ -7,14 +7,14 @@ ghost use Rattle.f77_run.specs.Interpreter.{AreFitting, has_shape, values_in};
 ghost use Rattle.f77_run.specs.Spans.{AllHold, AreWithin, HaveRoom, all_filled, filled, size_of, span};
 ghost use Rattle.f77_run.specs.Typed.{HasValues, has_kind};
 ghost use Rattle.f77_run.specs.declared.outcome.RunFault.TheVariants as fault;
-ghost use Rattle.f77_run.specs.declared.value.Value.TheVariants as held;
+ghost use Rattle.f77_values.specs.declared.value.Value.TheVariants as held;
 
 use crate::argument::Arg;
 use crate::outcome::RunFault;
-use crate::value::Value;
 use crate::values::Values;
 use f77_check::Shape;
 use f77_tree::Kind;
+use f77_values::Value;
 use std::alloc::Global;
 
 fn fill_numbers(cells: &mut Vec<Option<Value>>, first: usize, numbers: &[i32])

@@ -13,7 +13,6 @@ ghost use Rattle.f77_run.specs.declared.outcome.RunFault.TheVariants as fault;
 
 use crate::argument::Arg;
 use crate::execute::step;
-use crate::finish::Finish;
 use crate::fitting::fit;
 use crate::interpreter::begin;
 use crate::machine::{Control, Machine};
@@ -22,7 +21,9 @@ use crate::running::End;
 use crate::values::Values;
 use crate::visits::Visits;
 use f77_check::{Checked, Resolved};
+use f77_code::Place;
 use f77_tree::Shared;
+use f77_values::Finish;
 use std::alloc::Global;
 
 /// At most so many steps, noting where control is at each: how they end. States are kept while there is room for so many values.

@@ -3,6 +3,7 @@
 ghost use Rattle.std.specs.Prelude.{◌≡◌, ◌⊎◌, map, option_map, Some, Err, IfOk, IfErr, IfSome};
 ghost use Rattle.std.specs.Bool.{Decides};
 ghost use Rattle.f77_program.specs.Program.{line_of};
+ghost use Rattle.f77_code.specs.Program.{IsCode};
 ghost use Rattle.f77_run.specs.Interpreter as meaning;
 ghost use Rattle.f77_run.specs.Interpreter.{AreArguments, AreFitting, IsOutcomeOf, Tells, refusal, values_in};
 ghost use Rattle.f77_run.specs.Reached.{AreReached};
@@ -15,19 +16,19 @@ ghost use Rattle.f77_run.specs.declared.outcome.RunFault.TheVariants as fault;
 
 use crate::argument::Arg;
 use crate::course::Course;
-use crate::finish::{Fault, Finish};
 use crate::fitting::fit;
 use crate::holding::are_held;
-use crate::interpreter::{answer, enter, initial};
-use crate::machine::{Machine, Place};
+use crate::interpreter::{answer, enter};
+use crate::machine::Machine;
 use crate::outcome::{Outcome, RunFault};
 use crate::reached::follow;
 use crate::running::go;
-use crate::snapshot::Snapshot;
-use crate::value::Value;
 use crate::values::Values;
 use crate::visits::Visits;
+use crate::workspace::{Workspace, code_of};
 use f77_check::Checked;
+use f77_code::Code;
+use f77_values::{Fault, Finish, Value};
 use std::alloc::Global;
 use std::marker::Model;
 
@@ -35,10 +36,8 @@ use std::marker::Model;
 #[derive(Drop)]
 pub struct Runner<'a> {
     checked: &'a Checked,
-    /// What DATA gives each slot.
-    initial: Vec<Option<Value>>,
-    machine: Machine,
-    earlier: Snapshot,
+    code: Code,
+    space: Workspace,
 }
 
 impl<'a> Model for Runner<'a> {
@@ -47,10 +46,11 @@ impl<'a> Model for Runner<'a> {
     ghost use Rattle.f77_tree.specs.contracts.tree.Expr as expr;
     ghost use Rattle.f77_tree.specs.contracts.statement.Stmt as stmt;
     ghost use Rattle.f77_check.specs.Checked.{CheckedFields};
-    ghost use Rattle.f77_check.specs.contracts.action.Action as action;
-    ghost use Rattle.f77_check.specs.contracts.expression.Condition as condition;
-    ghost use Rattle.f77_check.specs.contracts.expression.Element as element;
-    ghost use Rattle.f77_check.specs.contracts.expression.Number as number;
+    ghost use Rattle.f77_actions.specs.contracts.action.Action as action;
+    ghost use Rattle.f77_actions.specs.contracts.expression.Condition as condition;
+    ghost use Rattle.f77_actions.specs.contracts.expression.Element as element;
+    ghost use Rattle.f77_actions.specs.contracts.expression.Number as number;
+    ghost use Rattle.f77_code.specs.Program.{IsCode};
     ghost use Rattle.f77_run.specs.Start.{constant_value};
 
     ghost Value = { CheckedFields };
@@ -67,20 +67,8 @@ impl<'a> Model for Runner<'a> {
 
     ghost view = { λ runner. runner.checked.now };
 
-    ghost invariant = { λ runner. runner.initial.items ≡ map (option_map constant_value) runner.checked.now.start.initial.items };
-}
-
-/// A machine with room for so many slots and DOs.
-pub(crate) fn room(alloc: Global, slots: usize, turns: usize) -> Result<Machine, RunFault>
-    ensures memory { IfErr result (λ e. e ≡ fault.Memory) }
-{
-    let cells = Vec::with_capacity(alloc, slots)?;
-    let turns = Vec::with_capacity(alloc, turns)?;
-    Ok(Machine {
-        place: Place::Execute(0),
-        cells,
-        turns,
-    })
+    ghost invariant = { λ runner. (runner.space.initial.items ≡ map (option_map constant_value) runner.checked.now.start.initial.items)
+        × IsCode runner.checked.now.statements runner.code × (runner.code.constants.slots ≡ runner.checked.now.slots) };
 }
 
 /// The machine is at the start of a run, whatever it did before.
@@ -158,55 +146,74 @@ pub(crate) fn is_told(
 /// Whether the run with arguments that fit has this outcome.
 fn same_outcome(
     checked: &Checked,
-    initial: &[Option<Value>],
-    machine: &mut Machine,
-    earlier: &mut Snapshot,
+    code: &Code,
+    space: &mut Workspace,
     arguments: &[Arg],
     steps: u32,
     outcome: &Outcome,
 ) -> Result<bool, RunFault>
     ghost at: { Site }
     requires site { at ≡ site_of checked.now arguments.now }
-    requires initial { initial.now ≡ map (option_map constant_value) checked.now.start.initial.items }
+    requires initial { space.old.initial.items ≡ map (option_map constant_value) checked.now.start.initial.items }
+    requires code { IsCode checked.now.statements code.now }
+    requires slots { code.now.constants.slots ≡ checked.now.slots }
     requires fitting { AreFitting checked.now.arguments arguments.now }
     ensures outcome { IfOk result (λ same. (other : Outcome)
         × IsOutcomeOf (map line_of checked.now.program) arguments.now steps other × Decides same (outcome.now ≡ other)) }
+    ensures initial { space.new.initial.items ≡ space.old.initial.items }
     ensures memory { IfErr result (λ e. e ≡ fault.Memory) }
 {
-    restart(checked, initial, machine, arguments)?;
-    earlier.forget(0);
-    let end = go(checked.statements(), machine, earlier, steps)?;
-    Ok(is_told(checked, end.finish, machine, outcome))
+    restart(checked, &space.initial, &mut space.machine, arguments)?;
+    space.earlier.forget(0);
+    let start = checked.start();
+    let statements = checked.statements();
+    let end = go(
+        &start.kinds,
+        statements,
+        code,
+        &mut space.machine,
+        &mut space.registers,
+        &mut space.earlier,
+        steps,
+    )?;
+    Ok(is_told(checked, end.finish, &space.machine, outcome))
 }
 
 /// The course of the run with arguments that fit.
 fn course_of(
     alloc: Global,
     checked: &Checked,
-    initial: &[Option<Value>],
-    machine: &mut Machine,
+    space: &mut Workspace,
     arguments: &[Arg],
     steps: u32,
     room: &mut usize,
 ) -> Result<Course, RunFault>
     ghost at: { Site }
     requires site { at ≡ site_of checked.now arguments.now }
-    requires initial { initial.now ≡ map (option_map constant_value) checked.now.start.initial.items }
+    requires initial { space.old.initial.items ≡ map (option_map constant_value) checked.now.start.initial.items }
     requires fitting { AreFitting checked.now.arguments arguments.now }
     ensures outcome { IfOk result
         (λ course. IsOutcomeOf (map line_of checked.now.program) arguments.now steps course.outcome) }
     ensures reached { IfOk result
         (λ course. AreReached (map line_of checked.now.program) arguments.now steps course.reached) }
     ensures visits { IfOk result (λ course. IsFollowed checked.now arguments.now steps course.visits) }
+    ensures initial { space.new.initial.items ≡ space.old.initial.items }
     ensures memory { IfErr result (λ e. e ≡ fault.Memory) }
 {
-    restart(checked, initial, machine, arguments)?;
+    restart(checked, &space.initial, &mut space.machine, arguments)?;
     let mut visits = Visits::none(alloc, checked.count())?;
     let statements = checked.statements();
-    let end = follow(alloc, statements, machine, &mut visits, steps, room)?;
+    let end = follow(
+        alloc,
+        statements,
+        &mut space.machine,
+        &mut visits,
+        steps,
+        room,
+    )?;
     visits.made = end.made;
     let reached = Values::new(visits.reached(alloc)?);
-    let outcome = answer(alloc, checked, end.finish, machine)?;
+    let outcome = answer(alloc, checked, end.finish, &space.machine)?;
     Ok(Course {
         outcome,
         reached,
@@ -215,19 +222,18 @@ fn course_of(
 }
 
 impl<'a> Runner<'a> {
-    /// The runs of this program. All the memory that they need is taken here, but that of a course, and that in which a
-    /// state of a long run is kept.
+    /// The runs of this program, which is compiled. All the memory that they need is taken here, but that of a course, that of registers,
+    /// which the first run takes, and that in which a state of a long run is kept.
     pub fn of(alloc: Global, checked: &'a Checked) -> Result<Runner<'a>, RunFault>
         ensures program { IfOk result (λ runner. runner ≡ checked.now) }
         ensures memory { IfErr result (λ e. e ≡ fault.Memory) }
     {
-        let initial = initial(alloc, &checked.start().initial)?;
-        let machine = room(alloc, initial.len(), checked.count())?;
+        let code = code_of(alloc, checked)?;
+        let space = Workspace::of(alloc, checked)?;
         Ok(Runner {
             checked,
-            initial,
-            machine,
-            earlier: Snapshot::new(alloc),
+            code,
+            space,
         })
     }
 
@@ -250,9 +256,8 @@ impl<'a> Runner<'a> {
         match fit(checked.arguments(), arguments) {
             Ok(()) => same_outcome(
                 checked,
-                &self.initial,
-                &mut self.machine,
-                &mut self.earlier,
+                &self.code,
+                &mut self.space,
                 arguments,
                 steps,
                 outcome,
@@ -286,15 +291,7 @@ impl<'a> Runner<'a> {
     {
         let checked = self.checked;
         match fit(checked.arguments(), arguments) {
-            Ok(()) => course_of(
-                alloc,
-                checked,
-                &self.initial,
-                &mut self.machine,
-                arguments,
-                steps,
-                room,
-            ),
+            Ok(()) => course_of(alloc, checked, &mut self.space, arguments, steps, room),
             Err(fault) => Err(fault),
         }
     }

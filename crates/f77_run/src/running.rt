@@ -1,19 +1,27 @@
 //! Steps up to a limit.
 
-ghost use Rattle.std.specs.Prelude.{◌≡◌, None, length, IfOk, IfErr};
-ghost use Rattle.f77_legal.specs.Names.{bounds_of};
-ghost use Rattle.f77_check.specs.Slots.{slot_count};
-ghost use Rattle.f77_run.specs.Running.{Site, IsRunning, ComesToEnd, values_at, config_at};
+ghost use Rattle.std.specs.Prelude.{◌≡◌, ◌⊎◌, ◌≤◌, ◌<◌, None, length, true, IfOk, IfErr, OnOk};
+ghost use Rattle.f77_legal.specs.Names.{kind_of, bounds_of};
+ghost use Rattle.f77_check.specs.Slots.{slot_count, slot_kinds};
+ghost use Rattle.f77_code.specs.Block.{after, code_within};
+ghost use Rattle.f77_code.specs.Moves.{Turns};
+ghost use Rattle.f77_code.specs.Operation.{point};
+ghost use Rattle.f77_code.specs.Program.{IsCode};
+ghost use Rattle.f77_code.specs.Registers.{are_held};
+ghost use Rattle.f77_run.specs.Registers.{counters_of};
+ghost use Rattle.f77_run.specs.Running.{Site, IsRunning, ComesToCells, CameBack, config_at, values_at};
 ghost use Rattle.f77_run.specs.Snapshot.{kept};
+ghost use Rattle.f77_run.specs.Typed.{IsTyped};
 ghost use Rattle.f77_run.specs.declared.outcome.RunFault.TheVariants as fault;
 
-use crate::execute::step;
-use crate::finish::Finish;
-use crate::machine::{Control, Machine};
+use crate::machine::Machine;
 use crate::outcome::RunFault;
+use crate::registers::Registers;
 use crate::snapshot::Snapshot;
-use f77_check::Resolved;
-use f77_tree::Shared;
+use f77_actions::Resolved;
+use f77_code::{Code, Instruction, Stand, Turn, block, finish_at};
+use f77_tree::{Kind, Shared};
+use f77_values::Finish;
 
 /// How a run ends, and how many steps were made to know it.
 #[derive(Clone, Copy)]
@@ -31,32 +39,84 @@ impl End {
     }
 }
 
-/// At most so many steps: how they end. A run that comes back to a state never ends, and meets its limit.
-#[inline(never)]
+/// At most so many instructions, from a place on: in blocks, between which it is seen whether the code came back to where it stood.
+fn advance(
+    code: &[Shared<Instruction>],
+    registers: &mut [i64],
+    counters: &mut [Turn],
+    start: usize,
+    earlier: &mut Snapshot,
+    steps: u32,
+) -> Result<Stand, RunFault>
+    requires held { are_held registers.old ≡ true }
+    requires within { code_within (length registers.old) (length counters.old) code.now ≡ true }
+    requires none { kept earlier.old ≡ None }
+    ensures stands { IfOk result (λ stand. point stand.place registers.new counters.new
+        ≡ after code.now stand.made (point start registers.old counters.old)) }
+    ensures made { IfOk result (λ stand. stand.made ≤ steps) }
+    ensures ends { IfOk result (λ stand. stand.made < steps → (length code.now ≤ stand.place)
+        ⊎ CameBack code.now (point start registers.old counters.old) stand.made) }
+    ensures held { OnOk result (are_held registers.new ≡ true) }
+    ensures memory { IfErr result (λ e. e ≡ fault.Memory) }
+{
+    let mut place = start;
+    let mut made = 0;
+    'looks: while place < code.len() && made < steps {
+        if earlier.is_seen_back(place, registers, counters, made)? {
+            return Ok(Stand { place, made });
+        }
+        let most = earlier.steps_to_look(made).min(steps - made);
+        let more = block(code, registers, counters, place, most);
+        place = more.place;
+        made += more.made;
+    }
+    Ok(Stand { place, made })
+}
+
+/// The statements, or none of them where no DO is among them: then nothing has a counter.
+fn with_loops<'s>(statements: &'s [Shared<Resolved>], code: &Code) -> &'s [Shared<Resolved>]
+    requires { IsCode statements.now code.now }
+    ensures { (turns : Turns) → length turns ≡ length statements.now → counters_of result.now turns ≡ counters_of statements.now turns }
+{
+    if code.instructions().len() == statements.len() {
+        return &[];
+    }
+    statements
+}
+
+/// At most so many steps, by the code of the program: how they end, and what the slots of its dummy arguments hold then. A run that comes
+/// back to where it was never ends, and meets its limit.
 pub(crate) fn go(
+    kinds: &[Kind],
     statements: &[Shared<Resolved>],
+    code: &Code,
     machine: &mut Machine,
+    registers: &mut Registers,
     earlier: &mut Snapshot,
     steps: u32,
 ) -> Result<End, RunFault>
     ghost at: { Site }
     requires running { IsRunning at statements.now machine.old }
+    requires typed { IsTyped at.program (values_at at machine.old.cells.items) }
+    requires kinds { kinds.now ≡ slot_kinds (kind_of at.program) (bounds_of at.program) at.names }
+    requires code { IsCode statements.now code.now }
+    requires slots { code.now.constants.slots ≡ length kinds.now }
     requires none { kept earlier.old ≡ None }
-    ensures ends { IfOk result
-        (λ end. ComesToEnd at.program steps (config_at at machine.old) end.made end.finish (values_at at machine.new.cells.items)) }
-    ensures cells { length machine.new.cells.items ≡ slot_count (bounds_of at.program) at.names }
+    ensures ends { IfOk result (λ end. ComesToCells at steps (config_at at machine.old) end.made end.finish machine.new.cells.items) }
+    ensures cells { OnOk result (length machine.new.cells.items ≡ slot_count (bounds_of at.program) at.names) }
     ensures memory { IfErr result (λ e. e ≡ fault.Memory) }
 {
-    for made in 0..steps {
-        if earlier.is_seen_back(machine, made)? {
-            return Ok(End::new(Finish::StepLimit, made));
-        }
-        match step(statements, machine) {
-            Ok(Control::Goes) => {}
-            Ok(Control::Returns) => return Ok(End::new(Finish::Returned, made + 1)),
-            Ok(Control::Stops) => return Ok(End::new(Finish::Stopped, made + 1)),
-            Err(fault) => return Ok(End::new(Finish::Failed(fault), made + 1)),
-        }
-    }
-    Ok(End::new(Finish::StepLimit, steps))
+    let start = code.place(machine.place);
+    let constants = code.constants().values();
+    registers.load(kinds, constants, with_loops(statements, code), machine)?;
+    let stand = advance(
+        code.instructions(),
+        &mut registers.items,
+        &mut registers.counters,
+        start,
+        earlier,
+        steps,
+    )?;
+    registers.show(kinds, &mut machine.cells)?;
+    Ok(End::new(finish_at(stand.place), stand.made))
 }

@@ -1,15 +1,14 @@
 //! A state that a run was in, by which it is known when the run comes back to it.
 
-ghost use Rattle.std.specs.Prelude.{◌≡◌, ◌⊎◌, true, Some, None, IfOk, IfErr};
+ghost use Rattle.std.specs.Prelude.{◌≡◌, ◌⊎◌, ◌<◌, true, Some, None, IfOk, IfErr};
 ghost use Rattle.std.specs.Bool.{Decides};
-ghost use Rattle.f77_run.specs.Moves.{state_of};
+ghost use Rattle.f77_code.specs.Operation.{point};
 ghost use Rattle.f77_run.specs.Snapshot.{kept};
 ghost use Rattle.f77_run.specs.declared.outcome.RunFault.TheVariants as fault;
 
 use crate::kept::Kept;
-use crate::machine::{Machine, Place, Turn};
 use crate::outcome::RunFault;
-use crate::value::Value;
+use f77_code::Turn;
 use std::alloc::Global;
 
 /// How many steps are made at least before a state is kept: a run that ends before them pays nothing.
@@ -25,9 +24,9 @@ const PART: u32 = 32;
 /// back within 512 steps is known after three times as many steps at most as it takes to come back for the first time.
 #[derive(Drop)]
 pub(crate) struct Snapshot {
-    pub(crate) place: Option<Place>,
-    pub(crate) cells: Kept<Option<Value>>,
-    pub(crate) turns: Kept<Option<Turn>>,
+    pub(crate) place: Option<usize>,
+    pub(crate) registers: Kept<i64>,
+    pub(crate) counters: Kept<Turn>,
     /// The number of steps behind which the next one is kept.
     due: u32,
     /// The number of steps up to which this one is looked for.
@@ -36,15 +35,12 @@ pub(crate) struct Snapshot {
     next: u32,
 }
 
-pub(crate) fn same_place(one: Option<Place>, other: Place) -> bool
+fn same_place(one: Option<usize>, other: usize) -> bool
     ensures { Decides result (one ≡ Some other) }
 {
-    match (one, other) {
-        (Some(Place::Execute(i)), Place::Execute(j)) => i == j,
-        (Some(Place::Increment(d)), Place::Increment(e)) => d == e,
-        (Some(Place::Execute(_)), Place::Increment(_))
-        | (Some(Place::Increment(_)), Place::Execute(_))
-        | (None, _) => false,
+    match one {
+        Some(place) => place == other,
+        None => false,
     }
 }
 
@@ -55,8 +51,8 @@ impl Snapshot {
     {
         Snapshot {
             place: None,
-            cells: Kept::new(alloc),
-            turns: Kept::new(alloc),
+            registers: Kept::new(alloc),
+            counters: Kept::new(alloc),
             due: FIRST,
             last: FIRST,
             next: FIRST,
@@ -74,46 +70,62 @@ impl Snapshot {
         self.next = first;
     }
 
-    /// Whether the machine is in the state that is kept.
-    fn is_met(&mut self, machine: &Machine) -> bool
-        ensures met { Decides result (kept self.old ≡ Some (state_of machine.now)) }
+    /// Whether the code stands where it stood when it was kept.
+    fn is_met(&mut self, place: usize, registers: &[i64], counters: &[Turn]) -> bool
+        ensures met { Decides result (kept self.old ≡ Some (point place registers.now counters.now)) }
         ensures kept { kept self.new ≡ kept self.old }
     {
-        if !same_place(self.place, machine.place) {
+        if !same_place(self.place, place) {
             return false;
         }
-        // The slots first: in a loop that counts, one of them tells.
-        if !self.cells.are(&machine.cells) {
+        // The registers first: in a loop that counts, one of them tells.
+        if !self.registers.are(registers) {
             return false;
         }
-        self.turns.are(&machine.turns)
+        self.counters.are(counters)
     }
 
-    /// The state of the machine, which is in it behind so many steps, is kept in place of the one before.
-    fn keep(&mut self, machine: &Machine, steps: u32) -> Result<(), RunFault>
-        ensures kept { IfOk result (λ _. kept self.new ≡ Some (state_of machine.now)) }
+    /// Where the code stands behind so many steps is kept in place of what was kept before.
+    fn keep(
+        &mut self,
+        place: usize,
+        registers: &[i64],
+        counters: &[Turn],
+        steps: u32,
+    ) -> Result<(), RunFault>
+        ensures kept { IfOk result (λ _. kept self.new ≡ Some (point place registers.now counters.now)) }
         ensures memory { IfErr result (λ e. e ≡ fault.Memory) }
     {
-        self.cells.keep(&machine.cells)?;
-        self.turns.keep(&machine.turns)?;
-        self.place = Some(machine.place);
+        self.registers.keep(registers)?;
+        self.counters.keep(counters)?;
+        self.place = Some(place);
         self.due = self.due.saturating_mul(2);
         self.last = steps.saturating_add((steps / PART).max(LEAST));
         Ok(())
     }
 
-    /// Whether the machine came back to the state that is kept. If not, its own is kept where that is due behind so many steps.
+    /// Whether the code, which stands there behind so many steps, came back to where it stood when it was kept. If not, it is kept where
+    /// that is due.
     #[inline(never)]
-    fn came_back(&mut self, machine: &Machine, steps: u32) -> Result<bool, RunFault>
-        ensures back { IfOk result (λ back. Decides back (kept self.old ≡ Some (state_of machine.now))) }
-        ensures kept { IfOk result (λ _. (kept self.new ≡ kept self.old) ⊎ (kept self.new ≡ Some (state_of machine.now))) }
+    pub(crate) fn is_seen_back(
+        &mut self,
+        place: usize,
+        registers: &[i64],
+        counters: &[Turn],
+        steps: u32,
+    ) -> Result<bool, RunFault>
+        ensures back { IfOk result (λ back. back ≡ true → kept self.old ≡ Some (point place registers.now counters.now)) }
+        ensures kept { IfOk result (λ _. (kept self.new ≡ kept self.old) ⊎ (kept self.new ≡ Some (point place registers.now counters.now))) }
         ensures memory { IfErr result (λ e. e ≡ fault.Memory) }
     {
-        if self.is_met(machine) {
+        if steps < self.next {
+            return Ok(false);
+        }
+        if self.is_met(place, registers, counters) {
             return Ok(true);
         }
-        if steps == self.due {
-            self.keep(machine, steps)?;
+        if self.due <= steps {
+            self.keep(place, registers, counters, steps)?;
         }
         self.next = if steps < self.last && steps < self.due {
             steps + 1
@@ -123,16 +135,10 @@ impl Snapshot {
         Ok(false)
     }
 
-    /// Whether the machine is seen to have come back. A look is due behind few of the steps of a long run: the others pay a comparison.
-    #[inline(always)]
-    pub(crate) fn is_seen_back(&mut self, machine: &Machine, steps: u32) -> Result<bool, RunFault>
-        ensures back { IfOk result (λ back. back ≡ true → kept self.old ≡ Some (state_of machine.now)) }
-        ensures kept { IfOk result (λ _. (kept self.new ≡ kept self.old) ⊎ (kept self.new ≡ Some (state_of machine.now))) }
-        ensures memory { IfErr result (λ e. e ≡ fault.Memory) }
+    /// For how many steps behind so many no look is due, at least one.
+    pub(crate) fn steps_to_look(&self, steps: u32) -> u32
+        ensures { 0 < result }
     {
-        if steps != self.next {
-            return Ok(false);
-        }
-        self.came_back(machine, steps)
+        self.next.saturating_sub(steps).max(1)
     }
 }

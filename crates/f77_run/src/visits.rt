@@ -2,15 +2,16 @@
 
 ghost use Rattle.std.specs.Prelude.{◌≡◌, ◌<◌, ◌+◌, ◌||◌, not, length, map, slice_set, slice_get, Some, IfOk, IfErr, OnOk};
 ghost use Rattle.f77_run.specs.Machine.{placed};
-ghost use Rattle.f77_run.specs.Moves.{state_of};
+ghost use Rattle.f77_run.specs.Machine.{state_of};
 ghost use Rattle.f77_run.specs.Reached.{number_of};
 ghost use Rattle.f77_run.specs.Visits.{AreUnvisited, Notes, is_visited, state_in};
 ghost use Rattle.f77_run.specs.declared.outcome.RunFault.TheVariants as fault;
 ghost use Rattle.f77_run.specs.declared.visits.Visited.{Visited as VisitedModel};
 
-use crate::machine::{Machine, Place, Turn};
+use crate::machine::{Machine, number};
 use crate::outcome::RunFault;
-use crate::value::Value;
+use f77_code::{Place, Turn};
+use f77_values::Value;
 use std::alloc::Global;
 
 /// How many states are kept of each statement at most: in a loop a change shows mostly at the first times.
@@ -130,7 +131,7 @@ impl Visits {
             × (self.new.list.items ≡ slice_set self.old.list.items (number_of (placed machine.now.place)) new)) }
         ensures memory { IfErr result (λ e. e ≡ fault.Memory) }
     {
-        self.list[machine.place.number()].note(alloc, machine, made, room)
+        self.list[number(machine.place)].note(alloc, machine, made, room)
     }
 
     /// Of each statement, in order, whether control was there.

@@ -47,10 +47,10 @@ impl<'a> Model for Mutants<'a> {
     ghost use Rattle.std.specs.Coded.{codes};
     ghost use Rattle.f77_tree.specs.contracts.tree.Expr as expr;
     ghost use Rattle.f77_tree.specs.contracts.statement.Stmt as stmt;
-    ghost use Rattle.f77_check.specs.contracts.action.Action as action;
-    ghost use Rattle.f77_check.specs.contracts.expression.Condition as condition;
-    ghost use Rattle.f77_check.specs.contracts.expression.Element as element;
-    ghost use Rattle.f77_check.specs.contracts.expression.Number as number;
+    ghost use Rattle.f77_actions.specs.contracts.action.Action as action;
+    ghost use Rattle.f77_actions.specs.contracts.expression.Condition as condition;
+    ghost use Rattle.f77_actions.specs.contracts.expression.Element as element;
+    ghost use Rattle.f77_actions.specs.contracts.expression.Number as number;
     ghost use Rattle.mothra_ops.specs.Given.{IsGiven};
     ghost use Rattle.mothra_ops.specs.Original.{IsOriginal};
     ghost use Rattle.mothra_ops.specs.Plan.{PlanFields};

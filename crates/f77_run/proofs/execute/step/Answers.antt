@@ -1,6 +1,6 @@
 use Rattle.std.proofs.Common.{Some, ap, sym, ◌∙◌, arith}
 use Rattle.std.proofs.lemmas.Bool.{false≢true}
-use Rattle.f77_run.specs.Moves.{acted, incremented}
+use Rattle.f77_code.specs.Moves.{acted, incremented}
 use Rattle.f77_run.proofs.Steps.{executed_within, executed_moves, incremented_within, incremented_active, incremented_moves, statement_within, loop_within, some_loop, turn_read}
 use Rattle.f77_run.proofs.execute.step.Goals as goal
 

@@ -3,7 +3,7 @@ use Rattle.std.specs.List.{zip}
 use Rattle.std.proofs.lemmas.List.{length-map}
 use Rattle.f77_program.specs.Program.{line_of}
 use Rattle.f77_run.specs.Spans.{all_filled}
-use Rattle.f77_run.specs.declared.machine.Place.TheVariants as places
+use Rattle.f77_code.specs.declared.control.Place.TheVariants as places
 use Rattle.f77_run.proofs.Beginning.{filled_cells, room, machine_starts, machine_runs}
 use Rattle.f77_run.proofs.interpreter.enter.Goals as goal
 

@@ -1,5 +1,5 @@
 use Rattle.std.proofs.Common.{◌≡◌, drop}
-use Rattle.f77_run.specs.Moves as moves
+use Rattle.f77_code.specs.Moves as moves
 use Rattle.f77_run.proofs.machine.innermost.Given as goal
 
 abbrev pub invariant-loop-d : goal.invariant-loop-d

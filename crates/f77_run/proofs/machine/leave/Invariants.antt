@@ -1,5 +1,5 @@
 use Rattle.std.proofs.Common.{◌≡◌, drop}
-use Rattle.f77_run.specs.Moves.{without}
+use Rattle.f77_code.specs.Moves.{without}
 use Rattle.f77_run.proofs.machine.leave.Given as goal
 
 abbrev pub invariant-loop-d : goal.invariant-loop-d

@@ -1,7 +1,7 @@
 use Rattle.std.proofs.Common.{◌≡◌, length, get_or, sym, ap, subst}
-use Rattle.f77_check.specs.declared.resolved.Resolved.{Resolved}
+use Rattle.f77_actions.specs.declared.resolved.Resolved.{Resolved}
 use Rattle.f77_run.specs.Machine.{placed}
-use Rattle.f77_run.specs.Moves.{Cells, acted}
+use Rattle.f77_code.specs.Moves.{Cells, acted}
 use Rattle.f77_run.specs.Parting.{changed_site, site_in}
 use Rattle.f77_run.specs.Reached.{number_of}
 use Rattle.f77_run.proofs.DoingAlike.{there, own_runs, changed_runs, executes_below, executes_small, increments_below, increments_small, executes, names_within}

@@ -1,7 +1,6 @@
 use Rattle.std.proofs.Common.{◌+◌, arith, ap, subst, sym, ◌∙◌}
 use Rattle.std.specs.Prelude.{Some, Ok}
-use Rattle.f77_run.specs.Machine.{placed}
-use Rattle.f77_run.specs.Moves.{move_of, state_of}
+use Rattle.f77_run.specs.Machine.{move_of, placed, state_of}
 use Rattle.f77_run.specs.Reached.{number_of}
 use Rattle.f77_run.specs.Running.{config_at}
 use Rattle.f77_run.specs.Visits.{AreVisited}

@@ -1,5 +1,5 @@
 use Rattle.std.proofs.Common.{sym, ap, ◌∙◌, ◌==◌, get_or, length}
-use Rattle.f77_check.specs.declared.resolved.Resolved.{Resolved}
+use Rattle.f77_actions.specs.declared.resolved.Resolved.{Resolved}
 use Rattle.f77_check.proofs.Changes.{may_stand_by}
 use Rattle.f77_check.proofs.checked.Checked.may_stand_at.Goals as goal
 

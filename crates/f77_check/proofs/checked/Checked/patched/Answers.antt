@@ -1,4 +1,4 @@
-use Rattle.std.proofs.Common.{None, map, refl, sym, ap, subst, ◌∙◌, ◌-◌}
+use Rattle.std.proofs.Common.{None, map, refl, sym, ap, subst, ◌∙◌}
 use Rattle.f77_program.specs.Program.{line_of}
 use Rattle.f77_program.specs.Patching.{patched}
 use Rattle.f77_tree.specs.Statement.{statement_of}

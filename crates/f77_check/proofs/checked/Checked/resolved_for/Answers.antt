@@ -12,7 +12,7 @@ use Rattle.f77_check.specs.Patching.{IsChangedAlone}
 use Rattle.f77_check.specs.Ready.{CanResolve}
 use Rattle.f77_check.specs.Resolved.{IsResolved}
 use Rattle.f77_check.specs.declared.resolve.Resolver.{Resolver}
-use Rattle.f77_check.specs.declared.resolved.Resolved.{Resolved}
+use Rattle.f77_actions.specs.declared.resolved.Resolved.{Resolved}
 use Rattle.f77_check.proofs.Changes.{changed_behind, changed_can, changed_here, statement_within}
 use Rattle.f77_check.proofs.checked.Checked.resolved_for.Goals as goal
 

@@ -3,7 +3,7 @@ use Rattle.std.specs.List.{list_all}
 use Rattle.indexmap.specs.IndexMap.{keys}
 use Rattle.f77_program.specs.Program.{line_of}
 use Rattle.f77_check.specs.Kept.{is_kept}
-use Rattle.f77_check.specs.Slots.{first_slot}
+use Rattle.f77_check.specs.Slots.{first_slot, slot_kinds}
 use Rattle.f77_check.specs.Start.{is_executable}
 use Rattle.f77_check.proofs.DataNames.{has_slots, dummies_kept}
 use Rattle.f77_check.proofs.FirstExecutable.{first_executable}
@@ -24,6 +24,9 @@ first_slots-requires-clause-kept c =
     ap (list_all (is_kept c.args.self.now.tables.names)) c.arguments.ensures
     ∙ dummies_kept c.args.self.now.tables.names (map line_of c.args.lines.now) c.requires.names.covers
 
+pub kinds-requires : goal.kinds-requires
+kinds-requires c = has_slots c.args.self.now (map line_of c.args.lines.now) c.requires
+
 pub returns-clause-start : goal.returns-clause-start
 returns-clause-start c =
     let names = c.args.self.now.tables.names in
@@ -32,4 +35,5 @@ returns-clause-start c =
       entry = position-map (λ line. is_executable line.stmt) line_of c.args.lines.now ∙ (sym c.entry.ensures ∙ c.in-Some.is);
       dummies = (λ i. map (first_slot (sym bounds i) (keys names.facts)) (sym c.arguments.ensures i)) ∙ c.in_ok-dummies.ensures.slots;
       initial = c.in_ok-initial.ensures.initial;
+      kinds = c.in_ok-kinds.ensures.kinds ∙ (λ i. slot_kinds (c.requires.tables.kinds i) (bounds i) (keys names.facts));
     }

@@ -22,12 +22,21 @@ comes_alike-requires c =
         (
           agree_but change.checked.now.statements change.statements.items change.place change.own is.own,
           (
-            visits_there change arguments is c.args.steps c.args.visits.now c.index-visited.result.now follows
-                (slice_get_read c.args.visits.now.list.items (length c.args.visits.now.list.items) change.place c.index-visited.result.now refl
-                (visits_within change arguments is c.args.steps c.args.visits.now follows) c.index-visited.ensures),
+            is,
             (
-              subst (λ (checked : CheckedFields). IsOutcomeOf (map line_of checked.program) arguments c.args.steps c.args.outcome.now) (sym same) c.requires.outcome,
-              c.self.invariant.1,
+              c.self.invariant.2,
+              (
+                c.self.invariant.3,
+                (
+                  visits_there change arguments is c.args.steps c.args.visits.now c.index-visited.result.now follows
+                      (slice_get_read c.args.visits.now.list.items (length c.args.visits.now.list.items) change.place c.index-visited.result.now refl
+                      (visits_within change arguments is c.args.steps c.args.visits.now follows) c.index-visited.ensures),
+                  (
+                    subst (λ (checked : CheckedFields). IsOutcomeOf (map line_of checked.program) arguments c.args.steps c.args.outcome.now) (sym same) c.requires.outcome,
+                    c.self.invariant.1,
+                  ),
+                ),
+              ),
             ),
           ),
         ),

@@ -1,0 +1,122 @@
+-- The instructions of a program, one after another.
+use Rattle.std.proofs.Common.{◌≡◌, ◌<◌, ◌⊎◌, inl, inr, ℕ, ◌+◌, true, false, List, [], ◌∷◌, ◌++◌, length, take, Some, refl, sym, ap, ◌∙◌, subst, arith}
+use Rattle.std.specs.Prelude.{slice_get, if◌then◌else◌}
+use Rattle.std.proofs.lemmas.List.{length-append}
+use Rattle.std.proofs.lemmas.Option.{same_Some, slice_get_within}
+use Rattle.f77_actions.specs.declared.action.Action.{Action, Loop}
+use Rattle.f77_actions.specs.declared.resolved.Resolved.{Resolved}
+use Rattle.f77_code.specs.declared.constants.Constants.{Constants}
+use Rattle.f77_code.specs.declared.instruction.Instruction.{Instruction}
+use Rattle.f77_code.specs.declared.instruction.Operation.{Operation}
+use Rattle.f77_code.specs.Code.{Increments, AreCode}
+use Rattle.f77_code.specs.Compiled.{IsInstruction, IsIncrement, AreExecuted, AreFollowed, AreCompiled, HaveActions}
+use Rattle.f77_code.specs.Constants.{Grows, Begins}
+use Rattle.f77_code.specs.Holds.{Plan, loop_count, rank, is_loop_at}
+use Rattle.f77_code.specs.Moves.{is_loop}
+use Rattle.f77_code.proofs.Instructed.{instruction_later}
+use Rattle.f77_code.proofs.Counters.{rank_rises}
+use Rattle.f77_code.proofs.Listed.{pushed, get_left, get_behind, rank_more, count_le, loop_is, loop_within, last_or_below}
+
+pub executed_more : (t u : Constants) (statements : List Resolved) (n : ℕ) (list : List Instruction) (x : Instruction) → Grows t u
+    → AreExecuted t statements n list → IsInstruction u statements n x → AreExecuted u statements (n + 1) (list ++ (x ∷ []))
+executed_more t u statements n list x g are next = record {
+  count = length-append list (x ∷ []) ∙ ap (λ k. k + 1) are.count;
+  each = pushed (IsInstruction u statements) list x (λ i y is. instruction_later t u statements i y g (are.each i y is))
+      (subst (λ k. IsInstruction u statements k x) (sym are.count) next);
+}
+
+pub none_executed : (t : Constants) (statements : List Resolved) → AreExecuted t statements 0 []
+none_executed t statements = record { count = refl; each = λ i x is. absurd (cc (is)) }
+
+no_rank : (rs : List Resolved) → rank rs 0 ≡ 0
+no_rank [] = refl
+no_rank (r ∷ rs) = refl
+
+all_taken : (rs : List Resolved) → take (length rs) rs ≡ rs
+all_taken [] = refl
+all_taken (r ∷ rs) = ap (λ rs. r ∷ rs) (all_taken rs)
+
+pub all_ranked : (rs : List Resolved) → rank rs (length rs) ≡ loop_count rs
+all_ranked rs = ap loop_count (all_taken rs)
+
+-- no incrementation follows yet
+pub none_followed : (t : Constants) (statements : List Resolved) (list : List Instruction) → AreExecuted t statements (length statements) list
+    → AreFollowed t statements 0 list
+none_followed t statements list are = record {
+  count = let none = no_rank statements in let count = are.count in omega arith;
+  executed = λ i x below is. are.each i x is;
+  incremented = λ d x below loop is. absurd (omega (arith, below));
+}
+
+-- the statement n is no DO
+pub followed_still : (t : Constants) (statements : List Resolved) (n : ℕ) (r : Resolved) (list : List Instruction) → slice_get statements n ≡ Some r
+    → is_loop r.action ≡ false → AreFollowed t statements n list → AreFollowed t statements (n + 1) list
+followed_still t statements n r list at other are =
+    let same : rank statements (n + 1) ≡ rank statements n
+    = rank_more statements n r at ∙ ap (λ b. if b then rank statements n + 1 else rank statements n) other in
+    record {
+      count = are.count ∙ ap (λ k. length statements + k) (sym same);
+      executed = are.executed;
+      incremented = λ d x below loop is. by d x below loop is (last_or_below d n below);
+    }
+  where
+    by : (d : ℕ) (x : Instruction) → d < n + 1 → is_loop_at statements d ≡ true → slice_get list (length statements + rank statements d) ≡ Some x
+        → (d < n) ⊎ (d ≡ n) → IsIncrement statements d x
+    by d x below loop is (inl h) = are.incremented d x h loop is
+    by d x below loop is (inr e) =
+        let here : is_loop_at statements n ≡ true = subst (λ d. is_loop_at statements d ≡ true) e loop in
+        let none : is_loop_at statements n ≡ false = loop_is statements n r at ∙ other in
+        absurd (cc)
+
+-- the statement n is a DO, and its incrementation follows
+pub followed_more : (t : Constants) (statements : List Resolved) (n : ℕ) (r : Resolved) (list : List Instruction) (x : Instruction)
+    → slice_get statements n ≡ Some r → is_loop r.action ≡ true → IsIncrement statements n x → AreFollowed t statements n list
+    → AreFollowed t statements (n + 1) (list ++ (x ∷ []))
+followed_more t statements n r list x at loops next are =
+    record {
+      count = length-append list (x ∷ []) ∙ omega (arith, are.count, more);
+      executed = λ i y below is. are.executed i y below (sym (get_left list (x ∷ []) i (omega (arith, below, are.count))) ∙ is);
+      incremented = λ d y below loop is. by d y loop is (last_or_below d n below);
+    }
+  where
+    more : rank statements (n + 1) ≡ rank statements n + 1
+    more = rank_more statements n r at ∙ ap (λ b. if b then rank statements n + 1 else rank statements n) loops
+
+    by : (d : ℕ) (y : Instruction) → is_loop_at statements d ≡ true → slice_get (list ++ (x ∷ [])) (length statements + rank statements d) ≡ Some y
+        → (d < n) ⊎ (d ≡ n) → IsIncrement statements d y
+    by d y loop is (inl h) =
+        are.incremented d y h loop
+        (sym (get_left list (x ∷ []) (length statements + rank statements d) (omega (arith, rank_rises statements d n h loop, are.count))) ∙ is)
+    by d y loop is (inr e) =
+        let place : length statements + rank statements d ≡ length list + 0
+        = ap (λ d. length statements + rank statements d) e ∙ omega (arith, are.count) in
+        let there : slice_get (x ∷ []) 0 ≡ Some y
+        = sym (get_behind list (x ∷ []) 0) ∙ ap (slice_get (list ++ (x ∷ []))) (sym place) ∙ is in
+        let same : x ≡ y = same_Some _ _ there in
+        subst (λ d. IsIncrement statements d y) (sym e) (subst (IsIncrement statements n) same next)
+
+pub all_followed : (t : Constants) (statements : List Resolved) (n : ℕ) (list : List Instruction) → n ≡ length statements → AreFollowed t statements n list
+    → AreCompiled t statements list
+all_followed t statements n list end are = record {
+  count = are.count ∙ ap (λ k. length statements + k) (ap (rank statements) end ∙ all_ranked statements);
+  executed = are.executed;
+  incremented = λ d x loop is. are.incremented d x (subst (λ n. d < n) (sym end) (loop_within statements d loop)) loop is;
+}
+
+-- what is no DO has no incrementation
+increments_if : (plan : Plan) (statements : List Resolved) (d : ℕ) (operation : Operation) (next : ℕ) (act : Action)
+    → (is_loop act ≡ true → Increments plan statements d act operation next) → Increments plan statements d act operation next
+increments_if plan statements d operation next (Loop slot first last step t) h = h refl
+increments_if plan statements d operation next _ h = tt
+
+-- compiled statements are code in each plan that begins with the constants, where the slots that the statements name are there
+pub code_stands : (plan : Plan) (table : Constants) (statements : List Resolved) (code : List Instruction) → AreCompiled table statements code
+    → length statements < 2147483648 → Begins plan table → HaveActions plan statements → AreCode plan statements code
+code_stands plan table statements code are few begins have = record {
+  count = are.count;
+  few = omega (arith, are.count, few, count_le statements);
+  executed = λ i r x at is. (are.executed i x (slice_get_within statements i r at) is).stands plan r begins at (have i r at);
+  incremented = λ d r x at is.
+      increments_if plan statements d x.operation x.next r.action
+      (λ loops. (are.incremented d x (loop_is statements d r at ∙ loops) is).increments plan r at (have d r at));
+}

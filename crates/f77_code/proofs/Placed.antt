@@ -1,0 +1,51 @@
+-- The numbers of places.
+use Rattle.std.proofs.Common.{arith, ◌≡◌, ◌<◌, ℕ, ◌+◌, Bool, true, false, List, [], ◌∷◌, ◌++◌, length, get_or, Some, refl, sym, ◌∙◌, subst}
+use Rattle.std.specs.Prelude.{slice_get, if◌then◌else◌}
+use Rattle.std.proofs.lemmas.Bool.{and_parts}
+use Rattle.std.proofs.lemmas.Option.{same_Some, slice_get_read}
+use Rattle.f77_actions.specs.declared.resolved.Resolved.{Resolved}
+use Rattle.f77_code.specs.Code.{round, onward}
+use Rattle.f77_code.specs.Compiling.{is_small}
+use Rattle.f77_code.specs.Holds.{rank}
+use Rattle.f77_code.specs.Moves.{is_loop, are_below}
+use Rattle.f77_code.specs.Places.{has_places, have_places}
+use Rattle.f77_code.proofs.Listed.{pushed, all_at, rank_more, round_below}
+
+-- the statement that was read
+pub read_at : (statements : List Resolved) (i : ℕ) (r : Resolved) → i < length statements → r ≡ get_or statements i r → slice_get statements i ≡ Some r
+read_at statements i r below is = slice_get_read statements (length statements) i r refl below is
+
+behind_place : (b : Bool) (n place before after made : ℕ) → place ≡ n + before → after ≡ (if b then before + 1 else before)
+    → made ≡ (if b then place + 1 else place) → made ≡ n + after
+behind_place true n place before after made here more is = omega arith
+behind_place false n place before after made here more is = omega arith
+
+-- the place behind a statement's incrementation
+pub next_place : (statements : List Resolved) (i : ℕ) (r s : Resolved) (place made : ℕ) → slice_get statements i ≡ Some r → s ≡ r
+    → place ≡ length statements + rank statements i → made ≡ (if is_loop s.action then place + 1 else place) → made ≡ length statements + rank statements (i + 1)
+next_place statements i r s place made at same here is =
+    behind_place (is_loop s.action) (length statements) place (rank statements i) (rank statements (i + 1)) made here
+    (subst (λ s. rank statements (i + 1) ≡ (if is_loop s.action then rank statements i + 1 else rank statements i)) (sym same) (rank_more statements i r at)) is
+
+-- one place more
+pub places_more : (statements : List Resolved) (increments new : List ℕ) (i place : ℕ) → length increments ≡ i → place ≡ length statements + rank statements i
+    → new ≡ increments ++ (place ∷ []) → ((d k : ℕ) → slice_get increments d ≡ Some k → k ≡ length statements + rank statements d)
+    → (d k : ℕ) → slice_get new d ≡ Some k → k ≡ length statements + rank statements d
+places_more statements increments new i place count here is each d k at =
+    pushed (λ d k. k ≡ length statements + rank statements d) increments place each
+    (subst (λ i. place ≡ length statements + rank statements i) (sym count) here) d k (subst (λ xs. slice_get xs d ≡ Some k) is at)
+
+-- of the DOs that end at a statement, those round one are there
+pub round_there : (statements : List Resolved) (t d : ℕ) (r : Resolved) → slice_get statements t ≡ Some r → have_places statements ≡ true
+    → are_below (length statements) (round d r.ends.items) ≡ true
+round_there statements t d r at have =
+    round_below (length statements) d r.ends.items
+    (and_parts (is_small r.next) (are_below (length statements) r.ends.items) (all_at (has_places (length statements)) statements t r have at)).1
+
+-- where control goes on from a DO
+pub left_onward : (statements : List Resolved) (t d : ℕ) (r : Resolved) (rest : List ℕ) (next made : ℕ) → slice_get statements t ≡ Some r
+    → rest ≡ round d r.ends.items → next ≡ r.next → made ≡ onward statements rest next → (end : Resolved) → slice_get statements t ≡ Some end
+    → made ≡ onward statements (round d end.ends.items) end.next
+left_onward statements t d r rest next made at ends behind is end there =
+    let same : r ≡ end = same_Some r end (sym at ∙ there) in
+    is ∙ (λ i. onward statements (ends i) (behind i)) ∙ (λ i. onward statements (round d (same i).ends.items) (same i).next)

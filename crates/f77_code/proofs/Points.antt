@@ -1,0 +1,235 @@
+-- What functions that perform operations answer: points.
+use Rattle.std.proofs.Common.{arith, ◌≡◌, ◌<◌, ◌≤◌, ℕ, zero, suc, Bool, true, false, List, [], ◌∷◌, ℤ, pos, negsuc, refl, sym, ap, ◌∙◌, subst, ◌+◌, ◌-◌, ◌*◌, ◌%◌, ◌^◌, add-one, Some, None, w32, w64, FitsSigned, to_z, of_z}
+use lib.Signed.{le_z, lt_z}
+use Rattle.std.specs.Prelude.{Result, Ok, Err, nat_lt, slice_get, slice_set, unwrap_or, if◌then◌else◌, ◌<ℤ◌, ◌≤ℤ◌}
+use Rattle.std.proofs.Math.Dec.{eqb-suc-zero}
+use Rattle.std.proofs.lemmas.Bool.{le-ltb, lt-ltb}
+use Rattle.std.proofs.lemmas.Int.{ints}
+use Rattle.f77_values.specs.declared.finish.Fault.{Fault}
+use Rattle.f77_values.specs.declared.finish.Fault.TheVariants.{BadSubscript, ZeroStep}
+use Rattle.f77_values.specs.declared.finish.Finish.TheVariants.{Failed}
+use Rattle.f77_code.specs.declared.control.Turn.{Turn}
+use Rattle.f77_code.specs.Choice.{by_sign, numbered}
+use Rattle.f77_code.specs.Operation.{Point, point, used, ended, put, put_at, branch, passed, begun, one_less}
+use Rattle.f77_code.specs.Registers.{IsOffset, vector_place, matrix_place}
+use Rattle.f77_values.specs.Number.{fits, is_same, trip_count}
+use Rattle.f77_values.specs.Told.{Tells, IsTold, code}
+use Rattle.f77_values.specs.Value.{given, element}
+use Rattle.f77_values.proofs.Bounds.{Within, within, at_least, told_value, tells_value, tells_fault, told_code}
+use Rattle.f77_code.proofs.Offsets.{vector_within, vector_beyond, matrix_within, row_beyond, column_beyond}
+
+-- what a number tells that is a value
+pub has_value : (x : ℤ) → x <ℤ pos 1099511627776 → (r : Result ℤ Fault) → Tells x r → r ≡ Ok x
+has_value x h (Ok z) a = ap Ok (sym a.is)
+has_value x h (Err f) a = let e : x ≡ pos (code f) = a.is in absurd (omega (arith, ints))
+
+-- the end of the fault that a number tells
+pub fails : (p : ℕ) (registers : List ℤ) (turns : List Turn) (x : ℤ) → pos 1099511627776 ≤ℤ x → ((f : Fault) → Tells x (Err f) → p ≡ ended (Failed f))
+    → (on : ℤ → Point) (r : Result ℤ Fault) → Tells x r → point p registers turns ≡ used r registers turns on
+fails p registers turns x h e on (Ok z) a = let w : Within z = within z a.fitting in absurd (omega (arith, ints))
+fails p registers turns x h e on (Err f) a = ap (λ q. point q registers turns) (e f a)
+
+pub goes : (registers : List ℤ) (turns : List Turn) (x : ℤ) → x <ℤ pos 1099511627776 → (on : ℤ → Point) (r : Result ℤ Fault) → Tells x r
+    → on x ≡ used r registers turns on
+goes registers turns x h on r a = ap (λ r. used r registers turns on) (sym (has_value x h r a))
+
+-- a value is put in an element of one dimension
+pub element_put : (first bound k next p : ℕ) (registers after : List ℤ) (turns : List Turn) (s : ℤ) (told : Result ℤ Fault)
+    → IsOffset s k → k < bound → bound < 4294967296 → (r : Result ℤ Fault) → Tells s r
+    → point p after turns ≡ put (first + k) told next registers turns → point p after turns ≡ put_at first (vector_place bound r) told next registers turns
+element_put first bound k next p registers after turns s told o below small r a did = rw (vector_within bound k s o below small r a) did
+
+pub element_fails : (first bound k next p : ℕ) (registers : List ℤ) (turns : List Turn) (s : ℤ) (told : Result ℤ Fault) → IsOffset s k → bound ≤ k
+    → ((b : ℕ) (r : Result ℤ Fault) (f : Fault) → Tells s r → vector_place b r ≡ Err f → p ≡ ended (Failed f))
+    → (r : Result ℤ Fault) → Tells s r → point p registers turns ≡ put_at first (vector_place bound r) told next registers turns
+element_fails first bound k next p registers turns s told o above e r a =
+    let bad = vector_beyond bound k s o above r a in rw bad.1 (ap (λ q. point q registers turns) (e bound r bad.0 a bad.1))
+
+-- in one of two dimensions
+pub matrix_put : (first rows columns i j next p : ℕ) (registers after : List ℤ) (turns : List Turn) (s t : ℤ) (told : Result ℤ Fault)
+    → IsOffset s i → IsOffset t j → i < rows → j < columns → rows < 4294967296 → columns < 4294967296
+    → (r q : Result ℤ Fault) → Tells s r → Tells t q → point p after turns ≡ put (first + (i + rows * j)) told next registers turns
+    → point p after turns ≡ put_at first (matrix_place rows columns r q) told next registers turns
+matrix_put first rows columns i j next p registers after turns s t told o u down across small few r q a b did =
+    rw (matrix_within rows columns i j s t o u down across small few r q a b) did
+
+pub row_fails : (first rows columns i next p : ℕ) (registers : List ℤ) (turns : List Turn) (s t : ℤ) (told : Result ℤ Fault) → IsOffset s i → rows ≤ i
+    → ((m n : ℕ) (r q : Result ℤ Fault) (f : Fault) → Tells s r → Tells t q → matrix_place m n r q ≡ Err f → p ≡ ended (Failed f))
+    → (r q : Result ℤ Fault) → Tells s r → Tells t q → point p registers turns ≡ put_at first (matrix_place rows columns r q) told next registers turns
+row_fails first rows columns i next p registers turns s t told o above e r q a b =
+    let bad = row_beyond rows columns i s t o above r q a b in rw bad.1 (ap (λ z. point z registers turns) (e rows columns r q bad.0 a b bad.1))
+
+pub column_fails : (first rows columns i j next p : ℕ) (registers : List ℤ) (turns : List Turn) (s t : ℤ) (told : Result ℤ Fault)
+    → IsOffset s i → i < rows → rows < 4294967296 → IsOffset t j → columns ≤ j
+    → ((m n : ℕ) (r q : Result ℤ Fault) (f : Fault) → Tells s r → Tells t q → matrix_place m n r q ≡ Err f → p ≡ ended (Failed f))
+    → (r q : Result ℤ Fault) → Tells s r → Tells t q → point p registers turns ≡ put_at first (matrix_place rows columns r q) told next registers turns
+column_fails first rows columns i j next p registers turns s t told o down small u above e r q a b =
+    let bad = column_beyond rows columns i j s t o down small u above r q a b in
+    rw bad.1 (ap (λ z. point z registers turns) (e rows columns r q bad.0 a b bad.1))
+
+-- a truth value tells where control goes
+pub branch_zero : (there next : ℕ) (registers : List ℤ) (turns : List Turn) (x : ℤ) → x ≡ pos 0 → (r : Result ℤ Fault) → Tells x r
+    → point next registers turns ≡ branch r there next registers turns
+branch_zero there next registers turns x h (Ok (pos zero)) a = refl
+branch_zero there next registers turns x h (Ok (pos (suc n))) a = let e : x ≡ pos (suc n) = a.is in absurd (omega (arith, ints))
+branch_zero there next registers turns x h (Ok (negsuc n)) a = let e : x ≡ negsuc n = a.is in absurd (omega (arith, ints))
+branch_zero there next registers turns x h (Err f) a = let e : x ≡ pos (code f) = a.is in absurd (omega (arith, ints))
+
+pub branch_there : (there next : ℕ) (registers : List ℤ) (turns : List Turn) (x : ℤ) → x <ℤ pos 1099511627776 → (x ≡ pos 0 → ⊥) → (r : Result ℤ Fault) → Tells x r
+    → point there registers turns ≡ branch r there next registers turns
+branch_there there next registers turns x l h (Ok (pos zero)) a = absurd (h a.is)
+branch_there there next registers turns x l h (Ok (pos (suc n))) a =
+    ap (λ b. point (if b then next else there) registers turns) (sym (eqb-suc-zero n))
+branch_there there next registers turns x l h (Ok (negsuc n)) a = refl
+branch_there there next registers turns x l h (Err f) a = let e : x ≡ pos (code f) = a.is in absurd (omega (arith, ints))
+
+-- where a value is zero, and where not
+pub zero_next : (next : Point) (inner : Point) (x : ℤ) → x ≡ pos 0 → next ≡ (if is_same x (pos 0) then next else inner)
+zero_next next inner (pos zero) h = refl
+zero_next next inner (pos (suc n)) h = absurd (omega (arith, ints))
+zero_next next inner (negsuc n) h = absurd (omega (arith, ints))
+
+pub some_inner : (next : Point) (inner : Point) (x : ℤ) → (x ≡ pos 0 → ⊥) → inner ≡ (if is_same x (pos 0) then next else inner)
+some_inner next inner (pos zero) h = absurd (h refl)
+some_inner next inner (pos (suc n)) h = ap (λ b. if b then next else inner) (sym (eqb-suc-zero n))
+some_inner next inner (negsuc n) h = refl
+
+-- the fault of a subscript that is that of no element
+pub bad_told : IsTold (pos 1099511627778)
+bad_told = told_code BadSubscript
+
+pub zero_told : IsTold (pos 1099511627779)
+zero_told = told_code ZeroStep
+
+vector_bad : (bound : ℕ) (z : ℤ) (f : Fault) → element (bound ∷ []) (z ∷ []) ≡ Err f → BadSubscript ≡ f
+vector_bad bound (pos zero) f e = cc (e)
+vector_bad bound (negsuc n) f e = cc (e)
+vector_bad bound (pos (suc n)) f e = by (nat_lt n bound) refl
+  where
+    by : (b : Bool) → nat_lt n bound ≡ b → BadSubscript ≡ f
+    by true t = let found = rw t at e in absurd (cc (found))
+    by false t = let found = rw t at e in cc (found)
+
+matrix_bad : (rows columns : ℕ) (z w : ℤ) (f : Fault) → element (rows ∷ (columns ∷ [])) (z ∷ (w ∷ [])) ≡ Err f → BadSubscript ≡ f
+matrix_bad rows columns (pos zero) w f e = cc (e)
+matrix_bad rows columns (negsuc n) w f e = cc (e)
+matrix_bad rows columns (pos (suc n)) w f e = by (nat_lt n rows) refl
+  where
+    column : (o : Result ℕ Fault) → element (columns ∷ []) (w ∷ []) ≡ o → given o (λ rest. Ok (n + rows * rest)) ≡ Err f → BadSubscript ≡ f
+    column (Ok k) is found = absurd (cc (found))
+    column (Err g) is found = let same : g ≡ f = cc (found) in vector_bad columns w g is ∙ same
+
+    by : (b : Bool) → nat_lt n rows ≡ b → BadSubscript ≡ f
+    by true t = let found = rw t at e in column (element (columns ∷ []) (w ∷ [])) refl found
+    by false t = let found = rw t at e in cc (found)
+
+not_there : (b : Bool) (r : Result ℕ Fault) → b ≡ false → (if b then r else Err BadSubscript) ≡ Err BadSubscript
+not_there b r e = rw e refl
+
+none_within : (w : ℤ) → vector_place 0 (Ok w) ≡ Err BadSubscript
+none_within (pos zero) = refl
+none_within (negsuc n) = refl
+none_within (pos (suc n)) = not_there (nat_lt n 0) (Ok (n + 0 * 0)) (le-ltb n 0 (omega arith))
+
+pub subscript_fault : (s : ℤ) → pos 1099511627776 ≤ℤ s → (bound : ℕ) (r : Result ℤ Fault) (f : Fault) → Tells s r → vector_place bound r ≡ Err f → Tells s (Err f)
+subscript_fault s h bound (Ok z) f a e = let w : Within z = within z a.fitting in absurd (omega (arith, ints))
+subscript_fault s h bound (Err g) f a e = let same : g ≡ f = cc (e) in subst (λ f. Tells s (Err f)) same a
+
+pub subscript_bad : (s : ℤ) → s <ℤ pos 1099511627776 → (bound : ℕ) (r : Result ℤ Fault) (f : Fault) → Tells s r → vector_place bound r ≡ Err f
+    → Tells (pos 1099511627778) (Err f)
+subscript_bad s h bound (Ok z) f a e = subst (λ f. Tells (pos 1099511627778) (Err f)) (vector_bad bound z f e) (tells_fault BadSubscript)
+subscript_bad s h bound (Err g) f a e = let is : s ≡ pos (code g) = a.is in absurd (omega (arith, ints))
+
+pub row_fault : (s : ℤ) → pos 1099511627776 ≤ℤ s → (rows columns : ℕ) (r q : Result ℤ Fault) (f : Fault) → Tells s r → matrix_place rows columns r q ≡ Err f → Tells s (Err f)
+row_fault s h rows columns (Ok z) q f a e = let w : Within z = within z a.fitting in absurd (omega (arith, ints))
+row_fault s h rows columns (Err g) q f a e = let same : g ≡ f = cc (e) in subst (λ f. Tells s (Err f)) same a
+
+pub column_fault : (s : ℤ) → s <ℤ pos 1099511627776 → (rows columns : ℕ) (r q : Result ℤ Fault) (f : Fault) → Tells s r → matrix_place rows columns r q ≡ Err f
+    → vector_place 0 q ≡ Err f
+column_fault s h rows columns (Err g) q f a e = let is : s ≡ pos (code g) = a.is in absurd (omega (arith, ints))
+column_fault s h rows columns (Ok z) (Err g) f a e = e
+column_fault s h rows columns (Ok z) (Ok w) f a e = none_within w ∙ ap Err (matrix_bad rows columns z w f e)
+
+-- tests of the code
+pub least_from : (y : ℤ) → FitsSigned w64 y → le_z (pos 1099511627776) (to_z w64 (of_z w64 y)) ≡ true → pos 1099511627776 ≤ℤ y
+least_from y f e = at_least y f e
+
+pub below_zero : (y : ℤ) → FitsSigned w64 y → lt_z (to_z w64 (of_z w64 y)) (pos 0) ≡ true → y <ℤ pos 0
+below_zero y f e = grind (arith, ints)
+
+pub not_below_zero : (y : ℤ) → FitsSigned w64 y → lt_z (to_z w64 (of_z w64 y)) (pos 0) ≡ false → pos 0 ≤ℤ y
+not_below_zero y f e = grind (arith, ints)
+
+pub below_one : (y : ℤ) → FitsSigned w64 y → lt_z (to_z w64 (of_z w64 y)) (pos 1) ≡ true → y <ℤ pos 1
+below_one y f e = grind (arith, ints)
+
+-- the place of a number
+pub numbered_none : (places : List ℕ) (next : ℕ) (z : ℤ) → z <ℤ pos 1 → next ≡ unwrap_or (numbered places z) next
+numbered_none places next (pos zero) h = refl
+numbered_none places next (pos (suc n)) h = absurd (omega (arith, ints))
+numbered_none places next (negsuc n) h = refl
+
+pub numbered_some : (places : List ℕ) (next k place : ℕ) (z : ℤ) → z ≡ pos (k + 1) → slice_get places k ≡ Some place → place ≡ unwrap_or (numbered places z) next
+numbered_some places next k place z e at =
+    let suc_k : z ≡ pos (suc k) = e ∙ ap pos (add-one k) in
+    subst (λ z. place ≡ unwrap_or (numbered places z) next) (sym suc_k) (ap (λ o. unwrap_or o next) (sym at))
+
+pub numbered_past : (places : List ℕ) (next k : ℕ) (z : ℤ) → z ≡ pos (k + 1) → slice_get places k ≡ None → next ≡ unwrap_or (numbered places z) next
+numbered_past places next k z e at =
+    let suc_k : z ≡ pos (suc k) = e ∙ ap pos (add-one k) in
+    subst (λ z. next ≡ unwrap_or (numbered places z) next) (sym suc_k) (ap (λ o. unwrap_or o next) (sym at))
+
+-- one of three places by a sign
+pub by_negative : (a b c : ℕ) (x : ℤ) → x <ℤ pos 0 → a ≡ by_sign x a b c
+by_negative a b c (pos n) h = absurd (omega (arith, ints))
+by_negative a b c (negsuc n) h = refl
+
+pub by_zero : (a b c : ℕ) (x : ℤ) → x ≡ pos 0 → b ≡ by_sign x a b c
+by_zero a b c (pos zero) h = refl
+by_zero a b c (pos (suc n)) h = absurd (omega (arith, ints))
+by_zero a b c (negsuc n) h = absurd (omega (arith, ints))
+
+pub by_positive : (a b c : ℕ) (x : ℤ) → pos 0 ≤ℤ x → (x ≡ pos 0 → ⊥) → c ≡ by_sign x a b c
+by_positive a b c (pos zero) l h = absurd (h refl)
+by_positive a b c (pos (suc n)) l h = refl
+by_positive a b c (negsuc n) l h = absurd (omega (arith, ints))
+
+-- passes of a DO
+pub pass_none : (counter body next passes : ℕ) (step : ℤ) (registers : List ℤ) (turns : List Turn) → passes ≡ 0
+    → point next registers (slice_set turns counter (record { passes = passes; step = step })) ≡ passed counter body next passes step registers turns
+pass_none counter body next zero step registers turns e = refl
+pass_none counter body next (suc k) step registers turns e = absurd (omega arith)
+
+pub pass_some : (counter body next passes : ℕ) (step : ℤ) (registers : List ℤ) (turns : List Turn) → (passes ≡ 0 → ⊥)
+    → point body registers (slice_set turns counter (record { passes = passes; step = step })) ≡ passed counter body next passes step registers turns
+pass_some counter body next zero step registers turns e = absurd (e refl)
+pass_some counter body next (suc k) step registers turns e = refl
+
+pub begun_none : (variable counter body next p : ℕ) (a b c : ℤ) (registers : List ℤ) (turns : List Turn) → c ≡ pos 0 → p ≡ ended (Failed ZeroStep)
+    → point p registers turns ≡ begun variable counter body next a b c registers turns
+begun_none variable counter body next p a b (pos zero) registers turns e is = ap (λ q. point q registers turns) is
+begun_none variable counter body next p a b (pos (suc n)) registers turns e is = absurd (omega (arith, ints))
+begun_none variable counter body next p a b (negsuc n) registers turns e is = absurd (omega (arith, ints))
+
+pub begun_some : (variable counter body next : ℕ) (a b c : ℤ) (registers : List ℤ) (turns : List Turn) → (c ≡ pos 0 → ⊥)
+    → begun variable counter body next a b c registers turns
+    ≡ passed counter body next (trip_count a b c) c (slice_set registers variable a) turns
+begun_some variable counter body next a b (pos zero) registers turns h = absurd (h refl)
+begun_some variable counter body next a b (pos (suc n)) registers turns h = refl
+begun_some variable counter body next a b (negsuc n) registers turns h = refl
+
+-- a number of 32 bits tells a value
+pub narrow_fits : (z : ℤ) → FitsSigned w32 z → fits z ≡ true
+narrow_fits (pos n) f = let small = f.sfits in lt-ltb n (2 ^ 31) (omega (arith, ints))
+narrow_fits (negsuc n) f = let small = f.sfits in lt-ltb n (2 ^ 31) (omega (arith, ints))
+
+pub narrow_tells : (z : ℤ) → FitsSigned w32 z → Tells z (Ok z)
+narrow_tells z f = tells_value z (narrow_fits z f)
+
+pub narrow_told : (z : ℤ) → FitsSigned w32 z → IsTold z
+narrow_told z f = told_value z (narrow_fits z f)
+
+-- one pass less, in 64 bits
+pub less_wrapped : (passes : ℕ) → passes < 2 ^ 64 → (passes + (2 ^ 64 - 1)) % 2 ^ 64 ≡ one_less passes
+less_wrapped zero h = refl
+less_wrapped (suc k) h = omega arith

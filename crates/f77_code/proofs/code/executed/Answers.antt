@@ -1,0 +1,17 @@
+use Rattle.std.proofs.Common.{◌+◌, ◌∙◌, sym, subst}
+use Rattle.f77_code.specs.Compiled.{AreExecuted, IsInstruction}
+use Rattle.f77_code.proofs.Assembled.{executed_more}
+use Rattle.f77_code.proofs.code.executed.Goals as goal
+
+pub loop-i-preserved : goal.loop-i-preserved
+loop-i-preserved c =
+    let statements = c.args.statements.now in
+    let table = c.instruction.new.self in
+    let i = c.loop-i.i in
+    let next = subst (IsInstruction table statements i) (sym c.in_ok-new.ensures) c.in_ok-instruction.ensures.stands in
+    record {
+      slots = c.in_ok-instruction.ensures.grown.slots ∙ c.loop-i.invariant.slots;
+      executed = subst (AreExecuted table statements (i + 1)) (sym c.in_ok-push.ensures.items)
+          (executed_more c.loop-i.constants table statements i c.loop-i.list.items c.in_ok-new.field-0 c.in_ok-instruction.ensures.grown c.loop-i.invariant.executed
+          next);
+    }

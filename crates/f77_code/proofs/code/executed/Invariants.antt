@@ -1,0 +1,9 @@
+use Rattle.std.proofs.Common.{◌≡◌}
+use Rattle.f77_code.specs.Compiled.{AreExecuted}
+use Rattle.f77_code.proofs.code.executed.Given as goal
+
+abbrev pub invariant-loop-i : goal.invariant-loop-i
+invariant-loop-i l = record {
+  slots : l.constants.slots ≡ l.initial.constants.slots;
+  executed : AreExecuted l.constants l.statements l.i l.list.items;
+}

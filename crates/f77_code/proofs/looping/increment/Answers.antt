@@ -1,0 +1,52 @@
+use Rattle.std.proofs.Common.{◌∙◌, pos, get_or, rules, w32, w64, FitsSigned}
+use Rattle.std.proofs.lemmas.Int.{to_z-of_z}
+use Rattle.f77_values.proofs.Bounds.{at_least, not_least}
+use Rattle.f77_code.specs.declared.control.Turn.{Turn}
+use Rattle.f77_code.specs.Operation.{passed}
+use Rattle.f77_code.specs.Registers.{register}
+use Rattle.f77_code.proofs.Incremented.{is_there, next_fails, next_goes}
+use Rattle.f77_code.proofs.Written.{put_held}
+use Rattle.f77_code.proofs.looping.increment.Goals as goal
+
+pub failed-requires-clause-told : goal.failed-requires-clause-told
+failed-requires-clause-told c =
+    let fv : FitsSigned w64 c.read-value.result = search rules in
+    let fx : FitsSigned w64 c.advanced-x.result = search rules in
+    let tells = c.advanced-x.ensures (register c.args.registers.now c.args.variable) (simp to_z-of_z c.read-value.ensures) in
+    simp to_z-of_z tells.told
+
+pub returns-then-x-ge-UNDEFINED-clause-runs : goal.returns-then-x-ge-UNDEFINED-clause-runs
+returns-then-x-ge-UNDEFINED-clause-runs c =
+    let turn : Turn = get_or c.args.turns.now c.args.counter (record { passes = 0; step = pos 0 }) in
+    let narrow : FitsSigned w32 turn.step = search rules in
+    let fv : FitsSigned w64 c.read-value.result = search rules in
+    let fx : FitsSigned w64 c.advanced-x.result = search rules in
+    let tells = simp to_z-of_z at (c.advanced-x.ensures (register c.args.registers.now c.args.variable) (simp to_z-of_z c.read-value.ensures)) in
+    next_fails c.args.variable c.args.counter c.args.body c.args.next turn c.args.registers.now c.args.turns.now
+    (is_there c.args.turns.now c.args.counter _ c.requires.counter) c.failed.result c.advanced-x.result
+    (at_least c.advanced-x.result fx c.if-x-ge-UNDEFINED.true) (λ f t. c.failed.ensures f (simp to_z-of_z t)) tells
+
+pub returns-clause-runs : goal.returns-clause-runs
+returns-clause-runs c =
+    let turn : Turn = get_or c.args.turns.now c.args.counter (record { passes = 0; step = pos 0 }) in
+    let narrow : FitsSigned w32 turn.step = search rules in
+    let fv : FitsSigned w64 c.read-value.result = search rules in
+    let fx : FitsSigned w64 c.advanced-x.result = search rules in
+    let tells = simp to_z-of_z at (c.advanced-x.ensures (register c.args.registers.now c.args.variable) (simp to_z-of_z c.read-value.ensures)) in
+    let set = simp to_z-of_z at c.write.ensures in
+    let made = simp to_z-of_z at (c.pass.ensures c.write.new.registers) in
+    made
+    ∙ (λ i. passed c.args.counter c.args.body c.args.next (c.one_less-passes.ensures i) turn.step (set i) c.args.turns.now)
+    ∙ next_goes c.args.variable c.args.counter c.args.body c.args.next turn c.args.registers.now c.args.turns.now
+    (is_there c.args.turns.now c.args.counter _ c.requires.counter) c.advanced-x.result
+    (not_least c.advanced-x.result fx c.if-x-ge-UNDEFINED.false) tells
+
+pub returns-clause-held : goal.returns-clause-held
+returns-clause-held c =
+    let fv : FitsSigned w64 c.read-value.result = search rules in
+    let fx : FitsSigned w64 c.advanced-x.result = search rules in
+    let tells = c.advanced-x.ensures (register c.args.registers.now c.args.variable) (simp to_z-of_z c.read-value.ensures) in
+    let set = simp to_z-of_z at c.write.ensures in
+    rw set
+    (put_held c.args.registers.now c.args.variable c.advanced-x.result tells.told
+    (not_least c.advanced-x.result fx c.if-x-ge-UNDEFINED.false) c.requires.held)

@@ -1,0 +1,6 @@
+use Rattle.std.proofs.Common.{◌≡◌, drop}
+use Rattle.f77_code.specs.Code.{round}
+use Rattle.f77_code.proofs.places.round.Given as goal
+
+abbrev pub invariant-loop-k : goal.invariant-loop-k
+invariant-loop-k l = round l.d (drop l.k l.ends) ≡ round l.d l.ends

@@ -1,0 +1,60 @@
+//! Instructions one after another.
+
+ghost use Rattle.std.specs.Prelude.{◌≡◌, ◌≤◌, ◌<◌, true, length, ℕ};
+ghost use Rattle.f77_code.specs.Block.{after, code_within};
+ghost use Rattle.f77_code.specs.Operation.{operation_within, point, ran};
+ghost use Rattle.f77_code.specs.Registers.{are_held};
+
+use crate::control::Turn;
+use crate::instruction::Instruction;
+use crate::operation::perform;
+use f77_tree::Shared;
+
+/// Where so many instructions lead.
+#[derive(Clone, Copy)]
+pub struct Stand {
+    /// The place where control is then, or how the run ended.
+    pub place: usize,
+    /// How many were made: fewer than were asked for where the run ended before.
+    pub made: u32,
+}
+
+/// So many instructions at most.
+#[inline(never)]
+pub fn block(
+    code: &[Shared<Instruction>],
+    registers: &mut [i64],
+    turns: &mut [Turn],
+    start: usize,
+    steps: u32,
+) -> Stand
+    requires held { are_held registers.old ≡ true }
+    requires within { code_within (length registers.old) (length turns.old) code.now ≡ true }
+    ensures after { point result.place registers.new turns.new ≡ after code.now steps (point start registers.old turns.old) }
+    ensures stands { point result.place registers.new turns.new ≡ after code.now result.made (point start registers.old turns.old) }
+    ensures made { result.made ≤ steps }
+    ensures there { (k : ℕ) → k < result.made → (after code.now k (point start registers.old turns.old)).place < length code.now }
+    ensures ends { result.made < steps → length code.now ≤ result.place }
+    ensures held { are_held registers.new ≡ true }
+{
+    let mut place = start;
+    'instructions: for made in 0..steps {
+        let Some(shared) = code.get(place) else {
+            return Stand { place, made };
+        };
+        let instruction: &Instruction = shared;
+        place = step(instruction, registers, turns);
+    }
+    Stand { place, made: steps }
+}
+
+/// One instruction.
+#[inline(always)]
+fn step(instruction: &Instruction, registers: &mut [i64], turns: &mut [Turn]) -> usize
+    requires held { are_held registers.old ≡ true }
+    requires within { operation_within (length registers.old) (length turns.old) instruction.now.operation ≡ true }
+    ensures runs { point result registers.new turns.new ≡ ran instruction.now.operation instruction.now.next registers.old turns.old }
+    ensures held { are_held registers.new ≡ true }
+{
+    perform(&instruction.operation, instruction.next, registers, turns)
+}

@@ -1,0 +1,152 @@
+//! Where control goes by a value (ANSI X3.9-1978, 11.2 to 11.7).
+
+ghost use Rattle.std.specs.Prelude.{◌≡◌, ◌<◌, ◌+◌, ◌≤ℤ◌, pos, true, length, unwrap_or, List, ℕ, ℤ, Result};
+ghost use Rattle.f77_values.specs.declared.finish.Fault.{Fault};
+ghost use Rattle.f77_code.specs.Choice as choice;
+ghost use Rattle.f77_code.specs.declared.control.Turn.{Turn};
+ghost use Rattle.f77_code.specs.Operation as meaning;
+ghost use Rattle.f77_code.specs.Operation.{point, used};
+ghost use Rattle.f77_code.specs.Registers.{are_held, register};
+ghost use Rattle.f77_code.specs.Term.{related, term_value, term_within};
+ghost use Rattle.f77_values.specs.Told.{Tells, IsTold};
+ghost use Rattle.f77_values.specs.Value.{both};
+
+use crate::ending::failed;
+use crate::evaluate::{compared_at, operand};
+use crate::operators::compared;
+use crate::term::{Pair, Term};
+use f77_actions::Relation;
+use f77_values::told::UNDEFINED;
+
+/// A truth value tells where control goes.
+#[inline(always)]
+#[tactic(auto, using(crate::proofs::Points::least_from))]
+fn branch(x: i64, there: u32, next: u32) -> usize
+    requires { IsTold x }
+    ensures { (r : Result ℤ Fault) (registers : List ℤ) (turns : List Turn) → Tells x r
+        → point result registers turns ≡ meaning.branch r there next registers turns }
+{
+    if UNDEFINED <= x {
+        return failed(x);
+    }
+    if x == 0 {
+        return next as usize;
+    }
+    there as usize
+}
+
+#[inline(always)]
+pub(crate) fn if_true(there: u32, term: &Term, next: u32, registers: &[i64]) -> usize
+    requires held { are_held registers.now ≡ true }
+    requires within { term_within (length registers.now) term.now ≡ true }
+    ensures { (turns : List Turn) → point result registers.now turns
+        ≡ meaning.branch (term_value registers.now term.now) there next registers.now turns }
+{
+    branch(operand(term, registers), there, next)
+}
+
+#[inline(always)]
+pub(crate) fn if_related(
+    relation: Relation,
+    there: u32,
+    pair: &Pair,
+    next: u32,
+    registers: &[i64],
+) -> usize
+    requires held { are_held registers.now ≡ true }
+    requires left { term_within (length registers.now) pair.now.left ≡ true }
+    requires right { term_within (length registers.now) pair.now.right ≡ true }
+    ensures { (turns : List Turn) → point result registers.now turns
+        ≡ meaning.branch (both (related relation) (term_value registers.now pair.now.left) (term_value registers.now pair.now.right)) there next
+        registers.now turns }
+{
+    let x = operand(&pair.left, registers);
+    let y = operand(&pair.right, registers);
+    branch(compared(relation, x, y), there, next)
+}
+
+/// Two registers are compared.
+#[inline(always)]
+pub(crate) fn compare(
+    relation: Relation,
+    left: u32,
+    right: u32,
+    there: u32,
+    next: u32,
+    registers: &[i64],
+) -> usize
+    requires held { are_held registers.now ≡ true }
+    requires left { left < length registers.now }
+    requires right { right < length registers.now }
+    ensures { (turns : List Turn) → point result registers.now turns ≡ meaning.compares relation left right there next registers.now turns }
+{
+    branch(compared_at(registers, relation, left, right), there, next)
+}
+
+/// One of three places by the sign of a value.
+#[inline(always)]
+fn by_sign(x: i64, negative: u32, zero: u32, positive: u32) -> usize
+    ensures { result ≡ choice.by_sign x negative zero positive }
+{
+    if x < 0 {
+        return negative as usize;
+    }
+    if x == 0 {
+        return zero as usize;
+    }
+    positive as usize
+}
+
+#[inline(always)]
+#[tactic(auto, using(crate::proofs::Points::least_from))]
+pub(crate) fn sign(negative: u32, zero: u32, positive: u32, term: &Term, registers: &[i64]) -> usize
+    requires held { are_held registers.now ≡ true }
+    requires within { term_within (length registers.now) term.now ≡ true }
+    ensures { (turns : List Turn) → point result registers.now turns ≡ used (term_value registers.now term.now) registers.now turns
+        (λ z. point (choice.by_sign z negative zero positive) registers.now turns) }
+{
+    let x = operand(term, registers);
+    if UNDEFINED <= x {
+        return failed(x);
+    }
+    by_sign(x, negative, zero, positive)
+}
+
+/// The number before this one, which is above 0.
+#[inline(always)]
+fn before(number: i64) -> usize
+    requires { pos 1 ≤ℤ number }
+    ensures { number ≡ pos (result + 1) }
+{
+    (number - 1) as usize
+}
+
+/// The place of this number, counted from 1, if there is one.
+#[inline(always)]
+fn numbered(places: &[u32], number: i64, next: u32) -> usize
+    ensures { result ≡ unwrap_or (choice.numbered places.now number) next }
+{
+    if number < 1 {
+        return next as usize;
+    }
+    let index = before(number);
+    match places.get(index) {
+        Some(place) => *place as usize,
+        None => next as usize,
+    }
+}
+
+#[inline(always)]
+#[tactic(auto, using(crate::proofs::Points::least_from))]
+pub(crate) fn select(term: &Term, places: &[u32], next: u32, registers: &[i64]) -> usize
+    requires held { are_held registers.now ≡ true }
+    requires within { term_within (length registers.now) term.now ≡ true }
+    ensures { (turns : List Turn) → point result registers.now turns ≡ used (term_value registers.now term.now) registers.now turns
+        (λ z. point (unwrap_or (choice.numbered places.now z) next) registers.now turns) }
+{
+    let x = operand(term, registers);
+    if UNDEFINED <= x {
+        return failed(x);
+    }
+    numbered(places, x, next)
+}

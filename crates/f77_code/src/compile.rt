@@ -1,0 +1,238 @@
+//! Expressions are compiled: their slots and constants become registers.
+
+ghost use Rattle.std.specs.Prelude.{◌≡◌, ◌≤◌, true, IfOk, IfSome};
+ghost use Rattle.f77_code.specs.Compile.{IsReadTerm, IsNumberTerm, IsTestTerm, IsVectorOf, IsCalculationOf, IsRelationOf};
+ghost use Rattle.f77_code.specs.Constants.{Grows};
+ghost use Rattle.f77_code.specs.Evaluation.{element_within, number_within, condition_within};
+ghost use Rattle.f77_values.specs.Told as meaning;
+
+use crate::constants::Constants;
+use crate::fault::CodeFault;
+use crate::term::{Pair, Term};
+use f77_actions::{Arithmetic, Condition, Element, Number, Relation};
+use std::alloc::Global;
+
+/// A truth value as a number.
+fn truth(value: bool) -> i32
+    ensures { result ≡ meaning.truth value }
+{
+    if value { 1 } else { 0 }
+}
+
+/// The register of a slot, or of the first slot of an array.
+#[inline]
+pub(crate) fn register_of(slot: usize, slots: u32) -> u32
+    requires { slot ≤ slots }
+    ensures { result ≡ slot }
+{
+    slot as u32
+}
+
+/// Two terms in one box.
+pub(crate) fn paired(alloc: Global, left: Term, right: Term) -> Result<Box<Pair>, CodeFault>
+    ensures left { IfOk result (λ pair. pair.value.left ≡ left) }
+    ensures right { IfOk result (λ pair. pair.value.right ≡ right) }
+{
+    Ok(Box::new(alloc, Pair { left, right })?)
+}
+
+/// An element of an array of one dimension, without a call where its subscript is in a register.
+fn vector(alloc: Global, first: u32, bound: u32, subscript: Term) -> Result<Term, CodeFault>
+    ensures { IfOk result (λ term. IsVectorOf first bound subscript term) }
+{
+    match &subscript {
+        Term::Register(subscript) => Ok(Term::Element {
+            first,
+            bound,
+            subscript: *subscript,
+        }),
+        _ => Ok(Term::Vector {
+            first,
+            bound,
+            subscript: Box::new(alloc, subscript)?,
+        }),
+    }
+}
+
+/// An operation on two registers, where it has a form of its own.
+fn calculated_at(operation: Arithmetic, left: u32, right: u32) -> Option<Term>
+    ensures { IfSome result (λ term. IsCalculationOf operation (Term.Register left) (Term.Register right) term) }
+{
+    match operation {
+        Arithmetic::Add => Some(Term::Sum { left, right }),
+        Arithmetic::Subtract => Some(Term::Difference { left, right }),
+        Arithmetic::Multiply => Some(Term::Product { left, right }),
+        Arithmetic::Divide
+        | Arithmetic::Power
+        | Arithmetic::Modulus
+        | Arithmetic::Least
+        | Arithmetic::Greatest => None,
+    }
+}
+
+/// An operation on any two numbers.
+fn calculated_of(operation: Arithmetic, pair: Box<Pair>) -> Term
+    ensures { IsCalculationOf operation pair.value.left pair.value.right result }
+{
+    match operation {
+        Arithmetic::Add => Term::Add(pair),
+        Arithmetic::Subtract => Term::Subtract(pair),
+        Arithmetic::Multiply => Term::Multiply(pair),
+        Arithmetic::Divide
+        | Arithmetic::Power
+        | Arithmetic::Modulus
+        | Arithmetic::Least
+        | Arithmetic::Greatest => Term::Calculated { operation, pair },
+    }
+}
+
+/// An operation on two numbers.
+fn calculated(
+    alloc: Global,
+    operation: Arithmetic,
+    left: Term,
+    right: Term,
+) -> Result<Term, CodeFault>
+    ensures { IfOk result (λ term. IsCalculationOf operation left right term) }
+{
+    if let (Term::Register(left), Term::Register(right)) = (&left, &right)
+        && let Some(term) = calculated_at(operation, *left, *right)
+    {
+        return Ok(term);
+    }
+    Ok(calculated_of(operation, paired(alloc, left, right)?))
+}
+
+/// A relation of two numbers, without a call where both are in registers.
+fn related(alloc: Global, relation: Relation, left: Term, right: Term) -> Result<Term, CodeFault>
+    ensures { IfOk result (λ term. IsRelationOf relation left right term) }
+{
+    match (&left, &right) {
+        (Term::Register(left), Term::Register(right)) => Ok(Term::Compared {
+            relation,
+            left: *left,
+            right: *right,
+        }),
+        _ => Ok(Term::Related {
+            relation,
+            pair: paired(alloc, left, right)?,
+        }),
+    }
+}
+
+impl Constants {
+    /// A variable or an array element.
+    #[cycle(numbers)]
+    pub(crate) fn element(&mut self, alloc: Global, element: &Element) -> Result<Term, CodeFault>
+        requires { element_within self.old.slots element.now ≡ true }
+        ensures reads { IfOk result (λ term. IsReadTerm self.new element.now term) }
+        ensures grown { IfOk result (λ term. Grows self.old self.new) }
+    {
+        match element {
+            Element::Variable(slot) => Ok(Term::Register(register_of(*slot, self.slots()))),
+            Element::Vector {
+                first,
+                bound,
+                subscript,
+            } => {
+                let first = register_of(*first, self.slots());
+                let subscript = self.number(alloc, subscript)?;
+                vector(alloc, first, *bound, subscript)
+            }
+            Element::Matrix {
+                first,
+                rows,
+                columns,
+                row,
+                column,
+            } => {
+                let first = register_of(*first, self.slots());
+                let row = self.number(alloc, row)?;
+                let column = self.number(alloc, column)?;
+                Ok(Term::Matrix {
+                    first,
+                    rows: *rows,
+                    columns: *columns,
+                    pair: paired(alloc, row, column)?,
+                })
+            }
+        }
+    }
+
+    /// An INTEGER expression.
+    #[cycle(numbers)]
+    pub(crate) fn number(&mut self, alloc: Global, number: &Number) -> Result<Term, CodeFault>
+        requires { number_within self.old.slots number.now ≡ true }
+        ensures stands { IfOk result (λ term. IsNumberTerm self.new number.now term) }
+        ensures grown { IfOk result (λ term. Grows self.old self.new) }
+    {
+        match number {
+            Number::Constant(value) => Ok(Term::Register(self.register(*value)?)),
+            Number::TooLarge => Ok(Term::TooLarge),
+            Number::Element(element) => self.element(alloc, element),
+            Number::Negated(operand) => Ok(Term::Negated(self.boxed(alloc, operand)?)),
+            Number::Absolute(operand) => Ok(Term::Absolute(self.boxed(alloc, operand)?)),
+            Number::ZeroPush(operand) => Ok(Term::ZeroPush(self.boxed(alloc, operand)?)),
+            Number::Binary(operation, left, right) => {
+                let left = self.number(alloc, left)?;
+                let right = self.number(alloc, right)?;
+                calculated(alloc, *operation, left, right)
+            }
+        }
+    }
+
+    /// The same on the heap.
+    #[cycle(numbers)]
+    pub(crate) fn boxed(&mut self, alloc: Global, number: &Number) -> Result<Box<Term>, CodeFault>
+        requires { number_within self.old.slots number.now ≡ true }
+        ensures stands { IfOk result (λ term. IsNumberTerm self.new number.now term.value) }
+        ensures grown { IfOk result (λ term. Grows self.old self.new) }
+    {
+        Ok(Box::new(alloc, self.number(alloc, number)?)?)
+    }
+
+    /// A LOGICAL expression, whose value is 0 or 1.
+    #[cycle(conditions)]
+    pub(crate) fn condition(
+        &mut self,
+        alloc: Global,
+        condition: &Condition,
+    ) -> Result<Term, CodeFault>
+        requires { condition_within self.old.slots condition.now ≡ true }
+        ensures tests { IfOk result (λ term. IsTestTerm self.new condition.now term) }
+        ensures grown { IfOk result (λ term. Grows self.old self.new) }
+    {
+        match condition {
+            Condition::Constant(value) => Ok(Term::Register(self.register(truth(*value))?)),
+            Condition::Element(element) => self.element(alloc, element),
+            Condition::Not(operand) => Ok(Term::Not(self.boxed_condition(alloc, operand)?)),
+            Condition::Related(relation, left, right) => {
+                let left = self.number(alloc, left)?;
+                let right = self.number(alloc, right)?;
+                related(alloc, *relation, left, right)
+            }
+            Condition::Connected(connective, left, right) => {
+                let left = self.condition(alloc, left)?;
+                let right = self.condition(alloc, right)?;
+                Ok(Term::Connected {
+                    connective: *connective,
+                    pair: paired(alloc, left, right)?,
+                })
+            }
+        }
+    }
+
+    /// The same on the heap.
+    #[cycle(conditions)]
+    pub(crate) fn boxed_condition(
+        &mut self,
+        alloc: Global,
+        condition: &Condition,
+    ) -> Result<Box<Term>, CodeFault>
+        requires { condition_within self.old.slots condition.now ≡ true }
+        ensures tests { IfOk result (λ term. IsTestTerm self.new condition.now term.value) }
+        ensures grown { IfOk result (λ term. Grows self.old self.new) }
+    {
+        Ok(Box::new(alloc, self.condition(alloc, condition)?)?)
+    }
+}

@@ -1,0 +1,269 @@
+//! Actions are compiled: where their operands are registers, to operations that need no call.
+
+ghost use Rattle.std.specs.Prelude.{◌≡◌, ◌<◌, ◌^◌, true, IfOk, map};
+ghost use Rattle.std.specs.List.{list_all};
+ghost use Rattle.f77_code.specs.Code.{comparing, registers_compared};
+ghost use Rattle.f77_code.specs.Compiling.{is_small, can_compile, IsGiving, IsStoring, IsTesting, IsAssigning, IsConditional, IsCompiled};
+ghost use Rattle.f77_code.specs.Constants.{Grows};
+ghost use Rattle.f77_code.specs.Evaluation.{element_within, condition_within};
+
+use crate::compile::{paired, register_of};
+use crate::constants::Constants;
+use crate::fault::CodeFault;
+use crate::instruction::Operation;
+use crate::term::Term;
+use f77_actions::{Action, Condition, Element, Jump, Relation};
+use std::alloc::Global;
+
+/// The place of a statement.
+#[inline]
+pub(crate) fn place_of(statement: usize) -> u32
+    requires { is_small statement ≡ true }
+    ensures { result ≡ statement }
+{
+    statement as u32
+}
+
+/// A register is given the value of a term.
+fn given(alloc: Global, to: u32, term: Term) -> Result<Operation, CodeFault>
+    ensures { IfOk result (λ operation. IsGiving to term operation) }
+{
+    match &term {
+        Term::Register(from) => Ok(Operation::Move { to, from: *from }),
+        Term::Element {
+            first,
+            bound,
+            subscript,
+        } => Ok(Operation::Load {
+            to,
+            first: *first,
+            bound: *bound,
+            subscript: *subscript,
+        }),
+        Term::Sum { left, right } => Ok(Operation::Add {
+            to,
+            left: *left,
+            right: *right,
+        }),
+        Term::Difference { left, right } => Ok(Operation::Subtract {
+            to,
+            left: *left,
+            right: *right,
+        }),
+        Term::Product { left, right } => Ok(Operation::Multiply {
+            to,
+            left: *left,
+            right: *right,
+        }),
+        _ => Ok(Operation::Set {
+            to,
+            term: Box::new(alloc, term)?,
+        }),
+    }
+}
+
+/// An element of an array of one dimension is given the value of a term.
+fn stored(
+    alloc: Global,
+    first: u32,
+    bound: u32,
+    subscript: Term,
+    term: Term,
+) -> Result<Operation, CodeFault>
+    ensures { IfOk result (λ operation. IsStoring first bound subscript term operation) }
+{
+    match (&subscript, &term) {
+        (Term::Register(subscript), Term::Register(from)) => Ok(Operation::Store {
+            first,
+            bound,
+            subscript: *subscript,
+            from: *from,
+        }),
+        (Term::Register(subscript), Term::Sum { left, right }) => Ok(Operation::StoreSum {
+            first,
+            bound,
+            subscript: *subscript,
+            left: *left,
+            right: *right,
+        }),
+        (Term::Register(subscript), Term::Difference { left, right }) => {
+            Ok(Operation::StoreDifference {
+                first,
+                bound,
+                subscript: *subscript,
+                left: *left,
+                right: *right,
+            })
+        }
+        _ => Ok(Operation::SetElement {
+            first,
+            bound,
+            pair: paired(alloc, subscript, term)?,
+        }),
+    }
+}
+
+/// Control goes to a place where a relation of two registers holds.
+fn compared(relation: Relation, left: u32, right: u32, then: u32) -> Operation
+    ensures { comparing result ≡ Some (registers_compared relation left right then) }
+{
+    match relation {
+        Relation::Less => Operation::IfLess { left, right, then },
+        Relation::LessOrEqual => Operation::IfLessOrEqual { left, right, then },
+        Relation::Equal => Operation::IfEqual { left, right, then },
+        Relation::NotEqual => Operation::IfNotEqual { left, right, then },
+        Relation::GreaterOrEqual => Operation::IfGreaterOrEqual { left, right, then },
+        Relation::Greater => Operation::IfGreater { left, right, then },
+    }
+}
+
+/// Control goes to a place where a term is true.
+pub(crate) fn tested(alloc: Global, then: u32, term: Term) -> Result<Operation, CodeFault>
+    ensures { IfOk result (λ operation. IsTesting then term operation) }
+{
+    match term {
+        Term::Compared {
+            relation,
+            left,
+            right,
+        } => Ok(compared(relation, left, right, then)),
+        Term::Related { relation, pair } => Ok(Operation::IfRelated {
+            relation,
+            then,
+            pair,
+        }),
+        _ => Ok(Operation::IfTrue {
+            then,
+            term: Box::new(alloc, term)?,
+        }),
+    }
+}
+
+/// The places where jumps go, in order.
+fn targets(alloc: Global, jumps: &[Jump]) -> Result<Vec<u32>, CodeFault>
+    requires { list_all (λ jump. is_small jump.target) jumps.now ≡ true }
+    ensures { IfOk result (λ places. places.items ≡ map (λ jump. jump.target) jumps.now) }
+{
+    let mut places = Vec::with_capacity(alloc, jumps.len())?;
+    for jump in jumps {
+        places.push(place_of(jump.target))?;
+    }
+    Ok(places)
+}
+
+impl Constants {
+    /// An assignment of a term to a variable or an array element.
+    fn assignment(
+        &mut self,
+        alloc: Global,
+        target: &Element,
+        term: Term,
+    ) -> Result<Operation, CodeFault>
+        requires { element_within self.old.slots target.now ≡ true }
+        ensures assigns { IfOk result (λ operation. IsAssigning self.new target.now term operation) }
+        ensures grown { IfOk result (λ operation. Grows self.old self.new) }
+    {
+        match target {
+            Element::Variable(slot) => given(alloc, register_of(*slot, self.slots()), term),
+            Element::Vector {
+                first,
+                bound,
+                subscript,
+            } => {
+                let first = register_of(*first, self.slots());
+                let subscript = self.number(alloc, subscript)?;
+                stored(alloc, first, *bound, subscript, term)
+            }
+            Element::Matrix {
+                first,
+                rows,
+                columns,
+                row,
+                column,
+            } => {
+                let first = register_of(*first, self.slots());
+                let row = self.number(alloc, row)?;
+                let column = self.number(alloc, column)?;
+                Ok(Operation::SetMatrix {
+                    first,
+                    rows: *rows,
+                    columns: *columns,
+                    pair: paired(alloc, row, column)?,
+                    term: Box::new(alloc, term)?,
+                })
+            }
+        }
+    }
+
+    /// A logical IF with an action (11.5).
+    #[cycle(operations)]
+    fn logical(
+        &mut self,
+        alloc: Global,
+        condition: &Condition,
+        action: &Action,
+    ) -> Result<Operation, CodeFault>
+        requires condition { condition_within self.old.slots condition.now ≡ true }
+        requires action { can_compile self.old.slots action.now ≡ true }
+        ensures stands { IfOk result (λ operation. IsConditional self.new condition.now action.now operation) }
+        ensures grown { IfOk result (λ operation. Grows self.old self.new) }
+    {
+        let term = self.condition(alloc, condition)?;
+        if let Action::Goto(jump) = action {
+            return tested(alloc, place_of(jump.target), term);
+        }
+        let inner = self.operation(alloc, action)?;
+        Ok(Operation::When {
+            term: Box::new(alloc, term)?,
+            inner: Box::new(alloc, inner)?,
+        })
+    }
+
+    /// What an action does that is no DO, block IF or ELSE IF.
+    #[cycle(operations)]
+    pub(crate) fn operation(
+        &mut self,
+        alloc: Global,
+        action: &Action,
+    ) -> Result<Operation, CodeFault>
+        requires { can_compile self.old.slots action.now ≡ true }
+        ensures stands { IfOk result (λ operation. IsCompiled self.new action.now operation) }
+        ensures grown { IfOk result (λ operation. Grows self.old self.new) }
+    {
+        match action {
+            Action::AssignNumber(target, value) => {
+                let term = self.number(alloc, value)?;
+                self.assignment(alloc, target, term)
+            }
+            Action::AssignTruth(target, value) => {
+                let term = self.condition(alloc, value)?;
+                self.assignment(alloc, target, term)
+            }
+            Action::ComputedGoto { value, jumps } => Ok(Operation::Select {
+                term: self.boxed(alloc, value)?,
+                places: targets(alloc, jumps)?,
+            }),
+            Action::ArithmeticIf {
+                value,
+                negative,
+                zero,
+                positive,
+            } => Ok(Operation::Sign {
+                negative: place_of(negative.target),
+                zero: place_of(zero.target),
+                positive: place_of(positive.target),
+                term: self.boxed(alloc, value)?,
+            }),
+            Action::LogicalIf { condition, action } => self.logical(alloc, condition, action),
+            Action::Goto(jump) => Ok(Operation::Goto {
+                then: place_of(jump.target),
+            }),
+            Action::Declaration => Ok(Operation::Continue),
+            Action::Continue => Ok(Operation::Continue),
+            Action::Return => Ok(Operation::Return),
+            Action::Stop => Ok(Operation::Stop),
+            Action::Trap => Ok(Operation::Trap),
+            Action::Branch { .. } | Action::Loop { .. } => unreachable!(),
+        }
+    }
+}

@@ -1,0 +1,82 @@
+//! The constants that code names, in the registers behind those of slots.
+
+ghost use Rattle.std.specs.Prelude.{◌≡◌, ◌≤◌, ◌<◌, [], length, Some, IfOk, slice_get};
+
+use crate::fault::CodeFault;
+use std::alloc::Global;
+
+/// How many slots stand in the first registers, and the constants in those behind them.
+#[derive(Drop)]
+pub struct Constants {
+    slots: u32,
+    values: Vec<i32>,
+}
+
+/// The place of a constant among these, how many there are where it is none of them.
+fn place(values: &[i32], value: i32) -> usize
+    ensures within { result ≤ length values.now }
+    ensures found { result < length values.now → slice_get values.now result ≡ Some value }
+{
+    for (place, known) in values.iter().enumerate() {
+        if *known == value {
+            return place;
+        }
+    }
+    values.len()
+}
+
+impl Constants {
+    ghost use Rattle.f77_code.specs.Constants.{IsKept, Grows};
+
+    /// No constants behind so many slots.
+    pub fn new(alloc: Global, slots: u32) -> Constants
+        ensures slots { result.slots ≡ slots }
+        ensures values { result.values.items ≡ [] }
+    {
+        Constants {
+            slots,
+            values: Vec::new(alloc),
+        }
+    }
+
+    /// How many slots stand before them.
+    #[inline]
+    pub fn slots(&self) -> u32
+        ensures { result ≡ self.now.slots }
+    {
+        self.slots
+    }
+
+    /// The constants, in the order of their registers.
+    pub fn values(&self) -> &[i32]
+        ensures { result.now ≡ self.now.values.items }
+    {
+        &self.values
+    }
+
+    /// The same constants in the same registers.
+    pub(crate) fn copied(&self, alloc: Global) -> Result<Constants, CodeFault>
+        ensures slots { IfOk result (λ copy. copy.slots ≡ self.now.slots) }
+        ensures values { IfOk result (λ copy. copy.values.items ≡ self.now.values.items) }
+    {
+        Ok(Constants {
+            slots: self.slots,
+            values: self.values.to_vec(alloc)?,
+        })
+    }
+
+    /// The register of a constant, which is a new one where no register has it.
+    pub(crate) fn register(&mut self, value: i32) -> Result<u32, CodeFault>
+        ensures kept { IfOk result (λ r. IsKept self.new r value) }
+        ensures grown { IfOk result (λ r. Grows self.old self.new) }
+    {
+        let place = place(&self.values, value);
+        if place == self.values.len() {
+            self.values.push(value)?;
+        }
+        match u32::try_from(self.slots as usize + place) {
+            Ok(register) => Ok(register),
+            Err(_) => Err(CodeFault::Memory),
+        }
+    }
+}

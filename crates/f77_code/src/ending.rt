@@ -1,0 +1,95 @@
+//! How runs end, as places: beyond those of all instructions.
+
+ghost use Rattle.std.specs.Prelude.{◌≡◌, ◌<◌, ◌≤ℤ◌, pos, ℕ, ℤ, Result, Ok, Err};
+ghost use Rattle.f77_values.specs.declared.finish.Fault.{Fault};
+ghost use Rattle.f77_values.specs.declared.finish.Finish.{Finish};
+ghost use Rattle.f77_values.specs.declared.finish.Finish.TheVariants.{Failed, StepLimit};
+ghost use Rattle.f77_code.specs.Operation as meaning;
+ghost use Rattle.f77_code.specs.Registers.{vector_place, matrix_place};
+ghost use Rattle.f77_values.specs.Told.{Tells, IsTold, number_of};
+
+use f77_values::told::{BAD_SUBSCRIPT, UNDEFINED};
+use f77_values::{Fault, Finish};
+
+/// Places from here on tell how a run ended, this one and those behind it by which fault.
+pub const ENDS: usize = 4_294_967_296;
+/// RETURN, or END (11.14, 15.8).
+pub const RETURNED: usize = 4_294_967_312;
+/// STOP (11.12).
+pub const STOPPED: usize = 4_294_967_313;
+/// The trap of a mutant.
+pub const TRAPPED: usize = 4_294_967_300;
+
+/// The end by the fault that a number tells.
+#[cold]
+#[inline(never)]
+pub(crate) fn failed(x: i64) -> usize
+    requires told { IsTold x }
+    requires fault { pos 1099511627776 ≤ℤ x }
+    ensures { (fault : Fault) → Tells x (Err fault) → result ≡ meaning.ended (Failed fault) }
+{
+    ENDS + (x - UNDEFINED) as usize
+}
+
+/// The end where a subscript is that of no element: by its own fault, or by that.
+#[cold]
+#[inline(never)]
+#[tactic(auto, using(crate::proofs::Points::bad_told, crate::proofs::Points::least_from))]
+pub(crate) fn off_vector(subscript: i64) -> usize
+    requires { IsTold subscript }
+    ensures { (bound : ℕ) (r : Result ℤ Fault) (fault : Fault) → Tells subscript r → vector_place bound r ≡ Err fault
+        → result ≡ meaning.ended (Failed fault) }
+{
+    if UNDEFINED <= subscript {
+        return failed(subscript);
+    }
+    failed(BAD_SUBSCRIPT)
+}
+
+/// The same where an element has two subscripts: the fault of its row comes first.
+#[cold]
+#[inline(never)]
+#[tactic(auto, using(crate::proofs::Points::least_from))]
+pub(crate) fn off_matrix(row: i64, column: i64) -> usize
+    requires row { IsTold row }
+    requires column { IsTold column }
+    ensures { (rows columns : ℕ) (r q : Result ℤ Fault) (fault : Fault) → Tells row r → Tells column q
+        → matrix_place rows columns r q ≡ Err fault → result ≡ meaning.ended (Failed fault) }
+{
+    if UNDEFINED <= row {
+        return failed(row);
+    }
+    off_vector(column)
+}
+
+/// The fault of this number.
+fn fault_of(number: usize) -> Fault
+    ensures { (fault : Fault) → number ≡ number_of fault → result ≡ fault }
+{
+    match number {
+        0 => Fault::Undefined,
+        1 => Fault::Overflow,
+        2 => Fault::BadSubscript,
+        3 => Fault::ZeroStep,
+        4 => Fault::Trapped,
+        5 => Fault::DivideByZero,
+        _ => Fault::ZeroPower,
+    }
+}
+
+/// How a run ended, by the place where control is then: at its limit where that is the place of an instruction.
+pub fn finish_at(place: usize) -> Finish
+    ensures ended { (finish : Finish) → place ≡ meaning.ended finish → result ≡ finish }
+    ensures limit { place < 4294967296 → result ≡ StepLimit }
+{
+    if place == RETURNED {
+        return Finish::Returned;
+    }
+    if place == STOPPED {
+        return Finish::Stopped;
+    }
+    if place < ENDS || STOPPED < place {
+        return Finish::StepLimit;
+    }
+    Finish::Failed(fault_of(place - ENDS))
+}

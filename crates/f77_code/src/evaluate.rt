@@ -1,0 +1,283 @@
+//! The values of expressions over registers (ANSI X3.9-1978, section 6).
+
+ghost use Rattle.std.specs.Prelude.{◌≡◌, ◌≤◌, ◌<◌, ◌+◌, ◌*◌, true, length, Ok, ℤ, Result};
+ghost use Rattle.f77_actions.specs.declared.expression.Arithmetic.TheVariants as arithmetic;
+ghost use Rattle.f77_values.specs.declared.finish.Fault.{Fault};
+ghost use Rattle.f77_code.specs.Evaluation as meaning;
+ghost use Rattle.f77_code.specs.Registers.{are_held, register, vector_place, matrix_place, element_at};
+ghost use Rattle.f77_code.specs.Term as terms;
+ghost use Rattle.f77_code.specs.Term.{term_value, term_within};
+ghost use Rattle.f77_values.specs.Number.{in_range, negated, size};
+ghost use Rattle.f77_values.specs.Told.{Tells, negation};
+ghost use Rattle.f77_values.specs.Value.{given, both, pushed};
+
+use crate::operators::{calculated, compared, connected};
+use crate::registers::{element, matrix_element, read};
+use crate::term::{Pair, Term};
+use f77_actions::{Arithmetic, Connective, Relation};
+use f77_values::told::{self, OVERFLOW};
+
+#[inline(always)]
+pub(crate) fn element_of(registers: &[i64], first: u32, bound: u32, subscript: u32) -> i64
+    requires held { are_held registers.now ≡ true }
+    requires array { first + bound ≤ length registers.now }
+    requires subscript { subscript < length registers.now }
+    ensures { Tells result (element_at registers.now first (vector_place bound (register registers.now subscript))) }
+{
+    element(registers, first, bound, read(registers, subscript))
+}
+
+#[inline(always)]
+pub(crate) fn sum_at(registers: &[i64], left: u32, right: u32) -> i64
+    requires held { are_held registers.now ≡ true }
+    requires left { left < length registers.now }
+    requires right { right < length registers.now }
+    ensures { Tells result (both (meaning.calculated arithmetic.Add) (register registers.now left) (register registers.now right)) }
+{
+    told::sum(read(registers, left), read(registers, right))
+}
+
+#[inline(always)]
+pub(crate) fn difference_at(registers: &[i64], left: u32, right: u32) -> i64
+    requires held { are_held registers.now ≡ true }
+    requires left { left < length registers.now }
+    requires right { right < length registers.now }
+    ensures { Tells result (both (meaning.calculated arithmetic.Subtract) (register registers.now left) (register registers.now right)) }
+{
+    told::difference(read(registers, left), read(registers, right))
+}
+
+#[inline(always)]
+pub(crate) fn product_at(registers: &[i64], left: u32, right: u32) -> i64
+    requires held { are_held registers.now ≡ true }
+    requires left { left < length registers.now }
+    requires right { right < length registers.now }
+    ensures { Tells result (both (meaning.calculated arithmetic.Multiply) (register registers.now left) (register registers.now right)) }
+{
+    told::product(read(registers, left), read(registers, right))
+}
+
+#[inline(always)]
+pub(crate) fn compared_at(registers: &[i64], relation: Relation, left: u32, right: u32) -> i64
+    requires held { are_held registers.now ≡ true }
+    requires left { left < length registers.now }
+    requires right { right < length registers.now }
+    ensures { Tells result (both (terms.related relation) (register registers.now left) (register registers.now right)) }
+{
+    compared(relation, read(registers, left), read(registers, right))
+}
+
+/// The value of a term, or what tells its fault. A node with terms below it is left to a function of its own.
+#[cycle(values)]
+#[inline(never)]
+#[tactic(auto, using(crate::proofs::Reading::overflow_told))]
+pub(crate) fn evaluated(term: &Term, registers: &[i64]) -> i64
+    requires held { are_held registers.now ≡ true }
+    requires within { term_within (length registers.now) term.now ≡ true }
+    ensures { Tells result (term_value registers.now term.now) }
+{
+    match term {
+        Term::Register(r) => read(registers, *r),
+        Term::Element {
+            first,
+            bound,
+            subscript,
+        } => element_of(registers, *first, *bound, *subscript),
+        Term::Sum { left, right } => sum_at(registers, *left, *right),
+        Term::Difference { left, right } => difference_at(registers, *left, *right),
+        Term::Product { left, right } => product_at(registers, *left, *right),
+        Term::Compared {
+            relation,
+            left,
+            right,
+        } => compared_at(registers, *relation, *left, *right),
+        Term::TooLarge => OVERFLOW,
+        Term::Vector {
+            first,
+            bound,
+            subscript,
+        } => vector_of(registers, *first, *bound, subscript),
+        Term::Matrix {
+            first,
+            rows,
+            columns,
+            pair,
+        } => matrix_of(registers, *first, *rows, *columns, pair),
+        Term::Add(pair) => sum_of(pair, registers),
+        Term::Subtract(pair) => difference_of(pair, registers),
+        Term::Multiply(pair) => product_of(pair, registers),
+        Term::Calculated { operation, pair } => calculated_of(*operation, pair, registers),
+        Term::Negated(operand) => negated_of(operand, registers),
+        Term::Absolute(operand) => absolute_of(operand, registers),
+        Term::ZeroPush(operand) => pushed_of(operand, registers),
+        Term::Related { relation, pair } => related_of(*relation, pair, registers),
+        Term::Connected { connective, pair } => connected_of(*connective, pair, registers),
+        Term::Not(operand) => not_of(operand, registers),
+    }
+}
+
+/// The same, without a call where it is a register, or an element by a subscript in a register.
+#[cycle(values)]
+#[inline(always)]
+pub(crate) fn operand(term: &Term, registers: &[i64]) -> i64
+    requires held { are_held registers.now ≡ true }
+    requires within { term_within (length registers.now) term.now ≡ true }
+    ensures { Tells result (term_value registers.now term.now) }
+{
+    match term {
+        Term::Register(r) => read(registers, *r),
+        Term::Element {
+            first,
+            bound,
+            subscript,
+        } => element_of(registers, *first, *bound, *subscript),
+        _ => evaluated(term, registers),
+    }
+}
+
+#[cycle(values)]
+#[inline(never)]
+fn vector_of(registers: &[i64], first: u32, bound: u32, subscript: &Term) -> i64
+    requires held { are_held registers.now ≡ true }
+    requires array { first + bound ≤ length registers.now }
+    requires within { term_within (length registers.now) subscript.now ≡ true }
+    ensures { Tells result (element_at registers.now first (vector_place bound (term_value registers.now subscript.now))) }
+{
+    element(registers, first, bound, operand(subscript, registers))
+}
+
+#[cycle(values)]
+#[inline(never)]
+fn matrix_of(registers: &[i64], first: u32, rows: u32, columns: u32, pair: &Pair) -> i64
+    requires held { are_held registers.now ≡ true }
+    requires array { first + rows * columns ≤ length registers.now }
+    requires row { term_within (length registers.now) pair.now.left ≡ true }
+    requires column { term_within (length registers.now) pair.now.right ≡ true }
+    ensures { Tells result
+        (element_at registers.now first (matrix_place rows columns (term_value registers.now pair.now.left) (term_value registers.now pair.now.right))) }
+{
+    let row = operand(&pair.left, registers);
+    let column = operand(&pair.right, registers);
+    matrix_element(registers, first, rows, columns, row, column)
+}
+
+#[cycle(values)]
+#[inline(never)]
+fn sum_of(pair: &Pair, registers: &[i64]) -> i64
+    requires held { are_held registers.now ≡ true }
+    requires left { term_within (length registers.now) pair.now.left ≡ true }
+    requires right { term_within (length registers.now) pair.now.right ≡ true }
+    ensures { Tells result (both (meaning.calculated arithmetic.Add)
+        (term_value registers.now pair.now.left) (term_value registers.now pair.now.right)) }
+{
+    let left = operand(&pair.left, registers);
+    let right = operand(&pair.right, registers);
+    told::sum(left, right)
+}
+
+#[cycle(values)]
+#[inline(never)]
+fn difference_of(pair: &Pair, registers: &[i64]) -> i64
+    requires held { are_held registers.now ≡ true }
+    requires left { term_within (length registers.now) pair.now.left ≡ true }
+    requires right { term_within (length registers.now) pair.now.right ≡ true }
+    ensures { Tells result (both (meaning.calculated arithmetic.Subtract)
+        (term_value registers.now pair.now.left) (term_value registers.now pair.now.right)) }
+{
+    let left = operand(&pair.left, registers);
+    let right = operand(&pair.right, registers);
+    told::difference(left, right)
+}
+
+#[cycle(values)]
+#[inline(never)]
+fn product_of(pair: &Pair, registers: &[i64]) -> i64
+    requires held { are_held registers.now ≡ true }
+    requires left { term_within (length registers.now) pair.now.left ≡ true }
+    requires right { term_within (length registers.now) pair.now.right ≡ true }
+    ensures { Tells result (both (meaning.calculated arithmetic.Multiply)
+        (term_value registers.now pair.now.left) (term_value registers.now pair.now.right)) }
+{
+    let left = operand(&pair.left, registers);
+    let right = operand(&pair.right, registers);
+    told::product(left, right)
+}
+
+#[cycle(values)]
+#[inline(never)]
+fn calculated_of(operation: Arithmetic, pair: &Pair, registers: &[i64]) -> i64
+    requires held { are_held registers.now ≡ true }
+    requires left { term_within (length registers.now) pair.now.left ≡ true }
+    requires right { term_within (length registers.now) pair.now.right ≡ true }
+    ensures { Tells result (both (meaning.calculated operation) (term_value registers.now pair.now.left) (term_value registers.now pair.now.right)) }
+{
+    let left = operand(&pair.left, registers);
+    let right = operand(&pair.right, registers);
+    calculated(operation, left, right)
+}
+
+#[cycle(values)]
+#[inline(never)]
+fn related_of(relation: Relation, pair: &Pair, registers: &[i64]) -> i64
+    requires held { are_held registers.now ≡ true }
+    requires left { term_within (length registers.now) pair.now.left ≡ true }
+    requires right { term_within (length registers.now) pair.now.right ≡ true }
+    ensures { Tells result (both (terms.related relation) (term_value registers.now pair.now.left) (term_value registers.now pair.now.right)) }
+{
+    let left = operand(&pair.left, registers);
+    let right = operand(&pair.right, registers);
+    compared(relation, left, right)
+}
+
+#[cycle(values)]
+#[inline(never)]
+fn connected_of(connective: Connective, pair: &Pair, registers: &[i64]) -> i64
+    requires held { are_held registers.now ≡ true }
+    requires left { term_within (length registers.now) pair.now.left ≡ true }
+    requires right { term_within (length registers.now) pair.now.right ≡ true }
+    ensures { Tells result (both (terms.connected connective) (term_value registers.now pair.now.left) (term_value registers.now pair.now.right)) }
+{
+    let left = operand(&pair.left, registers);
+    let right = operand(&pair.right, registers);
+    connected(connective, left, right)
+}
+
+#[cycle(values)]
+#[inline(never)]
+fn negated_of(term: &Term, registers: &[i64]) -> i64
+    requires held { are_held registers.now ≡ true }
+    requires within { term_within (length registers.now) term.now ≡ true }
+    ensures { Tells result (given (term_value registers.now term.now) (λ z. in_range (negated z))) }
+{
+    told::negated(operand(term, registers))
+}
+
+#[cycle(values)]
+#[inline(never)]
+fn absolute_of(term: &Term, registers: &[i64]) -> i64
+    requires held { are_held registers.now ≡ true }
+    requires within { term_within (length registers.now) term.now ≡ true }
+    ensures { Tells result (given (term_value registers.now term.now) (λ z. in_range (size z))) }
+{
+    told::absolute(operand(term, registers))
+}
+
+#[cycle(values)]
+#[inline(never)]
+fn pushed_of(term: &Term, registers: &[i64]) -> i64
+    requires held { are_held registers.now ≡ true }
+    requires within { term_within (length registers.now) term.now ≡ true }
+    ensures { Tells result (given (term_value registers.now term.now) pushed) }
+{
+    told::pushed(operand(term, registers))
+}
+
+#[cycle(values)]
+#[inline(never)]
+fn not_of(term: &Term, registers: &[i64]) -> i64
+    requires held { are_held registers.now ≡ true }
+    requires within { term_within (length registers.now) term.now ≡ true }
+    ensures { Tells result (given (term_value registers.now term.now) (λ z. Ok (negation z))) }
+{
+    told::negation(operand(term, registers))
+}

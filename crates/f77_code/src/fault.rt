@@ -1,0 +1,24 @@
+//! Why statements are not compiled.
+
+use std::alloc::{AllocError, AllocFailed};
+use thiserror::Error;
+
+/// Why statements are not compiled.
+#[derive(Debug, PartialEq, Eq, Drop, Error)]
+pub enum CodeFault {
+    /// Memory ran out, or the numbers of registers.
+    #[error("memory ran out")]
+    Memory,
+}
+
+impl From<AllocError> for CodeFault {
+    fn from(_e: AllocError) -> CodeFault {
+        CodeFault::Memory
+    }
+}
+
+impl<T: Drop> From<AllocFailed<T>> for CodeFault {
+    fn from(_e: AllocFailed<T>) -> CodeFault {
+        CodeFault::Memory
+    }
+}

@@ -1,0 +1,121 @@
+//! Statements are compiled to instructions.
+
+ghost use Rattle.std.specs.Prelude.{◌≡◌, ◌<◌, ◌≤◌, ◌+◌, length, true, Some, slice_get, IfOk};
+ghost use Rattle.f77_code.specs.Compiled.{is_ready, HaveParameters, IsNext, IsInstruction};
+ghost use Rattle.f77_code.specs.Constants.{Grows};
+ghost use Rattle.f77_code.specs.Evaluation.{number_within};
+ghost use Rattle.f77_code.specs.Places.{ArePlaces, has_places, have_places};
+
+use crate::compile::register_of;
+use crate::compiling::{place_of, tested};
+use crate::constants::Constants;
+use crate::fault::CodeFault;
+use crate::instruction::{Instruction, Operation, Parameters};
+use crate::places::Places;
+use f77_actions::{Action, Number, Resolved};
+use f77_tree::Shared;
+use std::alloc::Global;
+
+/// The incrementation of the DO `d`, which has this variable and ends at the statement `terminal` (11.10.7).
+pub(crate) fn increment(
+    places: &Places,
+    statements: &[Shared<Resolved>],
+    d: usize,
+    variable: u32,
+    terminal: usize,
+) -> Instruction
+    requires places { ArePlaces statements.now places.now }
+    requires have { have_places statements.now ≡ true }
+    requires few { length statements.now < 2147483648 }
+    requires d { d < length statements.now }
+    requires terminal { terminal < length statements.now }
+    ensures { IsNext statements.now d variable terminal result }
+{
+    Instruction {
+        operation: Operation::Next {
+            variable,
+            counter: places.counter(d),
+            body: d as u32 + 1,
+        },
+        next: places.left(statements, d, terminal),
+    }
+}
+
+impl Constants {
+    /// The parameters of a DO (11.10.3).
+    fn parameters(
+        &mut self,
+        alloc: Global,
+        first: &Number,
+        last: &Number,
+        step: &Number,
+    ) -> Result<Box<Parameters>, CodeFault>
+        requires first { number_within self.old.slots first.now ≡ true }
+        requires last { number_within self.old.slots last.now ≡ true }
+        requires step { number_within self.old.slots step.now ≡ true }
+        ensures stand { IfOk result (λ parameters. HaveParameters self.new first.now last.now step.now parameters.value) }
+        ensures grown { IfOk result (λ parameters. Grows self.old self.new) }
+    {
+        let first = self.number(alloc, first)?;
+        let last = self.number(alloc, last)?;
+        let step = self.number(alloc, step)?;
+        Ok(Box::new(alloc, Parameters { first, last, step })?)
+    }
+
+    /// The instruction of the statement `i`.
+    pub(crate) fn instruction(
+        &mut self,
+        alloc: Global,
+        places: &Places,
+        statements: &[Shared<Resolved>],
+        i: usize,
+        resolved: &Resolved,
+    ) -> Result<Instruction, CodeFault>
+        requires places { ArePlaces statements.now places.now }
+        requires have { have_places statements.now ≡ true }
+        requires few { length statements.now < 2147483648 }
+        requires i { i < length statements.now }
+        requires is { slice_get statements.now i ≡ Some resolved.now }
+        requires here { has_places (length statements.now) resolved.now ≡ true }
+        requires ready { is_ready self.old.slots (length statements.now) resolved.now.action ≡ true }
+        ensures stands { IfOk result (λ instruction. IsInstruction self.new statements.now i instruction) }
+        ensures grown { IfOk result (λ instruction. Grows self.old self.new) }
+    {
+        let onward = places.onward(&resolved.ends, resolved.next);
+        match &resolved.action {
+            Action::Branch {
+                condition,
+                otherwise,
+            } => {
+                let term = self.condition(alloc, condition)?;
+                Ok(Instruction {
+                    operation: tested(alloc, onward, term)?,
+                    next: place_of(*otherwise),
+                })
+            }
+            Action::Loop {
+                variable,
+                first,
+                last,
+                step,
+                terminal,
+            } => {
+                let variable = register_of(*variable, self.slots());
+                let parameters = self.parameters(alloc, first, last, step)?;
+                Ok(Instruction {
+                    operation: Operation::Do {
+                        variable,
+                        counter: places.counter(i),
+                        body: i as u32 + 1,
+                        parameters,
+                    },
+                    next: places.left(statements, i, *terminal),
+                })
+            }
+            _ => Ok(Instruction {
+                operation: self.operation(alloc, &resolved.action)?,
+                next: onward,
+            }),
+        }
+    }
+}

@@ -1,0 +1,34 @@
+//! Statements over slots, and the same as instructions over registers.
+#![tactic(auto)]
+
+mod assignment;
+mod blocks;
+mod branching;
+mod code;
+mod compile;
+mod compiling;
+mod constants;
+mod control;
+mod ending;
+mod evaluate;
+mod fault;
+mod instruction;
+mod instructions;
+mod law;
+mod looping;
+mod operation;
+mod operators;
+mod places;
+mod registers;
+mod term;
+
+pub use blocks::{Stand, block};
+pub use code::{Code, compiled};
+pub use constants::Constants;
+pub use control::{Place, Turn};
+pub use ending::{ENDS, RETURNED, STOPPED, finish_at};
+pub use fault::CodeFault;
+pub use instruction::{Instruction, Operation, Parameters};
+pub use law::{comes_back, moves_alike};
+pub use places::Places;
+pub use term::{Pair, Term};

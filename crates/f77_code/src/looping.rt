@@ -1,0 +1,155 @@
+//! DOs (ANSI X3.9-1978, 11.10).
+
+ghost use Rattle.std.specs.Prelude.{◌≡◌, ◌≢◌, ◌<◌, ◌+ℤ◌, pos, true, length, List, ℤ, Result};
+ghost use Rattle.f77_values.specs.declared.finish.Fault.{Fault};
+ghost use Rattle.f77_code.specs.declared.control.Turn.{Turn};
+ghost use Rattle.f77_code.specs.declared.instruction.Operation as operation;
+ghost use Rattle.f77_code.specs.Operation as meaning;
+ghost use Rattle.f77_code.specs.Operation.{point, ran, used};
+ghost use Rattle.f77_code.specs.Registers.{are_held};
+ghost use Rattle.f77_code.specs.Term.{term_value, term_within};
+ghost use Rattle.f77_values.specs.Number as exact;
+ghost use Rattle.f77_values.specs.Told.{Tells, IsTold, HasValue};
+ghost use Rattle.f77_values.specs.Value.{given};
+
+use crate::assignment::write;
+use crate::control::Turn;
+use crate::ending::failed;
+use crate::evaluate::operand;
+use crate::instruction::Parameters;
+use crate::registers::read;
+use f77_values::number::trip_count;
+use f77_values::told::{UNDEFINED, ZERO_STEP, sum};
+
+/// A DO has these passes to make.
+#[inline(always)]
+#[tactic(auto, using(crate::proofs::Points::pass_none, crate::proofs::Points::pass_some))]
+fn pass(counter: u32, body: u32, next: u32, passes: u64, step: i32, turns: &mut [Turn]) -> usize
+    requires { counter < length turns.old }
+    ensures { (registers : List ℤ) → point result registers turns.new ≡ meaning.passed counter body next passes step registers turns.old }
+{
+    turns[counter as usize] = Turn { passes, step };
+    if passes == 0 {
+        return next as usize;
+    }
+    body as usize
+}
+
+/// A number that tells no fault, in 32 bits.
+#[inline(always)]
+fn value(x: i64) -> i32
+    requires told { IsTold x }
+    requires value { HasValue x }
+    ensures { result ≡ x }
+{
+    x as i32
+}
+
+/// The number of passes of a DO whose parameters have these values.
+#[inline(always)]
+fn passes_within(first: i64, last: i64, step: i64) -> u64
+    requires first { IsTold first }
+    requires last { IsTold last }
+    requires step { IsTold step }
+    requires begins { HasValue first }
+    requires ends { HasValue last }
+    requires goes { HasValue step }
+    requires some { step ≢ pos 0 }
+    ensures { result ≡ exact.trip_count first last step }
+{
+    let from = value(first);
+    let to = value(last);
+    let by = value(step);
+    trip_count(from, to, by)
+}
+
+#[inline(always)]
+#[tactic(auto, using(crate::proofs::Points::zero_told, crate::proofs::Points::least_from))]
+pub(crate) fn begin(
+    variable: u32,
+    counter: u32,
+    body: u32,
+    parameters: &Parameters,
+    next: u32,
+    registers: &mut [i64],
+    turns: &mut [Turn],
+) -> usize
+    requires held { are_held registers.old ≡ true }
+    requires variable { variable < length registers.old }
+    requires counter { counter < length turns.old }
+    requires first { term_within (length registers.old) parameters.now.first ≡ true }
+    requires last { term_within (length registers.old) parameters.now.last ≡ true }
+    requires step { term_within (length registers.old) parameters.now.step ≡ true }
+    ensures runs { let before = registers.old in let counters = turns.old in point result registers.new turns.new
+        ≡ used (term_value before parameters.now.first) before counters
+        (λ a. used (term_value before parameters.now.last) before counters
+        (λ b. used (term_value before parameters.now.step) before counters
+        (λ c. meaning.begun variable counter body next a b c before counters))) }
+    ensures held { are_held registers.new ≡ true }
+{
+    let first = operand(&parameters.first, registers);
+    if UNDEFINED <= first {
+        return failed(first);
+    }
+    let last = operand(&parameters.last, registers);
+    if UNDEFINED <= last {
+        return failed(last);
+    }
+    let step = operand(&parameters.step, registers);
+    if UNDEFINED <= step {
+        return failed(step);
+    }
+    if step == 0 {
+        return failed(ZERO_STEP);
+    }
+    write(registers, variable as usize, first);
+    let passes = passes_within(first, last, step);
+    let by = value(step);
+    pass(counter, body, next, passes, by, turns)
+}
+
+/// One pass less. No active DO has 0 left.
+#[inline(always)]
+#[tactic(auto, using(crate::proofs::Points::less_wrapped))]
+fn one_less(passes: u64) -> u64
+    ensures { result ≡ meaning.one_less passes }
+{
+    passes.wrapping_sub(1)
+}
+
+/// The next value of the variable of a DO.
+#[inline(always)]
+#[tactic(auto, using(crate::proofs::Points::narrow_told))]
+fn advanced(value: i64, step: i32) -> i64
+    requires { IsTold value }
+    ensures { (r : Result ℤ Fault) → Tells value r → Tells result (given r (λ z. exact.in_range (z +ℤ step))) }
+{
+    sum(value, i64::from(step))
+}
+
+#[inline(always)]
+#[tactic(auto, using(crate::proofs::Points::least_from))]
+pub(crate) fn increment(
+    variable: u32,
+    counter: u32,
+    body: u32,
+    next: u32,
+    registers: &mut [i64],
+    turns: &mut [Turn],
+) -> usize
+    requires held { are_held registers.old ≡ true }
+    requires variable { variable < length registers.old }
+    requires counter { counter < length turns.old }
+    ensures runs { point result registers.new turns.new ≡ ran (operation.Next variable counter body) next registers.old turns.old }
+    ensures held { are_held registers.new ≡ true }
+{
+    let turn = turns[counter as usize];
+    let value = read(registers, variable);
+    let x = advanced(value, turn.step);
+    if UNDEFINED <= x {
+        return failed(x);
+    }
+    write(registers, variable as usize, x);
+    let passes = one_less(turn.passes);
+    pass(counter, body, next, passes, turn.step, turns)
+}

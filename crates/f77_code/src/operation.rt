@@ -1,0 +1,207 @@
+//! What instructions do.
+
+ghost use Rattle.std.specs.Prelude.{◌≡◌, ◌==◌, true, length, if◌then◌else◌, pos, List, ℕ};
+ghost use Rattle.f77_code.specs.Operation as meaning;
+ghost use Rattle.f77_code.specs.Operation.{operation_within, point, used};
+ghost use Rattle.f77_code.specs.Registers.{are_held};
+ghost use Rattle.f77_code.specs.Term.{term_value, term_within};
+ghost use Rattle.f77_values.specs.Number.{is_same};
+
+use crate::assignment::{
+    add, copy, load, multiply, set, set_element, set_matrix, store, store_difference, store_sum,
+    subtract,
+};
+use crate::branching::{compare, if_related, if_true, select, sign};
+use crate::control::Turn;
+use crate::ending::{RETURNED, STOPPED, TRAPPED, failed};
+use crate::evaluate::operand;
+use crate::instruction::Operation;
+use crate::looping::{begin, increment};
+use crate::term::Term;
+use f77_actions::Relation;
+use f77_values::told::UNDEFINED;
+
+/// An operation, from which control goes on to `next`.
+#[cycle(operations)]
+#[inline(always)]
+pub(crate) fn perform(
+    operation: &Operation,
+    next: u32,
+    registers: &mut [i64],
+    turns: &mut [Turn],
+) -> usize
+    requires held { are_held registers.old ≡ true }
+    requires within { operation_within (length registers.old) (length turns.old) operation.now ≡ true }
+    ensures runs { point result registers.new turns.new ≡ meaning.ran operation.now next registers.old turns.old }
+    ensures held { are_held registers.new ≡ true }
+{
+    match operation {
+        Operation::Set { to, term } => set(*to, term, next, registers),
+        Operation::SetElement { first, bound, pair } => set_element(
+            *first, *bound, pair, next, registers,
+        ),
+        Operation::SetMatrix {
+            first,
+            rows,
+            columns,
+            pair,
+            term,
+        } => set_matrix(*first, *rows, *columns, pair, term, next, registers),
+        Operation::IfTrue { then, term } => if_true(*then, term, next, registers),
+        Operation::IfRelated {
+            relation,
+            then,
+            pair,
+        } => if_related(*relation, *then, pair, next, registers),
+        Operation::Do {
+            variable,
+            counter,
+            body,
+            parameters,
+        } => begin(
+            *variable, *counter, *body, parameters, next, registers, turns,
+        ),
+        Operation::Next {
+            variable,
+            counter,
+            body,
+        } => increment(*variable, *counter, *body, next, registers, turns),
+        Operation::Sign {
+            negative,
+            zero,
+            positive,
+            term,
+        } => sign(*negative, *zero, *positive, term, registers),
+        Operation::Select { term, places } => select(term, places, next, registers),
+        Operation::When { term, inner } => when(term, inner, next, registers, turns),
+        Operation::Continue => next as usize,
+        Operation::Goto { then } => *then as usize,
+        Operation::Return => RETURNED,
+        Operation::Stop => STOPPED,
+        Operation::Trap => TRAPPED,
+        Operation::Move { to, from } => copy(*to, *from, next, registers),
+        Operation::Add { to, left, right } => add(*to, *left, *right, next, registers),
+        Operation::Subtract { to, left, right } => subtract(*to, *left, *right, next, registers),
+        Operation::Multiply { to, left, right } => multiply(*to, *left, *right, next, registers),
+        Operation::Load {
+            to,
+            first,
+            bound,
+            subscript,
+        } => load(*to, *first, *bound, *subscript, next, registers),
+        Operation::Store {
+            first,
+            bound,
+            subscript,
+            from,
+        } => store(*first, *bound, *subscript, *from, next, registers),
+        Operation::StoreSum {
+            first,
+            bound,
+            subscript,
+            left,
+            right,
+        } => store_sum(*first, *bound, *subscript, *left, *right, next, registers),
+        Operation::StoreDifference {
+            first,
+            bound,
+            subscript,
+            left,
+            right,
+        } => store_difference(*first, *bound, *subscript, *left, *right, next, registers),
+        Operation::IfLess { left, right, then } => compare(
+            Relation::Less,
+            *left,
+            *right,
+            *then,
+            next,
+            registers,
+        ),
+        Operation::IfLessOrEqual { left, right, then } => compare(
+            Relation::LessOrEqual,
+            *left,
+            *right,
+            *then,
+            next,
+            registers,
+        ),
+        Operation::IfEqual { left, right, then } => compare(
+            Relation::Equal,
+            *left,
+            *right,
+            *then,
+            next,
+            registers,
+        ),
+        Operation::IfNotEqual { left, right, then } => compare(
+            Relation::NotEqual,
+            *left,
+            *right,
+            *then,
+            next,
+            registers,
+        ),
+        Operation::IfGreaterOrEqual { left, right, then } => compare(
+            Relation::GreaterOrEqual,
+            *left,
+            *right,
+            *then,
+            next,
+            registers,
+        ),
+        Operation::IfGreater { left, right, then } => compare(
+            Relation::Greater,
+            *left,
+            *right,
+            *then,
+            next,
+            registers,
+        ),
+    }
+}
+
+/// A logical IF.
+#[cycle(operations)]
+#[inline(always)]
+#[tactic(auto, using(crate::proofs::Points::least_from))]
+fn when(
+    term: &Term,
+    inner: &Operation,
+    next: u32,
+    registers: &mut [i64],
+    turns: &mut [Turn],
+) -> usize
+    requires held { are_held registers.old ≡ true }
+    requires term { term_within (length registers.old) term.now ≡ true }
+    requires inner { operation_within (length registers.old) (length turns.old) inner.now ≡ true }
+    ensures runs { let before = registers.old in let counters = turns.old in point result registers.new turns.new
+        ≡ used (term_value before term.now) before counters
+        (λ z. if is_same z (pos 0) then point next before counters else meaning.ran inner.now next before counters) }
+    ensures held { are_held registers.new ≡ true }
+{
+    let x = operand(term, registers);
+    if UNDEFINED <= x {
+        return failed(x);
+    }
+    if x == 0 {
+        return next as usize;
+    }
+    perform_inner(inner, next, registers, turns)
+}
+
+/// An operation in a logical IF. It has code of its own, so that the other operations are in place where instructions follow one another.
+#[cycle(operations)]
+#[inline(never)]
+fn perform_inner(
+    operation: &Operation,
+    next: u32,
+    registers: &mut [i64],
+    turns: &mut [Turn],
+) -> usize
+    requires held { are_held registers.old ≡ true }
+    requires within { operation_within (length registers.old) (length turns.old) operation.now ≡ true }
+    ensures runs { point result registers.new turns.new ≡ meaning.ran operation.now next registers.old turns.old }
+    ensures held { are_held registers.new ≡ true }
+{
+    perform(operation, next, registers, turns)
+}

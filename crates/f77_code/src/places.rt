@@ -1,0 +1,105 @@
+//! The numbers of places: statements come first, and behind them the incrementations of DOs.
+
+ghost use Rattle.std.specs.Prelude.{◌≡◌, ◌<◌, ◌≤◌, ◌+◌, if◌then◌else◌, List, length, true, IfOk};
+ghost use Rattle.f77_actions.specs.declared.resolved.Resolved.{Resolved};
+ghost use Rattle.f77_code.specs.Code as meaning;
+ghost use Rattle.f77_code.specs.Code.{IsLeft};
+ghost use Rattle.f77_code.specs.Compiling.{is_small};
+ghost use Rattle.f77_code.specs.Holds as counts;
+ghost use Rattle.f77_code.specs.Moves as moves;
+ghost use Rattle.f77_code.specs.Moves.{are_below};
+
+use crate::compiling::place_of;
+use crate::fault::CodeFault;
+use f77_actions::{Action, Resolved};
+use f77_tree::Shared;
+use std::alloc::Global;
+
+/// Where the incrementations of DOs stand, by the numbers of the statements: how many statements stand before the first one, and
+/// the place of each.
+#[derive(Drop)]
+pub struct Places {
+    first: u32,
+    increments: Vec<u32>,
+}
+
+/// The place behind that of a statement's incrementation, where it is a DO; else the same place.
+fn behind(place: u32, action: &Action) -> u32
+    requires { place < 4294967295 }
+    ensures { result ≡ (if moves.is_loop action.now then place + 1 else place) }
+{
+    match action {
+        Action::Loop { .. } => place + 1,
+        _ => place,
+    }
+}
+
+/// Of DOs that end together, the innermost first, those round the DO `d`.
+fn round(ends: &[usize], d: usize) -> &[usize]
+    ensures { result.now ≡ meaning.round d ends.now }
+{
+    for (k, end) in ends.iter().enumerate() {
+        if d == *end {
+            return &ends[k + 1..];
+        }
+    }
+    &[]
+}
+
+impl Places {
+    ghost use Rattle.f77_code.specs.Places.{ArePlaces, have_places};
+
+    /// The places behind these statements.
+    pub(crate) fn new(alloc: Global, statements: &[Shared<Resolved>]) -> Result<Places, CodeFault>
+        requires { length statements.now < 2147483648 }
+        ensures { IfOk result (λ places. ArePlaces statements.now places) }
+    {
+        let first = statements.len() as u32;
+        let mut increments = Vec::with_capacity(alloc, statements.len())?;
+        let mut place = first;
+        for i in 0..statements.len() {
+            increments.push(place)?;
+            place = behind(place, &statements[i].action);
+        }
+        Ok(Places { first, increments })
+    }
+
+    /// The place of the incrementation of the DO `d`.
+    pub(crate) fn increment(&self, d: usize) -> u32
+        requires { d < length self.now.increments.items }
+        ensures { (statements : List Resolved) → ArePlaces statements self.now → result ≡ length statements + counts.rank statements d }
+    {
+        self.increments[d]
+    }
+
+    /// The number of the counter of the DO `d`.
+    pub(crate) fn counter(&self, d: usize) -> u32
+        requires { d < length self.now.increments.items }
+        ensures { (statements : List Resolved) → ArePlaces statements self.now → result ≡ counts.rank statements d }
+    {
+        self.increments[d].saturating_sub(self.first)
+    }
+
+    /// Where control goes on behind a statement that ends these DOs, the innermost first: to its incrementation, or to what follows.
+    pub(crate) fn onward(&self, ends: &[usize], next: usize) -> u32
+        requires ends { are_below (length self.now.increments.items) ends.now ≡ true }
+        requires next { is_small next ≡ true }
+        ensures { (statements : List Resolved) → ArePlaces statements self.now → result ≡ meaning.onward statements ends.now next }
+    {
+        match ends {
+            [] => place_of(next),
+            [d, ..] => self.increment(*d),
+        }
+    }
+
+    /// Where control goes on from the DO `d`, which ends at the statement `terminal`, when its passes are made (11.10.7).
+    pub(crate) fn left(&self, statements: &[Shared<Resolved>], d: usize, terminal: usize) -> u32
+        requires places { ArePlaces statements.now self.now }
+        requires have { have_places statements.now ≡ true }
+        requires terminal { terminal < length statements.now }
+        ensures { IsLeft statements.now d terminal result }
+    {
+        let end = &statements[terminal];
+        self.onward(round(&end.ends, d), end.next)
+    }
+}

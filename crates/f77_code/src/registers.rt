@@ -1,0 +1,113 @@
+//! Registers, and arrays in them.
+
+ghost use Rattle.std.specs.Prelude.{◌≡◌, ◌≤◌, ◌<◌, ◌+◌, ◌*◌, true, length, ℤ, Result};
+ghost use Rattle.f77_values.specs.declared.finish.Fault.{Fault};
+ghost use Rattle.f77_code.specs.Registers as meaning;
+ghost use Rattle.f77_code.specs.Registers.{are_held, register, vector_place, matrix_place, element_at, IsOffset};
+ghost use Rattle.f77_values.specs.Told.{Tells, IsTold};
+
+use f77_values::told::{BAD_SUBSCRIPT, UNDEFINED};
+
+#[inline(always)]
+#[tactic(auto, using(crate::proofs::Reading::read_tells))]
+pub(crate) fn read(registers: &[i64], r: u32) -> i64
+    requires held { are_held registers.now ≡ true }
+    requires within { r < length registers.now }
+    ensures { Tells result (register registers.now r) }
+{
+    registers[r as usize]
+}
+
+#[inline(always)]
+#[tactic(auto, using(crate::proofs::Reading::read_tells))]
+fn read_at(registers: &[i64], first: u32, place: usize) -> i64
+    requires held { are_held registers.now ≡ true }
+    requires within { first + place < length registers.now }
+    ensures { Tells result (register registers.now (first + place)) }
+{
+    registers[first as usize + place]
+}
+
+/// How far a subscript is from the first element: beyond all bounds where it is that of no element, or tells a fault.
+#[inline(always)]
+#[tactic(auto, using(crate::proofs::Reading::offset_is))]
+pub(crate) fn offset(subscript: i64) -> u64
+    requires { IsTold subscript }
+    ensures { IsOffset subscript result }
+{
+    (subscript - 1).cast_unsigned()
+}
+
+/// An element by its subscript.
+#[inline(always)]
+pub(crate) fn element(registers: &[i64], first: u32, bound: u32, subscript: i64) -> i64
+    requires held { are_held registers.now ≡ true }
+    requires within { first + bound ≤ length registers.now }
+    requires subscript { IsTold subscript }
+    ensures { (r : Result ℤ Fault) → Tells subscript r → Tells result (element_at registers.now first (vector_place bound r)) }
+{
+    let offset = offset(subscript);
+    if offset < u64::from(bound) {
+        return read_at(registers, first, offset as usize);
+    }
+    if subscript < UNDEFINED {
+        return BAD_SUBSCRIPT;
+    }
+    subscript
+}
+
+/// The place of an element in an array of two dimensions, from 0.
+#[inline(always)]
+#[tactic(auto, using(crate::proofs::Reading::in_matrix))]
+pub(crate) fn matrix_offset(rows: u32, columns: u32, row: u64, column: u64) -> usize
+    requires row { row < rows }
+    requires column { column < columns }
+    ensures place { result ≡ row + rows * column }
+    ensures within { result < rows * columns }
+{
+    row as usize + rows as usize * column as usize
+}
+
+/// The fault of a reference to an element that is not there.
+#[cold]
+#[inline(never)]
+#[tactic(auto, using(crate::proofs::Reading::bad_row, crate::proofs::Reading::bad_column, crate::proofs::Reading::bad_neither))]
+pub(crate) fn misplaced(row: i64, column: i64) -> i64
+    ensures { (r q : Result ℤ Fault) → Tells row r → Tells column q → Tells result (meaning.misplaced r q) }
+{
+    if UNDEFINED <= row {
+        return row;
+    }
+    if UNDEFINED <= column {
+        return column;
+    }
+    BAD_SUBSCRIPT
+}
+
+/// An element by its row and its column.
+#[inline(always)]
+pub(crate) fn matrix_element(
+    registers: &[i64],
+    first: u32,
+    rows: u32,
+    columns: u32,
+    row: i64,
+    column: i64,
+) -> i64
+    requires held { are_held registers.now ≡ true }
+    requires within { first + rows * columns ≤ length registers.now }
+    requires row { IsTold row }
+    requires column { IsTold column }
+    ensures { (r q : Result ℤ Fault) → Tells row r → Tells column q
+        → Tells result (element_at registers.now first (matrix_place rows columns r q)) }
+{
+    let down = offset(row);
+    if u64::from(rows) <= down {
+        return misplaced(row, column);
+    }
+    let across = offset(column);
+    if u64::from(columns) <= across {
+        return misplaced(row, column);
+    }
+    read_at(registers, first, matrix_offset(rows, columns, down, across))
+}

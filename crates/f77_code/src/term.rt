@@ -1,0 +1,92 @@
+//! Expressions over registers.
+
+use f77_actions::{Arithmetic, Connective, Relation};
+
+/// An expression whose variables, constants and arrays are registers. One of LOGICAL has the value 0 or 1.
+#[cycle(terms)]
+#[derive(Drop)]
+pub enum Term {
+    /// A variable or a constant, in this register.
+    Register(u32),
+    /// An element of an array of one dimension, whose first element is in the register `first`, by the subscript in a register.
+    Element {
+        first: u32,
+        bound: u32,
+        subscript: u32,
+    },
+    /// The sum of two registers.
+    Sum {
+        left: u32,
+        right: u32,
+    },
+    /// The difference of two registers.
+    Difference {
+        left: u32,
+        right: u32,
+    },
+    /// The product of two registers.
+    Product {
+        left: u32,
+        right: u32,
+    },
+    /// A relation of two registers.
+    Compared {
+        relation: Relation,
+        left: u32,
+        right: u32,
+    },
+    /// A constant above 2147483647.
+    TooLarge,
+    /// An element of an array of one dimension.
+    Vector {
+        first: u32,
+        bound: u32,
+        subscript: Box<Term>,
+    },
+    /// An element of an array of two dimensions, by its row and its column.
+    Matrix {
+        first: u32,
+        rows: u32,
+        columns: u32,
+        pair: Box<Pair>,
+    },
+    /// A sum.
+    Add(Box<Pair>),
+    /// A difference.
+    Subtract(Box<Pair>),
+    /// A product.
+    Multiply(Box<Pair>),
+    /// Any other operation on two numbers.
+    Calculated {
+        operation: Arithmetic,
+        pair: Box<Pair>,
+    },
+    /// A minus before its operand.
+    Negated(Box<Term>),
+    /// IABS.
+    Absolute(Box<Term>),
+    /// What a mutant has in place of an expression, to be told where it is zero.
+    ZeroPush(Box<Term>),
+    /// A relation of two numbers.
+    Related {
+        relation: Relation,
+        pair: Box<Pair>,
+    },
+    /// A logical operator on two truth values.
+    Connected {
+        connective: Connective,
+        pair: Box<Pair>,
+    },
+    /// `.NOT.` before its operand.
+    Not(Box<Term>),
+}
+
+/// Two operands, the left one evaluated first.
+#[cycle(terms)]
+#[derive(Drop)]
+pub struct Pair {
+    /// The first operand, or a row, or a subscript.
+    pub left: Term,
+    /// The second operand, or a column, or what is assigned.
+    pub right: Term,
+}

@@ -1,0 +1,173 @@
+-- Registers and counters that are loaded hold what a machine over slots holds, and what is shown of the registers is what its slots hold.
+use Rattle.std.proofs.Common.{arith, ◌≡◌, ◌<◌, ◌≤◌, ℕ, zero, suc, ◌+◌, ℤ, pos, Bool, true, false, List, [], ◌∷◌, ◌++◌, length, take}
+use Rattle.std.proofs.Common.{Option, Some, None, refl, sym, ap, ◌∙◌}
+use Rattle.std.specs.Prelude.{Ok, slice_get, unwrap_or, if◌then◌else◌}
+use Rattle.std.specs.List.{list_all}
+use Rattle.std.proofs.lemmas.Bool.{and_parts}
+use Rattle.std.proofs.lemmas.List.{length-append}
+use Rattle.std.proofs.lemmas.Option.{same_Some, slice_get_within}
+use Rattle.f77_tree.specs.declared.tree.Kind.{Kind}
+use Rattle.f77_tree.specs.declared.tree.Kind.TheVariants.{Integer, Logical}
+use Rattle.f77_actions.specs.declared.resolved.Resolved.{Resolved}
+use Rattle.f77_values.specs.declared.value.Value.{Value}
+use Rattle.f77_values.specs.declared.value.Value.TheVariants as held
+use Rattle.f77_values.specs.Number.{fits}
+use Rattle.f77_values.specs.Told.{coded, is_fitting}
+use Rattle.f77_code.specs.declared.constants.Constants.{Constants}
+use Rattle.f77_code.specs.declared.control.Turn.{Turn}
+use Rattle.f77_code.specs.Evaluation.{held_in}
+use Rattle.f77_code.specs.Holds.{Holds, Counts, read_as, loop_count, rank, is_loop_at}
+use Rattle.f77_code.specs.Moves.{Cells, Turns, turn_at, is_loop}
+use Rattle.f77_code.specs.Registers.{register, told, told_at, are_held}
+use Rattle.f77_code.proofs.Counters.{weight, more}
+use Rattle.f77_code.proofs.Listed.{all_at, get_behind, one_if}
+use Rattle.f77_code.proofs.Written.{told_fits}
+use Rattle.f77_run.specs.Registers.{values_fit, plan_of, loaded, shown_as, shown, counter_of, counters_of}
+use Rattle.f77_run.specs.Typed.{has_kind}
+
+-- a register for each slot
+pub loaded_count : (kinds : List Kind) (cells : Cells) → length cells ≡ length kinds → length (loaded kinds cells) ≡ length kinds
+loaded_count [] cells long = refl
+loaded_count (kind ∷ kinds) [] long = absurd (omega (arith, long))
+loaded_count (kind ∷ kinds) (cell ∷ cells) long = ap suc (loaded_count kinds cells (omega (arith, long)))
+
+-- the number for what is read from a slot tells it, where that is a value of 32 bits or that there is none
+read_told : (kind : Kind) (value : Option Value) → is_fitting (read_as kind value) ≡ true → told (coded (read_as kind value)) ≡ read_as kind value
+read_told Integer None e = refl
+read_told Integer (Some (held.Number z)) e = told_fits z e
+read_told Integer (Some (held.Truth b)) e = refl
+read_told Logical None e = refl
+read_told Logical (Some (held.Number z)) e = refl
+read_told Logical (Some (held.Truth true)) e = refl
+read_told Logical (Some (held.Truth false)) e = refl
+
+-- the register of a slot tells what is read from the slot
+slot_told : (kinds : List Kind) (cells : Cells) (others : List ℤ) → length cells ≡ length kinds → values_fit kinds cells ≡ true → (k : ℕ) → k < length kinds
+    → register (loaded kinds cells ++ others) k ≡ read_as (unwrap_or (slice_get kinds k) Integer) (held_in cells k)
+slot_told [] cells others long fit k below = absurd (omega (arith, below))
+slot_told (kind ∷ kinds) [] others long fit k below = absurd (omega (arith, long))
+slot_told (kind ∷ kinds) (cell ∷ cells) others long fit zero below =
+    read_told kind cell (and_parts (is_fitting (read_as kind cell)) (values_fit kinds cells) fit).0
+slot_told (kind ∷ kinds) (cell ∷ cells) others long fit (suc k) below =
+    slot_told kinds cells others (omega (arith, long)) (and_parts (is_fitting (read_as kind cell)) (values_fit kinds cells) fit).1 k (omega (arith, below))
+
+-- the register behind those of the slots tells its constant
+constant_told : (kinds : List Kind) (cells : Cells) (values : List ℤ) → length cells ≡ length kinds → list_all fits values ≡ true → (k : ℕ) (z : ℤ)
+    → slice_get values k ≡ Some z → register (loaded kinds cells ++ values) (length kinds + k) ≡ Ok z
+constant_told kinds cells values long small k z at =
+    let count : length kinds ≡ length (loaded kinds cells) = sym (loaded_count kinds cells long) in
+    let place : slice_get (loaded kinds cells ++ values) (length kinds + k) ≡ Some z
+    = ap (λ n. slice_get (loaded kinds cells ++ values) (n + k)) count ∙ get_behind (loaded kinds cells) values k ∙ at in
+    ap told_at place ∙ told_fits z (all_at fits values k z small at)
+
+-- The registers that are loaded hold the slots and, behind them, the constants. That they are held does not say that they tell values of 32 bits.
+pub loaded_holds : (kinds : List Kind) (table : Constants) (cells : Cells) → length cells ≡ length kinds
+    → are_held (loaded kinds cells ++ table.values.items) ≡ true → values_fit kinds cells ≡ true → list_all fits table.values.items ≡ true
+    → Holds (plan_of kinds table) (loaded kinds cells ++ table.values.items) cells
+loaded_holds kinds table cells long all fit small = record {
+  slots = λ k below. slot_told kinds cells table.values.items long fit k below;
+  constants = λ k z at. constant_told kinds cells table.values.items long small k z at;
+  held = all;
+  count = long;
+  room =
+      let both = length-append (loaded kinds cells) table.values.items in
+      let slots = loaded_count kinds cells long in
+      omega (arith, both, slots);
+}
+
+-- a statement has one counter where it is a DO, and none where it is not
+one_counter : (b : Bool) (turn : Turn) → length (if b then turn ∷ [] else []) ≡ one_if b
+one_counter true turn = refl
+one_counter false turn = refl
+
+-- the counter of a DO that is not active
+abbrev idle : Turn
+idle = record { passes = 0; step = pos 0 }
+
+counter_count : (r : Resolved) (turn : Option Turn) → length (counter_of r turn) ≡ weight r
+counter_count r turn = one_counter (is_loop r.action) (unwrap_or turn idle)
+
+-- a counter for each DO
+pub counters_count : (statements : List Resolved) (turns : Turns) → length turns ≡ length statements
+    → length (counters_of statements turns) ≡ loop_count statements
+counters_count [] turns long = refl
+counters_count (r ∷ statements) [] long = absurd (omega (arith, long))
+counters_count (r ∷ statements) (turn ∷ turns) long =
+    let both = length-append (counter_of r turn) (counters_of statements turns) in
+    let one = counter_count r turn in
+    let rest = counters_count statements turns (omega (arith, long)) in
+    let count = more r statements in
+    omega (arith, both, one, rest, count)
+
+-- where no statement is a DO, nothing has a counter
+pub counters_none : (statements : List Resolved) (turns : Turns) → length turns ≡ length statements → loop_count statements ≡ 0
+    → counters_of statements turns ≡ []
+counters_none statements turns long none = empty (counters_of statements turns) (counters_count statements turns long ∙ none)
+  where
+    empty : (list : List Turn) → length list ≡ 0 → list ≡ []
+    empty [] count = refl
+    empty (turn ∷ list) count = absurd (omega (arith, count))
+
+-- the counter of an active DO that is the first statement
+first_counter : (b : Bool) (x : Option Turn) (turn : Turn) (others : List Turn) → b ≡ true → x ≡ Some turn
+    → slice_get ((if b then unwrap_or x idle ∷ [] else []) ++ others) 0 ≡ Some turn
+first_counter true None turn others loop at = absurd (cc (at))
+first_counter true (Some y) turn others loop at = at
+first_counter false x turn others loop at = absurd (cc (loop))
+
+-- the counter of an active DO, by its rank, holds what the DO has left
+counter_at : (statements : List Resolved) (turns : Turns) → length turns ≡ length statements → (d : ℕ) (turn : Turn) → is_loop_at statements d ≡ true
+    → turn_at turns d ≡ Some turn → slice_get (counters_of statements turns) (rank statements d) ≡ Some turn
+counter_at [] turns long d turn loop at = absurd (cc (loop))
+counter_at (r ∷ statements) [] long d turn loop at = absurd (omega (arith, long))
+counter_at (r ∷ statements) (x ∷ turns) long zero turn loop at = first_counter (is_loop r.action) x turn (counters_of statements turns) loop at
+counter_at (r ∷ statements) (x ∷ turns) long (suc d) turn loop at =
+    let place : rank (r ∷ statements) (suc d) ≡ length (counter_of r x) + rank statements d
+    = more r (take d statements) ∙ ap (λ n. n + rank statements d) (sym (counter_count r x)) in
+    ap (slice_get (counter_of r x ++ counters_of statements turns)) place
+    ∙ get_behind (counter_of r x) (counters_of statements turns) (rank statements d)
+    ∙ counter_at statements turns (omega (arith, long)) d turn loop at
+
+-- the counters that are loaded hold what the active DOs have left, where each active DO is one and has passes left
+pub counters_hold : (statements : List Resolved) (turns : Turns) → length turns ≡ length statements
+    → ((d : ℕ) (turn : Turn) → turn_at turns d ≡ Some turn → (is_loop_at statements d ≡ true) × (0 < turn.passes))
+    → Counts statements (counters_of statements turns) turns
+counters_hold statements turns long active = record {
+  active = λ d turn at.
+      let facts = active d turn at in
+      record { loop = facts.0; counter = counter_at statements turns long d turn facts.0 at; left = facts.1 };
+  room = let count = counters_count statements turns long in omega (arith, count);
+}
+
+-- what is shown are as many slots as there are kinds
+pub shown_count : (kinds : List Kind) (registers : List ℤ) → length kinds ≤ length registers → length (shown kinds registers) ≡ length kinds
+shown_count [] registers room = refl
+shown_count (kind ∷ kinds) [] room = absurd (omega (arith, room))
+shown_count (kind ∷ kinds) (x ∷ registers) room = ap suc (shown_count kinds registers (omega (arith, room)))
+
+-- what is shown of a slot is what its register tells, by its kind
+shown_at : (kinds : List Kind) (registers : List ℤ) → length kinds ≤ length registers → (k : ℕ) (kind : Kind) → slice_get kinds k ≡ Some kind
+    → held_in (shown kinds registers) k ≡ shown_as kind (register registers k)
+shown_at [] registers room k kind at = absurd (cc (at))
+shown_at (x ∷ kinds) [] room k kind at = absurd (omega (arith, room))
+shown_at (x ∷ kinds) (z ∷ registers) room zero kind at = ap (λ kind. shown_as kind (told z)) (same_Some x kind at)
+shown_at (x ∷ kinds) (z ∷ registers) room (suc k) kind at = shown_at kinds registers (omega (arith, room)) k kind at
+
+-- what is shown of what is read from a slot that holds a value of its kind is that value
+read_shown : (kind : Kind) (value : Option Value) → has_kind kind value ≡ true → shown_as kind (read_as kind value) ≡ value
+read_shown Integer None is = absurd (cc (is))
+read_shown Integer (Some (held.Number z)) is = refl
+read_shown Integer (Some (held.Truth b)) is = absurd (cc (is))
+read_shown Logical None is = absurd (cc (is))
+read_shown Logical (Some (held.Number z)) is = absurd (cc (is))
+read_shown Logical (Some (held.Truth true)) is = refl
+read_shown Logical (Some (held.Truth false)) is = refl
+
+-- what is shown of a slot that holds a value of its kind is what the slot holds
+pub shown_is : (kinds : List Kind) (table : Constants) (registers : List ℤ) (cells : Cells) → Holds (plan_of kinds table) registers cells
+    → (k : ℕ) (kind : Kind) → slice_get kinds k ≡ Some kind → has_kind kind (held_in cells k) ≡ true → held_in (shown kinds registers) k ≡ held_in cells k
+shown_is kinds table registers cells holds k kind at is =
+    let own : unwrap_or (slice_get kinds k) Integer ≡ kind = ap (λ o. unwrap_or o Integer) at in
+    let reads : register registers k ≡ read_as kind (held_in cells k)
+    = holds.slots k (slice_get_within kinds k kind at) ∙ ap (λ kind. read_as kind (held_in cells k)) own in
+    shown_at kinds registers holds.room k kind at ∙ ap (shown_as kind) reads ∙ read_shown kind (held_in cells k) is

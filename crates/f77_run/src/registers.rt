@@ -1,0 +1,171 @@
+//! The registers and the counters that the code of a program works on.
+
+ghost use Rattle.std.specs.Prelude.{◌≡◌, ◌++◌, true, IfErr, OnOk};
+ghost use Rattle.std.specs.List.{list_all};
+ghost use Rattle.f77_code.specs.Holds.{read_as};
+ghost use Rattle.f77_code.specs.Registers.{are_held, is_held, told};
+ghost use Rattle.f77_run.specs.Registers as meaning;
+ghost use Rattle.f77_run.specs.Registers.{counter_of, counters_of, loaded, shown, values_fit};
+ghost use Rattle.f77_run.specs.declared.outcome.RunFault.TheVariants as fault;
+ghost use Rattle.f77_values.specs.Number.{fits};
+ghost use Rattle.f77_values.specs.Told.{coded, is_fitting};
+
+use crate::machine::Machine;
+use crate::outcome::RunFault;
+use f77_actions::{Action, Resolved};
+use f77_code::Turn;
+use f77_tree::{Kind, Shared};
+use f77_values::Value;
+use f77_values::told::UNDEFINED;
+use std::alloc::Global;
+
+/// A register for each slot and, behind them, each constant of the code, and a counter for each DO, in order.
+#[derive(Drop)]
+pub(crate) struct Registers {
+    pub(crate) items: Vec<i64>,
+    pub(crate) counters: Vec<Turn>,
+}
+
+/// What a register has for a slot of this kind.
+fn number(kind: Kind, cell: Option<Value>) -> i64
+    ensures number { result ≡ coded (read_as kind cell) }
+    ensures held { is_held result ≡ true }
+    ensures fitting { is_fitting (read_as kind cell) ≡ true }
+{
+    match (kind, cell) {
+        (Kind::Integer, Some(Value::Number(number))) => i64::from(number),
+        (Kind::Logical, Some(Value::Truth(truth))) => i64::from(truth),
+        (Kind::Integer, Some(Value::Truth(_)) | None)
+        | (Kind::Logical, Some(Value::Number(_)) | None) => UNDEFINED,
+    }
+}
+
+/// What a slot of this kind holds, by its register.
+fn value(kind: Kind, register: i64) -> Option<Value>
+    requires { is_held register ≡ true }
+    ensures { result ≡ meaning.shown_as kind (told register) }
+{
+    match kind {
+        Kind::Integer => match i32::try_from(register) {
+            Ok(number) => Some(Value::Number(number)),
+            Err(_) => None,
+        },
+        Kind::Logical => {
+            if register == UNDEFINED {
+                return None;
+            }
+            Some(Value::Truth(register != 0))
+        }
+    }
+}
+
+/// Puts what the slots hold into registers, behind those that are there.
+fn load_slots(
+    registers: &mut Vec<i64>,
+    kinds: &[Kind],
+    cells: &[Option<Value>],
+) -> Result<(), RunFault>
+    ensures registers { OnOk result (registers.new.items ≡ registers.old.items ++ loaded kinds.now cells.now) }
+    ensures held { OnOk result (are_held registers.old.items ≡ true → are_held registers.new.items ≡ true) }
+    ensures fitting { OnOk result (values_fit kinds.now cells.now ≡ true) }
+    ensures memory { IfErr result (λ e. e ≡ fault.Memory) }
+{
+    for (kind, cell) in kinds.iter().zip(cells) {
+        registers.push(number(*kind, *cell))?;
+    }
+    Ok(())
+}
+
+/// Puts constants into registers, behind those that are there.
+fn load_constants(registers: &mut Vec<i64>, constants: &[i32]) -> Result<(), RunFault>
+    ensures registers { OnOk result (registers.new.items ≡ registers.old.items ++ constants.now) }
+    ensures held { OnOk result (are_held registers.old.items ≡ true → are_held registers.new.items ≡ true) }
+    ensures fitting { OnOk result (list_all fits constants.now ≡ true) }
+    ensures memory { IfErr result (λ e. e ≡ fault.Memory) }
+{
+    for constant in constants {
+        registers.push(i64::from(*constant))?;
+    }
+    Ok(())
+}
+
+/// Adds the counter of a statement, where it is a DO.
+fn load_counter(
+    counters: &mut Vec<Turn>,
+    resolved: &Resolved,
+    turn: Option<Turn>,
+) -> Result<(), RunFault>
+    ensures counters { OnOk result (counters.new.items ≡ counters.old.items ++ counter_of resolved.now turn) }
+    ensures memory { IfErr result (λ e. e ≡ fault.Memory) }
+{
+    match &resolved.action {
+        Action::Loop { .. } => {
+            counters.push(turn.unwrap_or(Turn { passes: 0, step: 0 }))?;
+            Ok(())
+        }
+        _ => Ok(()),
+    }
+}
+
+/// Adds the counters of all DOs among these statements.
+fn load_counters(
+    counters: &mut Vec<Turn>,
+    statements: &[Shared<Resolved>],
+    turns: &[Option<Turn>],
+) -> Result<(), RunFault>
+    ensures counters { OnOk result (counters.new.items ≡ counters.old.items ++ counters_of statements.now turns.now) }
+    ensures memory { IfErr result (λ e. e ≡ fault.Memory) }
+{
+    for (resolved, turn) in statements.iter().zip(turns) {
+        load_counter(counters, resolved, *turn)?;
+    }
+    Ok(())
+}
+
+impl Registers {
+    /// No registers yet. It takes no memory.
+    pub(crate) fn new(alloc: Global) -> Registers {
+        Registers {
+            items: Vec::new(alloc),
+            counters: Vec::new(alloc),
+        }
+    }
+
+    /// They stand for the state of the machine.
+    pub(crate) fn load(
+        &mut self,
+        kinds: &[Kind],
+        constants: &[i32],
+        statements: &[Shared<Resolved>],
+        machine: &Machine,
+    ) -> Result<(), RunFault>
+        ensures items { OnOk result (self.new.items.items ≡ loaded kinds.now machine.now.cells.items ++ constants.now) }
+        ensures held { OnOk result (are_held self.new.items.items ≡ true) }
+        ensures fitting { OnOk result ((values_fit kinds.now machine.now.cells.items ≡ true) × (list_all fits constants.now ≡ true)) }
+        ensures counters { OnOk result (self.new.counters.items ≡ counters_of statements.now machine.now.turns.items) }
+        ensures memory { IfErr result (λ e. e ≡ fault.Memory) }
+    {
+        self.items.clear();
+        load_slots(&mut self.items, kinds, &machine.cells)?;
+        load_constants(&mut self.items, constants)?;
+        self.counters.clear();
+        load_counters(&mut self.counters, statements, &machine.turns)
+    }
+
+    /// Puts what they stand for back into slots.
+    pub(crate) fn show(
+        &self,
+        kinds: &[Kind],
+        cells: &mut Vec<Option<Value>>,
+    ) -> Result<(), RunFault>
+        requires { are_held self.now.items.items ≡ true }
+        ensures cells { OnOk result (cells.new.items ≡ shown kinds.now self.now.items.items) }
+        ensures memory { IfErr result (λ e. e ≡ fault.Memory) }
+    {
+        cells.clear();
+        for (kind, register) in kinds.iter().zip(&self.items) {
+            cells.push(value(*kind, *register))?;
+        }
+        Ok(())
+    }
+}

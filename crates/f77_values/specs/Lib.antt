@@ -1,0 +1,3 @@
+pub mod Number
+pub mod Value
+pub mod Told

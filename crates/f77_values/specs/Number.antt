@@ -1,0 +1,93 @@
+-- INTEGER values: the exact number first, then the range (ANSI X3.9-1978, 4.3, 6.1.5 and 15.10).
+use Rattle.std.specs.Prelude.{◌^◌, ◌==◌, if◌then◌else◌, ◌∷◌, ◌+ℤ◌, ◌-ℤ◌, ◌*ℤ◌}
+use Rattle.std.specs.Prelude.{ℕ, zero, suc, Bool, true, false, nat_lt, List, [], ℤ, pos, negsuc, int_div, int_rem, Result, Ok, Err}
+use Rattle.f77_tree.specs.declared.intrinsic.Intrinsic.{Intrinsic}
+use Rattle.f77_tree.specs.declared.intrinsic.Intrinsic.TheVariants.{Mod, Iabs, Min0, Max0}
+use Rattle.f77_tree.specs.declared.operator.Sign.{Sign}
+use Rattle.f77_tree.specs.declared.operator.Sign.TheVariants.{Plus, Minus}
+use Rattle.f77_values.specs.declared.finish.Fault.{Fault}
+use Rattle.f77_values.specs.declared.finish.Fault.TheVariants.{Overflow, DivideByZero, ZeroPower, Undefined}
+
+-- INTEGER holds the number: -2147483648 to 2147483647
+abbrev pub fits : ℤ → Bool
+fits (pos n) = nat_lt n (2 ^ 31)
+fits (negsuc n) = nat_lt n (2 ^ 31)
+
+-- an exact number, tested against the range
+abbrev pub in_range : ℤ → Result ℤ Fault
+in_range z = if fits z then Ok z else Err Overflow
+
+-- the quotient, truncated toward zero, and a minus b times that
+abbrev pub quotient : ℤ → ℤ → Result ℤ Fault
+quotient a (pos zero) = Err DivideByZero
+quotient a (pos (suc n)) = in_range (int_div a (pos (suc n)))
+quotient a (negsuc n) = in_range (int_div a (negsuc n))
+
+abbrev pub modulus : ℤ → ℤ → Result ℤ Fault
+modulus a (pos zero) = Err DivideByZero
+modulus a (pos (suc n)) = in_range (int_rem a (pos (suc n)))
+modulus a (negsuc n) = in_range (int_rem a (negsuc n))
+
+-- the exact power of a number above zero
+abbrev pub exact_power : ℤ → ℕ → ℤ
+exact_power a zero = pos 1
+exact_power a (suc n) = a *ℤ exact_power a n
+
+-- the power of a base that is not zero: for a negative one 1 over the exact power, truncated
+abbrev pub power_of : ℤ → ℤ → Result ℤ Fault
+power_of a (pos n) = in_range (exact_power a n)
+power_of a (negsuc n) = in_range (int_div (pos 1) (exact_power a (suc n)))
+
+abbrev pub power : ℤ → ℤ → Result ℤ Fault
+power (pos zero) (pos zero) = Err ZeroPower
+power (pos zero) (pos (suc n)) = Ok (pos zero)
+power (pos zero) (negsuc n) = Err ZeroPower
+power (pos (suc a)) b = power_of (pos (suc a)) b
+power (negsuc a) b = power_of (negsuc a) b
+
+abbrev pub negated : ℤ → ℤ
+negated z = pos zero -ℤ z
+
+abbrev pub signed : Sign → ℤ → Result ℤ Fault
+signed Plus z = Ok z
+signed Minus z = in_range (negated z)
+
+abbrev pub is_below : ℤ → ℤ → Bool
+is_below (pos a) (pos b) = nat_lt a b
+is_below (pos a) (negsuc b) = false
+is_below (negsuc a) (pos b) = true
+is_below (negsuc a) (negsuc b) = nat_lt b a
+
+abbrev pub is_same : ℤ → ℤ → Bool
+is_same (pos a) (pos b) = a == b
+is_same (pos a) (negsuc b) = false
+is_same (negsuc a) (pos b) = false
+is_same (negsuc a) (negsuc b) = a == b
+
+abbrev pub size : ℤ → ℤ
+size (pos n) = pos n
+size (negsuc n) = pos (suc n)
+
+abbrev pub least : ℤ → List ℤ → ℤ
+least a [] = a
+least a (b ∷ bs) = least (if is_below b a then b else a) bs
+
+abbrev pub greatest : ℤ → List ℤ → ℤ
+greatest a [] = a
+greatest a (b ∷ bs) = greatest (if is_below a b then b else a) bs
+
+-- The value of a call. No legal program has another number of arguments.
+abbrev pub called : Intrinsic → List ℤ → Result ℤ Fault
+called Mod (a ∷ (b ∷ [])) = modulus a b
+called Iabs (a ∷ []) = in_range (size a)
+called Min0 (a ∷ rest) = Ok (least a rest)
+called Max0 (a ∷ rest) = Ok (greatest a rest)
+called f rest = Err Undefined
+
+-- the passes of a DO: none where the number is negative
+abbrev pub trip_count : ℤ → ℤ → ℤ → ℕ
+trip_count first last step = above_zero (int_div (last -ℤ first +ℤ step) step)
+  where
+    above_zero : ℤ → ℕ
+    above_zero (pos n) = n
+    above_zero (negsuc n) = 0
