@@ -1,0 +1,15 @@
+pub mod Suits
+pub mod Products
+pub mod Quotients
+pub mod Remainders
+pub mod Powers
+pub mod Comparisons
+pub mod Operands
+pub mod Slots
+pub mod Turns
+pub mod Subscripts
+pub mod Refined
+pub mod Stored
+pub mod Trips
+pub mod Leaving
+pub mod Kept

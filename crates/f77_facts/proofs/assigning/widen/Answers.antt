@@ -1,0 +1,15 @@
+use Rattle.std.proofs.Common.{arith}
+use Rattle.f77_facts.proofs.Stored.{widens_none, widens_more, widens_to}
+use Rattle.f77_facts.proofs.assigning.widen.Goals as goal
+
+pub loop-slot-init : goal.loop-slot-init
+loop-slot-init c = widens_none c.args.facts.now c.args.from c.args.fact
+
+pub loop-slot-preserved : goal.loop-slot-preserved
+loop-slot-preserved c =
+    rw c.set.ensures
+    (widens_more c.args.facts.now c.loop-slot.facts c.args.from c.loop-slot.slot c.args.fact c.fact_at.result c.hull_of-hull.result c.loop-slot.invariant c.fact_at.ensures
+    c.hull_of-hull.ensures.first c.hull_of-hull.ensures.second)
+
+pub returns : goal.returns
+returns c = widens_to c.args.facts.now c.loop-slot.facts c.args.from c.loop-slot.slot c.args.end c.args.fact (omega arith) c.loop-slot.invariant

@@ -1,0 +1,12 @@
+use Rattle.std.proofs.Common.{None, ◌∙◌, sym, subst}
+use Rattle.std.specs.Prelude.{slice_set}
+use Rattle.f77_facts.specs.declared.loops.LoopFact.TheVariants.{Inactive}
+use Rattle.f77_facts.specs.Loops.{AreLeft}
+use Rattle.f77_facts.proofs.Leaving.{set_turn}
+use Rattle.f77_facts.proofs.looping.is_end_kept.Goals as goal
+
+pub returns : goal.returns
+returns c e low cells turns inside left =
+    c.goes_on.ensures e cells (slice_set turns c.args.d None) inside
+    (subst (λ l. AreLeft l (slice_set turns c.args.d None)) (sym (c.deref.ensures.value ∙ c.in_ok-after.ensures))
+    (set_turn c.args.loops.now turns c.args.d Inactive None left tt))

@@ -1,0 +1,43 @@
+//! What is known at the places where control may be.
+
+ghost use Rattle.std.specs.Prelude.{◌≡◌, ◌<◌, true, length, slice_get, Some};
+ghost use Rattle.f77_facts.specs.Entries.{AreCovered};
+
+use crate::facts::{Fact, is_empty, is_inside};
+use crate::loops::{LoopFact, is_loops_inside};
+use f77_code::Place;
+
+/// What is known of slots and DOs where control is at this place. A place may have several entries.
+#[derive(Drop)]
+pub struct Entry {
+    pub place: Place,
+    pub facts: Vec<Fact>,
+    pub loops: Vec<LoopFact>,
+}
+
+/// The entry of this number, counted from 0.
+pub fn entry_at(entries: &[Entry], number: usize) -> &Entry
+    requires { number < length entries.now }
+    ensures { slice_get entries.now number ≡ Some result.now }
+{
+    &entries[number]
+}
+
+/// Some entry of the place allows all that these facts allow.
+pub fn is_covered(entries: &[Entry], place: Place, facts: &[Fact], loops: &[LoopFact]) -> bool
+    ensures { result ≡ true → AreCovered entries.now place facts.now loops.now }
+{
+    if is_empty(facts) {
+        return true;
+    }
+    for number in 0..entries.len() {
+        let entry = entry_at(entries, number);
+        if entry.place == place
+            && is_inside(facts, &entry.facts)
+            && is_loops_inside(loops, &entry.loops)
+        {
+            return true;
+        }
+    }
+    false
+}

@@ -1,0 +1,177 @@
+//! Where DOs lead that have passes to make or none, and those that are incremented.
+
+ghost use Rattle.std.specs.Prelude.{◌≡◌, ◌+◌, ◌<◌, ◌≤◌, ◌^◌, ℕ, suc, true, length, slice_get, Some, IfOk};
+ghost use Rattle.f77_actions.specs.declared.action.Action.{Loop};
+ghost use Rattle.f77_actions.specs.declared.resolved.Resolved.{Resolved};
+ghost use Rattle.f77_code.specs.declared.control.Place.TheVariants.{Increment};
+ghost use Rattle.f77_facts.specs.Entries.{Keeps};
+ghost use Rattle.f77_facts.specs.Keeping.{EndsInto, PassesInto, PassesAt};
+
+use crate::copying::{with_loop, with_number};
+use crate::entries::{Entry, is_covered};
+use crate::facts::{Fact, known_at};
+use crate::jumping::goes_on;
+use crate::known::{Known, sum_of};
+use crate::loops::{LoopFact, loop_at};
+use crate::reaching::one_slot;
+use f77_actions::{Action, Resolved};
+use f77_code::Place;
+use f77_tree::Shared;
+use std::alloc::{AllocError, Global};
+
+/// What is known of the passes that a DO has to make, and of how it is incremented.
+#[derive(Clone, Copy)]
+pub(crate) struct Passes {
+    pub(crate) fewest: u64,
+    pub(crate) most: u64,
+    pub(crate) step: Known,
+}
+
+/// The statement of this number, counted from 0.
+pub(crate) fn statement_at(statements: &[Shared<Resolved>], i: usize) -> &Resolved
+    requires { i < length statements.now }
+    ensures { slice_get statements.now i ≡ Some result.now }
+{
+    &statements[i]
+}
+
+/// Where no pass may be left, control goes on from the statement where the DO ends into entries.
+pub(crate) fn is_end_kept(
+    alloc: Global,
+    entries: &[Entry],
+    end: &Resolved,
+    d: usize,
+    fewest: u64,
+    facts: &[Fact],
+    loops: &[LoopFact],
+) -> Result<bool, AllocError>
+    ensures { IfOk result (λ yes. yes ≡ true → fewest ≤ 0 → EndsInto entries.now end.now d facts.now loops.now) }
+{
+    if fewest > 0 {
+        return Ok(true);
+    }
+    let after = with_loop(alloc, loops, d, LoopFact::Inactive)?;
+    Ok(goes_on(entries, end, facts, &after))
+}
+
+fn at_least_one(fewest: u64) -> u64
+    ensures { (n : ℕ) → fewest ≤ suc n → result ≤ suc n }
+{
+    if fewest < 1 { 1 } else { fewest }
+}
+
+/// Where a pass may be left, control goes to the statement behind the DO into entries.
+pub(crate) fn is_pass_kept(
+    alloc: Global,
+    entries: &[Entry],
+    d: usize,
+    passes: Passes,
+    facts: &[Fact],
+    loops: &[LoopFact],
+) -> Result<bool, AllocError>
+    requires { d + 1 < 2 ^ 64 }
+    ensures { IfOk result (λ yes. yes ≡ true
+        → PassesInto entries.now d passes.fewest passes.most passes.step facts.now loops.now) }
+{
+    if passes.most == 0 {
+        return Ok(true);
+    }
+    let fact = LoopFact::Active {
+        fewest: at_least_one(passes.fewest),
+        most: passes.most,
+        step: passes.step,
+    };
+    let after = with_loop(alloc, loops, d, fact)?;
+    let place = Place::Execute(d + 1);
+    Ok(is_covered(entries, place, facts, &after))
+}
+
+/// Both ways lead into entries where the DO has these passes to make.
+fn are_passes_kept(
+    alloc: Global,
+    statements: &[Shared<Resolved>],
+    entries: &[Entry],
+    d: usize,
+    terminal: usize,
+    passes: Passes,
+    facts: &[Fact],
+    loops: &[LoopFact],
+) -> Result<bool, AllocError>
+    requires { d + 1 < 2 ^ 64 }
+    ensures { IfOk result (λ yes. yes ≡ true → PassesAt statements.now entries.now terminal d
+        passes.fewest passes.most passes.step facts.now loops.now) }
+{
+    if terminal >= statements.len() {
+        return Ok(false);
+    }
+    let end = statement_at(statements, terminal);
+    if !is_end_kept(alloc, entries, end, d, passes.fewest, facts, loops)? {
+        return Ok(false);
+    }
+    is_pass_kept(alloc, entries, d, passes, facts, loops)
+}
+
+/// A DO that has this left and is incremented leads into entries.
+fn is_next_kept(
+    alloc: Global,
+    statements: &[Shared<Resolved>],
+    entries: &[Entry],
+    d: usize,
+    variable: usize,
+    terminal: usize,
+    fact: LoopFact,
+    facts: &[Fact],
+    loops: &[LoopFact],
+) -> Result<bool, AllocError>
+    requires { d + 1 < 2 ^ 64 }
+    ensures { IfOk result (λ yes. yes ≡ true → (r : Resolved) (first last step : _)
+        → slice_get statements.now d ≡ Some r → r.action ≡ Loop variable first last step terminal
+        → slice_get loops.now d ≡ Some fact → Keeps statements.now entries.now (Increment d) facts.now loops.now) }
+{
+    match fact {
+        LoopFact::Inactive => Ok(false),
+        LoopFact::Active { fewest, most, step } => {
+            let next = sum_of(known_at(facts, variable), step);
+            let passes = Passes {
+                fewest: fewest.saturating_sub(1),
+                most: most.saturating_sub(1),
+                step,
+            };
+            let after = with_number(alloc, facts, one_slot(variable), next)?;
+            are_passes_kept(
+                alloc, statements, entries, d, terminal, passes, &after, loops,
+            )
+        }
+    }
+}
+
+/// The incrementation of a DO leads into entries.
+pub(crate) fn is_increment_kept(
+    alloc: Global,
+    statements: &[Shared<Resolved>],
+    entries: &[Entry],
+    d: usize,
+    facts: &[Fact],
+    loops: &[LoopFact],
+) -> Result<bool, AllocError>
+    ensures { IfOk result (λ yes. yes ≡ true
+        → Keeps statements.now entries.now (Increment d) facts.now loops.now) }
+{
+    if d >= statements.len() || d >= loops.len() {
+        return Ok(false);
+    }
+    let resolved = statement_at(statements, d);
+    match &resolved.action {
+        Action::Loop {
+            variable,
+            terminal,
+            ..
+        } => {
+            let fact = loop_at(loops, d);
+            is_next_kept(
+                alloc, statements, entries, d, *variable, *terminal, fact, facts, loops,
+            )
+        }
+        _ => Ok(false),
+    }
+}
