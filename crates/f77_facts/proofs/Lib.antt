@@ -13,3 +13,4 @@ pub mod Stored
 pub mod Trips
 pub mod Leaving
 pub mod Kept
+pub mod Growing

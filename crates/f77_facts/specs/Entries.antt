@@ -18,6 +18,14 @@ pub record IsAmong (entries : List Entry) (place : Place) (cells : Cells) (turns
   pub inside : AreIn entry.facts.items cells
   pub left : AreLeft entry.loops.items turns
 
+-- what is among the old entries is among the new ones
+abbrev pub Grows : List Entry → List Entry → Type 0
+Grows old new = (place : Place) (cells : Cells) (turns : Turns) → IsAmong old place cells turns → IsAmong new place cells turns
+
+-- entries were added, so that this holds
+abbrev pub Adds : List Entry → List Entry → Type 0 → Type 0
+Adds old new claim = Grows old new × claim
+
 -- where control goes on, an entry says what is there
 abbrev pub Lands : List Entry → Move → Type 0
 Lands entries (Goes s) = IsAmong entries s.place s.cells s.turns

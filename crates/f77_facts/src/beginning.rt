@@ -4,6 +4,7 @@ ghost use Rattle.std.specs.Prelude.{◌≡◌, ◌≢◌, ◌+◌, ◌<◌, ◌�
 ghost use Rattle.f77_actions.specs.declared.resolved.Resolved.{Resolved};
 ghost use Rattle.f77_values.specs.Number.{trip_count};
 ghost use Rattle.f77_facts.specs.Known.{IsBetween};
+ghost use Rattle.f77_facts.specs.Entries.{Adds};
 ghost use Rattle.f77_facts.specs.Keeping.{Acts, Begins, RefinesPasses};
 
 use crate::bounds::known_of;
@@ -91,11 +92,11 @@ fn begun(
     with_number(alloc, &refined, one_slot(variable), from)
 }
 
-/// A DO that begins leads into entries.
+/// Adds where a DO that begins leads, if it ends at a statement.
 pub(crate) fn is_begin_kept(
     alloc: Global,
     statements: &[Shared<Resolved>],
-    entries: &[Entry],
+    moves: &mut Vec<Entry>,
     d: usize,
     variable: usize,
     first: &Number,
@@ -106,8 +107,9 @@ pub(crate) fn is_begin_kept(
     loops: &[LoopFact],
 ) -> Result<bool, AllocError>
     requires { d + 1 < 2 ^ 64 }
-    ensures { IfOk result (λ yes. yes ≡ true → (r : Resolved) → Acts statements.now entries.now d r
-        (Action.Loop variable first.now last.now step.now terminal) facts.now loops.now) }
+    ensures { IfOk result (λ yes. yes ≡ true → Adds moves.old.items moves.new.items
+        ((r : Resolved) → Acts statements.now moves.new.items d r
+        (Action.Loop variable first.now last.now step.now terminal) facts.now loops.now)) }
 {
     if terminal >= statements.len() {
         return Ok(false);
@@ -122,9 +124,8 @@ pub(crate) fn is_begin_kept(
         step: by,
     };
     let over = begun(alloc, facts, variable, first, last, by, false)?;
-    if !is_end_kept(alloc, entries, end, d, passes.fewest, &over, loops)? {
-        return Ok(false);
-    }
+    is_end_kept(alloc, moves, end, d, passes.fewest, over, loops)?;
     let going = begun(alloc, facts, variable, first, last, by, true)?;
-    is_pass_kept(alloc, entries, d, passes, &going, loops)
+    is_pass_kept(alloc, moves, d, passes, going, loops)?;
+    Ok(true)
 }

@@ -3,15 +3,16 @@
 ghost use Rattle.std.specs.Prelude.{◌≡◌, ◌<◌, ◌≤◌, ℕ, suc, pos, negsuc, true, length, slice_get, Some, IfOk};
 ghost use Rattle.f77_actions.specs.declared.resolved.Resolved.{Resolved};
 ghost use Rattle.f77_facts.specs.Known.{IsBetween};
+ghost use Rattle.f77_facts.specs.Entries.{Adds};
 ghost use Rattle.f77_facts.specs.Keeping.{ActsAnywhere, JumpsEach};
 
 use crate::bounds::known_of;
 use crate::copying::refined;
-use crate::entries::{Entry, is_covered};
-use crate::facts::{Fact, no_number};
+use crate::entries::{Entry, add_move};
+use crate::facts::{self, Fact, no_number};
 use crate::jumping::{goes_on, goes_on_within, jumps, jumps_within};
 use crate::known::{Known, limited};
-use crate::loops::LoopFact;
+use crate::loops::{self, LoopFact};
 use f77_actions::{Action, Condition, Jump, Number, Resolved};
 use f77_code::Place;
 use std::alloc::{AllocError, Global};
@@ -81,31 +82,27 @@ fn besides(known: Known, jumps: &[Jump]) -> Known
     limited(known, bounds)
 }
 
-/// An arithmetic IF leads into entries.
+/// Adds where an arithmetic IF leads.
 fn is_sign_kept(
     alloc: Global,
-    entries: &[Entry],
+    moves: &mut Vec<Entry>,
     value: &Number,
     negative: &Jump,
     zero: &Jump,
     positive: &Jump,
     facts: &[Fact],
     loops: &[LoopFact],
-) -> Result<bool, AllocError>
-    ensures { IfOk result (λ yes. yes ≡ true → (r : Resolved) → ActsAnywhere entries.now r
-        (Action.ArithmeticIf value.now negative.now zero.now positive.now) facts.now loops.now) }
+) -> Result<(), AllocError>
+    ensures { IfOk result (λ _. Adds moves.old.items moves.new.items ((r : Resolved) → ActsAnywhere moves.new.items r
+        (Action.ArithmeticIf value.now negative.now zero.now positive.now) facts.now loops.now)) }
 {
     let known = known_of(facts, value);
     let below = below_zero(known);
-    if !jumps_within(alloc, entries, negative, value, below, facts, loops)? {
-        return Ok(false);
-    }
+    jumps_within(alloc, moves, negative, value, below, facts, loops)?;
     let equal = at_zero(known);
-    if !jumps_within(alloc, entries, zero, value, equal, facts, loops)? {
-        return Ok(false);
-    }
+    jumps_within(alloc, moves, zero, value, equal, facts, loops)?;
     let above = above_zero(known);
-    jumps_within(alloc, entries, positive, value, above, facts, loops)
+    jumps_within(alloc, moves, positive, value, above, facts, loops)
 }
 
 fn jump_at(jumps: &[Jump], k: usize) -> &Jump
@@ -115,103 +112,122 @@ fn jump_at(jumps: &[Jump], k: usize) -> &Jump
     &jumps[k]
 }
 
-/// The jumps of a computed GO TO lead into entries.
+/// Adds where the jumps of a computed GO TO lead.
 fn is_each_kept(
     alloc: Global,
-    entries: &[Entry],
+    moves: &mut Vec<Entry>,
     value: &Number,
     jumps: &[Jump],
     facts: &[Fact],
     loops: &[LoopFact],
-) -> Result<bool, AllocError>
-    ensures { IfOk result (λ yes. yes ≡ true
-        → JumpsEach entries.now jumps.now value.now (length jumps.now) facts.now loops.now) }
+) -> Result<(), AllocError>
+    ensures { IfOk result (λ _. Adds moves.old.items moves.new.items
+        (JumpsEach moves.new.items jumps.now value.now (length jumps.now) facts.now loops.now)) }
 {
     let known = known_of(facts, value);
     for k in 0..jumps.len() {
         let jump = jump_at(jumps, k);
         let here = at_next(known, k);
-        if !jumps_within(alloc, entries, jump, value, here, facts, loops)? {
-            return Ok(false);
-        }
+        jumps_within(alloc, moves, jump, value, here, facts, loops)?;
     }
-    Ok(true)
+    Ok(())
 }
 
-/// A computed GO TO leads into entries.
+/// Adds where a computed GO TO leads.
 fn is_selection_kept(
     alloc: Global,
-    entries: &[Entry],
+    moves: &mut Vec<Entry>,
     resolved: &Resolved,
     value: &Number,
     jumps: &Vec<Jump>,
     facts: &[Fact],
     loops: &[LoopFact],
-) -> Result<bool, AllocError>
-    ensures { IfOk result (λ yes. yes ≡ true → ActsAnywhere entries.now resolved.now
-        (Action.ComputedGoto value.now jumps.now) facts.now loops.now) }
+) -> Result<(), AllocError>
+    ensures { IfOk result (λ _. Adds moves.old.items moves.new.items (ActsAnywhere moves.new.items resolved.now
+        (Action.ComputedGoto value.now jumps.now) facts.now loops.now)) }
 {
-    if !is_each_kept(alloc, entries, value, jumps, facts, loops)? {
-        return Ok(false);
-    }
+    is_each_kept(alloc, moves, value, jumps, facts, loops)?;
     let known = known_of(facts, value);
     let rest = besides(known, jumps);
-    goes_on_within(alloc, entries, resolved, value, rest, facts, loops)
+    goes_on_within(alloc, moves, resolved, value, rest, facts, loops)
 }
 
-/// A block IF or an ELSE IF leads into entries.
+/// Adds where a block IF or an ELSE IF leads.
 fn is_branch_kept(
     alloc: Global,
-    entries: &[Entry],
+    moves: &mut Vec<Entry>,
     resolved: &Resolved,
     condition: &Condition,
     otherwise: usize,
     facts: &[Fact],
     loops: &[LoopFact],
-) -> Result<bool, AllocError>
-    ensures { IfOk result (λ yes. yes ≡ true → ActsAnywhere entries.now resolved.now
-        (Action.Branch condition.now otherwise) facts.now loops.now) }
+) -> Result<(), AllocError>
+    ensures { IfOk result (λ _. Adds moves.old.items moves.new.items (ActsAnywhere moves.new.items resolved.now
+        (Action.Branch condition.now otherwise) facts.now loops.now)) }
 {
     let holds = refined(alloc, facts, condition, true)?;
-    if !goes_on(entries, resolved, &holds, loops) {
-        return Ok(false);
-    }
+    goes_on(alloc, moves, resolved, holds, loops)?;
     let fails = refined(alloc, facts, condition, false)?;
+    let there = loops::copy(alloc, loops)?;
     let place = Place::Execute(otherwise);
-    Ok(is_covered(entries, place, &fails, loops))
+    add_move(moves, place, fails, there)
 }
 
-/// A jump, or a choice by a value, leads into entries.
-pub(crate) fn is_jump_kept(
+/// Adds where a choice by a value leads, if the action is one.
+fn is_choice_kept(
     alloc: Global,
-    entries: &[Entry],
+    moves: &mut Vec<Entry>,
     resolved: &Resolved,
     action: &Action,
     facts: &[Fact],
     loops: &[LoopFact],
 ) -> Result<bool, AllocError>
-    ensures { IfOk result (λ yes. yes ≡ true
-        → ActsAnywhere entries.now resolved.now action.now facts.now loops.now) }
+    ensures { IfOk result (λ yes. yes ≡ true → Adds moves.old.items moves.new.items
+        (ActsAnywhere moves.new.items resolved.now action.now facts.now loops.now)) }
 {
     match action {
-        Action::Goto(jump) => jumps(alloc, entries, jump, facts, loops),
-        Action::ComputedGoto { value, jumps } => {
-            is_selection_kept(alloc, entries, resolved, value, jumps, facts, loops)
-        }
         Action::ArithmeticIf {
             value,
             negative,
             zero,
             positive,
-        } => is_sign_kept(
-            alloc, entries, value, negative, zero, positive, facts, loops,
-        ),
+        } => {
+            is_sign_kept(alloc, moves, value, negative, zero, positive, facts, loops)?;
+            Ok(true)
+        }
         Action::Branch {
             condition,
             otherwise,
-        } => is_branch_kept(
-            alloc, entries, resolved, condition, *otherwise, facts, loops,
-        ),
+        } => {
+            is_branch_kept(alloc, moves, resolved, condition, *otherwise, facts, loops)?;
+            Ok(true)
+        }
         _ => Ok(false),
+    }
+}
+
+/// Adds where a jump, or a choice by a value, leads, if the action is one.
+pub(crate) fn is_jump_kept(
+    alloc: Global,
+    moves: &mut Vec<Entry>,
+    resolved: &Resolved,
+    action: &Action,
+    facts: &[Fact],
+    loops: &[LoopFact],
+) -> Result<bool, AllocError>
+    ensures { IfOk result (λ yes. yes ≡ true → Adds moves.old.items moves.new.items
+        (ActsAnywhere moves.new.items resolved.now action.now facts.now loops.now)) }
+{
+    match action {
+        Action::Goto(jump) => {
+            let there = facts::copy(alloc, facts)?;
+            jumps(alloc, moves, jump, there, loops)?;
+            Ok(true)
+        }
+        Action::ComputedGoto { value, jumps } => {
+            is_selection_kept(alloc, moves, resolved, value, jumps, facts, loops)?;
+            Ok(true)
+        }
+        _ => is_choice_kept(alloc, moves, resolved, action, facts, loops),
     }
 }

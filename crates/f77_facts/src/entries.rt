@@ -1,11 +1,12 @@
 //! What is known at the places where control may be.
 
-ghost use Rattle.std.specs.Prelude.{◌≡◌, ◌<◌, true, length, slice_get, Some};
-ghost use Rattle.f77_facts.specs.Entries.{AreCovered};
+ghost use Rattle.std.specs.Prelude.{◌≡◌, ◌<◌, true, length, slice_get, Some, IfOk};
+ghost use Rattle.f77_facts.specs.Entries.{AreCovered, Grows, Adds};
 
 use crate::facts::{Fact, is_empty, is_inside};
 use crate::loops::{LoopFact, is_loops_inside};
 use f77_code::Place;
+use std::alloc::AllocError;
 
 /// What is known of slots and DOs where control is at this place. A place may have several entries.
 #[derive(Drop)]
@@ -40,4 +41,38 @@ pub fn is_covered(entries: &[Entry], place: Place, facts: &[Fact], loops: &[Loop
         }
     }
     false
+}
+
+/// Each of these entries is covered.
+pub fn are_covered(entries: &[Entry], covered: &[Entry]) -> bool
+    ensures { result ≡ true → Grows covered.now entries.now }
+{
+    for number in 0..covered.len() {
+        let entry = entry_at(covered, number);
+        if !is_covered(entries, entry.place, &entry.facts, &entry.loops) {
+            return false;
+        }
+    }
+    true
+}
+
+/// Adds that control gets to the place, unless no state suits the facts.
+pub fn add_move(
+    moves: &mut Vec<Entry>,
+    place: Place,
+    facts: Vec<Fact>,
+    loops: Vec<LoopFact>,
+) -> Result<(), AllocError>
+    ensures { IfOk result (λ _. Adds moves.old.items moves.new.items
+        (AreCovered moves.new.items place facts.items loops.items)) }
+{
+    if is_empty(&facts) {
+        return Ok(());
+    }
+    moves.push(Entry {
+        place,
+        facts,
+        loops,
+    })?;
+    Ok(())
 }

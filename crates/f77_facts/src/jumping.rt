@@ -1,15 +1,16 @@
 //! Where control goes on, which DOs a jump leaves, and what is known there.
 
-ghost use Rattle.std.specs.Prelude.{◌≡◌, true, is_some, IfOk};
+ghost use Rattle.std.specs.Prelude.{◌≡◌, is_some, IfOk};
 ghost use Rattle.f77_code.specs.Moves.{Turns, turn_at, innermost, place_behind};
+ghost use Rattle.f77_facts.specs.Entries.{Adds};
 ghost use Rattle.f77_facts.specs.Loops.{AreLeft};
 ghost use Rattle.f77_facts.specs.Keeping.{GoesOn, GoesOnWithin, Jumps, JumpsWithin};
 
 use crate::copying::{left, limited_to, number_at};
-use crate::entries::{Entry, is_covered};
+use crate::entries::{Entry, add_move};
 use crate::facts::Fact;
 use crate::known::Known;
-use crate::loops::{LoopFact, loop_at};
+use crate::loops::{self, LoopFact, loop_at};
 use f77_actions::{Jump, Number, Resolved};
 use f77_code::Place;
 use std::alloc::{AllocError, Global};
@@ -50,69 +51,74 @@ fn place_after(loops: &[LoopFact], resolved: &Resolved) -> Place
     }
 }
 
-/// Control goes on from the statement into entries.
+/// Adds where control goes on from the statement.
 pub(crate) fn goes_on(
-    entries: &[Entry],
+    alloc: Global,
+    moves: &mut Vec<Entry>,
     resolved: &Resolved,
-    facts: &[Fact],
+    facts: Vec<Fact>,
     loops: &[LoopFact],
-) -> bool
-    ensures { result ≡ true → GoesOn entries.now resolved.now facts.now loops.now }
+) -> Result<(), AllocError>
+    ensures { IfOk result (λ _. Adds moves.old.items moves.new.items
+        (GoesOn moves.new.items resolved.now facts.items loops.now)) }
 {
     let place = place_after(loops, resolved);
-    is_covered(entries, place, facts, loops)
+    let there = loops::copy(alloc, loops)?;
+    add_move(moves, place, facts, there)
 }
 
-/// The jump leads into entries.
+/// Adds where the jump leads.
 pub(crate) fn jumps(
     alloc: Global,
-    entries: &[Entry],
+    moves: &mut Vec<Entry>,
     jump: &Jump,
-    facts: &[Fact],
+    facts: Vec<Fact>,
     loops: &[LoopFact],
-) -> Result<bool, AllocError>
-    ensures { IfOk result (λ yes. yes ≡ true → Jumps entries.now jump.now facts.now loops.now) }
+) -> Result<(), AllocError>
+    ensures { IfOk result (λ _. Adds moves.old.items moves.new.items
+        (Jumps moves.new.items jump.now facts.items loops.now)) }
 {
     let after = left(alloc, loops, &jump.leaves)?;
     let place = Place::Execute(jump.target);
-    Ok(is_covered(entries, place, facts, &after))
+    add_move(moves, place, facts, after)
 }
 
-/// The jump leads into entries where the number has a value between these bounds.
+/// Adds where the jump leads if the number has a value between these bounds.
 pub(crate) fn jumps_within(
     alloc: Global,
-    entries: &[Entry],
+    moves: &mut Vec<Entry>,
     jump: &Jump,
     number: &Number,
     to: Known,
     facts: &[Fact],
     loops: &[LoopFact],
-) -> Result<bool, AllocError>
-    ensures { IfOk result (λ yes. yes ≡ true → JumpsWithin entries.now jump.now number.now to facts.now loops.now) }
+) -> Result<(), AllocError>
+    ensures { IfOk result (λ _. Adds moves.old.items moves.new.items
+        (JumpsWithin moves.new.items jump.now number.now to facts.now loops.now)) }
 {
     if to.high < to.low {
-        return Ok(true);
+        return Ok(());
     }
     let after = limited_to(alloc, facts, number, to)?;
-    jumps(alloc, entries, jump, &after, loops)
+    jumps(alloc, moves, jump, after, loops)
 }
 
-/// Control goes on into entries where the number has a value between these bounds.
+/// Adds where control goes on if the number has a value between these bounds.
 pub(crate) fn goes_on_within(
     alloc: Global,
-    entries: &[Entry],
+    moves: &mut Vec<Entry>,
     resolved: &Resolved,
     number: &Number,
     to: Known,
     facts: &[Fact],
     loops: &[LoopFact],
-) -> Result<bool, AllocError>
-    ensures { IfOk result (λ yes. yes ≡ true
-        → GoesOnWithin entries.now resolved.now number.now to facts.now loops.now) }
+) -> Result<(), AllocError>
+    ensures { IfOk result (λ _. Adds moves.old.items moves.new.items
+        (GoesOnWithin moves.new.items resolved.now number.now to facts.now loops.now)) }
 {
     if to.high < to.low {
-        return Ok(true);
+        return Ok(());
     }
     let after = limited_to(alloc, facts, number, to)?;
-    Ok(goes_on(entries, resolved, &after, loops))
+    goes_on(alloc, moves, resolved, after, loops)
 }

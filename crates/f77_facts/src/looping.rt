@@ -4,12 +4,12 @@ ghost use Rattle.std.specs.Prelude.{◌≡◌, ◌+◌, ◌<◌, ◌≤◌, ◌^
 ghost use Rattle.f77_actions.specs.declared.action.Action.{Loop};
 ghost use Rattle.f77_actions.specs.declared.resolved.Resolved.{Resolved};
 ghost use Rattle.f77_code.specs.declared.control.Place.TheVariants.{Increment};
-ghost use Rattle.f77_facts.specs.Entries.{Keeps};
+ghost use Rattle.f77_facts.specs.Entries.{Adds, Keeps};
 ghost use Rattle.f77_facts.specs.Keeping.{EndsInto, PassesInto, PassesAt};
 
 use crate::copying::{with_loop, with_number};
-use crate::entries::{Entry, is_covered};
-use crate::facts::{Fact, known_at};
+use crate::entries::{Entry, add_move};
+use crate::facts::{self, Fact, known_at};
 use crate::jumping::goes_on;
 use crate::known::{Known, sum_of};
 use crate::loops::{LoopFact, loop_at};
@@ -35,23 +35,24 @@ pub(crate) fn statement_at(statements: &[Shared<Resolved>], i: usize) -> &Resolv
     &statements[i]
 }
 
-/// Where no pass may be left, control goes on from the statement where the DO ends into entries.
+/// Where no pass may be left, adds where control goes on from the statement where the DO ends.
 pub(crate) fn is_end_kept(
     alloc: Global,
-    entries: &[Entry],
+    moves: &mut Vec<Entry>,
     end: &Resolved,
     d: usize,
     fewest: u64,
-    facts: &[Fact],
+    facts: Vec<Fact>,
     loops: &[LoopFact],
-) -> Result<bool, AllocError>
-    ensures { IfOk result (λ yes. yes ≡ true → fewest ≤ 0 → EndsInto entries.now end.now d facts.now loops.now) }
+) -> Result<(), AllocError>
+    ensures { IfOk result (λ _. Adds moves.old.items moves.new.items
+        (fewest ≤ 0 → EndsInto moves.new.items end.now d facts.items loops.now)) }
 {
     if fewest > 0 {
-        return Ok(true);
+        return Ok(());
     }
     let after = with_loop(alloc, loops, d, LoopFact::Inactive)?;
-    Ok(goes_on(entries, end, facts, &after))
+    goes_on(alloc, moves, end, facts, &after)
 }
 
 fn at_least_one(fewest: u64) -> u64
@@ -60,21 +61,21 @@ fn at_least_one(fewest: u64) -> u64
     if fewest < 1 { 1 } else { fewest }
 }
 
-/// Where a pass may be left, control goes to the statement behind the DO into entries.
+/// Where a pass may be left, adds that control goes to the statement behind the DO.
 pub(crate) fn is_pass_kept(
     alloc: Global,
-    entries: &[Entry],
+    moves: &mut Vec<Entry>,
     d: usize,
     passes: Passes,
-    facts: &[Fact],
+    facts: Vec<Fact>,
     loops: &[LoopFact],
-) -> Result<bool, AllocError>
+) -> Result<(), AllocError>
     requires { d + 1 < 2 ^ 64 }
-    ensures { IfOk result (λ yes. yes ≡ true
-        → PassesInto entries.now d passes.fewest passes.most passes.step facts.now loops.now) }
+    ensures { IfOk result (λ _. Adds moves.old.items moves.new.items
+        (PassesInto moves.new.items d passes.fewest passes.most passes.step facts.items loops.now)) }
 {
     if passes.most == 0 {
-        return Ok(true);
+        return Ok(());
     }
     let fact = LoopFact::Active {
         fewest: at_least_one(passes.fewest),
@@ -83,39 +84,40 @@ pub(crate) fn is_pass_kept(
     };
     let after = with_loop(alloc, loops, d, fact)?;
     let place = Place::Execute(d + 1);
-    Ok(is_covered(entries, place, facts, &after))
+    add_move(moves, place, facts, after)
 }
 
-/// Both ways lead into entries where the DO has these passes to make.
+/// Adds both ways of a DO that has these passes to make, if it ends at a statement.
 fn are_passes_kept(
     alloc: Global,
     statements: &[Shared<Resolved>],
-    entries: &[Entry],
+    moves: &mut Vec<Entry>,
     d: usize,
     terminal: usize,
     passes: Passes,
-    facts: &[Fact],
+    facts: Vec<Fact>,
     loops: &[LoopFact],
 ) -> Result<bool, AllocError>
     requires { d + 1 < 2 ^ 64 }
-    ensures { IfOk result (λ yes. yes ≡ true → PassesAt statements.now entries.now terminal d
-        passes.fewest passes.most passes.step facts.now loops.now) }
+    ensures { IfOk result (λ yes. yes ≡ true → Adds moves.old.items moves.new.items
+        (PassesAt statements.now moves.new.items terminal d
+        passes.fewest passes.most passes.step facts.items loops.now)) }
 {
     if terminal >= statements.len() {
         return Ok(false);
     }
     let end = statement_at(statements, terminal);
-    if !is_end_kept(alloc, entries, end, d, passes.fewest, facts, loops)? {
-        return Ok(false);
-    }
-    is_pass_kept(alloc, entries, d, passes, facts, loops)
+    let over = facts::copy(alloc, &facts)?;
+    is_end_kept(alloc, moves, end, d, passes.fewest, over, loops)?;
+    is_pass_kept(alloc, moves, d, passes, facts, loops)?;
+    Ok(true)
 }
 
-/// A DO that has this left and is incremented leads into entries.
+/// Adds where a DO leads that has this left and is incremented, if it is active.
 fn is_next_kept(
     alloc: Global,
     statements: &[Shared<Resolved>],
-    entries: &[Entry],
+    moves: &mut Vec<Entry>,
     d: usize,
     variable: usize,
     terminal: usize,
@@ -124,9 +126,10 @@ fn is_next_kept(
     loops: &[LoopFact],
 ) -> Result<bool, AllocError>
     requires { d + 1 < 2 ^ 64 }
-    ensures { IfOk result (λ yes. yes ≡ true → (r : Resolved) (first last step : _)
+    ensures { IfOk result (λ yes. yes ≡ true → Adds moves.old.items moves.new.items
+        ((r : Resolved) (first last step : _)
         → slice_get statements.now d ≡ Some r → r.action ≡ Loop variable first last step terminal
-        → slice_get loops.now d ≡ Some fact → Keeps statements.now entries.now (Increment d) facts.now loops.now) }
+        → slice_get loops.now d ≡ Some fact → Keeps statements.now moves.new.items (Increment d) facts.now loops.now)) }
 {
     match fact {
         LoopFact::Inactive => Ok(false),
@@ -138,24 +141,22 @@ fn is_next_kept(
                 step,
             };
             let after = with_number(alloc, facts, one_slot(variable), next)?;
-            are_passes_kept(
-                alloc, statements, entries, d, terminal, passes, &after, loops,
-            )
+            are_passes_kept(alloc, statements, moves, d, terminal, passes, after, loops)
         }
     }
 }
 
-/// The incrementation of a DO leads into entries.
+/// Adds where the incrementation of a DO leads, if it is an active DO.
 pub(crate) fn is_increment_kept(
     alloc: Global,
     statements: &[Shared<Resolved>],
-    entries: &[Entry],
+    moves: &mut Vec<Entry>,
     d: usize,
     facts: &[Fact],
     loops: &[LoopFact],
 ) -> Result<bool, AllocError>
-    ensures { IfOk result (λ yes. yes ≡ true
-        → Keeps statements.now entries.now (Increment d) facts.now loops.now) }
+    ensures { IfOk result (λ yes. yes ≡ true → Adds moves.old.items moves.new.items
+        (Keeps statements.now moves.new.items (Increment d) facts.now loops.now)) }
 {
     if d >= statements.len() || d >= loops.len() {
         return Ok(false);
@@ -169,7 +170,7 @@ pub(crate) fn is_increment_kept(
         } => {
             let fact = loop_at(loops, d);
             is_next_kept(
-                alloc, statements, entries, d, *variable, *terminal, fact, facts, loops,
+                alloc, statements, moves, d, *variable, *terminal, fact, facts, loops,
             )
         }
         _ => Ok(false),

@@ -1,16 +1,16 @@
 //! Where one step leads.
 
-ghost use Rattle.std.specs.Prelude.{◌≡◌, ◌+◌, ◌<◌, ◌^◌, true, IfOk};
+ghost use Rattle.std.specs.Prelude.{◌≡◌, ◌+◌, ◌<◌, ◌^◌, true, IfOk, IfSome};
 ghost use Rattle.f77_code.specs.declared.control.Place.TheVariants.{Execute};
-ghost use Rattle.f77_facts.specs.Entries.{Keeps};
+ghost use Rattle.f77_facts.specs.Entries.{Adds, Keeps};
 ghost use Rattle.f77_facts.specs.Keeping.{Acts, ActsAnywhere};
 
 use crate::beginning::is_begin_kept;
 use crate::bounds::{known_of, reach_of, truths_of};
 use crate::choosing::is_jump_kept;
 use crate::copying::{refined, with_number, with_truth};
-use crate::entries::Entry;
-use crate::facts::Fact;
+use crate::entries::{Entry, are_covered};
+use crate::facts::{self, Fact};
 use crate::jumping::goes_on;
 use crate::looping::{is_increment_kept, statement_at};
 use crate::loops::LoopFact;
@@ -19,74 +19,80 @@ use f77_code::Place;
 use f77_tree::Shared;
 use std::alloc::{AllocError, Global};
 
-/// An assignment of an INTEGER value leads into entries.
+/// Adds where an assignment of an INTEGER value leads.
 fn is_number_kept(
     alloc: Global,
-    entries: &[Entry],
+    moves: &mut Vec<Entry>,
     resolved: &Resolved,
     element: &Element,
     number: &Number,
     facts: &[Fact],
     loops: &[LoopFact],
-) -> Result<bool, AllocError>
-    ensures { IfOk result (λ yes. yes ≡ true → ActsAnywhere entries.now resolved.now
-        (Action.AssignNumber element.now number.now) facts.now loops.now) }
+) -> Result<(), AllocError>
+    ensures { IfOk result (λ _. Adds moves.old.items moves.new.items (ActsAnywhere moves.new.items resolved.now
+        (Action.AssignNumber element.now number.now) facts.now loops.now)) }
 {
     let reach = reach_of(facts, element);
     let known = known_of(facts, number);
     let after = with_number(alloc, facts, reach, known)?;
-    Ok(goes_on(entries, resolved, &after, loops))
+    goes_on(alloc, moves, resolved, after, loops)
 }
 
-/// An assignment of a LOGICAL value leads into entries.
+/// Adds where an assignment of a LOGICAL value leads.
 fn is_truth_kept(
     alloc: Global,
-    entries: &[Entry],
+    moves: &mut Vec<Entry>,
     resolved: &Resolved,
     element: &Element,
     condition: &Condition,
     facts: &[Fact],
     loops: &[LoopFact],
-) -> Result<bool, AllocError>
-    ensures { IfOk result (λ yes. yes ≡ true → ActsAnywhere entries.now resolved.now
-        (Action.AssignTruth element.now condition.now) facts.now loops.now) }
+) -> Result<(), AllocError>
+    ensures { IfOk result (λ _. Adds moves.old.items moves.new.items (ActsAnywhere moves.new.items resolved.now
+        (Action.AssignTruth element.now condition.now) facts.now loops.now)) }
 {
     let reach = reach_of(facts, element);
     let truths = truths_of(facts, condition);
     let after = with_truth(alloc, facts, reach, truths)?;
-    Ok(goes_on(entries, resolved, &after, loops))
+    goes_on(alloc, moves, resolved, after, loops)
 }
 
-/// An action that asks for no other statement leads into entries.
+/// Adds where an action leads that asks for no other statement.
 fn is_plain_kept(
     alloc: Global,
-    entries: &[Entry],
+    moves: &mut Vec<Entry>,
     resolved: &Resolved,
     action: &Action,
     facts: &[Fact],
     loops: &[LoopFact],
 ) -> Result<bool, AllocError>
-    ensures { IfOk result (λ yes. yes ≡ true
-        → ActsAnywhere entries.now resolved.now action.now facts.now loops.now) }
+    ensures { IfOk result (λ yes. yes ≡ true → Adds moves.old.items moves.new.items
+        (ActsAnywhere moves.new.items resolved.now action.now facts.now loops.now)) }
 {
     match action {
         Action::AssignNumber(element, number) => {
-            is_number_kept(alloc, entries, resolved, element, number, facts, loops)
+            is_number_kept(alloc, moves, resolved, element, number, facts, loops)?;
+            Ok(true)
         }
         Action::AssignTruth(element, condition) => {
-            is_truth_kept(alloc, entries, resolved, element, condition, facts, loops)
+            is_truth_kept(alloc, moves, resolved, element, condition, facts, loops)?;
+            Ok(true)
         }
-        Action::Continue => Ok(goes_on(entries, resolved, facts, loops)),
+        Action::Continue => {
+            let there = facts::copy(alloc, facts)?;
+            goes_on(alloc, moves, resolved, there, loops)?;
+            Ok(true)
+        }
         Action::Return | Action::Stop | Action::Trap => Ok(true),
-        _ => is_jump_kept(alloc, entries, resolved, action, facts, loops),
+        _ => is_jump_kept(alloc, moves, resolved, action, facts, loops),
     }
 }
 
-/// What the statement `i` does leads into entries.
+/// Adds where the statement `i` leads by what it does.
 fn is_action_kept(
     alloc: Global,
     statements: &[Shared<Resolved>],
-    entries: &[Entry],
+    moves: &mut Vec<Entry>,
     i: usize,
     resolved: &Resolved,
     action: &Action,
@@ -94,19 +100,15 @@ fn is_action_kept(
     loops: &[LoopFact],
 ) -> Result<bool, AllocError>
     requires { i + 1 < 2 ^ 64 }
-    ensures { IfOk result (λ yes. yes ≡ true
-        → Acts statements.now entries.now i resolved.now action.now facts.now loops.now) }
+    ensures { IfOk result (λ yes. yes ≡ true → Adds moves.old.items moves.new.items
+        (Acts statements.now moves.new.items i resolved.now action.now facts.now loops.now)) }
 {
     match action {
         Action::LogicalIf { condition, action } => {
             let fails = refined(alloc, facts, condition, false)?;
-            if !goes_on(entries, resolved, &fails, loops) {
-                return Ok(false);
-            }
+            goes_on(alloc, moves, resolved, fails, loops)?;
             let holds = refined(alloc, facts, condition, true)?;
-            is_action_kept(
-                alloc, statements, entries, i, resolved, action, &holds, loops,
-            )
+            is_action_kept(alloc, statements, moves, i, resolved, action, &holds, loops)
         }
         Action::Loop {
             variable,
@@ -115,23 +117,23 @@ fn is_action_kept(
             step,
             terminal,
         } => is_begin_kept(
-            alloc, statements, entries, i, *variable, first, last, step, *terminal, facts, loops,
+            alloc, statements, moves, i, *variable, first, last, step, *terminal, facts, loops,
         ),
-        _ => is_plain_kept(alloc, entries, resolved, action, facts, loops),
+        _ => is_plain_kept(alloc, moves, resolved, action, facts, loops),
     }
 }
 
-/// A step of the statement leads into entries.
+/// Adds where a step of the statement leads, if there is such a statement.
 fn is_statement_kept(
     alloc: Global,
     statements: &[Shared<Resolved>],
-    entries: &[Entry],
+    moves: &mut Vec<Entry>,
     i: usize,
     facts: &[Fact],
     loops: &[LoopFact],
 ) -> Result<bool, AllocError>
-    ensures { IfOk result (λ yes. yes ≡ true
-        → Keeps statements.now entries.now (Execute i) facts.now loops.now) }
+    ensures { IfOk result (λ yes. yes ≡ true → Adds moves.old.items moves.new.items
+        (Keeps statements.now moves.new.items (Execute i) facts.now loops.now)) }
 {
     if i >= statements.len() {
         return Ok(false);
@@ -140,13 +142,49 @@ fn is_statement_kept(
     is_action_kept(
         alloc,
         statements,
-        entries,
+        moves,
         i,
         resolved,
         &resolved.action,
         facts,
         loops,
     )
+}
+
+/// Adds where a step from any state of the place leads of which this is known, where that can be told.
+fn leads(
+    alloc: Global,
+    statements: &[Shared<Resolved>],
+    moves: &mut Vec<Entry>,
+    place: Place,
+    facts: &[Fact],
+    loops: &[LoopFact],
+) -> Result<bool, AllocError>
+    ensures { IfOk result (λ yes. yes ≡ true → Adds moves.old.items moves.new.items
+        (Keeps statements.now moves.new.items place facts.now loops.now)) }
+{
+    match place {
+        Place::Execute(i) => is_statement_kept(alloc, statements, moves, i, facts, loops),
+        Place::Increment(d) => is_increment_kept(alloc, statements, moves, d, facts, loops),
+    }
+}
+
+/// Where a step from any state of the place leads of which this is known, where that can be told.
+pub fn moves_of(
+    alloc: Global,
+    statements: &[Shared<Resolved>],
+    place: Place,
+    facts: &[Fact],
+    loops: &[LoopFact],
+) -> Result<Option<Vec<Entry>>, AllocError>
+    ensures { IfOk result (λ answer. IfSome answer
+        (λ moves. Keeps statements.now moves.items place facts.now loops.now)) }
+{
+    let mut moves = Vec::new(alloc);
+    if !leads(alloc, statements, &mut moves, place, facts, loops)? {
+        return Ok(None);
+    }
+    Ok(Some(moves))
 }
 
 /// A step from any state of the place of which this is known leads into entries.
@@ -161,8 +199,8 @@ pub fn keeps(
     ensures { IfOk result (λ yes. yes ≡ true
         → Keeps statements.now entries.now place facts.now loops.now) }
 {
-    match place {
-        Place::Execute(i) => is_statement_kept(alloc, statements, entries, i, facts, loops),
-        Place::Increment(d) => is_increment_kept(alloc, statements, entries, d, facts, loops),
+    match moves_of(alloc, statements, place, facts, loops)? {
+        Some(moves) => Ok(are_covered(entries, &moves)),
+        None => Ok(false),
     }
 }

@@ -55,6 +55,7 @@ fn multiples(factor: i32, b: Known) -> Span
     }
 }
 
+/// The products of numbers of both.
 pub fn products(a: Known, b: Known) -> Span
     ensures { (u v : ℤ) → IsBetween a.low u a.high → IsBetween b.low v b.high
         → IsBetween result.low (u *ℤ v) result.high }
@@ -62,6 +63,7 @@ pub fn products(a: Known, b: Known) -> Span
     hull(multiples(a.low, b), multiples(a.high, b))
 }
 
+/// The products of a number with itself.
 pub fn squares(a: Known) -> Span
     ensures { (u : ℤ) → IsBetween a.low u a.high → IsBetween result.low (u *ℤ u) result.high }
 {

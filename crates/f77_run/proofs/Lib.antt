@@ -1,4 +1,4 @@
-mod OneWay
+pub mod OneWay
 mod Stepping
 mod Rows
 mod Numbered
@@ -16,12 +16,12 @@ mod Stored
 mod Steps
 mod Turning
 mod Looping
-mod Simulation
+pub mod Simulation
 mod Reaching
 mod Endless
 mod KeptLists
 mod SameStates
-mod Runs
+pub mod Runs
 mod Following
 pub mod Unreached
 mod Pairs
@@ -33,8 +33,8 @@ mod Dummies
 mod Filling
 mod Laying
 mod Reading
-mod Beginning
-mod OneAnswer
+pub mod Beginning
+pub mod OneAnswer
 mod Telling
 mod Nested
 mod Jumping
@@ -42,7 +42,7 @@ mod Branching
 mod GoingOn
 mod Active
 mod StandsNested
-mod Moving
+pub mod Moving
 mod Alongside
 mod Parted
 mod Visiting
@@ -58,6 +58,7 @@ mod SlotKinds
 mod Kinded
 mod OneExchanged
 mod Pushed
+mod Walked
 mod Advancing
 mod Going
 mod Answering

@@ -1,12 +1,17 @@
 //! Runs of checked programs.
 
-ghost use Rattle.std.specs.Prelude.{◌≡◌, ◌⊎◌, ◌≤◌, length, map, option_map, replicate, Some, None, Err, IfOk, IfErr, IfSome};
+ghost use Rattle.std.specs.Prelude.{◌≡◌, ◌⊎◌, ◌≤◌, List, length, map, option_map, replicate, Some, None, Err, IfOk, IfErr, IfSome};
 ghost use Rattle.f77_program.specs.Program.{line_of};
+ghost use Rattle.f77_legal.specs.Names.{bounds_of};
+ghost use Rattle.f77_check.specs.Checked.{IsChecked};
+ghost use Rattle.f77_check.specs.Slots.{slot_count};
 ghost use Rattle.f77_run.specs.Interpreter as meaning;
 ghost use Rattle.f77_run.specs.Interpreter.{AreFitting, AreArguments, IsOutcomeOf, Tells, refusal, values_in};
-ghost use Rattle.f77_run.specs.Running.{Site, IsRunning, config_at};
+ghost use Rattle.f77_run.specs.Running.{Site, IsRunning, ComesToCells, config_at, values_at};
 ghost use Rattle.f77_run.specs.Site.{site_of, held, HoldsDummies};
 ghost use Rattle.f77_run.specs.Start.{IsStart, constant_value};
+ghost use Rattle.f77_run.specs.Typed.{IsTyped};
+ghost use Rattle.f77_run.specs.declared.argument.Arg.{Arg};
 ghost use Rattle.f77_run.specs.declared.outcome.Outcome.{Outcome};
 ghost use Rattle.f77_run.specs.declared.outcome.RunFault.TheVariants as fault;
 
@@ -16,9 +21,10 @@ use crate::machine::Machine;
 use crate::outcome::{Outcome, RunFault};
 use crate::passing::{arguments as held_arguments, fill_all};
 use crate::registers::Registers;
-use crate::running::go;
+use crate::running::{End, go};
 use crate::snapshot::Snapshot;
 use crate::values::Values;
+use crate::walking::walk;
 use crate::workspace::code_of;
 use f77_check::Checked;
 use f77_code::{Place, Turn};
@@ -145,6 +151,67 @@ pub(crate) fn answer(
     }
 }
 
+/// How many steps a run makes each by itself before its program is compiled, which takes as long.
+const BEFORE_CODE: u32 = 256;
+
+/// How a run goes on that is in the state of the machine, for so many steps at most, by code that is compiled for it.
+fn end_by_code(
+    alloc: Global,
+    checked: &Checked,
+    machine: &mut Machine,
+    steps: u32,
+) -> Result<End, RunFault>
+    ghost at: { Site }
+    requires site { (arguments : List Arg) × (at ≡ site_of checked.now arguments) }
+    requires running { IsRunning at checked.now.statements machine.old }
+    requires typed { IsTyped at.program (values_at at machine.old.cells.items) }
+    ensures ends { IfOk result (λ end. ComesToCells at steps (config_at at machine.old) end.made end.finish machine.new.cells.items) }
+    ensures cells { IfOk result (λ _. length machine.new.cells.items ≡ slot_count (bounds_of at.program) at.names) }
+    ensures memory { IfErr result (λ e. e ≡ fault.Memory) }
+{
+    let code = code_of(alloc, checked)?;
+    let mut registers = Registers::new(alloc);
+    let mut earlier = Snapshot::new(alloc);
+    let start = checked.start();
+    let statements = checked.statements();
+    let end = go(
+        &start.kinds,
+        statements,
+        &code,
+        machine,
+        &mut registers,
+        &mut earlier,
+        steps,
+    )?;
+    Ok(end)
+}
+
+/// How a run ends that is in the state of the machine, for so many steps at most.
+fn end_of(
+    alloc: Global,
+    checked: &Checked,
+    machine: &mut Machine,
+    steps: u32,
+) -> Result<End, RunFault>
+    ghost at: { Site }
+    requires site { (arguments : List Arg) × (at ≡ site_of checked.now arguments) × AreFitting checked.now.arguments arguments
+        × IsStart (map line_of checked.now.program) (map values_in arguments) (config_at at machine.old) }
+    requires running { IsRunning at checked.now.statements machine.old }
+    ensures checked { IfOk result (λ _. IsChecked checked.now) }
+    ensures ends { IfOk result (λ end. ComesToCells at steps (config_at at machine.old) end.made end.finish machine.new.cells.items) }
+    ensures cells { IfOk result (λ _. length machine.new.cells.items ≡ slot_count (bounds_of at.program) at.names) }
+    ensures memory { IfErr result (λ e. e ≡ fault.Memory) }
+{
+    let few = BEFORE_CODE.min(steps);
+    match walk(checked.statements(), machine, few) {
+        Some(end) => Ok(end),
+        None => {
+            let end = end_by_code(alloc, checked, machine, steps - few)?;
+            Ok(End::new(end.finish, few + end.made))
+        }
+    }
+}
+
 /// The outcome of a run with arguments that fit, and how many steps were made to know it.
 fn outcome(
     alloc: Global,
@@ -159,21 +226,8 @@ fn outcome(
     ensures made { IfOk result (λ told. (told.1 ≤ steps) × IsOutcomeOf (map line_of checked.now.program) arguments.now told.1 told.0) }
     ensures memory { IfErr result (λ e. e ≡ fault.Memory) }
 {
-    let code = code_of(alloc, checked)?;
     let mut machine = begin(alloc, checked, arguments)?;
-    let mut registers = Registers::new(alloc);
-    let mut earlier = Snapshot::new(alloc);
-    let start = checked.start();
-    let statements = checked.statements();
-    let end = go(
-        &start.kinds,
-        statements,
-        &code,
-        &mut machine,
-        &mut registers,
-        &mut earlier,
-        steps,
-    )?;
+    let end = end_of(alloc, checked, &mut machine, steps)?;
     Ok((answer(alloc, checked, end.finish, &machine)?, end.made))
 }
 

@@ -12,18 +12,21 @@ fn narrow(number: i64) -> Result<i32, Fault>
     i32::try_from(number).map_err(|_| Fault::Overflow)
 }
 
+/// The sum.
 pub fn sum(a: i32, b: i32) -> Result<i32, Fault>
     ensures { result ≡ exact.in_range (a +ℤ b) }
 {
     narrow(i64::from(a) + i64::from(b))
 }
 
+/// The difference.
 pub fn difference(a: i32, b: i32) -> Result<i32, Fault>
     ensures { result ≡ exact.in_range (a -ℤ b) }
 {
     narrow(i64::from(a) - i64::from(b))
 }
 
+/// The product.
 pub fn product(a: i32, b: i32) -> Result<i32, Fault>
     ensures { result ≡ exact.in_range (a *ℤ b) }
 {
@@ -54,6 +57,7 @@ pub fn modulus(a: i32, b: i32) -> Result<i32, Fault>
     Ok(a % b)
 }
 
+/// The number with the other sign.
 pub fn negated(a: i32) -> Result<i32, Fault>
     ensures { result ≡ exact.in_range (exact.negated a) }
 {
@@ -74,30 +78,35 @@ pub fn pushed(a: i32) -> Result<i32, Fault>
     if a == 0 { Err(Fault::Trapped) } else { Ok(a) }
 }
 
+/// Whether the first is below the second.
 pub fn is_below(a: i32, b: i32) -> bool
     ensures { result ≡ exact.is_below a b }
 {
     a < b
 }
 
+/// Whether both are one number.
 pub fn is_same(a: i32, b: i32) -> bool
     ensures { result ≡ exact.is_same a b }
 {
     a == b
 }
 
+/// MIN0 of two numbers.
 pub fn lesser(a: i32, b: i32) -> i32
     ensures { result ≡ (if exact.is_below b a then b else a) }
 {
     a.min(b)
 }
 
+/// MAX0 of two numbers.
 pub fn greater(a: i32, b: i32) -> i32
     ensures { result ≡ (if exact.is_below a b then b else a) }
 {
     a.max(b)
 }
 
+/// The exact power, or for a negative exponent 1 over it, truncated toward zero.
 #[inline(never)]
 #[tactic(auto, using(crate::proofs::Powers::power_of_one, crate::proofs::Powers::inverse_power))]
 pub fn power(base: i32, exponent: i32) -> Result<i32, Fault>

@@ -27,9 +27,11 @@ use std::thread::Threads;
 
 /// A text, and what it is.
 #[derive(Debug, Drop)]
-pub(crate) struct Answer {
-    pub(crate) status: Status,
-    pub(crate) text: String,
+pub struct Answer {
+    /// Whether it is a report, or what stands in place of one.
+    pub status: Status,
+    /// All that is to be written, each line ended by LF.
+    pub text: String,
 }
 
 /// What a command comes to without threads.
@@ -80,7 +82,7 @@ fn product_of(alloc: Global, request: &Request, bytes: &[u8]) -> Result<Product,
 }
 
 /// The answer that tells a fault.
-fn told(alloc: Global, fault: &Fault) -> Result<Answer, AllocError>
+pub fn told(alloc: Global, fault: &Fault) -> Result<Answer, AllocError>
     ensures status { IfOk result (λ a. a.status ≡ Status.Fault) }
     ensures text { IfOk result (λ a. string_bytes a.text ≡ Line.line_of fault.now) }
 {
@@ -125,7 +127,7 @@ pub(crate) fn report_on<R: Threads + Wait + Sync>(
 }
 
 /// The answer to words that the command line refuses, or that ask for help: its text.
-pub(crate) fn refusal(alloc: Global, error: &Error) -> Result<Answer, AllocError>
+pub fn refusal(alloc: Global, error: &Error) -> Result<Answer, AllocError>
     ensures { IfOk result (λ a. IsRefusal (kind_of error.now) a.status) }
 {
     let status = match error.kind() {
@@ -140,7 +142,7 @@ pub(crate) fn refusal(alloc: Global, error: &Error) -> Result<Answer, AllocError
 }
 
 /// The answer to a value of `--ops` that is no list of operators' codes.
-pub(crate) fn bad_list(alloc: Global) -> Result<Answer, AllocError>
+pub fn bad_list(alloc: Global) -> Result<Answer, AllocError>
     ensures status { IfOk result (λ a. a.status ≡ Status.Words) }
     ensures text { IfOk result (λ a. string_bytes a.text ≡ bad_operators) }
 {

@@ -13,13 +13,20 @@ use mothra_ops::OpsFault;
 
 /// Why a command has no report: the fault of the call that failed.
 #[derive(Debug, Drop)]
-pub(crate) enum Fault {
+pub enum Fault {
+    /// The job cannot be read, or has no such test: J1 to J8.
     Job(JobFault),
+    /// The source is no cards: F1 to F7.
     Form(FormFault),
+    /// The cards are no program: S1 to S9.
     Syntax(SyntaxFault),
+    /// The program is not legal: C1 to C14.
     Check(CheckFault),
+    /// The arguments of a test do not fit: N1 to N3.
     Run(RunFault),
+    /// The mutants cannot be listed: O1 or O3.
     Ops(OpsFault),
+    /// The tests or declarations do not suit the program, or the run broke off: B1 to B10.
     Bench(BenchFault),
 }
 

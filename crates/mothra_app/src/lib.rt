@@ -1,15 +1,15 @@
 //! The commands of the program: from words and the bytes of a job to the bytes that are written.
 #![tactic(auto)]
 
-mod answer;
+pub mod answer;
 mod executing;
-mod fault;
+pub mod fault;
 pub mod law;
 mod line;
 mod listing;
 mod outcome_line;
 mod printing;
-mod program;
+pub mod program;
 mod reporting;
 mod serving;
 mod status;

@@ -23,7 +23,7 @@ pub(crate) fn program_of(alloc: Global, source: &str) -> Result<Program, Fault>
 }
 
 /// The legal program that a source is.
-pub(crate) fn legal_program_of(alloc: Global, source: &str) -> Result<Checked, Fault>
+pub fn legal_program_of(alloc: Global, source: &str) -> Result<Checked, Fault>
     ensures program { MatchResult result
         (λ checked. IsLegalProgramOf source.now (Ok (map line_of checked.program)))
         (λ fault. IsLegalProgramOf source.now (Err fault) ⊎ Contains of_legal_programs fault) }

@@ -7,7 +7,7 @@ use Rattle.mothra_codes.specs.Op.{index}
 use Rattle.mothra_codes.specs.declared.ticket.Ticket.{Ticket}
 use Rattle.mothra_exchange.specs.declared.word.Word.{Word}
 use Rattle.mothra_bench.specs.Bench.{BenchFields}
-use Rattle.mothra_bench.specs.Collecting.{Before}
+use Rattle.mothra_codes.specs.Ticket.{Before}
 use Rattle.mothra_bench.specs.Entries.{IsEntry, IsFirstAbsent, IsHere}
 use Rattle.mothra_bench.specs.RowMap.{row_at}
 use Rattle.mothra_bench.specs.declared.matrix.Entry.{Entry}

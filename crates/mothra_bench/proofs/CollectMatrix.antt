@@ -7,7 +7,8 @@ use Rattle.mothra_codes.specs.declared.ticket.Ticket.{Ticket}
 use Rattle.mothra_exchange.specs.declared.word.Word.{Word}
 use Rattle.mothra_ops.specs.Plan.{PlanFields}
 use Rattle.mothra_bench.specs.Bench.{BenchFields}
-use Rattle.mothra_bench.specs.Collecting.{AreCollected, Before, IsFirstMissing, IsKnown, IsNoMatrix, IsThere, is_row_of, row_of, rows_of}
+use Rattle.mothra_codes.specs.Ticket.{Before}
+use Rattle.mothra_bench.specs.Collecting.{AreCollected, IsFirstMissing, IsKnown, IsNoMatrix, IsThere, is_row_of, row_of, rows_of}
 use Rattle.mothra_bench.specs.Entries.{AreNoEntries, IsEntry, IsFirstAbsent, IsHere}
 use Rattle.mothra_bench.specs.Matrix.{tickets_of}
 use Rattle.mothra_bench.specs.RowMap.{HasRows, row_at}

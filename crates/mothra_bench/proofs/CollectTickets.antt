@@ -9,9 +9,8 @@ use Rattle.mothra_codes.specs.declared.op.Op.{Op}
 use Rattle.mothra_codes.specs.declared.op.Op.TheVariants.{Aar}
 use Rattle.mothra_codes.proofs.Operators.{op_at-index, index_below}
 use Rattle.mothra_ops.specs.Plan.{ListFields, PlanFields, IsPlan, list_of, edits_of}
-use Rattle.mothra_codes.specs.Ticket.{ticket}
+use Rattle.mothra_codes.specs.Ticket.{Before, ticket}
 use Rattle.mothra_codes.specs.declared.ticket.Ticket.{Ticket}
-use Rattle.mothra_bench.specs.Collecting.{Before}
 use Rattle.mothra_bench.specs.Matrix.{tickets, tickets_of}
 use Rattle.mothra_bench.specs.Verdict.{Has}
 use Rattle.mothra_bench.proofs.CollectLists.{flat_map_all, flat_map_has, pairs_append}

@@ -1,10 +1,10 @@
 -- What a matrix has of the rows that were given.
-use Rattle.std.specs.Prelude.{◌≡◌, ◌↔◌, ◌⊎◌, ◌<◌, ◌≤◌, ◌==◌, ◌&&◌, ⊤, Bool, IsTrue, List, [], ◌∷◌, ◌++◌, map, length, filter, All, Contains}
+use Rattle.std.specs.Prelude.{◌≡◌, ◌↔◌, ◌≤◌, ◌==◌, ◌&&◌, ⊤, Bool, IsTrue, List, [], ◌∷◌, ◌++◌, map, length, filter, All, Contains}
 use Rattle.mothra_codes.specs.Op.{index}
 use Rattle.mothra_ops.specs.Mutants.{original_number}
 use Rattle.mothra_ops.specs.Plan.{PlanFields}
 use Rattle.mothra_exchange.specs.Tally.{word_at}
-use Rattle.mothra_codes.specs.Ticket.{ticket}
+use Rattle.mothra_codes.specs.Ticket.{Before, ticket}
 use Rattle.mothra_codes.specs.declared.ticket.Ticket.{Ticket}
 use Rattle.mothra_exchange.specs.declared.word.Word.{Word}
 use Rattle.mothra_bench.specs.Bench.{BenchFields}
@@ -55,10 +55,6 @@ pub record IsFirstDouble (plan : PlanFields) (rows : List Row) (ticket : Ticket)
 pub record IsThere (words : List Word) (rows : List Row) (ticket : Ticket) : Type 0 where
   pub row : 1 ≤ length (rows_of ticket rows)
   pub handed : ticket.number ≤ (word_at words ticket.op).handed
-
--- the order of operators and numbers
-abbrev pub Before : Ticket → Ticket → Type 0
-Before one other = (index one.op < index other.op) ⊎ ((index one.op ≡ index other.op) × (one.number < other.number))
 
 -- the first mutant of the plan that has no row or was not handed out
 pub record IsFirstMissing (plan : PlanFields) (words : List Word) (rows : List Row) (ticket : Ticket) : Type 0 where

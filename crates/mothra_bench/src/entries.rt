@@ -3,7 +3,7 @@
 ghost use Rattle.std.specs.Prelude.{◌≡◌, ◌&&◌, ◌==◌, All, AllPairs, IfOk, IfErr, MatchOption, None, map, if◌then◌else◌};
 ghost use Rattle.mothra_codes.specs.Op.{index};
 ghost use Rattle.mothra_codes.specs.declared.ticket.Ticket.{Ticket};
-ghost use Rattle.mothra_bench.specs.Collecting.{Before};
+ghost use Rattle.mothra_codes.specs.Ticket.{Before};
 ghost use Rattle.mothra_bench.specs.Entries.{AreNoEntries, IsEntry, IsHere};
 ghost use Rattle.mothra_bench.specs.RowMap.{row_at};
 

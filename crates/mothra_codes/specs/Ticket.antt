@@ -1,11 +1,15 @@
--- Tickets, and how often one stands in a list.
-use Rattle.std.specs.Prelude.{ℕ, ◌+◌, Bool, ◌&&◌, nat_lt, nat_le, ◌==◌, if◌then◌else◌, List, [], ◌∷◌}
+-- Tickets, their order, and how often one stands in a list.
+use Rattle.std.specs.Prelude.{◌≡◌, ◌⊎◌, ◌<◌, ℕ, ◌+◌, Bool, ◌&&◌, nat_lt, nat_le, ◌==◌, if◌then◌else◌, List, [], ◌∷◌}
 use Rattle.mothra_codes.specs.declared.op.Op.{Op}
 use Rattle.mothra_codes.specs.Op.{index}
 use Rattle.mothra_codes.specs.declared.ticket.Ticket.{Ticket}
 
 abbrev pub ticket : Op → ℕ → Ticket
 ticket op k = record { op = op; number = k }
+
+-- the order of operators and numbers
+abbrev pub Before : Ticket → Ticket → Type 0
+Before one other = (index one.op < index other.op) ⊎ ((index one.op ≡ index other.op) × (one.number < other.number))
 
 abbrev pub one_if : Bool → ℕ
 one_if b = if b then 1 else 0

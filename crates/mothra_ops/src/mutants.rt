@@ -131,16 +131,37 @@ impl<'a> Mutants<'a> {
         }
     }
 
+    /// Where this mutant is changed: the line number of the statement, and the canonical text of what stands in its place.
+    fn change(&self, alloc: Global, mutant: &Mutant) -> Result<String, OpsFault>
+        ensures text { IfOk result (λ text. string_bytes text ≡ change_text (program_of self.now) (mutant_fields mutant.now)) }
+        ensures memory { IfErr result (λ fault. fault ≡ Memory) }
+    {
+        let line = self.line_number(mutant.number);
+        let statement = printed(alloc, &mutant.stmt)?;
+        Ok(format!(in alloc; "LINE {line} {statement}")?)
+    }
+
+    /// Appends where this mutant of the plan is changed: the line number of the statement, and the canonical text of
+    /// what stands in its place.
+    pub fn push_change(&self, text: &mut String, mutant: &Mutant) -> Result<(), OpsFault>
+        ensures text { OnOk result (string_bytes text.new ≡ string_bytes text.old
+            ++ change_text (program_of self.now) (mutant_fields mutant.now)) }
+        ensures unchanged { OnErr result (string_bytes text.new ≡ string_bytes text.old) }
+        ensures memory { IfErr result (λ fault. fault ≡ Memory) }
+    {
+        let change = self.change(*text.allocator(), mutant)?;
+        Ok(text.push_str(&change)?)
+    }
+
     /// How this mutant of the operator is told.
     fn told(&self, alloc: Global, op: Op, number: u32, mutant: &Mutant) -> Result<String, OpsFault>
         ensures text { IfOk result (λ text. string_bytes text ≡ mutant_name self.now.every op number
             ++ (codes " " ++ change_text (program_of self.now) (mutant_fields mutant.now))) }
         ensures memory { IfErr result (λ fault. fault ≡ Memory) }
     {
-        let line = self.line_number(mutant.number);
-        let statement = printed(alloc, &mutant.stmt)?;
+        let change = self.change(alloc, mutant)?;
         let mut text = name(alloc, self.plan.every(), op, number)?;
-        write!(text, " LINE {line} {statement}")?;
+        write!(text, " {change}")?;
         Ok(text)
     }
 

@@ -1,13 +1,28 @@
 use Rattle.std.proofs.Common.{subst}
+use Rattle.f77_actions.specs.declared.action.Action.{Branch}
 use Rattle.f77_code.specs.declared.control.Place.TheVariants.{Execute}
-use Rattle.f77_facts.specs.Entries.{AreCovered}
-use Rattle.f77_facts.specs.Keeping.{GoesOn}
-use Rattle.f77_facts.proofs.Kept.{branch_acts}
+use Rattle.f77_facts.specs.Entries.{Adds, AreCovered}
+use Rattle.f77_facts.specs.Keeping.{ActsAnywhere}
+use Rattle.f77_facts.proofs.Growing.{grows_on, goes_more}
+use Rattle.f77_facts.proofs.Kept.{ok_then, branch_acts}
 use Rattle.f77_facts.proofs.choosing.is_branch_kept.Goals as goal
 
 pub returns : goal.returns
-returns c e =
-    branch_acts c.args.entries.now c.args.resolved.now c.args.condition.now c.args.facts.now c.in_ok-holds.holds.items c.in_ok-fails.fails.items c.args.loops.now
-    c.in_ok-holds.ensures c.in_ok-fails.ensures c.args.otherwise
-    (subst (λ f. GoesOn c.args.entries.now c.args.resolved.now f c.args.loops.now) c.deref.ensures.value (c.goes_on.ensures c.if-not-goes_on.false))
-    (subst (λ f. AreCovered c.args.entries.now (Execute c.args.otherwise) f c.args.loops.now) c.deref-2.ensures.value (c.is_covered.ensures e))
+returns c =
+    let mid = c.goes_on.new.moves.items in
+    let new = c.add_move.new.moves.items in
+    let r = c.args.resolved.now in
+    let holds = c.in_ok-holds.holds.items in
+    let fails = c.in_ok-fails.fails.items in
+    let loops = c.args.loops.now in
+    let goes = c.in_ok-goes_on.ensures in
+    ok_then
+    {Q = λ done. Adds c.args.moves.now.items c.add_move.new.moves.items
+    (ActsAnywhere c.add_move.new.moves.items c.args.resolved.now (Branch c.args.condition.now c.args.otherwise) c.args.facts.now c.args.loops.now)}
+    c.add_move.result c.add_move.ensures
+    (λ done added. (
+      grows_on c.args.moves.now.items mid new goes.0 added.0,
+      branch_acts new r c.args.condition.now c.args.facts.now holds fails loops c.in_ok-holds.ensures c.in_ok-fails.ensures c.args.otherwise
+          (goes_more mid new added.0 r holds loops goes.1)
+          (subst (λ l. AreCovered new (Execute c.args.otherwise) fails l) c.in_ok-there.ensures added.1),
+    ))

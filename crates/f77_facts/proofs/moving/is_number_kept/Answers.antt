@@ -1,10 +1,11 @@
-use Rattle.std.proofs.Common.{subst}
-use Rattle.f77_facts.specs.Keeping.{GoesOn}
-use Rattle.f77_facts.proofs.Kept.{number_acts}
+use Rattle.f77_facts.proofs.Kept.{ok_then, number_acts}
 use Rattle.f77_facts.proofs.moving.is_number_kept.Goals as goal
 
 pub returns : goal.returns
-returns c e =
-    number_acts c.args.entries.now c.args.resolved.now c.args.facts.now c.in_ok-after.after.items c.args.loops.now
-    (subst (λ f. GoesOn c.args.entries.now c.args.resolved.now f c.args.loops.now) c.deref.ensures.value (c.goes_on.ensures e)) c.args.element.now c.args.number.now
-    c.reach_of-reach.result c.known_of-known.result c.reach_of-reach.ensures c.known_of-known.ensures c.in_ok-after.ensures
+returns c =
+    ok_then c.goes_on.result c.goes_on.ensures
+    (λ done added. (
+      added.0,
+      number_acts c.goes_on.new.moves.items c.args.resolved.now c.args.facts.now c.in_ok-after.after.items c.args.loops.now added.1 c.args.element.now
+          c.args.number.now c.reach_of-reach.result c.known_of-known.result c.reach_of-reach.ensures c.known_of-known.ensures c.in_ok-after.ensures,
+    ))

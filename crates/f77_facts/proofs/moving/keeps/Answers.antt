@@ -1,14 +1,15 @@
-use Rattle.std.proofs.Common.{sym, subst}
-use Rattle.f77_facts.specs.Entries.{Keeps}
-use Rattle.f77_facts.proofs.Kept.{ok_then}
+use Rattle.std.proofs.Common.{subst}
+use Rattle.std.specs.Prelude.{IfSome}
+use Rattle.f77_facts.specs.Entries.{Grows, Keeps}
+use Rattle.f77_facts.proofs.Growing.{keeps_more}
 use Rattle.f77_facts.proofs.moving.keeps.Goals as goal
 
-pub returns-in-Execute : goal.returns-in-Execute
-returns-in-Execute c =
-    ok_then c.is_statement_kept.result c.is_statement_kept.ensures
-    (λ yes claim e. subst (λ p. Keeps c.args.statements.now c.args.entries.now p c.args.facts.now c.args.loops.now) (sym c.in-Execute.is) (claim e))
-
-pub returns-in-Increment : goal.returns-in-Increment
-returns-in-Increment c =
-    ok_then c.is_increment_kept.result c.is_increment_kept.ensures
-    (λ yes claim e. subst (λ p. Keeps c.args.statements.now c.args.entries.now p c.args.facts.now c.args.loops.now) (sym c.in-Increment.is) (claim e))
+pub returns-in-Some : goal.returns-in-Some
+returns-in-Some c e =
+    let statements = c.args.statements.now in
+    let place = c.args.place in
+    let facts = c.args.facts.now in
+    let loops = c.args.loops.now in
+    keeps_more c.in-Some.moves.items c.args.entries.now (subst (λ list. Grows list c.args.entries.now) c.deref.ensures.value (c.are_covered.ensures e))
+    statements place facts loops
+    (subst (λ answer. IfSome answer (λ moves. Keeps statements moves.items place facts loops)) c.in-Some.is c.in_ok-moves.ensures)

@@ -1,4 +1,4 @@
 use Rattle.f77_run.proofs.interpreter.outcome.Given as goal
 
-abbrev pub ghost-go : goal.ghost-go
-ghost-go g a = g.at
+abbrev pub ghost-end_of : goal.ghost-end_of
+ghost-end_of g a = g.at

@@ -1,0 +1,11 @@
+pub mod Alike
+pub mod Actions
+pub mod Cases
+pub mod Moving
+pub mod Relations
+pub mod Sizes
+pub mod Throughout
+pub mod Lifted
+pub mod Equivalence
+pub mod StartSlots
+pub mod InPlace

@@ -1,0 +1,24 @@
+-- When no test can tell a changed program from the program.
+use Rattle.std.specs.Prelude.{ℕ, List}
+use Rattle.f77_program.specs.Program.{LineFields}
+use Rattle.f77_check.specs.Checked.{shapes}
+use Rattle.f77_run.specs.declared.argument.Arg.{Arg}
+use Rattle.f77_run.specs.declared.outcome.Outcome.{Outcome}
+use Rattle.f77_run.specs.declared.outcome.Outcome.TheVariants.{Returned, Stopped}
+use Rattle.f77_run.specs.Interpreter.{AreFitting, IsOutcomeOf}
+use Rattle.f77_equivalence.specs.Storable.{AreStorable}
+
+-- the run ends of itself, and not by a fault
+abbrev pub IsEnd : Outcome → Type 0
+IsEnd (Returned arguments) = Unit {0}
+IsEnd (Stopped arguments) = Unit {0}
+IsEnd _ = ⊥
+
+-- with these arguments, and whatever the limit on steps, where the first program returns or stops, the second comes to the same
+abbrev pub KeepsEnds : List LineFields → List LineFields → List Arg → Type 0
+KeepsEnds p q arguments =
+    (limit : ℕ) (outcome : Outcome) → IsOutcomeOf p arguments limit outcome → IsEnd outcome → IsOutcomeOf q arguments limit outcome
+
+-- so it does whatever arguments fit whose numbers INTEGER holds
+abbrev pub IsEquivalent : List LineFields → List LineFields → Type 0
+IsEquivalent p q = (arguments : List Arg) → AreFitting (shapes p) arguments → AreStorable arguments → KeepsEnds p q arguments

@@ -1,0 +1,35 @@
+-- Where the runs of a checked program start, and when entries say what is there.
+use Rattle.std.specs.Prelude.{List, None, length, map, option_map, replicate}
+use Rattle.std.specs.List.{zip}
+use Rattle.f77_check.specs.Checked.{CheckedFields}
+use Rattle.f77_code.specs.declared.control.Place.TheVariants.{Execute}
+use Rattle.f77_code.specs.Moves.{Cells, Turns, State, state}
+use Rattle.f77_facts.specs.declared.entries.Entry.{Entry}
+use Rattle.f77_facts.specs.Entries.{IsAmong}
+use Rattle.f77_run.specs.declared.argument.Arg.{Arg}
+use Rattle.f77_run.specs.Interpreter.{AreFitting}
+use Rattle.f77_run.specs.Spans.{all_filled}
+use Rattle.f77_run.specs.Start.{constant_value}
+use Rattle.f77_equivalence.specs.Storable.{AreStorable}
+
+-- the slots hold what DATA gives them, and those of the dummy arguments the arguments
+abbrev pub start_cells : CheckedFields → List Arg → Cells
+start_cells checked arguments =
+    all_filled (map (option_map constant_value) checked.start.initial.items) (zip checked.start.dummies.items arguments)
+
+-- no DO is active
+abbrev pub start_turns : CheckedFields → Turns
+start_turns checked = replicate (length checked.program) None
+
+-- control is at the first executable statement
+abbrev pub start_state : CheckedFields → List Arg → State
+start_state checked arguments = state (Execute checked.start.entry) (start_cells checked arguments) (start_turns checked)
+
+-- an entry says what is there where the run with these arguments starts
+abbrev pub StartsIn : CheckedFields → List Entry → List Arg → Type 0
+StartsIn checked entries arguments = IsAmong entries (Execute checked.start.entry) (start_cells checked arguments) (start_turns checked)
+
+-- whatever arguments fit whose numbers INTEGER holds
+abbrev pub HoldsStart : CheckedFields → List Entry → Type 0
+HoldsStart checked entries =
+    (arguments : List Arg) → AreFitting checked.arguments arguments → AreStorable arguments → StartsIn checked entries arguments

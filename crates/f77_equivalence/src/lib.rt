@@ -1,0 +1,16 @@
+//! When a changed program can be told from the program by no test.
+#![tactic(auto)]
+
+mod acting;
+mod conditions;
+pub mod entries_alike;
+pub mod equivalent;
+mod forms;
+pub mod invariant;
+pub mod law;
+pub mod moves_alike;
+mod relating;
+pub mod same;
+mod signs;
+pub mod start;
+mod ways;

@@ -1,0 +1,13 @@
+//! Finds what is known at each place of a program. Nothing is claimed of what is found: it is to be checked.
+#![tactic(auto)]
+
+mod behind;
+mod collecting;
+mod descending;
+pub mod finding;
+mod ordering;
+mod reached;
+mod rounds;
+mod starting;
+mod thresholds;
+mod widening;

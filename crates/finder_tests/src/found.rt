@@ -1,0 +1,83 @@
+//! How much is found.
+
+use f77_code::Place;
+use f77_facts::entries::Entry;
+use f77_facts::facts::known_at;
+use f77_facts::known::Known;
+use f77_finder::finding::entries_of;
+use sample_programs::checked;
+use std::process::Abort;
+use std::test::Fail;
+
+fn between(low: i32, high: i32) -> Known {
+    Known {
+        may_lack: false,
+        low,
+        high,
+    }
+}
+
+/// The entry where control is at the statement, if it comes there.
+fn entry_of(entries: &[Entry], i: usize) -> Option<&Entry> {
+    entries
+        .iter()
+        .find(|entry| entry.place == Place::Execute(i))
+}
+
+/// What is known of a slot where control is at the statement.
+fn known_of(entries: &[Entry], i: usize, slot: usize) -> Option<Known> {
+    match entry_of(entries, i) {
+        Some(entry) => Some(known_at(&entry.facts, slot)),
+        None => None,
+    }
+}
+
+/// Compares what is known of a slot at a statement.
+fn assert_known(
+    rt: &(impl AllocGlobal + Abort),
+    statements: &str,
+    i: usize,
+    slot: usize,
+    wanted: Option<Known>,
+) -> Result<(), Fail> {
+    let checked = checked(rt, statements)?;
+    let entries = entries_of(rt.alloc(), &checked)?;
+    assert_eq!(rt; known_of(&entries, i, slot), wanted);
+    Ok(())
+}
+
+#[test]
+fn widens_to_constants(rt: HostRuntime) -> Result<(), Fail> {
+    assert_known(&rt, ONES, 3, 1, Some(between(1, 99_999)))?;
+    assert_known(&rt, ONES, 5, 1, Some(between(100_000, 100_000)))
+}
+
+#[test]
+fn makes_narrower_again(rt: HostRuntime) -> Result<(), Fail> {
+    assert_known(&rt, THREES, 3, 1, Some(between(1, 99_999)))?;
+    assert_known(&rt, THREES, 5, 1, Some(between(100_000, 100_002)))
+}
+
+#[test]
+fn starts_with_constants(rt: HostRuntime) -> Result<(), Fail> {
+    assert_known(
+        &rt,
+        PRESETS,
+        2,
+        0,
+        Some(Known {
+            may_lack: false,
+            ..Known::anything()
+        }),
+    )?;
+    assert_known(&rt, PRESETS, 2, 1, Some(between(5, 5)))?;
+    assert_known(&rt, PRESETS, 3, 1, None)
+}
+
+const ONES: &str =
+    "SUBROUTINE S(N); I=1; 10 IF (I.GE.100000) GO TO 20; I=I+1; GO TO 10; 20 N=I; END";
+
+const THREES: &str =
+    "SUBROUTINE S(N); I=1; 10 IF (I.GE.100000) GO TO 20; I=I+3; GO TO 10; 20 N=I; END";
+
+const PRESETS: &str = "SUBROUTINE S(N); DATA L/5/; IF (L.EQ.5) GO TO 10; N=0; 10 N=L; END";

@@ -1,0 +1,63 @@
+-- Mutants that are added behind those of a list.
+use Rattle.std.proofs.Common.{arith, ◌≡◌, ◌<◌, ◌+◌, ◌++◌, ℕ, inl, inr, refl, sym, List, [], ◌∷◌, length, get_or, subst}
+use Rattle.std.specs.Prelude.{All, AllPairs}
+use Rattle.std.proofs.lemmas.List.Elements.{All-push, All-weaker}
+use Rattle.std.proofs.lemmas.List.Quantifiers.{all_pairs_push}
+use Rattle.mothra_codes.specs.Op.{index}
+use Rattle.mothra_codes.specs.declared.op.Op.{Op}
+use Rattle.mothra_codes.specs.Ticket.{Before, ticket}
+use Rattle.mothra_codes.specs.declared.ticket.Ticket.{Ticket}
+use Rattle.mothra_ops.specs.Plan.{PlanFields}
+use Rattle.mothra_equivalents.specs.Equivalents.{AreEquivalents, AreOf, IsEquivalentMutant, IsFront}
+use Rattle.mothra_equivalents.specs.declared.equivalents.Equivalent.{Equivalent}
+
+-- what is before a number of an operator is before the next one
+before_next : (op : Op) (number : ℕ) (t : Ticket) → Before t (ticket op number) → Before t (ticket op (number + 1))
+before_next op number t (inl lower) = inl lower
+before_next op number t (inr (same, less)) = inr (same, omega (arith, less))
+
+pub front_stays : (plan : PlanFields) (op : Op) (number : ℕ) (list : List Equivalent) → IsFront plan op number list
+    → IsFront plan op (number + 1) list
+front_stays plan op number list front = record {
+  are = front.are;
+  before = All-weaker (λ (e : Equivalent). Before e.ticket (ticket op number)) (λ (e : Equivalent). Before e.ticket (ticket op (number + 1)))
+      (λ e. before_next op number e.ticket) list front.before;
+}
+
+pub front_grows : (plan : PlanFields) (op : Op) (number : ℕ) (list : List Equivalent) (new : Equivalent) → new.ticket ≡ ticket op number
+    → IsEquivalentMutant plan new.ticket → IsFront plan op number list → IsFront plan op (number + 1) (list ++ new ∷ [])
+front_grows plan op number list new is equivalent front = record {
+  are = record {
+    ordered = all_pairs_push (λ (one other : Equivalent). Before one.ticket other.ticket) list new front.are.ordered
+        (λ k d within. subst (Before (get_or list k d).ticket) (sym is) (front.before k d within));
+    each = All-push (λ (e : Equivalent). IsEquivalentMutant plan e.ticket) list new front.are.each equivalent;
+  };
+  before = All-push (λ (e : Equivalent). Before e.ticket (ticket op (number + 1))) list new (front_stays plan op number list front).before
+      (subst (λ t. Before t (ticket op (number + 1))) (sym is) (inr (refl, omega arith)));
+}
+
+-- the mutants of the operators before one are before its first
+pub front_of : (plan : PlanFields) (op : Op) (list : List Equivalent) → AreOf plan (index op) list → IsFront plan op 1 list
+front_of plan op list are = record {
+  are = are.are;
+  before = All-weaker (λ (e : Equivalent). index e.ticket.op < index op) (λ (e : Equivalent). Before e.ticket (ticket op 1))
+      (λ e lower. inl lower) list are.before;
+}
+
+below_next : (op : Op) (number : ℕ) (t : Ticket) → Before t (ticket op number) → index t.op < index op + 1
+below_next op number t (inl lower) = omega (arith, lower)
+below_next op number t (inr (same, less)) = omega (arith, same)
+
+pub of_front : (plan : PlanFields) (op : Op) (number : ℕ) (list : List Equivalent) → IsFront plan op number list
+    → AreOf plan (index op + 1) list
+of_front plan op number list front = record {
+  are = front.are;
+  before = All-weaker (λ (e : Equivalent). Before e.ticket (ticket op number)) (λ (e : Equivalent). index e.ticket.op < index op + 1)
+      (λ e. below_next op number e.ticket) list front.before;
+}
+
+pub none_yet : (plan : PlanFields) → AreOf plan 0 []
+none_yet plan = record {
+  are = record { ordered = λ i j d p q. absurd (omega (arith, q)); each = λ k d within. absurd (omega (arith, within)) };
+  before = λ k d within. absurd (omega (arith, within));
+}

@@ -1,0 +1,74 @@
+//! The mutants of a plan that are proved equivalent.
+
+ghost use Rattle.std.specs.Prelude.{◌≡◌, ◌+◌, All, IfErr, IfOk, OnOk};
+ghost use Rattle.mothra_codes.specs.Op.{index};
+ghost use Rattle.mothra_equivalents.specs.Equivalents.{AreEquivalents, AreOf, IsFront};
+ghost use Rattle.mothra_ops.specs.declared.fault.OpsFault.TheVariants.{Memory};
+
+use crate::prover::Prover;
+use crate::why::Why;
+use mothra_codes::{Op, Ticket};
+use mothra_ops::{OpsFault, Plan};
+use std::alloc::Global;
+
+/// A mutant that is proved equivalent: no test can kill it on which the program returns or stops.
+#[derive(Clone, Copy, PartialEq, Eq, Debug, Drop)]
+pub struct Equivalent {
+    /// The mutant, by its number in the plan's list of the operator.
+    pub ticket: Ticket,
+    /// The rule by which it was proved.
+    pub why: Why,
+}
+
+/// Adds the operator's mutant of this number, where it is proved equivalent.
+fn add(
+    alloc: Global,
+    list: &mut Vec<Equivalent>,
+    prover: &mut Prover<'_>,
+    op: Op,
+    number: u32,
+) -> Result<(), OpsFault>
+    ensures plan { prover.new ≡ prover.old }
+    ensures front { OnOk result (IsFront prover.old op number list.old.items → IsFront prover.old op (number + 1) list.new.items) }
+    ensures memory { IfErr result (λ fault. fault ≡ Memory) }
+{
+    let ticket = Ticket { op, number };
+    if let Some(why) = prover.why(alloc, ticket)? {
+        list.push(Equivalent { ticket, why })?;
+    }
+    Ok(())
+}
+
+/// Adds those mutants of the operator that are proved equivalent, of so many.
+fn add_operator(
+    alloc: Global,
+    list: &mut Vec<Equivalent>,
+    prover: &mut Prover<'_>,
+    op: Op,
+    count: u32,
+) -> Result<(), OpsFault>
+    ensures plan { prover.new ≡ prover.old }
+    ensures front { OnOk result (AreOf prover.old (index op) list.old.items → AreOf prover.old (index op + 1) list.new.items) }
+    ensures memory { IfErr result (λ fault. fault ≡ Memory) }
+{
+    for before in 0..count {
+        add(alloc, list, prover, op, before + 1)?;
+    }
+    Ok(())
+}
+
+/// The mutants of the plan that are proved equivalent, by operator, then number. That a mutant is not among them says
+/// nothing of it.
+pub fn equivalents_of(alloc: Global, plan: &Plan) -> Result<Vec<Equivalent>, OpsFault>
+    ensures equivalents { IfOk result (λ list. AreEquivalents plan.now list.items) }
+    ensures memory { IfErr result (λ fault. fault ≡ Memory) }
+{
+    let mut list = Vec::new(alloc);
+    let Some(mut prover) = Prover::of(alloc, plan)? else {
+        return Ok(list);
+    };
+    for op in Op::ALL {
+        add_operator(alloc, &mut list, &mut prover, op, plan.count(op))?;
+    }
+    Ok(list)
+}

@@ -1,0 +1,76 @@
+//! The rules, tried on one mutant.
+
+ghost use Rattle.std.specs.Prelude.{◌≡◌, map, IfErr, IfOk, IfSome};
+ghost use Rattle.f77_check.specs.Patching.{IsInPlace};
+ghost use Rattle.f77_program.specs.Patching.{patched};
+ghost use Rattle.f77_program.specs.Program.{line_of};
+ghost use Rattle.f77_tree.specs.Statement.{statement_of};
+ghost use Rattle.f77_equivalence.specs.Equivalent.{IsEquivalent};
+ghost use Rattle.mothra_ops.specs.Edits.{IsMutant};
+ghost use Rattle.mothra_ops.specs.declared.fault.OpsFault.TheVariants.{Memory};
+
+use crate::why::Why;
+use f77_check::Resolved;
+use f77_equivalence::equivalent::is_equivalent;
+use f77_equivalence::invariant::{Invariant, is_unreached};
+use f77_tree::Shared;
+use mothra_ops::{Mutant, OpsFault};
+use std::alloc::{AllocError, Global};
+
+/// The first rule by which the mutant is equivalent, whose statement is resolved so.
+fn rule_in_place(
+    alloc: Global,
+    invariant: &Invariant<'_>,
+    mutant: &Mutant,
+    resolved: &Shared<Resolved>,
+) -> Result<Option<Why>, AllocError>
+    requires mutant { IsMutant (map line_of invariant.now.checked.program) mutant.now.number (statement_of mutant.now.stmt) }
+    requires in_place { IsInPlace invariant.now.checked mutant.now.number (statement_of mutant.now.stmt) resolved.now }
+    ensures { IfOk result (λ found. IfSome found (λ _. IsEquivalent (map line_of invariant.now.checked.program)
+        (patched (map line_of invariant.now.checked.program) mutant.now.number (statement_of mutant.now.stmt)))) }
+{
+    let number = mutant.number;
+    if is_equivalent(alloc, invariant, number, &mutant.stmt, resolved)? {
+        if is_unreached(invariant.entries(), number - 1) {
+            return Ok(Some(Why::Unreached));
+        }
+        return Ok(Some(Why::Same));
+    }
+    Ok(None)
+}
+
+/// The first rule by which the mutant is equivalent. None is tried where the changed statement does not stand alone: in a
+/// declaration, in DATA, at the label of a DO.
+fn rule_for(
+    alloc: Global,
+    invariant: &Invariant<'_>,
+    mutant: &Mutant,
+) -> Result<Option<Why>, OpsFault>
+    requires { IsMutant (map line_of invariant.now.checked.program) mutant.now.number (statement_of mutant.now.stmt) }
+    ensures equivalent { IfOk result (λ found. IfSome found (λ _. IsEquivalent (map line_of invariant.now.checked.program)
+        (patched (map line_of invariant.now.checked.program) mutant.now.number (statement_of mutant.now.stmt)))) }
+    ensures memory { IfErr result (λ fault. fault ≡ Memory) }
+{
+    match invariant.checked().resolved_in_place(mutant.number, &mutant.stmt) {
+        Ok(Some(resolved)) => Ok(rule_in_place(alloc, invariant, mutant, &resolved)?),
+        Ok(None) => Ok(None),
+        // A legal program is refused for want of memory alone.
+        Err(_) => Err(OpsFault::Memory),
+    }
+}
+
+/// The first rule by which the mutant is equivalent, which is let go.
+pub(crate) fn rule_of(
+    alloc: Global,
+    invariant: &Invariant<'_>,
+    mutant: Mutant,
+) -> Result<Option<Why>, OpsFault>
+    requires { IsMutant (map line_of invariant.now.checked.program) mutant.number (statement_of mutant.stmt) }
+    ensures equivalent { IfOk result (λ found. IfSome found (λ _. IsEquivalent (map line_of invariant.now.checked.program)
+        (patched (map line_of invariant.now.checked.program) mutant.number (statement_of mutant.stmt)))) }
+    ensures memory { IfErr result (λ fault. fault ≡ Memory) }
+{
+    let found = rule_for(alloc, invariant, &mutant);
+    drop(mutant);
+    found
+}
