@@ -1,5 +1,5 @@
 -- Instructions one after another, and moves.
-use Rattle.std.proofs.Common.{arith, ◌≡◌, ◌<◌, ◌≤◌, ◌⊎◌, inl, inr, ◌^◌, ℕ, zero, suc, ◌+◌, ◌-◌, ◌*◌, true, List, [], ◌∷◌, Option, Some, None, zero-add, refl, sym, ap, ◌∙◌, subst}
+use Rattle.std.proofs.Common.{arith, ◌≡◌, ◌<◌, ◌≤◌, ◌⊎◌, inl, inr, ◌^◌, ℕ, zero, suc, ◌+◌, ◌-◌, ◌*◌, true, List, [], ◌∷◌, Option, Some, None, zero-add, length, refl, sym, ap, ◌∙◌, subst}
 use Rattle.std.specs.Prelude.{slice_get}
 use Rattle.std.specs.Option.{option_and_then, option_map_or}
 use Rattle.std.proofs.lemmas.Bool.{and_parts}
@@ -49,6 +49,13 @@ pub made_more : (code : List Instruction) (made : ℕ) (p q r : Point) (instruct
 made_more code made p q r instruction stands at is =
     after_last code made p ∙ ap (one code) stands ∙ ap (λ o. option_map_or (λ instruction. ran instruction.operation instruction.next q.registers q.turns) o q) at
     ∙ sym is
+
+-- code that was at an instruction and is at none has made some
+pub made_some : (code : List Instruction) (p q : Point) (made : ℕ) → p.place < length code → length code ≤ q.place → after code made p ≡ q → 0 < made
+made_some code p q zero there out is =
+    let here : p.place ≡ q.place = ap (λ (q : Point). q.place) is in
+    absurd (omega (arith, here, out, there))
+made_some code p q (suc made) there out is = omega arith
 
 -- so many instructions were there, and the one behind them is
 pub there_more : (code : List Instruction) (made n : ℕ) (p q : Point) → after code made p ≡ q → q.place < n → ((k : ℕ) → k < made → (after code k p).place < n)

@@ -131,7 +131,7 @@ pub(crate) fn load(
     put(to as usize, x, next, registers)
 }
 
-#[inline(always)]
+#[inline(never)]
 pub(crate) fn set_element(
     first: u32,
     bound: u32,
@@ -239,7 +239,7 @@ pub(crate) fn store_difference(
     put(first as usize + offset as usize, x, next, registers)
 }
 
-#[inline(always)]
+#[inline(never)]
 pub(crate) fn set_matrix(
     first: u32,
     rows: u32,

@@ -50,7 +50,7 @@ pub fn block(
 
 /// One instruction.
 #[inline(always)]
-fn step(instruction: &Instruction, registers: &mut [i64], turns: &mut [Turn]) -> usize
+pub(crate) fn step(instruction: &Instruction, registers: &mut [i64], turns: &mut [Turn]) -> usize
     requires held { are_held registers.old ≡ true }
     requires within { operation_within (length registers.old) (length turns.old) instruction.now.operation ≡ true }
     ensures runs { point result registers.new turns.new ≡ ran instruction.now.operation instruction.now.next registers.old turns.old }

@@ -97,7 +97,7 @@ fn by_sign(x: i64, negative: u32, zero: u32, positive: u32) -> usize
     positive as usize
 }
 
-#[inline(always)]
+#[inline(never)]
 #[tactic(auto, using(crate::proofs::Points::least_from))]
 pub(crate) fn sign(negative: u32, zero: u32, positive: u32, term: &Term, registers: &[i64]) -> usize
     requires held { are_held registers.now ≡ true }
@@ -136,7 +136,7 @@ fn numbered(places: &[u32], number: i64, next: u32) -> usize
     }
 }
 
-#[inline(always)]
+#[inline(never)]
 #[tactic(auto, using(crate::proofs::Points::least_from))]
 pub(crate) fn select(term: &Term, places: &[u32], next: u32, registers: &[i64]) -> usize
     requires held { are_held registers.now ≡ true }

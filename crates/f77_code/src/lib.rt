@@ -21,6 +21,7 @@ mod operators;
 mod places;
 mod registers;
 mod term;
+mod watched;
 
 pub use blocks::{Stand, block};
 pub use code::{Code, compiled};
@@ -32,3 +33,4 @@ pub use instruction::{Instruction, Operation, Parameters};
 pub use law::{comes_back, moves_alike};
 pub use places::Places;
 pub use term::{Pair, Term};
+pub use watched::block_to;

@@ -63,7 +63,7 @@ fn passes_within(first: i64, last: i64, step: i64) -> u64
     trip_count(from, to, by)
 }
 
-#[inline(always)]
+#[inline(never)]
 #[tactic(auto, using(crate::proofs::Points::zero_told, crate::proofs::Points::least_from))]
 pub(crate) fn begin(
     variable: u32,

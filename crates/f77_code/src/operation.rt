@@ -21,7 +21,8 @@ use crate::term::Term;
 use f77_actions::Relation;
 use f77_values::told::UNDEFINED;
 
-/// An operation, from which control goes on to `next`.
+/// An operation, from which control goes on to `next`. It is in place where instructions follow one another, which the
+/// compiler allows up to a size: so some long operations have code of their own.
 #[cycle(operations)]
 #[inline(always)]
 pub(crate) fn perform(

@@ -3,7 +3,7 @@ use Rattle.std.proofs.Common.{◌≡◌, ℕ, zero, suc, Bool, true, false, List
 use Rattle.std.specs.Prelude.{Vec, Result, Ok, Err, slice_set}
 use Rattle.std.specs.Option.{option_map_or}
 use Rattle.std.specs.declared.alloc.Global.{Global}
-use Rattle.f77_actions.specs.declared.action.Action.{Action, AssignNumber, AssignTruth, Goto, ComputedGoto, ArithmeticIf, Branch, Continue, Loop}
+use Rattle.f77_actions.specs.declared.action.Action.{Action, AssignNumber, AssignTruth, Goto, ComputedGoto, Branch, Continue, Loop}
 use Rattle.f77_actions.specs.declared.action.Jump.{Jump}
 use Rattle.f77_actions.specs.declared.expression.Condition.{Condition}
 use Rattle.f77_actions.specs.declared.expression.Element.{Element}
@@ -14,7 +14,7 @@ use Rattle.f77_values.specs.declared.finish.Finish.TheVariants.{Returned, Stoppe
 use Rattle.f77_values.specs.declared.value.Value.TheVariants as held
 use Rattle.f77_values.specs.Number.{trip_count}
 use Rattle.f77_code.specs.declared.control.Place.TheVariants.{Execute}
-use Rattle.f77_code.specs.Choice.{by_sign, numbered}
+use Rattle.f77_code.specs.Choice.{numbered}
 use Rattle.f77_code.specs.Evaluation.{slot_in, number_in, truth_in}
 use Rattle.f77_code.specs.Moves.{Cells, Turns, Move, Goes, Ends, state, used, chosen, acted, begun, go_on, jump_to}
 use Rattle.f77_facts.specs.declared.facts.Fact.{Fact}
@@ -77,17 +77,6 @@ gone_to_numbered facts x y ones twos same each statements others i r s cells tur
     (λ z _. one_follows (option_map_or (λ jump. jump_to jump cells turns) (numbered ones.items z) (go_on r cells turns))
     (option_map_or (λ jump. jump_to jump cells turns) (numbered twos.items z) (go_on s cells turns))
     (ap (λ move. option_map_or (λ jump. jump_to jump cells turns) (numbered twos.items z) move) (on cells turns) ∙ each z (go_on r cells turns) cells turns))
-
-signed_alike : (z : ℤ) (a b c d e f : Jump) → JumpAlike a d → JumpAlike b e → JumpAlike c f → JumpAlike (by_sign z a b c) (by_sign z d e f)
-signed_alike (negsuc n) a b c d e f p q r = p
-signed_alike (pos zero) a b c d e f p q r = q
-signed_alike (pos (suc n)) a b c d e f p q r = r
-
-pub gone_by_sign : (facts : List Fact) (x y : Number) (a b c d e f : Jump) → SameNumber facts x y → JumpAlike a d → JumpAlike b e → JumpAlike c f
-    → ActsAlike facts (ArithmeticIf x a b c) (ArithmeticIf y d e f)
-gone_by_sign facts x y a b c d e f same p q t statements others i r s cells turns on pass inside =
-    used_follows (number_in cells x) (number_in cells y) cells (λ z. jump_to (by_sign z a b c) cells turns) (λ z. jump_to (by_sign z d e f) cells turns)
-    (same cells inside) (λ z _. signed_alike z a b c d e f p q t cells turns)
 
 -- branches
 pub branched : (facts : List Fact) (c d : Condition) (t u : ℕ) → t ≡ u → SameTruth facts c d → ActsAlike facts (Branch c t) (Branch d u)

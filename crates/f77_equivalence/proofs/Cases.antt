@@ -8,7 +8,7 @@ use Rattle.f77_code.specs.Evaluation.{truth_in}
 use Rattle.f77_code.specs.Moves.{Cells}
 use Rattle.f77_facts.specs.declared.facts.Fact.{Fact}
 use Rattle.f77_facts.specs.Facts.{AreIn}
-use Rattle.f77_facts.proofs.Refined.{used_for, both_used}
+use Rattle.f77_facts.proofs.Used.{used_for, both_used}
 use Rattle.f77_equivalence.specs.Cases.{SameWhere}
 use Rattle.f77_equivalence.specs.Same.{Agrees, SameTruth}
 

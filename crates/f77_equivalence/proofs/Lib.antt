@@ -1,5 +1,7 @@
 pub mod Alike
 pub mod Actions
+pub mod Turning
+pub mod Evaluated
 pub mod Cases
 pub mod Moving
 pub mod Relations

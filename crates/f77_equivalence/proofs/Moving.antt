@@ -143,7 +143,7 @@ module _ (statements others : List Resolved) (changed : ℕ) (agree : AgreeBut c
   advanced_same d (Some r) cells turns =
       ap (λ (m : Option Move). if is_loop r.action then m else None) (turned_same d r cells turns (turn_at turns d))
 
-  moved_same : (place : Place) (cells : Cells) (turns : Turns) → site place ≢ changed
+  pub moved_same : (place : Place) (cells : Cells) (turns : Turns) → site place ≢ changed
       → moved others (state place cells turns) ≡ moved statements (state place cells turns)
   moved_same (Execute i) cells turns differ = rw (agree i differ) (executed_same i (slice_get others i) cells turns)
   moved_same (Increment d) cells turns differ = rw (agree d differ) (advanced_same d (slice_get others d) cells turns)

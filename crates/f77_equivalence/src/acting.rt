@@ -3,12 +3,14 @@
 ghost use Rattle.std.specs.Prelude.{◌≡◌, List, true, IfOk};
 ghost use Rattle.f77_code.specs.Moves as moves;
 ghost use Rattle.f77_facts.specs.declared.facts.Fact.{Fact};
-ghost use Rattle.f77_equivalence.specs.Alike.{ActsAlike, ActsAsGuarded, GuardedActsAs, GuardedAlike, JumpAlike};
+ghost use Rattle.f77_equivalence.specs.Alike.{ActsAlike, ActsAsGuarded, GuardedActsAs, GuardedAlike};
 
 use crate::conditions::{is_forced, is_same_condition, refined};
-use crate::same::{is_same_number, is_same_slot};
+use crate::same::is_same_number;
+use crate::settled::{is_same_place, is_same_value};
+use crate::turns::turns_alike;
 use crate::ways::{all_jump_alike, jumps_alike};
-use f77_actions::{Action, Condition, Jump};
+use f77_actions::{Action, Condition};
 use f77_facts::facts::{Fact, is_empty};
 use std::alloc::{AllocError, Global};
 
@@ -44,29 +46,17 @@ fn assigns_alike(
 {
     match (one, other) {
         (Action::AssignNumber(e, x), Action::AssignNumber(f, y)) => {
-            Ok(is_same_slot(facts, e, f) && is_same_number(facts, x, y))
+            let same = is_same_value(alloc, facts, x, y)?;
+            let place = is_same_place(alloc, facts, e, f)?;
+            Ok(same && place)
         }
         (Action::AssignTruth(e, x), Action::AssignTruth(f, y)) => {
             let same = is_same_condition(alloc, facts, x, y)?;
-            Ok(same && is_same_slot(facts, e, f))
+            let place = is_same_place(alloc, facts, e, f)?;
+            Ok(same && place)
         }
         _ => Ok(false),
     }
-}
-
-/// The jumps of two arithmetic IFs do the same, in order.
-fn all_signs_alike(a: &Jump, b: &Jump, c: &Jump, d: &Jump, e: &Jump, f: &Jump) -> bool
-    ensures negative { result ≡ true → JumpAlike a.now d.now }
-    ensures zero { result ≡ true → JumpAlike b.now e.now }
-    ensures positive { result ≡ true → JumpAlike c.now f.now }
-{
-    if !jumps_alike(a, d) {
-        return false;
-    }
-    if !jumps_alike(b, e) {
-        return false;
-    }
-    jumps_alike(c, f)
 }
 
 /// Both jump, by one number where they choose.
@@ -96,15 +86,17 @@ fn leaps_alike(facts: &[Fact], one: &Action, other: &Action) -> bool
                 positive: other_positive,
             },
         ) => {
-            is_same_number(facts, value, other_value)
-                && all_signs_alike(
-                    negative,
-                    zero,
-                    positive,
-                    other_negative,
-                    other_zero,
-                    other_positive,
-                )
+            turns_alike(
+                facts,
+                value,
+                negative,
+                zero,
+                positive,
+                other_value,
+                other_negative,
+                other_zero,
+                other_positive,
+            )
         }
         _ => false,
     }

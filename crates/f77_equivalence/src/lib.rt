@@ -11,6 +11,8 @@ pub mod law;
 pub mod moves_alike;
 mod relating;
 pub mod same;
+mod settled;
 mod signs;
 pub mod start;
+mod turns;
 mod ways;

@@ -159,7 +159,7 @@ fn is_same_form(facts: &[Fact], x: &Number, y: &Number) -> bool
 
 /// The second number has the value of the first, or that with the other sign, unless that faults.
 #[cycle(numbers)]
-fn is_same_size(facts: &[Fact], x: &Number, y: &Number) -> bool
+pub fn is_same_size(facts: &[Fact], x: &Number, y: &Number) -> bool
     ensures { result ≡ true → (cells : Cells) → AreIn facts.now cells
         → AgreesInSize (number_in cells x.now) (number_in cells y.now) }
 {

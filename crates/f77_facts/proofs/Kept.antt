@@ -59,26 +59,34 @@ lands_used entries (Ok x) cells f each = each x refl
 lands_used entries (Err fault) cells f each = tt
 
 module _ (entries : List Entry) (r : Resolved) (facts after : List Fact) (loops : List LoopFact) (goes : GoesOn entries r after loops) where
-  pub number_acts : (e : Element) (x : Number) (reach : Reach) (known : Known) → CoversSlot facts e reach → Covers facts x known
-      → ((cells : Cells) (k : ℕ) (z : ℤ) → AreIn facts cells → IsReached reach.first reach.count k → Suits known (Ok z)
+  pub number_acts : (e : Element) (x : Number) (reach : Reach) (known : Known) (there : List Fact)
+      → ((cells : Cells) (k : ℕ) (z : ℤ) → AreIn facts cells → slot_in cells e ≡ Ok k → number_in cells x ≡ Ok z → AreIn there cells)
+      → CoversSlot there e reach → Covers there x known
+      → ((cells : Cells) (k : ℕ) (z : ℤ) → AreIn there cells → IsReached reach.first reach.count k → Suits known (Ok z)
       → AreIn after (slice_set cells k (Some (held.Number z))))
       → ActsAnywhere entries r (AssignNumber e x) facts loops
-  number_acts e x reach known slots values assigns statements i cells turns inside left =
+  number_acts e x reach known there told slots values assigns statements i cells turns inside left =
       lands_used entries (slot_in cells e) cells (λ k. used (number_in cells x) cells (λ z. go_on r (slice_set cells k (Some (held.Number z))) turns))
       (λ k at. lands_used entries (number_in cells x) cells (λ z. go_on r (slice_set cells k (Some (held.Number z))) turns)
-      (λ z is. goes (slice_set cells k (Some (held.Number z))) turns
-      (assigns cells k z inside (subst (λ q. SuitsSlot reach q) at (slots cells inside)) (subst (λ q. Suits known q) is (values cells inside)))
+      (λ z is.
+      let held_there = told cells k z inside at is in
+      goes (slice_set cells k (Some (held.Number z))) turns
+      (assigns cells k z held_there (subst (λ q. SuitsSlot reach q) at (slots cells held_there)) (subst (λ q. Suits known q) is (values cells held_there)))
       left))
 
-  pub truth_acts : (e : Element) (x : Condition) (reach : Reach) (truths : Truths) → CoversSlot facts e reach → CoversTruth facts x truths
-      → ((cells : Cells) (k : ℕ) (b : Bool) → AreIn facts cells → IsReached reach.first reach.count k → SuitsTruth truths (Ok b)
+  pub truth_acts : (e : Element) (x : Condition) (reach : Reach) (truths : Truths) (there : List Fact)
+      → ((cells : Cells) (k : ℕ) (b : Bool) → AreIn facts cells → slot_in cells e ≡ Ok k → truth_in cells x ≡ Ok b → AreIn there cells)
+      → CoversSlot there e reach → CoversTruth there x truths
+      → ((cells : Cells) (k : ℕ) (b : Bool) → AreIn there cells → IsReached reach.first reach.count k → SuitsTruth truths (Ok b)
       → AreIn after (slice_set cells k (Some (held.Truth b))))
       → ActsAnywhere entries r (AssignTruth e x) facts loops
-  truth_acts e x reach truths slots values assigns statements i cells turns inside left =
+  truth_acts e x reach truths there told slots values assigns statements i cells turns inside left =
       lands_used entries (slot_in cells e) cells (λ k. used (truth_in cells x) cells (λ b. go_on r (slice_set cells k (Some (held.Truth b))) turns))
       (λ k at. lands_used entries (truth_in cells x) cells (λ b. go_on r (slice_set cells k (Some (held.Truth b))) turns)
-      (λ b is. goes (slice_set cells k (Some (held.Truth b))) turns
-      (assigns cells k b inside (subst (λ q. SuitsSlot reach q) at (slots cells inside)) (subst (λ q. SuitsTruth truths q) is (values cells inside)))
+      (λ b is.
+      let held_there = told cells k b inside at is in
+      goes (slice_set cells k (Some (held.Truth b))) turns
+      (assigns cells k b held_there (subst (λ q. SuitsSlot reach q) at (slots cells held_there)) (subst (λ q. SuitsTruth truths q) is (values cells held_there)))
       left))
 
 module _ (entries : List Entry) (r : Resolved) (c : Condition) (facts holds fails : List Fact) (loops : List LoopFact) (first : Refines facts holds c true)

@@ -1,9 +1,11 @@
 pub mod Suits
+pub mod Used
 pub mod Products
 pub mod Quotients
 pub mod Remainders
 pub mod Powers
 pub mod Comparisons
+pub mod Inverses
 pub mod Operands
 pub mod Slots
 pub mod Turns

@@ -21,16 +21,7 @@ use Rattle.f77_facts.specs.Reaching.{IsReached, SuitsSlot}
 use Rattle.f77_facts.specs.Bounds.{CoversSlot, Covers, CoversTruth}
 use Rattle.f77_facts.specs.Refining.{Limits, Refines, RefinesTo}
 use Rattle.f77_facts.proofs.Slots.{set_one, truth_there}
-
-pub used_for : {A B : Type 0} (r : Result A Fault) (f : A → Result B Fault) (w : B) → given r f ≡ Ok w → (v : A) × (r ≡ Ok v) × (f v ≡ Ok w)
-used_for (Ok v) f w e = (v, refl, e)
-used_for (Err x) f w e = absurd (cc (e))
-
-pub both_used : {A B : Type 0} (f : A → A → Result B Fault) (r s : Result A Fault) (w : B) → both f r s ≡ Ok w
-    → (u : A) × (v : A) × (r ≡ Ok u) × (s ≡ Ok v) × (f u v ≡ Ok w)
-both_used f (Ok u) (Ok v) w e = (u, v, refl, refl, e)
-both_used f (Ok u) (Err x) w e = absurd (cc (e))
-both_used f (Err x) s w e = absurd (cc (e))
+use Rattle.f77_facts.proofs.Used.{used_for, both_used}
 
 pub not_flips : (a b : Bool) → not a ≡ b → a ≡ not b
 not_flips true b e = ap not e
@@ -75,28 +66,71 @@ slot_refined facts first count truths own truth one knows each cells k inside re
     (truth_there own truth (held_in cells first) holds (each (subst (λ r. SuitsTruth truths r) holds (knows cells inside))))
 
 -- the slot of an element that has a value is among those that are reached
-pub element_limited : (old new : List Fact) (e : Element) (reach : Reach) (to : Known) → CoversSlot old e reach
-    → ((cells : Cells) (k : ℕ) (z : ℤ) → AreIn old cells → IsReached reach.first reach.count k → whole (held_in cells k) ≡ Ok z
+pub element_limited : (old mid new : List Fact) (e : Element) (reach : Reach) (to : Known)
+    → ((cells : Cells) (k : ℕ) → AreIn old cells → slot_in cells e ≡ Ok k → AreIn mid cells) → CoversSlot mid e reach
+    → ((cells : Cells) (k : ℕ) (z : ℤ) → AreIn mid cells → IsReached reach.first reach.count k → whole (held_in cells k) ≡ Ok z
     → IsBetween to.low z to.high → AreIn new cells)
     → (cells : Cells) (z : ℤ) → AreIn old cells → given (slot_in cells e) (λ k. whole (held_in cells k)) ≡ Ok z → IsBetween to.low z to.high → AreIn new cells
-element_limited old new e reach to covers each cells z inside is between =
+element_limited old mid new e reach to named covers each cells z inside is between =
     let it = used_for (slot_in cells e) (λ k. whole (held_in cells k)) z is in
-    each cells it.0 z inside (subst (λ r. SuitsSlot reach r) it.1 (covers cells inside)) it.2 between
+    let there = named cells it.0 inside it.1 in
+    each cells it.0 z there (subst (λ r. SuitsSlot reach r) it.1 (covers cells there)) it.2 between
 
-pub element_refined : (old new : List Fact) (e : Element) (reach : Reach) (truth : Bool) → CoversSlot old e reach
-    → ((cells : Cells) (k : ℕ) → AreIn old cells → IsReached reach.first reach.count k → logic (held_in cells k) ≡ Ok truth → AreIn new cells)
+pub element_settled : (old mid new : List Fact) (e : Element) (reach : Reach)
+    → ((cells : Cells) (k : ℕ) → AreIn old cells → slot_in cells e ≡ Ok k → AreIn mid cells) → CoversSlot mid e reach
+    → ((cells : Cells) (k : ℕ) (b : Bool) → AreIn mid cells → IsReached reach.first reach.count k → logic (held_in cells k) ≡ Ok b → AreIn new cells)
+    → (cells : Cells) (b : Bool) → AreIn old cells → given (slot_in cells e) (λ k. logic (held_in cells k)) ≡ Ok b → AreIn new cells
+element_settled old mid new e reach named covers each cells b inside is =
+    let it = used_for (slot_in cells e) (λ k. logic (held_in cells k)) b is in
+    let there = named cells it.0 inside it.1 in
+    each cells it.0 b there (subst (λ r. SuitsSlot reach r) it.1 (covers cells there)) it.2
+
+pub element_refined : (old mid new : List Fact) (e : Element) (reach : Reach) (truth : Bool)
+    → ((cells : Cells) (k : ℕ) → AreIn old cells → slot_in cells e ≡ Ok k → AreIn mid cells) → CoversSlot mid e reach
+    → ((cells : Cells) (k : ℕ) → AreIn mid cells → IsReached reach.first reach.count k → logic (held_in cells k) ≡ Ok truth → AreIn new cells)
     → (cells : Cells) → AreIn old cells → given (slot_in cells e) (λ k. logic (held_in cells k)) ≡ Ok truth → AreIn new cells
-element_refined old new e reach truth covers each cells inside is =
+element_refined old mid new e reach truth named covers each cells inside is =
     let it = used_for (slot_in cells e) (λ k. logic (held_in cells k)) truth is in
-    each cells it.0 inside (subst (λ r. SuitsSlot reach r) it.1 (covers cells inside)) it.2
+    let there = named cells it.0 inside it.1 in
+    each cells it.0 there (subst (λ r. SuitsSlot reach r) it.1 (covers cells there)) it.2
 
--- an operand, from the value of an operation within the range
-pub operand_limited : (old new : List Fact) (x : Number) (f : ℤ → ℤ) (own to : Known) → Limits old new x own
-    → ((z : ℤ) → IsBetween to.low (f z) to.high → IsBetween own.low z own.high)
-    → (cells : Cells) (w : ℤ) → AreIn old cells → given (number_in cells x) (λ z. in_range (f z)) ≡ Ok w → IsBetween to.low w to.high → AreIn new cells
-operand_limited old new x f own to limits each cells w inside is between =
-    let it = used_for (number_in cells x) (λ z. in_range (f z)) w is in
-    limits cells it.0 inside it.1 (each it.0 (subst (λ v. IsBetween to.low v to.high) (sym (ranged (f it.0) w it.2)) between))
+-- an operand, from the value of an operation
+pub operand_within : (old new : List Fact) (x : Number) (f : ℤ → Result ℤ Fault) (a own to : Known) → Covers old x a → Limits old new x own
+    → ((z w : ℤ) → IsBetween a.low z a.high → f z ≡ Ok w → IsBetween to.low w to.high → IsBetween own.low z own.high)
+    → (cells : Cells) (w : ℤ) → AreIn old cells → given (number_in cells x) f ≡ Ok w → IsBetween to.low w to.high → AreIn new cells
+operand_within old new x f a own to covers limits each cells w inside is between =
+    let it = used_for (number_in cells x) f w is in
+    limits cells it.0 inside it.1 (each it.0 w (subst (λ r. Suits a r) it.1 (covers cells inside)) it.2 between)
+
+-- both operands, one after the other
+pub operands_within : (old mid new : List Fact) (x y : Number) (f : ℤ → ℤ → Result ℤ Fault) (a b l m to : Known) → Covers old x a → Covers old y b
+    → Limits old mid x l → Limits mid new y m
+    → ((u v w : ℤ) → IsBetween a.low u a.high → IsBetween b.low v b.high → f u v ≡ Ok w → IsBetween to.low w to.high → IsBetween l.low u l.high)
+    → ((u v w : ℤ) → IsBetween a.low u a.high → IsBetween b.low v b.high → f u v ≡ Ok w → IsBetween to.low w to.high → IsBetween m.low v m.high)
+    → (cells : Cells) (w : ℤ) → AreIn old cells → both f (number_in cells x) (number_in cells y) ≡ Ok w → IsBetween to.low w to.high → AreIn new cells
+operands_within old mid new x y f a b l m to covers other first second left right cells w inside is between =
+    let it = both_used f (number_in cells x) (number_in cells y) w is in
+    let p = subst (λ r. Suits a r) it.2 (covers cells inside) in
+    let q = subst (λ r. Suits b r) it.3 (other cells inside) in
+    second cells it.1 (first cells it.0 inside it.2 (left it.0 it.1 w p q it.4 between)) it.3 (right it.0 it.1 w p q it.4 between)
+
+-- both operands have values
+pub both_settle : {A : Type 0} (old mid new : List Fact) (r s : Cells → Result A Fault) (f : A → A → Result Bool Fault)
+    → ((cells : Cells) (u : A) → AreIn old cells → r cells ≡ Ok u → AreIn mid cells) → ((cells : Cells) (v : A) → AreIn mid cells → s cells ≡ Ok v → AreIn new cells)
+    → (cells : Cells) (b : Bool) → AreIn old cells → both f (r cells) (s cells) ≡ Ok b → AreIn new cells
+both_settle old mid new r s f first second cells b inside is =
+    let it = both_used f (r cells) (s cells) b is in
+    second cells it.1 (first cells it.0 inside it.2) it.3
+
+pub not_settles : (old new : List Fact) (c : Condition) → ((cells : Cells) (b : Bool) → AreIn old cells → truth_in cells c ≡ Ok b → AreIn new cells)
+    → (cells : Cells) (b : Bool) → AreIn old cells → given (truth_in cells c) (λ a. Ok (not a)) ≡ Ok b → AreIn new cells
+not_settles old new c settles cells b inside is =
+    let it = used_for (truth_in cells c) (λ a. Ok (not a)) b is in
+    settles cells it.0 inside it.1
+
+pub kept_truth : (truths own : Truths) (b : Bool) → own.may_hold ≡ truths.may_hold → own.may_fail ≡ truths.may_fail → SuitsTruth truths (Ok b) → SuitsTruth own (Ok b)
+kept_truth truths own true e f s = e ∙ s
+kept_truth truths own false e f s = f ∙ s
 
 -- two numbers are limited, one after the other
 pub two_limits : (old mid new : List Fact) (x y : Number) (test : ℤ → ℤ → Bool) (truth : Bool) (a b l m : Known) → Covers old x a → Covers old y b

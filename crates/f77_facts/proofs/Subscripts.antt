@@ -17,6 +17,7 @@ use Rattle.f77_facts.specs.Facts.{SuitsFact, AreIn}
 use Rattle.f77_facts.specs.Known.{IsBetween, Suits}
 use Rattle.f77_facts.specs.Reaching.{IsReached, SuitsSlot, found_in}
 use Rattle.f77_facts.specs.Truths.{SuitsTruth}
+use Rattle.f77_facts.proofs.Used.{used_for}
 use Rattle.f77_facts.proofs.Slots.{none_held}
 
 -- the place of an element by one subscript
@@ -148,3 +149,37 @@ pub logical_found : (truths : Truths) (cells : Cells) (r : Result ℕ Fault) →
     → SuitsTruth truths (given r (λ k. logic (held_in cells k)))
 logical_found truths cells (Ok k) s = s
 logical_found truths cells (Err fault) s = s
+
+-- a subscript that is of an element is within its bound
+pub placed : (bound : ℕ) (bounds : List ℕ) (z : ℤ) (zs : List ℤ) (k : ℕ) → element (bound ∷ bounds) (z ∷ zs) ≡ Ok k
+    → (pos 1 ≤ℤ z) × (z ≤ℤ pos bound) × (m : ℕ) × (element bounds zs ≡ Ok m)
+placed bound bounds (pos zero) zs k e = absurd (cc (e))
+placed bound bounds (negsuc n) zs k e = absurd (cc (e))
+placed bound bounds (pos (suc n)) zs k e = by (nat_lt n bound) refl
+  where
+    by : (b : Bool) → nat_lt n bound ≡ b → (pos 1 ≤ℤ pos (suc n)) × (pos (suc n) ≤ℤ pos bound) × (m : ℕ) × (element bounds zs ≡ Ok m)
+    by true f =
+        let below = ltb-true n bound f in
+        let whole = rw f at e in
+        let it = used_for (element bounds zs) (λ rest. Ok (n + bound * rest)) k whole in
+        (omega (arith, ints), omega (arith, ints, below), it.0, it.1)
+    by false f = let whole = rw f at e in absurd (cc (whole))
+
+pub vector_named : (first bound : ℕ) (x : Result ℤ Fault) (k : ℕ) → given x (λ z. given (element (bound ∷ []) (z ∷ [])) (λ n. Ok (first + n))) ≡ Ok k
+    → (z : ℤ) × (x ≡ Ok z) × (pos 1 ≤ℤ z) × (z ≤ℤ pos bound)
+vector_named first bound x k e =
+    let it = used_for x (λ z. given (element (bound ∷ []) (z ∷ [])) (λ n. Ok (first + n))) k e in
+    let place = used_for (element (bound ∷ []) (it.0 ∷ [])) (λ n. Ok (first + n)) k it.2 in
+    let within = placed bound [] it.0 [] place.0 place.1 in
+    (it.0, it.1, within.0, within.1)
+
+pub matrix_named : (first rows columns : ℕ) (x y : Result ℤ Fault) (k : ℕ)
+    → given x (λ z. given y (λ w. given (element (rows ∷ (columns ∷ [])) (z ∷ (w ∷ []))) (λ n. Ok (first + n)))) ≡ Ok k
+    → (z : ℤ) × (w : ℤ) × (x ≡ Ok z) × (y ≡ Ok w) × (pos 1 ≤ℤ z) × (z ≤ℤ pos rows) × (pos 1 ≤ℤ w) × (w ≤ℤ pos columns)
+matrix_named first rows columns x y k e =
+    let row = used_for x (λ z. given y (λ w. given (element (rows ∷ (columns ∷ [])) (z ∷ (w ∷ []))) (λ n. Ok (first + n)))) k e in
+    let column = used_for y (λ w. given (element (rows ∷ (columns ∷ [])) (row.0 ∷ (w ∷ []))) (λ n. Ok (first + n))) k row.2 in
+    let place = used_for (element (rows ∷ (columns ∷ [])) (row.0 ∷ (column.0 ∷ []))) (λ n. Ok (first + n)) k column.2 in
+    let within = placed rows (columns ∷ []) row.0 (column.0 ∷ []) place.0 place.1 in
+    let behind = placed columns [] column.0 [] within.2 within.3 in
+    (row.0, column.0, row.1, column.1, within.0, within.1, behind.0, behind.1)

@@ -8,7 +8,7 @@ ghost use Rattle.f77_facts.specs.Entries.{Adds};
 ghost use Rattle.f77_facts.specs.Keeping.{Acts, Begins, RefinesPasses};
 
 use crate::bounds::known_of;
-use crate::copying::with_number;
+use crate::copying::given_number;
 use crate::entries::Entry;
 use crate::facts::{self, Fact};
 use crate::known::Known;
@@ -89,7 +89,7 @@ fn begun(
 {
     let refined = refined_passes(alloc, facts, first, last, step, makes)?;
     let from = known_of(&refined, first);
-    with_number(alloc, &refined, one_slot(variable), from)
+    Ok(given_number(refined, one_slot(variable), from))
 }
 
 /// Adds where a DO that begins leads, if it ends at a statement.

@@ -2,6 +2,7 @@
 
 ghost use Rattle.std.specs.Prelude.{◌≡◌, ◌<◌, ℕ, ℤ, Bool, length, slice_get, slice_set, Some, Ok, IfOk};
 ghost use Rattle.f77_values.specs.declared.value.Value.TheVariants as held;
+ghost use Rattle.f77_code.specs.Evaluation.{slot_in, number_in, truth_in};
 ghost use Rattle.f77_code.specs.Moves.{Cells, Turns, without};
 ghost use Rattle.f77_facts.specs.Known.{Suits};
 ghost use Rattle.f77_facts.specs.Truths.{SuitsTruth};
@@ -15,9 +16,9 @@ use crate::facts::{self, Fact};
 use crate::known::Known;
 use crate::loops::{self, LoopFact, set_loop};
 use crate::reaching::Reach;
-use crate::refining::{limit, refine};
+use crate::refining::{limit, limit_subscripts, refine, settle, settle_number};
 use crate::truths::Truths;
-use f77_actions::{Condition, Number};
+use f77_actions::{Condition, Element, Number};
 use std::alloc::{AllocError, Global};
 
 /// What is known where the condition has this value.
@@ -48,6 +49,47 @@ pub(crate) fn limited_to(
     Ok(after)
 }
 
+/// What is known where the reference names a slot and the number has a value.
+pub(crate) fn with_value(
+    alloc: Global,
+    facts: &[Fact],
+    element: &Element,
+    number: &Number,
+) -> Result<Vec<Fact>, AllocError>
+    ensures { IfOk result (λ v. (cells : Cells) (k : ℕ) (z : ℤ) → AreIn facts.now cells
+        → slot_in cells element.now ≡ Ok k → number_in cells number.now ≡ Ok z → AreIn v.items cells) }
+{
+    let mut after = facts::copy(alloc, facts)?;
+    limit_subscripts(&mut after, element);
+    settle_number(&mut after, number);
+    Ok(after)
+}
+
+/// What is known where the reference names a slot and the condition has a value.
+pub(crate) fn with_truth_value(
+    alloc: Global,
+    facts: &[Fact],
+    element: &Element,
+    condition: &Condition,
+) -> Result<Vec<Fact>, AllocError>
+    ensures { IfOk result (λ v. (cells : Cells) (k : ℕ) (b : Bool) → AreIn facts.now cells
+        → slot_in cells element.now ≡ Ok k → truth_in cells condition.now ≡ Ok b → AreIn v.items cells) }
+{
+    let mut after = facts::copy(alloc, facts)?;
+    limit_subscripts(&mut after, element);
+    settle(&mut after, condition);
+    Ok(after)
+}
+
+/// The facts where a slot that a reference may name is given an INTEGER value.
+pub(crate) fn given_number(mut facts: Vec<Fact>, reach: Reach, known: Known) -> Vec<Fact>
+    ensures { (cells : Cells) (k : ℕ) (z : ℤ) → AreIn facts.items cells → IsReached reach.first reach.count k
+        → Suits known (Ok z) → AreIn result.items (slice_set cells k (Some (held.Number z))) }
+{
+    assign_number(&mut facts, reach, known);
+    facts
+}
+
 /// What is known where a slot that a reference may name is given an INTEGER value.
 pub(crate) fn with_number(
     alloc: Global,
@@ -64,20 +106,13 @@ pub(crate) fn with_number(
     Ok(after)
 }
 
-/// What is known where a slot that a reference may name is given a LOGICAL value.
-pub(crate) fn with_truth(
-    alloc: Global,
-    facts: &[Fact],
-    reach: Reach,
-    truths: Truths,
-) -> Result<Vec<Fact>, AllocError>
-    ensures { IfOk result (λ v. (cells : Cells) (k : ℕ) (b : Bool) → AreIn facts.now cells
-        → IsReached reach.first reach.count k → SuitsTruth truths (Ok b)
-        → AreIn v.items (slice_set cells k (Some (held.Truth b)))) }
+/// The facts where a slot that a reference may name is given a LOGICAL value.
+pub(crate) fn given_truth(mut facts: Vec<Fact>, reach: Reach, truths: Truths) -> Vec<Fact>
+    ensures { (cells : Cells) (k : ℕ) (b : Bool) → AreIn facts.items cells → IsReached reach.first reach.count k
+        → SuitsTruth truths (Ok b) → AreIn result.items (slice_set cells k (Some (held.Truth b))) }
 {
-    let mut after = facts::copy(alloc, facts)?;
-    assign_truth(&mut after, reach, truths);
-    Ok(after)
+    assign_truth(&mut facts, reach, truths);
+    facts
 }
 
 /// The number of this place in the list.

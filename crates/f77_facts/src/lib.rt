@@ -15,6 +15,7 @@ pub mod known;
 mod looping;
 pub mod loops;
 pub mod moving;
+mod narrowing;
 pub mod reaching;
 pub mod refining;
 pub mod relations;

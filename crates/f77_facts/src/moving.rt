@@ -8,7 +8,7 @@ ghost use Rattle.f77_facts.specs.Keeping.{Acts, ActsAnywhere};
 use crate::beginning::is_begin_kept;
 use crate::bounds::{known_of, reach_of, truths_of};
 use crate::choosing::is_jump_kept;
-use crate::copying::{refined, with_number, with_truth};
+use crate::copying::{given_number, given_truth, refined, with_truth_value, with_value};
 use crate::entries::{Entry, are_covered};
 use crate::facts::{self, Fact};
 use crate::jumping::goes_on;
@@ -32,9 +32,10 @@ fn is_number_kept(
     ensures { IfOk result (λ _. Adds moves.old.items moves.new.items (ActsAnywhere moves.new.items resolved.now
         (Action.AssignNumber element.now number.now) facts.now loops.now)) }
 {
-    let reach = reach_of(facts, element);
-    let known = known_of(facts, number);
-    let after = with_number(alloc, facts, reach, known)?;
+    let there = with_value(alloc, facts, element, number)?;
+    let reach = reach_of(&there, element);
+    let known = known_of(&there, number);
+    let after = given_number(there, reach, known);
     goes_on(alloc, moves, resolved, after, loops)
 }
 
@@ -51,9 +52,10 @@ fn is_truth_kept(
     ensures { IfOk result (λ _. Adds moves.old.items moves.new.items (ActsAnywhere moves.new.items resolved.now
         (Action.AssignTruth element.now condition.now) facts.now loops.now)) }
 {
-    let reach = reach_of(facts, element);
-    let truths = truths_of(facts, condition);
-    let after = with_truth(alloc, facts, reach, truths)?;
+    let there = with_truth_value(alloc, facts, element, condition)?;
+    let reach = reach_of(&there, element);
+    let truths = truths_of(&there, condition);
+    let after = given_truth(there, reach, truths);
     goes_on(alloc, moves, resolved, after, loops)
 }
 

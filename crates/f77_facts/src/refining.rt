@@ -1,9 +1,8 @@
 //! What a value or the outcome of a condition tells of the slots in it.
 
-ghost use Rattle.std.specs.Prelude.{◌≡◌, ℕ, ℤ, false, Ok, IfSome};
-ghost use Rattle.f77_values.specs.Number.{negated, size};
+ghost use Rattle.std.specs.Prelude.{◌≡◌, ◌≤ℤ◌, ℕ, ℤ, pos, Bool, false, Ok};
 ghost use Rattle.f77_values.specs.Value.{whole, logic};
-ghost use Rattle.f77_code.specs.Evaluation.{held_in};
+ghost use Rattle.f77_code.specs.Evaluation.{held_in, number_in, slot_in, truth_in};
 ghost use Rattle.f77_code.specs.Moves.{Cells};
 ghost use Rattle.f77_facts.specs.Known.{IsBetween};
 ghost use Rattle.f77_facts.specs.Truths.{SuitsTruth};
@@ -15,10 +14,11 @@ use crate::bounds::{known_of, reach_of, truths_of};
 use crate::connectives;
 use crate::facts::{Fact, known_at, set, truths_at};
 use crate::known::{Known, limited};
+use crate::narrowing::{either_signs, left_within, opposites, pushables, right_within, subscripts};
 use crate::reaching::Reach;
 use crate::relations::{left_where, right_where};
 use crate::truths::{Truths, only};
-use f77_actions::{Condition, Number, Relation};
+use f77_actions::{Condition, Element, Number, Relation};
 
 /// The slot that a reference names, if it can be but one, has a number between these bounds.
 fn limit_slot(facts: &mut [Fact], reach: Reach, to: Known)
@@ -31,54 +31,83 @@ fn limit_slot(facts: &mut [Fact], reach: Reach, to: Known)
     }
 }
 
-/// Numbers whose negations are between these bounds, where there are such bounds.
-fn opposite(to: Known) -> Option<Known>
-    ensures { IfSome result (λ own. (z : ℤ) → IsBetween to.low (negated z) to.high → IsBetween own.low z own.high) }
+/// Takes into account that the number is a subscript within this bound.
+#[cycle(limits)]
+fn limit_subscript(facts: &mut [Fact], number: &Number, bound: u32)
+    ensures { (cells : Cells) (z : ℤ) → AreIn facts.old cells → number_in cells number.now ≡ Ok z → pos 1 ≤ℤ z
+        → z ≤ℤ pos bound → AreIn facts.new cells }
 {
-    if to.low == i32::MIN || to.high == i32::MIN {
-        return None;
-    }
-    Some(Known {
-        may_lack: false,
-        low: -to.high,
-        high: -to.low,
-    })
+    let own = subscripts(known_of(facts, number), bound);
+    limit(facts, number, own);
 }
 
-/// Numbers whose sizes are between these bounds, where there are any.
-fn either_sign(to: Known) -> Option<Known>
-    ensures { IfSome result (λ own. (z : ℤ) → IsBetween to.low (size z) to.high → IsBetween own.low z own.high) }
+/// Takes into account that the reference names a slot.
+#[cycle(limits)]
+pub fn limit_subscripts(facts: &mut [Fact], element: &Element)
+    ensures { (cells : Cells) (k : ℕ) → AreIn facts.old cells → slot_in cells element.now ≡ Ok k
+        → AreIn facts.new cells }
 {
-    if to.high < 0 {
-        return None;
+    match element {
+        Element::Variable(_) => {}
+        Element::Vector {
+            bound,
+            subscript,
+            ..
+        } => limit_subscript(facts, subscript, *bound),
+        Element::Matrix {
+            rows,
+            columns,
+            row,
+            column,
+            ..
+        } => {
+            limit_subscript(facts, row, *rows);
+            limit_subscript(facts, column, *columns);
+        }
     }
-    Some(Known {
-        may_lack: false,
-        low: -to.high,
-        high: to.high,
-    })
+}
+
+/// The same of an operation on two numbers.
+#[cycle(limits)]
+fn limit_operands(facts: &mut [Fact], number: &Number, to: Known)
+    ensures { Limits facts.old facts.new number.now to }
+{
+    let Number::Binary(operation, left, right) = number else {
+        return;
+    };
+    let a = known_of(facts, left);
+    let b = known_of(facts, right);
+    let first = left_within(*operation, a, b, to);
+    let second = right_within(*operation, a, b, to);
+    limit(facts, left, first);
+    limit(facts, right, second);
 }
 
 /// Takes into account that the expression has a value, which is between these bounds.
+#[cycle(limits)]
 pub fn limit(facts: &mut [Fact], number: &Number, to: Known)
     ensures { Limits facts.old facts.new number.now to }
 {
     match number {
         Number::Element(element) => {
+            limit_subscripts(facts, element);
             let reach = reach_of(facts, element);
             limit_slot(facts, reach, to);
         }
         Number::Negated(operand) => {
-            if let Some(own) = opposite(to) {
-                limit(facts, operand, own);
-            }
+            let own = opposites(known_of(facts, operand), to);
+            limit(facts, operand, own);
         }
         Number::Absolute(operand) => {
-            if let Some(own) = either_sign(to) {
-                limit(facts, operand, own);
-            }
+            let own = either_signs(known_of(facts, operand), to);
+            limit(facts, operand, own);
         }
-        Number::Constant(_) | Number::TooLarge | Number::ZeroPush(_) | Number::Binary(..) => {}
+        Number::ZeroPush(operand) => {
+            let own = pushables(known_of(facts, operand), to);
+            limit(facts, operand, own);
+        }
+        Number::Binary(..) => limit_operands(facts, number, to),
+        Number::Constant(_) | Number::TooLarge => {}
     }
 }
 
@@ -111,6 +140,53 @@ fn refine_slot(facts: &mut [Fact], reach: Reach, truth: bool)
     }
 }
 
+/// Takes into account that the number has a value.
+pub fn settle_number(facts: &mut [Fact], number: &Number)
+    ensures { (cells : Cells) (z : ℤ) → AreIn facts.old cells → number_in cells number.now ≡ Ok z
+        → AreIn facts.new cells }
+{
+    let known = known_of(facts, number);
+    limit(facts, number, known);
+}
+
+/// The slot that a reference names, if it can be but one, has a truth value.
+fn settle_slot(facts: &mut [Fact], reach: Reach)
+    ensures { (cells : Cells) (k : ℕ) (b : Bool) → AreIn facts.old cells → IsReached reach.first reach.count k
+        → logic (held_in cells k) ≡ Ok b → AreIn facts.new cells }
+{
+    if reach.count == 1 {
+        let truths = Truths {
+            may_lack: false,
+            ..truths_at(facts, reach.first)
+        };
+        set(facts, reach.first, Fact::Truth(truths));
+    }
+}
+
+/// Takes into account that the condition has a value.
+pub fn settle(facts: &mut [Fact], condition: &Condition)
+    ensures { (cells : Cells) (b : Bool) → AreIn facts.old cells → truth_in cells condition.now ≡ Ok b
+        → AreIn facts.new cells }
+{
+    match condition {
+        Condition::Constant(_) => {}
+        Condition::Element(element) => {
+            limit_subscripts(facts, element);
+            let reach = reach_of(facts, element);
+            settle_slot(facts, reach);
+        }
+        Condition::Not(operand) => settle(facts, operand),
+        Condition::Related(_, x, y) => {
+            settle_number(facts, x);
+            settle_number(facts, y);
+        }
+        Condition::Connected(_, x, y) => {
+            settle(facts, x);
+            settle(facts, y);
+        }
+    }
+}
+
 /// Takes into account that the condition has one of these values.
 #[cycle(conditions)]
 #[tactic(auto, using(crate::proofs::Refined::told_true, crate::proofs::Refined::told_false))]
@@ -121,6 +197,8 @@ fn refine_to(facts: &mut [Fact], condition: &Condition, truths: Truths)
         refine_operands(facts, condition, true);
     } else if !truths.may_hold {
         refine_operands(facts, condition, false);
+    } else {
+        settle(facts, condition);
     }
 }
 
@@ -133,6 +211,7 @@ fn refine_operands(facts: &mut [Fact], condition: &Condition, truth: bool)
     match condition {
         Condition::Constant(_) => {}
         Condition::Element(element) => {
+            limit_subscripts(facts, element);
             let reach = reach_of(facts, element);
             refine_slot(facts, reach, truth);
         }

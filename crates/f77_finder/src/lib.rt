@@ -3,6 +3,7 @@
 
 mod behind;
 mod collecting;
+mod costs;
 mod descending;
 pub mod finding;
 mod ordering;

@@ -3,6 +3,7 @@
 ghost use Rattle.std.specs.Prelude.{◌≡◌, ◌<◌, length, Some};
 
 use crate::behind::entries_behind;
+use crate::costs::{MOST, cost_at};
 use crate::ordering::Ways;
 use crate::reached::{Reached, newly_reached, reach_all};
 use f77_actions::Resolved;
@@ -46,18 +47,24 @@ pub(crate) fn moves_from(
     entries_behind(alloc, statements, &reached.entry)
 }
 
-/// Follows control until nothing new is found. Tells whether it came so far within this number of moves.
+/// Follows control until nothing new is found. Tells whether it came so far before too much was spent.
 fn settle(
     alloc: Global,
     statements: &[Shared<Resolved>],
     list: &mut Vec<Reached>,
     thresholds: &[i32],
-    most: usize,
+    costs: &[u64],
 ) -> Result<bool, AllocError> {
+    let most = statements.len().saturating_mul(128);
+    let mut spent: u64 = 0;
     for _move in 0..most {
         let Some(number) = next_waiting(list) else {
             return Ok(true);
         };
+        spent = spent.saturating_add(cost_at(costs, list[number].entry.place));
+        if MOST < spent {
+            return Ok(false);
+        }
         let entries = moves_from(alloc, statements, &mut list[number])?;
         reach_all(list, statements, entries, Ways::All, Some(thresholds))?;
     }
@@ -80,11 +87,11 @@ pub(crate) fn settled_entries(
     statements: &[Shared<Resolved>],
     start: Entry,
     thresholds: &[i32],
+    costs: &[u64],
 ) -> Result<Vec<Entry>, AllocError> {
     let mut list = Vec::new(alloc);
     list.push(newly_reached(statements, start))?;
-    let most = statements.len().saturating_mul(128);
-    if settle(alloc, statements, &mut list, thresholds, most)? {
+    if settle(alloc, statements, &mut list, thresholds, costs)? {
         return entries_in(alloc, list);
     }
     Ok(Vec::new(alloc))

@@ -58,6 +58,7 @@ mod SlotKinds
 mod Kinded
 mod OneExchanged
 mod Pushed
+mod Overwritten
 mod Walked
 mod Advancing
 mod Going

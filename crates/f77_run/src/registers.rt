@@ -1,6 +1,6 @@
 //! The registers and the counters that the code of a program works on.
 
-ghost use Rattle.std.specs.Prelude.{◌≡◌, ◌++◌, true, IfErr, OnOk};
+ghost use Rattle.std.specs.Prelude.{◌≡◌, ◌≤◌, ◌<◌, ◌+◌, ◌++◌, drop, length, min, slice_set, take, true, IfErr, OnOk};
 ghost use Rattle.std.specs.List.{list_all};
 ghost use Rattle.f77_code.specs.Holds.{read_as};
 ghost use Rattle.f77_code.specs.Registers.{are_held, is_held, told};
@@ -59,34 +59,70 @@ fn value(kind: Kind, register: i64) -> Option<Value>
     }
 }
 
-/// Puts what the slots hold into registers, behind those that are there.
-fn load_slots(
-    registers: &mut Vec<i64>,
-    kinds: &[Kind],
-    cells: &[Option<Value>],
-) -> Result<(), RunFault>
-    ensures registers { OnOk result (registers.new.items ≡ registers.old.items ++ loaded kinds.now cells.now) }
-    ensures held { OnOk result (are_held registers.old.items ≡ true → are_held registers.new.items ≡ true) }
-    ensures fitting { OnOk result (values_fit kinds.now cells.now ≡ true) }
+/// As many registers as these two numbers tell together, whatever they hold.
+fn make_room(registers: &mut Vec<i64>, slots: usize, constants: usize) -> Result<(), RunFault>
+    ensures room { OnOk result (length registers.new.items ≡ slots + constants) }
     ensures memory { IfErr result (λ e. e ≡ fault.Memory) }
 {
-    for (kind, cell) in kinds.iter().zip(cells) {
-        registers.push(number(*kind, *cell))?;
+    let Some(count) = slots.checked_add(constants) else {
+        return Err(RunFault::Memory);
+    };
+    if registers.len() != count {
+        registers.resize(count, 0)?;
     }
     Ok(())
 }
 
-/// Puts constants into registers, behind those that are there.
-fn load_constants(registers: &mut Vec<i64>, constants: &[i32]) -> Result<(), RunFault>
-    ensures registers { OnOk result (registers.new.items ≡ registers.old.items ++ constants.now) }
-    ensures held { OnOk result (are_held registers.old.items ≡ true → are_held registers.new.items ≡ true) }
-    ensures fitting { OnOk result (list_all fits constants.now ≡ true) }
-    ensures memory { IfErr result (λ e. e ≡ fault.Memory) }
+#[inline(always)]
+fn write(registers: &mut Vec<i64>, place: usize, x: i64)
+    requires { place < length registers.old.items }
+    ensures { registers.new.items ≡ slice_set registers.old.items place x }
 {
-    for constant in constants {
-        registers.push(i64::from(*constant))?;
+    registers[place] = x;
+}
+
+/// Puts what the slots hold, so many, into the first registers.
+fn load_slots(registers: &mut Vec<i64>, kinds: &[Kind], cells: &[Option<Value>], count: usize)
+    requires count { count ≡ min (length kinds.now) (length cells.now) }
+    requires room { count ≤ length registers.old.items }
+    ensures registers { registers.new.items ≡ loaded kinds.now cells.now ++ drop count registers.old.items }
+    ensures held { are_held (loaded kinds.now cells.now) ≡ true }
+    ensures fitting { values_fit kinds.now cells.now ≡ true }
+{
+    'slots: for k in 0..count {
+        write(registers, k, number(kinds[k], cells[k]));
     }
-    Ok(())
+}
+
+/// Puts constants into the registers from `first` on, which are as many.
+fn load_constants(registers: &mut Vec<i64>, first: usize, constants: &[i32])
+    requires { first + length constants.now ≡ length registers.old.items }
+    ensures registers { registers.new.items ≡ take first registers.old.items ++ constants.now }
+    ensures held { are_held constants.now ≡ true }
+    ensures fitting { list_all fits constants.now ≡ true }
+{
+    'constants: for k in 0..constants.len() {
+        write(registers, first + k, i64::from(constants[k]));
+    }
+}
+
+fn hold(cells: &mut Vec<Option<Value>>, slot: usize, held: Option<Value>)
+    requires { slot < length cells.old.items }
+    ensures { cells.new.items ≡ slice_set cells.old.items slot held }
+{
+    cells[slot] = held;
+}
+
+/// Puts what so many registers stand for into slots, which are as many.
+fn show_slots(cells: &mut Vec<Option<Value>>, kinds: &[Kind], registers: &[i64], count: usize)
+    requires count { count ≡ min (length kinds.now) (length registers.now) }
+    requires room { count ≡ length cells.old.items }
+    requires held { are_held registers.now ≡ true }
+    ensures { cells.new.items ≡ shown kinds.now registers.now }
+{
+    'slots: for k in 0..count {
+        hold(cells, k, value(kinds[k], registers[k]));
+    }
 }
 
 /// Adds the counter of a statement, where it is a DO.
@@ -145,9 +181,10 @@ impl Registers {
         ensures counters { OnOk result (self.new.counters.items ≡ counters_of statements.now machine.now.turns.items) }
         ensures memory { IfErr result (λ e. e ≡ fault.Memory) }
     {
-        self.items.clear();
-        load_slots(&mut self.items, kinds, &machine.cells)?;
-        load_constants(&mut self.items, constants)?;
+        let slots = kinds.len().min(machine.cells.len());
+        make_room(&mut self.items, slots, constants.len())?;
+        load_slots(&mut self.items, kinds, &machine.cells, slots);
+        load_constants(&mut self.items, slots, constants);
         self.counters.clear();
         load_counters(&mut self.counters, statements, &machine.turns)
     }
@@ -162,10 +199,11 @@ impl Registers {
         ensures cells { OnOk result (cells.new.items ≡ shown kinds.now self.now.items.items) }
         ensures memory { IfErr result (λ e. e ≡ fault.Memory) }
     {
-        cells.clear();
-        for (kind, register) in kinds.iter().zip(&self.items) {
-            cells.push(value(*kind, *register))?;
+        let count = kinds.len().min(self.items.len());
+        if cells.len() != count {
+            cells.resize(count, None)?;
         }
+        show_slots(cells, kinds, &self.items, count);
         Ok(())
     }
 }

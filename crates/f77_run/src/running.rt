@@ -19,7 +19,7 @@ use crate::outcome::RunFault;
 use crate::registers::Registers;
 use crate::snapshot::Snapshot;
 use f77_actions::Resolved;
-use f77_code::{Code, Instruction, Stand, Turn, block, finish_at};
+use f77_code::{Code, Instruction, Stand, Turn, block, block_to, finish_at};
 use f77_tree::{Kind, Shared};
 use f77_values::Finish;
 
@@ -36,6 +36,30 @@ impl End {
         ensures made { result.made ≡ made }
     {
         End { finish, made }
+    }
+}
+
+/// Some instructions, so many at most: up to the next time that control comes to the place that is watched, if there is one.
+fn some_more(
+    code: &[Shared<Instruction>],
+    registers: &mut [i64],
+    counters: &mut [Turn],
+    start: usize,
+    most: u32,
+    watched: Option<usize>,
+) -> Stand
+    requires held { are_held registers.old ≡ true }
+    requires within { code_within (length registers.old) (length counters.old) code.now ≡ true }
+    requires there { start < length code.now }
+    requires most { 0 < most }
+    ensures stands { point result.place registers.new counters.new ≡ after code.now result.made (point start registers.old counters.old) }
+    ensures some { 0 < result.made }
+    ensures made { result.made ≤ most }
+    ensures held { are_held registers.new ≡ true }
+{
+    match watched {
+        Some(watched) => block_to(code, registers, counters, start, most, watched),
+        None => block(code, registers, counters, start, most),
     }
 }
 
@@ -66,7 +90,8 @@ fn advance(
             return Ok(Stand { place, made });
         }
         let most = earlier.steps_to_look(made).min(steps - made);
-        let more = block(code, registers, counters, place, most);
+        let watched = earlier.watched(made);
+        let more = some_more(code, registers, counters, place, most, watched);
         place = more.place;
         made += more.made;
     }

@@ -31,8 +31,6 @@ pub(crate) struct Snapshot {
     due: u32,
     /// The number of steps up to which this one is looked for.
     last: u32,
-    /// The number of steps behind which the next look is due.
-    next: u32,
 }
 
 fn same_place(one: Option<usize>, other: usize) -> bool
@@ -55,7 +53,6 @@ impl Snapshot {
             counters: Kept::new(alloc),
             due: FIRST,
             last: FIRST,
-            next: FIRST,
         }
     }
 
@@ -67,7 +64,6 @@ impl Snapshot {
         self.place = None;
         self.due = first;
         self.last = first;
-        self.next = first;
     }
 
     /// Whether the code stands where it stood when it was kept.
@@ -118,27 +114,29 @@ impl Snapshot {
         ensures kept { IfOk result (λ _. (kept self.new ≡ kept self.old) ⊎ (kept self.new ≡ Some (point place registers.now counters.now))) }
         ensures memory { IfErr result (λ e. e ≡ fault.Memory) }
     {
-        if steps < self.next {
-            return Ok(false);
-        }
         if self.is_met(place, registers, counters) {
             return Ok(true);
         }
         if self.due <= steps {
             self.keep(place, registers, counters, steps)?;
         }
-        self.next = if steps < self.last && steps < self.due {
-            steps + 1
-        } else {
-            self.due
-        };
         Ok(false)
     }
 
-    /// For how many steps behind so many no look is due, at least one.
+    /// The place at which a look is due, behind so many steps: where the code stood when it was kept, while that is looked for.
+    pub(crate) fn watched(&self, steps: u32) -> Option<usize> {
+        if steps < self.last { self.place } else { None }
+    }
+
+    /// For how many steps behind so many no look is due at any other place, at least one.
     pub(crate) fn steps_to_look(&self, steps: u32) -> u32
         ensures { 0 < result }
     {
-        self.next.saturating_sub(steps).max(1)
+        let next = if steps < self.last {
+            self.last.min(self.due)
+        } else {
+            self.due
+        };
+        next.saturating_sub(steps).max(1)
     }
 }

@@ -6,6 +6,8 @@ mod assignments;
 #[cfg(test)]
 mod loops;
 #[cfg(test)]
+mod operands;
+#[cfg(test)]
 mod readings;
 #[cfg(test)]
 mod refinements;

@@ -74,6 +74,29 @@ fn starts_with_constants(rt: HostRuntime) -> Result<(), Fail> {
     assert_known(&rt, PRESETS, 3, 1, None)
 }
 
+#[test]
+fn tells_what_had_a_value(rt: HostRuntime) -> Result<(), Fail> {
+    assert_known(&rt, SIZES, 2, 0, Some(between(-2_147_483_647, i32::MAX)))
+}
+
+#[test]
+fn gives_up_what_costs_too_much(rt: HostRuntime) -> Result<(), Fail> {
+    let checked = checked(&rt, LARGE)?;
+    let entries = entries_of(rt.alloc(), &checked)?;
+    assert!(rt; entries.is_empty());
+    Ok(())
+}
+
+const SIZES: &str = "SUBROUTINE S(N); J=IABS(N); N=J; END";
+
+const LARGE: &str = "SUBROUTINE S(M,I); DIMENSION M(9000); \
+    I=M(I)+M(I)+M(I)+M(I)+M(I)+M(I)+M(I)+M(I)+M(I)+M(I)+M(I)+M(I); \
+    I=M(I)+M(I)+M(I)+M(I)+M(I)+M(I)+M(I)+M(I)+M(I)+M(I)+M(I)+M(I); \
+    I=M(I)+M(I)+M(I)+M(I)+M(I)+M(I)+M(I)+M(I)+M(I)+M(I)+M(I)+M(I); \
+    I=M(I)+M(I)+M(I)+M(I)+M(I)+M(I)+M(I)+M(I)+M(I)+M(I)+M(I)+M(I); \
+    I=M(I)+M(I)+M(I)+M(I)+M(I)+M(I)+M(I)+M(I)+M(I)+M(I)+M(I)+M(I); \
+    END";
+
 const ONES: &str =
     "SUBROUTINE S(N); I=1; 10 IF (I.GE.100000) GO TO 20; I=I+1; GO TO 10; 20 N=I; END";
 

@@ -1,5 +1,5 @@
 mod Commands
-mod Getters
-mod OptionRows
-mod Accepted
+pub mod Getters
+pub mod OptionRows
+pub mod Accepted
 mod CodeLists

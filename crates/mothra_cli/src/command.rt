@@ -50,7 +50,8 @@ fn steps_option<'a>(alloc: Global) -> Arg<'a>
         .default_value("10000")
 }
 
-fn ops_option<'a>(alloc: Global) -> Arg<'a>
+/// The option `--ops`.
+pub fn ops_option<'a>(alloc: Global) -> Arg<'a>
     ensures rule { rule_of result ≡ ops_rule }
     ensures global { result.global ≡ false }
 {
@@ -59,7 +60,8 @@ fn ops_option<'a>(alloc: Global) -> Arg<'a>
     )
 }
 
-fn every_option<'a>(alloc: Global) -> Arg<'a>
+/// The option `--every`.
+pub fn every_option<'a>(alloc: Global) -> Arg<'a>
     ensures rule { rule_of result ≡ every_rule }
     ensures global { result.global ≡ false }
 {

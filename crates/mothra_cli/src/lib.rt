@@ -8,8 +8,9 @@ mod output;
 mod request;
 mod watched;
 
+pub use command::{every_option, ops_option};
 pub use input::{InputFault, read_input};
 pub use operators::Operators;
 pub use output::{OutputFault, write_whole};
-pub use request::{Request, WordsFault, request_of};
+pub use request::{Request, WordsFault, number_at, operators_at, request_of};
 pub use watched::Watched;

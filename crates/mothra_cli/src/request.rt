@@ -68,14 +68,17 @@ impl From<AllocError> for WordsFault {
 }
 
 /// The number that an option has.
-fn number_at(matches: &ArgMatches<'_>, name: &str) -> Option<u32>
+pub fn number_at(matches: &ArgMatches<'_>, name: &str) -> Option<u32>
     ensures { result ≡ asked.number_at name.now (rows_of (found_of matches.now)) }
 {
     matches.get_one(name)
 }
 
 /// The operators that `--ops` names, or all where it is absent.
-fn operators_at(alloc: Global, matches: &ArgMatches<'_>) -> Result<Option<Operators>, AllocError>
+pub fn operators_at(
+    alloc: Global,
+    matches: &ArgMatches<'_>,
+) -> Result<Option<Operators>, AllocError>
     ensures { IfOk result (λ operators. operators ≡ asked.operators_at (rows_of (found_of matches.now))) }
 {
     match matches.get_str("ops") {

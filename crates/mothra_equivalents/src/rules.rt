@@ -1,6 +1,6 @@
 //! The rules, tried on one mutant.
 
-ghost use Rattle.std.specs.Prelude.{◌≡◌, map, IfErr, IfOk, IfSome};
+ghost use Rattle.std.specs.Prelude.{◌≡◌, map, true, IfErr, IfOk, IfSome};
 ghost use Rattle.f77_check.specs.Patching.{IsInPlace};
 ghost use Rattle.f77_program.specs.Patching.{patched};
 ghost use Rattle.f77_program.specs.Program.{line_of};
@@ -11,11 +11,36 @@ ghost use Rattle.mothra_ops.specs.declared.fault.OpsFault.TheVariants.{Memory};
 
 use crate::why::Why;
 use f77_check::Resolved;
+use f77_differences::unread::is_unread;
 use f77_equivalence::equivalent::is_equivalent;
 use f77_equivalence::invariant::{Invariant, is_unreached};
 use f77_tree::Shared;
 use mothra_ops::{Mutant, OpsFault};
 use std::alloc::{AllocError, Global};
+
+/// What the mutant, whose statement is resolved so, leaves otherwise in slots is not read before they are set.
+fn is_unread_throughout(
+    alloc: Global,
+    invariant: &Invariant<'_>,
+    mutant: &Mutant,
+    resolved: &Shared<Resolved>,
+) -> Result<bool, AllocError>
+    requires mutant { IsMutant (map line_of invariant.now.checked.program) mutant.now.number (statement_of mutant.now.stmt) }
+    requires in_place { IsInPlace invariant.now.checked mutant.now.number (statement_of mutant.now.stmt) resolved.now }
+    ensures { IfOk result (λ yes. yes ≡ true → IsEquivalent (map line_of invariant.now.checked.program)
+        (patched (map line_of invariant.now.checked.program) mutant.now.number (statement_of mutant.now.stmt))) }
+{
+    let checked = invariant.checked();
+    let entries = invariant.entries();
+    is_unread(
+        alloc,
+        checked,
+        entries,
+        mutant.number,
+        &mutant.stmt,
+        resolved,
+    )
+}
 
 /// The first rule by which the mutant is equivalent, whose statement is resolved so.
 fn rule_in_place(
@@ -36,6 +61,9 @@ fn rule_in_place(
         }
         return Ok(Some(Why::Same));
     }
+    if is_unread_throughout(alloc, invariant, mutant, resolved)? {
+        return Ok(Some(Why::Unread));
+    }
     Ok(None)
 }
 
@@ -51,7 +79,10 @@ fn rule_for(
         (patched (map line_of invariant.now.checked.program) mutant.now.number (statement_of mutant.now.stmt)))) }
     ensures memory { IfErr result (λ fault. fault ≡ Memory) }
 {
-    match invariant.checked().resolved_in_place(mutant.number, &mutant.stmt) {
+    match invariant
+        .checked()
+        .resolved_in_place(mutant.number, &mutant.stmt)
+    {
         Ok(Some(resolved)) => Ok(rule_in_place(alloc, invariant, mutant, &resolved)?),
         Ok(None) => Ok(None),
         // A legal program is refused for want of memory alone.

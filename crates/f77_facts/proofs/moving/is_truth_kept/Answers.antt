@@ -6,6 +6,7 @@ returns c =
     ok_then c.goes_on.result c.goes_on.ensures
     (λ done added. (
       added.0,
-      truth_acts c.goes_on.new.moves.items c.args.resolved.now c.args.facts.now c.in_ok-after.after.items c.args.loops.now added.1 c.args.element.now
-          c.args.condition.now c.reach_of-reach.result c.truths_of-truths.result c.reach_of-reach.ensures c.truths_of-truths.ensures c.in_ok-after.ensures,
+      truth_acts c.goes_on.new.moves.items c.args.resolved.now c.args.facts.now c.given_truth-after.result.items c.args.loops.now added.1 c.args.element.now
+          c.args.condition.now c.reach_of-reach.result c.truths_of-truths.result c.in_ok-there.there.items c.in_ok-there.ensures
+          (rw c.deref.ensures.value at c.reach_of-reach.ensures) (rw c.deref-2.ensures.value at c.truths_of-truths.ensures) c.given_truth-after.ensures,
     ))

@@ -1,55 +1,79 @@
-use Rattle.std.proofs.Common.{◌≡◌, ◌++◌, ◌∷◌, ◌∙◌, [], rules, length, ap, refl, length-append, w64, FitsSigned}
-use Rattle.std.specs.List.{list_all}
+use Rattle.std.proofs.Common.{rules, ◌≡◌, ◌<◌, ◌∙◌, arith, ap, sym, length, take, w64, FitsSigned}
+use Rattle.std.specs.Prelude.{slice_set, None}
+use Rattle.std.specs.List.{list_all, zip}
+use Rattle.std.proofs.lemmas.Bool.{and_from}
 use Rattle.std.proofs.lemmas.Int.{to_z-of_z}
-use Rattle.std.proofs.lemmas.Slice.Zip.{zip_turn, zip_end}
+use Rattle.std.proofs.lemmas.List.{length-map, length-set, take_all}
+use Rattle.std.proofs.lemmas.List.Folds.{list_all_more}
+use Rattle.std.proofs.lemmas.Slice.Zip.{get_or-zip, length-zip}
+use Rattle.f77_tree.specs.declared.tree.Kind.TheVariants.{Integer}
 use Rattle.f77_values.specs.Told.{coded, is_fitting}
 use Rattle.f77_code.specs.Holds.{read_as}
+use Rattle.f77_code.specs.Registers.{are_held, is_held}
 use Rattle.f77_run.specs.Registers.{loaded}
-use Rattle.f77_run.proofs.Pairs.{none_left, pair_left}
-use Rattle.f77_run.proofs.Pushed.{held_more, fitting_more, mapped_all, mapped_more}
+use Rattle.f77_run.proofs.Overwritten.{mapped_at, overwritten_all, overwritten_more}
 use Rattle.f77_run.proofs.registers.load_slots.Goals as goal
 
-pub loop-kind-init : goal.loop-kind-init
-loop-kind-init c = record { registers = refl; held = λ before. before; fitting = refl }
-
-pub loop-kind-preserved : goal.loop-kind-preserved
-loop-kind-preserved c =
+pub slots-preserved : goal.slots-preserved
+slots-preserved c =
     let kinds = c.args.kinds.now in
     let cells = c.args.cells.now in
-    let i = length c.loop-kind.yielded in
-    let kind = c.in-Some.kind in
-    let cell = c.in-Some.cell in
-    let turn = zip_turn kinds cells c.loop-kind.yielded _ c.loop-kind.kind-iterator c.next.new.self c.next.result (cc) (cc) c.loop-kind.yielded_by
-    (kind, cell) c.in-Some.is c.next.ensures.steps in
-    let next = pair_left kinds cells i kind.now cell.now turn.0 turn.1 (turn.2 kind.now) (turn.3 cell.now) in
-    let fits : FitsSigned w64 c.number.result = search rules in
-    let grown : c.push.new.self.items ≡ c.loop-kind.registers.items ++ (c.number.result ∷ []) = simp to_z-of_z at c.in_ok-push.ensures.items in
-    let coded_grown = grown ∙ ap (λ x. c.loop-kind.registers.items ++ (x ∷ [])) c.number.ensures.number in
-    rw (length-append c.loop-kind.yielded ((kind, cell) ∷ [])) (record {
-      registers = mapped_more kinds cells (λ pair. coded (read_as pair.0 pair.1)) i (kind.now, cell.now) c.loop-kind.registers.items c.push.new.self.items
-          (c.args.registers.now.items ++ loaded kinds cells) next coded_grown c.loop-kind.invariant.registers;
-      held = λ before.
-          held_more c.loop-kind.registers.items c.number.result c.push.new.self.items grown (c.loop-kind.invariant.held before) c.number.ensures.held;
-      fitting = c.loop-kind.invariant.fitting
-          ∙ fitting_more (λ pair. is_fitting (read_as pair.0 pair.1)) _ (kind.now, cell.now) _ next c.number.ensures.fitting;
-    })
+    let old = c.args.registers.now.items in
+    let now = c.slots.registers.items in
+    let k = c.slots.k in
+    let x = c.number.result in
+    let below = c.slots-test.true in
+    let count = c.requires.count in
+    let room = c.requires.room in
+    let one : k < length kinds = omega (arith, below, count) in
+    let other : k < length cells = omega (arith, below, count) in
+    let pairs = length-zip kinds cells in
+    let paired : k < length (zip kinds cells) = omega (arith, one, other, pairs) in
+    let size = length-map (zip kinds cells) (λ pair. coded (read_as pair.0 pair.1)) in
+    let whole : k < length (loaded kinds cells) = omega (arith, paired, size) in
+    let pair = get_or-zip kinds cells k (Integer, None) one other in
+    let at = mapped_at kinds cells (λ pair. coded (read_as pair.0 pair.1)) k Integer None x one other c.number.ensures.number in
+    let wide : FitsSigned w64 x = search rules in
+    let put : c.write.new.registers.items ≡ slice_set now k x = simp to_z-of_z at c.write.ensures in
+    record {
+      within = omega (arith, below);
+      registers = put ∙ overwritten_more (loaded kinds cells) old now k x x whole (omega (arith, below, room)) at c.slots.invariant.registers;
+      long = ap length put ∙ length-set now k x ∙ c.slots.invariant.long;
+      held = list_all_more is_held (loaded kinds cells) k x whole
+          ∙ and_from (are_held (take k (loaded kinds cells))) _ c.slots.invariant.held (ap is_held (sym at) ∙ c.number.ensures.held);
+      fitting = list_all_more (λ pair. is_fitting (read_as pair.0 pair.1)) (zip kinds cells) k (Integer, None) paired
+          ∙ and_from (list_all (λ pair. is_fitting (read_as pair.0 pair.1)) (take k (zip kinds cells))) _ c.slots.invariant.fitting
+          (ap (λ pair. is_fitting (read_as pair.0 pair.1)) pair ∙ c.number.ensures.fitting);
+    }
 
 pub returns-clause-registers : goal.returns-clause-registers
 returns-clause-registers c =
     let kinds = c.args.kinds.now in
     let cells = c.args.cells.now in
-    let end = zip_end kinds cells c.loop-kind.yielded _ c.loop-kind.kind-iterator c.next.new.self c.next.result (cc) (cc) c.loop-kind.yielded_by
-    c.in-None.is c.next.ensures.steps in
-    mapped_all kinds cells (λ pair. coded (read_as pair.0 pair.1)) (length c.loop-kind.yielded) c.loop-kind.registers.items
-    (c.args.registers.now.items ++ loaded kinds cells) end c.loop-kind.invariant.registers
+    let count = c.requires.count in
+    let past = c.slots-test.false in
+    let within = c.slots.invariant.within in
+    let pairs = length-zip kinds cells in
+    let size = length-map (zip kinds cells) (λ pair. coded (read_as pair.0 pair.1)) in
+    overwritten_all (loaded kinds cells) c.args.registers.now.items c.slots.registers.items c.slots.k c.args.count (omega (arith, count, past, pairs, size))
+    (omega (arith, past, within)) c.slots.invariant.registers
 
 pub returns-clause-held : goal.returns-clause-held
-returns-clause-held c = c.loop-kind.invariant.held
+returns-clause-held c =
+    let kinds = c.args.kinds.now in
+    let cells = c.args.cells.now in
+    let count = c.requires.count in
+    let past = c.slots-test.false in
+    let pairs = length-zip kinds cells in
+    let size = length-map (zip kinds cells) (λ pair. coded (read_as pair.0 pair.1)) in
+    sym (ap are_held (take_all c.slots.k (loaded kinds cells) (omega (arith, count, past, pairs, size)))) ∙ c.slots.invariant.held
 
 pub returns-clause-fitting : goal.returns-clause-fitting
 returns-clause-fitting c =
     let kinds = c.args.kinds.now in
     let cells = c.args.cells.now in
-    let end = zip_end kinds cells c.loop-kind.yielded _ c.loop-kind.kind-iterator c.next.new.self c.next.result (cc) (cc) c.loop-kind.yielded_by
-    c.in-None.is c.next.ensures.steps in
-    c.loop-kind.invariant.fitting ∙ ap (list_all (λ pair. is_fitting (read_as pair.0 pair.1))) (none_left kinds cells (length c.loop-kind.yielded) end)
+    let count = c.requires.count in
+    let past = c.slots-test.false in
+    let pairs = length-zip kinds cells in
+    sym (ap (list_all (λ pair. is_fitting (read_as pair.0 pair.1))) (take_all c.slots.k (zip kinds cells) (omega (arith, count, past, pairs))))
+    ∙ c.slots.invariant.fitting

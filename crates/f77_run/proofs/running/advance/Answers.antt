@@ -1,7 +1,7 @@
 use Rattle.std.proofs.Common.{arith, ◌<◌, inl, inr, refl, subst, sym}
 use Rattle.f77_code.specs.Operation.{point}
 use Rattle.f77_run.specs.Snapshot.{kept}
-use Rattle.f77_run.proofs.Advancing.{IsKeptBefore, came_back, kept_on, makes_some, stands_on}
+use Rattle.f77_run.proofs.Advancing.{IsKeptBefore, came_back, kept_on, stands_on}
 use Rattle.f77_run.proofs.running.advance.Goals as goal
 
 -- at the start nothing is kept
@@ -15,11 +15,14 @@ looks-init c =
       kept = subst (IsKeptBefore c.args.code.now begin 0) (sym c.requires.none) tt;
     }
 
-pub block-more-requires-clause-within : goal.block-more-requires-clause-within
-block-more-requires-clause-within c = rw (c.looks.auto.registers, c.looks.auto.counters) c.requires.within
+pub some_more-more-requires-clause-within : goal.some_more-more-requires-clause-within
+some_more-more-requires-clause-within c = rw (c.looks.auto.registers, c.looks.auto.counters) c.requires.within
+
+pub some_more-more-requires-clause-most : goal.some_more-more-requires-clause-most
+some_more-more-requires-clause-most c = omega (arith, c.min-most.ensures, c.steps_to_look.ensures, c.if-made-steps.true)
 
 pub overflow_add-made : goal.overflow_add-made
-overflow_add-made c = omega (arith, c.block-more.ensures.made, c.min-most.ensures, c.looks.invariant.within, c.ranges.steps)
+overflow_add-made c = omega (arith, c.some_more-more.ensures.made, c.min-most.ensures, c.looks.invariant.within, c.ranges.steps)
 
 -- where it came back it never ends
 pub returns-then-branch-clause-stands : goal.returns-then-branch-clause-stands
@@ -38,27 +41,21 @@ pub looks-preserved : goal.looks-preserved
 looks-preserved c =
     let begin = point c.args.start c.args.registers.now c.args.counters.now in
     let here = point c.looks.place c.looks.registers c.looks.counters in
-    let there = point c.block-more.result.place c.block-more.new.registers c.block-more.new.turns in
-    let most : 0 < c.min-most.result = omega (arith, c.min-most.ensures, c.steps_to_look.ensures, c.if-made-steps.true) in
-    let made : 0 < c.block-more.result.made
-    = makes_some c.args.code.now here there c.min-most.result c.block-more.result.made c.looks-test.true most c.block-more.ensures.stands
-    c.block-more.ensures.ends in
+    let there = point c.some_more-more.result.place c.some_more-more.new.registers c.some_more-more.new.counters in
+    let made : 0 < c.some_more-more.result.made = c.some_more-more.ensures.some in
     record {
-      held = c.block-more.ensures.held;
-      stands = stands_on c.args.code.now begin c.looks.made c.block-more.result.made here there c.looks.invariant.stands c.block-more.ensures.stands;
-      within = omega (arith, c.block-more.ensures.made, c.min-most.ensures, c.looks.invariant.within);
-      kept = kept_on c.args.code.now begin c.looks.made c.block-more.result.made here (kept c.looks.earlier) (kept c.is_seen_back.new.self)
+      held = c.some_more-more.ensures.held;
+      stands = stands_on c.args.code.now begin c.looks.made c.some_more-more.result.made here there c.looks.invariant.stands c.some_more-more.ensures.stands;
+      within = omega (arith, c.some_more-more.ensures.made, c.min-most.ensures, c.looks.invariant.within);
+      kept = kept_on c.args.code.now begin c.looks.made c.some_more-more.result.made here (kept c.looks.earlier) (kept c.is_seen_back.new.self)
           c.looks.invariant.stands made c.looks.invariant.kept c.in_ok-is_seen_back.ensures.kept;
     }
 
 pub looks-smaller : goal.looks-smaller
 looks-smaller c =
     let here = point c.looks.place c.looks.registers c.looks.counters in
-    let there = point c.block-more.result.place c.block-more.new.registers c.block-more.new.turns in
-    let most : 0 < c.min-most.result = omega (arith, c.min-most.ensures, c.steps_to_look.ensures, c.if-made-steps.true) in
-    let made : 0 < c.block-more.result.made
-    = makes_some c.args.code.now here there c.min-most.result c.block-more.result.made c.looks-test.true most c.block-more.ensures.stands
-    c.block-more.ensures.ends in
+    let there = point c.some_more-more.result.place c.some_more-more.new.registers c.some_more-more.new.counters in
+    let made : 0 < c.some_more-more.result.made = c.some_more-more.ensures.some in
     omega (arith, made, c.if-made-steps.true)
 
 -- all instructions that were asked for are made

@@ -1,0 +1,54 @@
+//! The program `equivalents`: reads a job from standard input, and names on standard output mutants that no test can kill.
+#![tactic(auto)]
+
+ghost use Rattle.std.specs.Prelude.{◌≡◌, ◌≢◌, Ok, Err, OnErr};
+ghost use Rattle.std.specs.IoError.{error_kind};
+
+use equivalents_app::{AppFault, Status, Watched, tell};
+use std::env::Env;
+use std::io::ErrorKind;
+use std::process::ExitCode;
+use std::{env, io};
+
+/// The status that the program ends with.
+fn exit_status(told: Result<Status, AppFault>) -> u8
+    ensures report { told ≡ Ok Status.Report → result ≡ 0 }
+    ensures help { told ≡ Ok Status.Help → result ≡ 0 }
+    ensures fault { told ≡ Ok Status.Fault → result ≡ 1 }
+    ensures words { told ≡ Ok Status.Words → result ≡ 2 }
+    ensures untold { OnErr told (result ≡ 1) }
+{
+    match told {
+        Ok(Status::Report | Status::Help) => 0,
+        Ok(Status::Fault) | Err(AppFault::Memory | AppFault::Read | AppFault::Write) => 1,
+        Ok(Status::Words) => 2,
+    }
+}
+
+/// The words of the command line, the program's name first.
+fn words_of(rt: &(impl Env + AllocGlobal)) -> io::Result<Vec<String>> {
+    Ok(env::args(rt)?.collect(rt.alloc())?)
+}
+
+/// What comes of words that cannot be had: memory ran out, or they are no UTF-8 and are refused without a text.
+fn without_words(error: &io::Error) -> Result<Status, AppFault>
+    ensures memory { error_kind error.now ≡ ErrorKind.OutOfMemory → result ≡ Err AppFault.Memory }
+    ensures words { error_kind error.now ≢ ErrorKind.OutOfMemory → result ≡ Ok Status.Words }
+{
+    match error.kind() {
+        ErrorKind::OutOfMemory => Err(AppFault::Memory),
+        _ => Ok(Status::Words),
+    }
+}
+
+fn main(rt: HostRuntime) -> ExitCode {
+    let told = match words_of(&rt) {
+        Ok(words) => {
+            let mut reader = Watched::new(rt.stdin());
+            let mut writer = Watched::new(rt.stdout());
+            tell(rt.alloc(), &words, &mut reader, &mut writer)
+        }
+        Err(error) => without_words(&error),
+    };
+    ExitCode::from(exit_status(told))
+}

@@ -1,0 +1,97 @@
+-- Words that the command line takes ask for something.
+use Rattle.std.proofs.Common.{arith, ◌≡◌, ◌≤◌, ◌∙◌, ℕ, Bool, inl, inr, ap, sym, subst, true, false, true≢false, List, [], ◌∷◌, map, Option, Some, None, Ok, Err, codes, is_some, IsSome, refl}
+use Rattle.std.specs.List.{list_any}
+use Rattle.clap.specs.Words.{Row, Shape, Text, fault_of, matches_of}
+use Rattle.clap.specs.Faults.{built_fault, entered_fault, level_fault}
+use Rattle.clap.specs.Simple.{App, argument_words, built, entered, label_of}
+use Rattle.clap.specs.Walk.{nothing_held, rows_after, walk}
+use Rattle.clap.proofs.OnLiterals.{clap_on_literals}
+use Rattle.mothra_codes.specs.declared.op.Op.{Op}
+use Rattle.mothra_cli.specs.Request.{operators_at}
+use Rattle.mothra_cli.specs.declared.request.WordsFault.{WordsFault}
+use Rattle.mothra_cli.specs.declared.request.WordsFault.TheVariants.{Refused, BadOperatorList}
+use Rattle.mothra_cli.proofs.Accepted.{default_number}
+use Rattle.mothra_cli.proofs.OptionRows.{Each, HasNumber, Serves, has_default}
+use Rattle.equivalents_app.specs.Words.{Meaning, IsBounded, IsFaultOf, Reads, bad_operators, equivalents, flag_at, inquiry, inquiry_in, inquiry_meaning, inquiry_of, meaning_of, options_meaning, refused}
+use Rattle.equivalents_app.specs.declared.words.Inquiry.{Inquiry}
+
+-- ---- the only level
+
+-- a command without subcommands is one level
+one_level : (top : Shape) (words : List Text) (subs : List Shape) → subs ≡ []
+    → built_fault (record { top = top; subs = subs }) nothing_held words ≡ [] → level_fault top [] nothing_held words false [] ≡ []
+one_level top words [] none e = go (walk top.rules [] nothing_held words).stopped e
+  where
+    only : App
+    only = record { top = top; subs = [] }
+
+    go : (stop : Option (Text × List Text)) → level_fault top [] nothing_held words (is_some (entered only stop)) (entered_fault only stop) ≡ []
+        → level_fault top [] nothing_held words false [] ≡ []
+    go None f = f
+    go (Some p) f = f
+one_level top words (s ∷ rest) none e = cc
+
+no_subcommands : (built equivalents).subs ≡ []
+unfolding clap_on_literals equivalents
+no_subcommands = refl
+
+apart : {X : Type 0} → false ≡ true → X
+apart e = absurd (true≢false (sym e))
+
+serves : Each (Serves (codes "every") 1 1048575) (built equivalents).top.rules
+unfolding clap_on_literals equivalents
+serves = (apart, (λ f. record { action = refl; parser = refl; range = omega arith }, (apart, (apart, tt))))
+
+given : list_any (has_default (codes "every")) (built equivalents).top.rules ≡ true
+unfolding clap_on_literals equivalents
+given = refl
+
+-- words that are taken have a number for `--every`
+every_number : (words : List Text) → fault_of equivalents words ≡ [] → HasNumber (codes "every") 1 1048575 (matches_of equivalents words)
+every_number words taken =
+    let rest = argument_words equivalents words in
+    let top = (built equivalents).top in
+    let level = one_level top rest (built equivalents).subs no_subcommands taken in
+    subst (λ names. HasNumber (codes "every") 1 1048575 (rows_after top.rules names rest)) (sym (ap (map label_of) no_subcommands))
+    (default_number top rest (codes "every") 1 1048575 (omega arith) serves given level)
+
+-- ---- what the words are
+
+-- what the command line takes: an inquiry in its bounds, or operators that are none
+abbrev IsAccepted : Meaning → Type 0
+IsAccepted refused = ⊥
+IsAccepted bad_operators = Unit {0}
+IsAccepted (inquiry i) = IsBounded i
+
+accepted : (o : Option (List Op)) (n : ℕ) (json : Bool) → 1 ≤ n → n ≤ 1048575 → IsAccepted (inquiry_meaning o (Some n) json)
+accepted None n json above below = tt
+accepted (Some ops) n json above below = (above, below)
+
+own_asks : (words : List Text) → fault_of equivalents words ≡ [] → IsAccepted (options_meaning (matches_of equivalents words))
+own_asks words taken =
+    let rows = matches_of equivalents words in
+    let every = every_number words taken in
+    rw every.1 (accepted (operators_at rows) every.0 (flag_at (codes "json") rows) every.2 every.3)
+
+pub asks : (words : List Text) (rows : List Row) → fault_of equivalents words ≡ [] → rows ≡ matches_of equivalents words → IsAccepted (options_meaning rows)
+asks words rows taken is = subst (λ r. IsAccepted (options_meaning r)) (sym is) (own_asks words taken)
+
+pub meaning_taken : (words : List Text) (rows : List Row) → fault_of equivalents words ≡ [] → rows ≡ matches_of equivalents words
+    → meaning_of words ≡ options_meaning rows
+unfolding meaning_of
+meaning_taken words rows taken is = rw (taken, is) refl
+
+pub some_inquiry : (meaning : Meaning) (o : Option Inquiry) → IsAccepted meaning → Reads meaning (Ok o) → IsSome o
+some_inquiry meaning (Some i) some reads = refl
+some_inquiry meaning None some reads = absurd (subst IsAccepted reads some)
+
+module _ (words : List Text) (meaning : Meaning) (is : meaning_of words ≡ meaning) where
+  pub is_inquiry : (i : Inquiry) (o : Option Inquiry) → o ≡ Some i → Reads meaning (Ok o) → inquiry_of words ≡ Some i
+  is_inquiry i o some reads = ap inquiry_in (is ∙ subst (λ x. Reads meaning (Ok x)) some reads)
+
+  pub is_fault : (fault : WordsFault) → Reads meaning (Err fault) → IsFaultOf words fault
+  is_fault (Refused error) reads = inl reads
+  is_fault BadOperatorList reads = is ∙ reads
+
+pub is_bounded : (meaning : Meaning) (i : Inquiry) (o : Option Inquiry) → IsAccepted meaning → o ≡ Some i → Reads meaning (Ok o) → IsBounded i
+is_bounded meaning i o asks some reads = subst IsAccepted (subst (λ x. Reads meaning (Ok x)) some reads) asks

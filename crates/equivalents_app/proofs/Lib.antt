@@ -1,0 +1,8 @@
+mod Flags
+mod Asking
+mod Totals
+mod Entries
+mod Parts
+mod Findings
+mod Answered
+mod Tests

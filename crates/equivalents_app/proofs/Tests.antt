@@ -1,0 +1,115 @@
+-- The tests of a bench on a mutant that is equivalent.
+use Rattle.std.proofs.Common.{arith, ◌≡◌, ◌∙◌, ◌<◌, ◌+◌, ◌==◌, ℕ, suc, Bool, true, false, cond, inl, inr, not, ap, refl, sym, subst, List, [], ◌∷◌, length, nat_lt, Option, Some, None}
+use Rattle.std.specs.Prelude.{All, option_map, position}
+use Rattle.std.specs.List.{AllZip, position_or_len, zip}
+use Rattle.std.proofs.lemmas.Bool.{cases_lt, eqb-true, le-ltb, lt-ltb}
+use Rattle.std.proofs.lemmas.List.Elements.{All-cons, All-head, All-nil, All-tail}
+use Rattle.f77_check.specs.Checked.{shapes}
+use Rattle.f77_check.specs.declared.checked.Shape.{Shape}
+use Rattle.f77_equivalence.specs.Equivalent as equivalence
+use Rattle.f77_equivalence.specs.Equivalent.{IsEquivalent, KeepsEnds}
+use Rattle.f77_equivalence.specs.Storable.{AreStorable}
+use Rattle.f77_program.specs.Program.{LineFields}
+use Rattle.f77_run.specs.Interpreter.{AreFitting, IsOutcomeOf, OneAnswer, first_misfit, has_shape, refusal}
+use Rattle.f77_run.specs.declared.argument.Arg.{Arg}
+use Rattle.f77_run.specs.declared.outcome.Outcome.{Outcome}
+use Rattle.f77_run.specs.declared.outcome.Outcome.TheVariants as outcome
+use Rattle.f77_run.specs.declared.outcome.RunFault.{RunFault}
+use Rattle.f77_run.specs.declared.outcome.RunFault.TheVariants as fault
+use Rattle.mothra_bench.specs.Bench.{AreOutcomes, BenchFields, Fits, IsBench, IsEnd}
+use Rattle.mothra_bench.specs.Verdict.{IsAlone, IsKill, IsVerdict, mutated}
+use Rattle.mothra_codes.specs.declared.ticket.Ticket.{Ticket}
+use Rattle.mothra_equivalents.specs.Equivalents.{IsEquivalentMutant}
+use Rattle.mothra_ops.specs.Mutants.{MutantFields, program_of}
+use Rattle.equivalents_app.specs.Law.{NoTestKills}
+
+-- ---- arguments that are not refused fit
+
+place_later : (k n : ℕ) → cond (nat_lt (1 + k) (suc n)) (Some (1 + k)) None ≡ option_map suc (cond (nat_lt k n) (Some k) None)
+place_later k n = elim (cases_lt k n) [
+  | inl lt ↦ rw (lt-ltb k n lt, lt-ltb (1 + k) (suc n) (omega arith)) (ap Some (omega arith))
+  | inr le ↦ rw (le-ltb k n le, le-ltb (1 + k) (suc n) (omega arith)) refl
+]
+
+place_by : (b : Bool) (k n : ℕ) → cond (nat_lt (cond (not b) (1 + k) 0) (suc n)) (Some (cond (not b) (1 + k) 0)) None ≡ cond b (Some 0) (option_map suc (cond (nat_lt k n) (Some k) None))
+place_by true k n = rw (lt-ltb 0 (suc n) (omega arith)) refl
+place_by false k n = place_later k n
+
+first_place : {X : Type 0} (q : X → Bool) (x : X) (xs : List X) → position q (x ∷ xs) ≡ cond (q x) (Some 0) (option_map suc (position q xs))
+first_place q x xs = place_by (q x) (position_or_len q xs) (length xs)
+
+neither : (b : Bool) (o : Option ℕ) → cond (not b) (Some 0) (option_map suc o) ≡ None → (b ≡ true) × (o ≡ None)
+neither true None e = (refl, refl)
+neither true (Some i) e = absurd (cc (e))
+neither false o e = absurd (cc (e))
+
+all_fit : (list : List Shape) (arguments : List Arg) → length arguments ≡ length list → first_misfit list arguments ≡ None → AreFitting list arguments
+all_fit [] [] count none = tt
+all_fit [] (argument ∷ arguments) count none = absurd (omega (arith, count))
+all_fit (shape ∷ list) [] count none = absurd (omega (arith, count))
+all_fit (shape ∷ list) (argument ∷ arguments) count none =
+    let first = first_place (λ pair. not (has_shape pair.0 pair.1)) (shape, argument) (zip list arguments) in
+    let parts = neither (has_shape shape argument) (first_misfit list arguments) (sym first ∙ none) in
+    (parts.0, all_fit list arguments (omega (arith, count)) parts.1)
+
+no_place : {X : Type 0} (f : ℕ → X) (o : Option ℕ) → option_map f o ≡ None → o ≡ None
+no_place f None e = refl
+no_place f (Some i) e = absurd (cc (e))
+
+abbrev shape_fault : ℕ → RunFault
+shape_fault i = fault.ArgumentShape (i + 1)
+
+fitting : (list : List Shape) (arguments : List Arg) → refusal list arguments ≡ None → AreFitting list arguments
+fitting list arguments e = go (length arguments == length list) refl e
+  where
+    go : (b : Bool) → (length arguments == length list) ≡ b → cond b (option_map shape_fault (first_misfit list arguments)) (Some fault.ArgumentCount) ≡ None
+        → AreFitting list arguments
+    go true is f = all_fit list arguments (eqb-true _ _ is) (no_place shape_fault (first_misfit list arguments) f)
+    go false is f = absurd (cc (f))
+
+-- ---- one test
+
+ended : (o : Outcome) → IsEnd o → equivalence.IsEnd o
+ended (outcome.Returned arguments) end = tt
+ended (outcome.Stopped arguments) end = tt
+ended outcome.Overflow end = absurd end
+ended outcome.DivideByZero end = absurd end
+ended outcome.ZeroPower end = absurd end
+ended outcome.BadSubscript end = absurd end
+ended outcome.ZeroStep end = absurd end
+ended outcome.Undefined end = absurd end
+ended outcome.Trapped end = absurd end
+ended outcome.StepLimit end = absurd end
+
+module _ (one : OneAnswer) (p q : List LineFields) (steps : ℕ) where
+  not_killed : (arguments : List Arg) (own : Outcome) (kill : Bool) → KeepsEnds p q arguments → IsOutcomeOf p arguments steps own → IsEnd own
+      → IsKill p q arguments steps kill → kill ≡ false
+  not_killed arguments own kill keeps is end (IsKill.survived first second) = refl
+  not_killed arguments own kill keeps is end (IsKill.killed {outcome = told} {other = other} first second apart) =
+      let kept : IsOutcomeOf q arguments steps own = keeps steps own is (ended own end) in
+      absurd (apart (one p arguments steps told own first is ∙ one q arguments steps own other kept second))
+
+  none_killed : IsEquivalent p q → (tests : List (List Arg)) (outcomes : List Outcome) (kills : List Bool) → All (Fits p) tests → All AreStorable tests
+      → AreOutcomes p steps tests outcomes → All IsEnd outcomes → IsAlone p q steps tests kills → All (λ kill. kill ≡ false) kills
+  none_killed same [] [] [] fit storable are end alone = All-nil (λ kill. kill ≡ false)
+  none_killed same [] [] (kill ∷ kills) fit storable are end alone = absurd alone
+  none_killed same [] (own ∷ outcomes) kills fit storable are end alone = absurd are
+  none_killed same (test ∷ tests) [] kills fit storable are end alone = absurd are
+  none_killed same (test ∷ tests) (own ∷ outcomes) [] fit storable are end alone = absurd alone
+  none_killed same (test ∷ tests) (own ∷ outcomes) (kill ∷ kills) fit storable are end alone =
+      let keeps = same test (fitting (shapes p) test (All-head (Fits p) test tests fit)) (All-head AreStorable test tests storable) in
+      All-cons (λ k. k ≡ false) kill kills (not_killed test own kill keeps are.0 (All-head IsEnd own outcomes end) alone.0)
+      (none_killed same tests outcomes kills (All-tail (Fits p) test tests fit) (All-tail AreStorable test tests storable) are.1
+      (All-tail IsEnd own outcomes end) alone.1)
+
+-- ---- the bench
+
+same_mutant : (m n : MutantFields) (o : Option MutantFields) → o ≡ Some m → o ≡ Some n → m ≡ n
+same_mutant m n o is also = let both : Some m ≡ Some n = sym is ∙ also in cc
+
+pub no_test_kills : OneAnswer → NoTestKills
+no_test_kills one bench ticket kills is storable equivalent verdict =
+    let p = program_of bench.plan in
+    let same = same_mutant equivalent.mutant verdict.mutant _ equivalent.is verdict.is in
+    let kept : IsEquivalent p (mutated p verdict.mutant) = subst (λ m. IsEquivalent p (mutated p m)) same equivalent.equivalent in
+    none_killed one p (mutated p verdict.mutant) bench.steps kept bench.tests bench.outcomes kills is.fit storable is.outcomes is.end verdict.alone

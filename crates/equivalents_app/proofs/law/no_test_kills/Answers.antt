@@ -1,0 +1,5 @@
+use Rattle.equivalents_app.proofs.Tests.{no_test_kills}
+use Rattle.equivalents_app.proofs.law.no_test_kills.Goals as goal
+
+pub returns : goal.returns
+returns c = no_test_kills c.one_outcome.ensures.answer

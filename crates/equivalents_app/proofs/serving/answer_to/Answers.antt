@@ -1,0 +1,14 @@
+use Rattle.std.proofs.Common.{string_bytes}
+use Rattle.mothra_job.specs.Job.{job_of}
+use Rattle.equivalents_app.specs.Serving.{IsAnswer}
+use Rattle.equivalents_app.proofs.Answered.{IfOk-both, fault_answered}
+use Rattle.equivalents_app.proofs.serving.answer_to.Goals as goal
+
+pub returns-in-Ok : goal.returns-in-Ok
+returns-in-Ok c = IsAnswer.report c.in-Ok.ensures
+
+pub returns-in-Err : goal.returns-in-Err
+returns-in-Err c =
+    IfOk-both c.told.result _ _ _
+    (λ a is line. fault_answered c.args.inquiry.now (job_of c.args.bytes.now) c.in-Err.fault a.status (string_bytes a.text) is line c.in-Err.ensures)
+    c.told.ensures.status c.told.ensures.text

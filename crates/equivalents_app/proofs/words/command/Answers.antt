@@ -1,0 +1,12 @@
+use Rattle.std.proofs.Common.{rules, ◌≡◌, ◌∙◌, ap₂, codes}
+use Rattle.clap.specs.Words.{app_of, new_app, with_rule}
+use Rattle.equivalents_app.specs.Words.{equivalents}
+use Rattle.equivalents_app.proofs.words.command.Goals as goal
+
+pub returns-clause-app : goal.returns-clause-app
+unfolding equivalents
+returns-clause-app c =
+    let bare : app_of c.about.result ≡ new_app (codes "equivalents") = search rules in
+    let choosing = c.in_ok-arg.ensures.shape c.ops_option.ensures.global ∙ ap₂ with_rule bare c.ops_option.ensures.rule in
+    let thinning = c.in_ok-arg-2.ensures.shape c.every_option.ensures.global ∙ ap₂ with_rule choosing c.every_option.ensures.rule in
+    c.in_ok-command.ensures.shape c.json_option.ensures.global ∙ ap₂ with_rule thinning c.json_option.ensures.rule

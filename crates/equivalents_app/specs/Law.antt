@@ -1,0 +1,12 @@
+-- What it means for tests that a mutant is equivalent.
+use Rattle.std.specs.Prelude.{◌≡◌, Bool, false, All, List}
+use Rattle.f77_equivalence.specs.Storable.{AreStorable}
+use Rattle.mothra_bench.specs.Bench.{BenchFields, IsBench}
+use Rattle.mothra_bench.specs.Verdict.{IsVerdict}
+use Rattle.mothra_codes.specs.declared.ticket.Ticket.{Ticket}
+use Rattle.mothra_equivalents.specs.Equivalents.{IsEquivalentMutant}
+
+-- no test of a bench kills a mutant that is equivalent, where INTEGER holds the numbers of the tests
+abbrev pub NoTestKills : Type 0
+NoTestKills = (bench : BenchFields) (ticket : Ticket) (kills : List Bool) → IsBench bench → All AreStorable bench.tests
+    → IsEquivalentMutant bench.plan ticket → IsVerdict bench ticket kills → All (λ kill. kill ≡ false) kills

@@ -1,0 +1,5 @@
+pub mod Words
+pub mod Telling
+pub mod Finding
+pub mod Serving
+pub mod Law

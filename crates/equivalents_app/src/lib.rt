@@ -1,0 +1,13 @@
+//! Which mutants of the program of a job no test can kill: from words and the bytes of the job to the bytes that are written.
+#![tactic(auto)]
+
+mod finding;
+pub mod law;
+mod serving;
+mod telling;
+mod words;
+
+pub use mothra_app::{AppFault, Status, Watched};
+pub use serving::tell;
+pub use telling::text_of;
+pub use words::{Inquiry, inquiry_of};

@@ -1,0 +1,126 @@
+//! From words and the bytes of a job to the bytes that are written.
+
+ghost use Rattle.std.specs.Prelude.{◌≡◌, ◌≢◌, ◌⊎◌, false, Ok, Err, Contains, IfOk, MatchResult, map, string_bytes};
+ghost use Rattle.mothra_app.specs.Status.{is_read_fault, is_write_fault};
+ghost use Rattle.mothra_cli.specs.Input.{limit, IsRead, TakesAtMost};
+ghost use Rattle.mothra_cli.specs.Watched.{inside, has_failed};
+ghost use Rattle.mothra_job.specs.Job.{job_of};
+ghost use Rattle.equivalents_app.specs.Serving.{IsAnswer, IsAnswerBy, IsAnswered, IsOutcome, WritesFront, WritesWhole, memory_faults};
+ghost use Rattle.equivalents_app.specs.Words.{IsBounded};
+
+use crate::finding::find;
+use crate::words::{Inquiry, inquiry_of};
+use mothra_app::answer::{Answer, bad_list, refusal, told};
+use mothra_app::fault::Fault;
+use mothra_app::{AppFault, Status};
+use mothra_cli::{Watched, WordsFault, read_input, write_whole};
+use mothra_job::read_job;
+use std::alloc::{AllocError, Global};
+use std::convert::AsStr;
+use std::io::{Read, Write};
+
+/// The text that the inquiry comes to on the job that the bytes are.
+fn text_for(alloc: Global, inquiry: &Inquiry, bytes: &[u8]) -> Result<String, Fault>
+    requires { IsBounded inquiry.now }
+    ensures { MatchResult result
+        (λ text. IsOutcome inquiry.now (job_of bytes.now) (Ok (string_bytes text)))
+        (λ fault. IsOutcome inquiry.now (job_of bytes.now) (Err fault) ⊎ Contains memory_faults fault) }
+{
+    let job = read_job(alloc, bytes)?;
+    let ops = inquiry.operators.as_slice();
+    find(alloc, job.source(), ops, inquiry.every, inquiry.json)
+}
+
+/// The answer to the inquiry on the job that the bytes are.
+fn answer_to(alloc: Global, inquiry: &Inquiry, bytes: &[u8]) -> Result<Answer, AllocError>
+    requires { IsBounded inquiry.now }
+    ensures { IfOk result (λ a. IsAnswer inquiry.now (job_of bytes.now) a.status (string_bytes a.text)) }
+{
+    match text_for(alloc, inquiry, bytes) {
+        Ok(text) => Ok(Answer {
+            status: Status::Report,
+            text,
+        }),
+        Err(fault) => told(alloc, &fault),
+    }
+}
+
+/// The answer to the inquiry, over all the bytes of the reader.
+fn read_and_answer<R: Read>(
+    alloc: Global,
+    inquiry: &Inquiry,
+    reader: &mut Watched<R>,
+) -> Result<Answer, AppFault>
+    requires bounded { IsBounded inquiry.now }
+    requires works { has_failed reader.old ≡ false }
+    ensures answer { IfOk result (λ a. IsAnswerBy inquiry.now (R.remaining (inside reader.old)) a.status (string_bytes a.text)) }
+    ensures read { IfOk result (λ a. IsRead limit (R.remaining (inside reader.old)) (R.remaining (inside reader.new))) }
+    ensures taken { TakesAtMost limit (R.remaining (inside reader.old)) (R.remaining (inside reader.new)) }
+    ensures failed { has_failed reader.new ≡ is_read_fault result }
+    ensures unwritten { result ≢ Err AppFault.Write }
+{
+    let bytes = read_input(alloc, reader)?;
+    Ok(answer_to(alloc, inquiry, &bytes)?)
+}
+
+/// The answer to the words, over all the bytes of the reader where the command line takes them.
+fn answer_for<S: AsStr, R: Read>(
+    alloc: Global,
+    words: &[S],
+    reader: &mut Watched<R>,
+) -> Result<Answer, AppFault>
+    requires { has_failed reader.old ≡ false }
+    ensures answered { IfOk result (λ a. IsAnswered (map S.text words.now)
+        (R.remaining (inside reader.old)) (R.remaining (inside reader.new)) a.status (string_bytes a.text)) }
+    ensures words { IfOk result (λ a. a.status ≡ Status.Words → reader.new ≡ reader.old) }
+    ensures help { IfOk result (λ a. a.status ≡ Status.Help → reader.new ≡ reader.old) }
+    ensures taken { TakesAtMost limit (R.remaining (inside reader.old)) (R.remaining (inside reader.new)) }
+    ensures failed { has_failed reader.new ≡ is_read_fault result }
+    ensures unwritten { result ≢ Err AppFault.Write }
+{
+    match inquiry_of(alloc, words) {
+        Ok(inquiry) => read_and_answer(alloc, &inquiry, reader),
+        Err(WordsFault::Refused(error)) => Ok(refusal(alloc, &error)?),
+        Err(WordsFault::BadOperatorList) => Ok(bad_list(alloc)?),
+    }
+}
+
+/// Reads a job, and writes the text that the words ask for. The first word is the program's name.
+///
+/// Nothing is written before the whole text stands, and the writer is not flushed. An interrupted call of the reader or
+/// the writer has failed, and is not tried again.
+pub fn tell<S: AsStr, R: Read, W: Write>(
+    alloc: Global,
+    words: &[S],
+    reader: &mut Watched<R>,
+    writer: &mut Watched<W>,
+) -> Result<Status, AppFault>
+    requires reader_works { has_failed reader.old ≡ false }
+    requires writer_works { has_failed writer.old ≡ false }
+
+    // What is written: it is told by the words, the bytes, and which mutants are named. Each that is named is an equivalent mutant of the
+    // plan.
+    ensures written { IfOk result (WritesWhole (map S.text words.now)
+        (R.remaining (inside reader.old)) (R.remaining (inside reader.new))
+        (W.contents (inside writer.old)) (W.contents (inside writer.new))) }
+    ensures front { result ≡ Err AppFault.Write → WritesFront (map S.text words.now)
+        (R.remaining (inside reader.old)) (R.remaining (inside reader.new))
+        (W.contents (inside writer.old)) (W.contents (inside writer.new)) }
+    ensures no_memory { result ≡ Err AppFault.Memory → writer.new ≡ writer.old }
+    ensures no_input { result ≡ Err AppFault.Read → writer.new ≡ writer.old }
+
+    // What is read.
+    ensures words { result ≡ Ok Status.Words → reader.new ≡ reader.old }
+    ensures help { result ≡ Ok Status.Help → reader.new ≡ reader.old }
+    ensures taken { TakesAtMost limit (R.remaining (inside reader.old)) (R.remaining (inside reader.new)) }
+
+    // What failed.
+    ensures read_failed { has_failed reader.new ≡ is_read_fault result }
+    ensures write_failed { has_failed writer.new ≡ is_write_fault result }
+{
+    let answer = answer_for(alloc, words, reader)?;
+    if write_whole(writer, answer.text.as_bytes()).is_err() {
+        return Err(AppFault::Write);
+    }
+    Ok(answer.status)
+}

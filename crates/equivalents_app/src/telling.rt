@@ -1,0 +1,191 @@
+//! The text that names mutants of a plan.
+
+ghost use Rattle.std.specs.Prelude.{◌≡◌, ◌++◌, IfErr, IfOk, OnOk, [], codes, flat_map, string_bytes};
+ghost use Rattle.f77_tree.specs.Joined.{separated};
+ghost use Rattle.mothra_app.specs.Listing.{asked_total};
+ghost use Rattle.mothra_ops.specs.Mutants.{mutant_fields, original_number};
+ghost use Rattle.mothra_ops.specs.declared.fault.OpsFault.TheVariants.{Memory};
+ghost use Rattle.equivalents_app.specs.Telling.{declarable, entry_text, equivalent_line, json_line, lines_text, mutant_line};
+ghost use Rattle.equivalents_app.specs.Telling as definition;
+
+use mothra_codes::Ticket;
+use mothra_equivalents::{Equivalent, Why};
+use mothra_ops::{Mutant, Mutants, Op, OpsFault, Plan, push_name};
+use std::alloc::{AllocError, Global};
+
+/// The greatest number that the key `equivalent` of a job takes.
+const MOST: u64 = 1_048_575;
+
+fn why_text(why: Why) -> &'static str
+    ensures { result.now ≡ definition.why_text why }
+{
+    match why {
+        Why::Same => "SAME",
+        Why::Unread => "UNREAD",
+        Why::Continues => "CONTINUES",
+        Why::Unreached => "UNREACHED",
+    }
+}
+
+/// Adds what stands before the place of a mutant: its name and the rule of its proof.
+fn push_reason(text: &mut String, every: u32, equivalent: Equivalent) -> Result<(), AllocError>
+    ensures { OnOk result (string_bytes text.new ≡ string_bytes text.old ++ definition.reason_text every equivalent) }
+{
+    text.push_str("EQUIVALENT ")?;
+    push_name(text, every, equivalent.ticket.op, equivalent.ticket.number)?;
+    let why = why_text(equivalent.why);
+    write!(text, " {why} ")
+}
+
+/// Adds the line of a mutant, which is this one.
+fn push_mutant(
+    text: &mut String,
+    plan: &Plan,
+    mutants: &Mutants<'_>,
+    equivalent: Equivalent,
+    mutant: &Mutant,
+) -> Result<(), OpsFault>
+    requires { mutants.now ≡ plan.now }
+    ensures line { OnOk result (string_bytes text.new ≡ string_bytes text.old ++ mutant_line plan.now equivalent (mutant_fields mutant.now)) }
+    ensures memory { IfErr result (λ fault. fault ≡ Memory) }
+{
+    push_reason(text, plan.every(), equivalent)?;
+    mutants.push_change(text, mutant)?;
+    text.push_str("\n")?;
+    Ok(())
+}
+
+/// Adds the line of a mutant that is proved equivalent.
+fn push_equivalent(
+    text: &mut String,
+    plan: &Plan,
+    mutants: &mut Mutants<'_>,
+    equivalent: Equivalent,
+) -> Result<(), OpsFault>
+    requires { mutants.old ≡ plan.now }
+    ensures plan { mutants.new ≡ mutants.old }
+    ensures line { OnOk result (string_bytes text.new ≡ string_bytes text.old ++ equivalent_line plan.now equivalent) }
+    ensures memory { IfErr result (λ fault. fault ≡ Memory) }
+{
+    let ticket = equivalent.ticket;
+    match mutants.mutant(*text.allocator(), ticket.op, ticket.number)? {
+        Some(mutant) => push_mutant(text, plan, mutants, equivalent, &mutant),
+        None => Ok(()),
+    }
+}
+
+/// Adds a line for each mutant that is proved equivalent.
+fn push_equivalents(
+    text: &mut String,
+    plan: &Plan,
+    mutants: &mut Mutants<'_>,
+    list: &[Equivalent],
+) -> Result<(), OpsFault>
+    requires { mutants.old ≡ plan.now }
+    ensures lines { OnOk result (string_bytes text.new ≡ string_bytes text.old ++ flat_map (equivalent_line plan.now) list.now) }
+    ensures memory { IfErr result (λ fault. fault ≡ Memory) }
+{
+    for equivalent in list {
+        push_equivalent(text, plan, mutants, *equivalent)?;
+    }
+    Ok(())
+}
+
+/// How many mutants the plan has.
+fn total_of(plan: &Plan) -> u64
+    ensures { result ≡ asked_total plan.now }
+{
+    let mut total = 0;
+    for op in Op::ALL {
+        if plan.asked(op) {
+            total += u64::from(plan.count(op));
+        }
+    }
+    total
+}
+
+/// The lines of mutants of the plan.
+fn lines_of(alloc: Global, plan: &Plan, list: &[Equivalent]) -> Result<String, OpsFault>
+    ensures text { IfOk result (λ text. string_bytes text ≡ lines_text plan.now list.now) }
+    ensures memory { IfErr result (λ fault. fault ≡ Memory) }
+{
+    let mut mutants = Mutants::of(alloc, plan)?;
+    let mut text = String::new(alloc);
+    push_equivalents(&mut text, plan, &mut mutants, list)?;
+    let count = list.len();
+    let total = total_of(plan);
+    write!(text, "PROVED {count} OF {total}\n")?;
+    Ok(text)
+}
+
+/// The number in the whole list of the item of this number, where each such item is kept.
+fn original_of(every: u32, number: u32) -> u64
+    ensures { result ≡ original_number every number }
+{
+    u64::from(number.saturating_sub(1)) * u64::from(every) + 1
+}
+
+/// The mutant by its number in the whole list, where a job may declare this number.
+fn declared(every: u32, equivalent: Equivalent) -> Option<Ticket>
+    ensures { result ≡ definition.if_declarable (definition.in_whole_list every equivalent) }
+{
+    let number = original_of(every, equivalent.ticket.number);
+    if number > MOST {
+        return None;
+    }
+    Some(Ticket {
+        op: equivalent.ticket.op,
+        number: number as u32,
+    })
+}
+
+/// Adds an entry of the JSON list behind this text.
+fn push_entry(text: &mut String, before: &str, ticket: Ticket) -> Result<(), AllocError>
+    ensures { OnOk result (string_bytes text.new ≡ string_bytes text.old ++ (before.now ++ entry_text ticket)) }
+{
+    let code = ticket.op.code();
+    let number = ticket.number;
+    write!(text, "{before}\"{code} {number}\"")
+}
+
+/// Adds the entries of the JSON list.
+fn push_entries(text: &mut String, every: u32, list: &[Equivalent]) -> Result<(), AllocError>
+    ensures { OnOk result (string_bytes text.new ≡ string_bytes text.old ++ separated entry_text [] (declarable every list.now)) }
+{
+    let mut before = "";
+    for equivalent in list {
+        if let Some(ticket) = declared(every, *equivalent) {
+            push_entry(text, before, ticket)?;
+            before = ",";
+        }
+    }
+    Ok(())
+}
+
+/// The line that has the JSON list of the mutants.
+fn json_of(alloc: Global, every: u32, list: &[Equivalent]) -> Result<String, AllocError>
+    ensures { IfOk result (λ text. string_bytes text ≡ json_line every list.now) }
+{
+    let mut text = String::new(alloc);
+    text.push_str("[")?;
+    push_entries(&mut text, every, list)?;
+    text.push_str("]\n")?;
+    Ok(text)
+}
+
+/// The text that names mutants of the plan: lines, or a JSON list.
+pub fn text_of(
+    alloc: Global,
+    plan: &Plan,
+    list: &[Equivalent],
+    json: bool,
+) -> Result<String, OpsFault>
+    ensures text { IfOk result (λ text. string_bytes text ≡ definition.told_text plan.now list.now json) }
+    ensures memory { IfErr result (λ fault. fault ≡ Memory) }
+{
+    if json {
+        Ok(json_of(alloc, plan.every(), list)?)
+    } else {
+        lines_of(alloc, plan, list)
+    }
+}

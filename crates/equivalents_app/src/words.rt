@@ -1,0 +1,92 @@
+//! The command line that the program takes, and what its words ask for.
+
+ghost use Rattle.std.specs.Prelude.{◌≡◌, IfErr, IfOk, OnOk, Some, false, map};
+ghost use Rattle.clap.specs.Words.{FailsBy, app_of, fault_of, found_of, matches_of, rows_of, rule_of};
+ghost use Rattle.clap.specs.declared.builder.command.Command.TheViews.{out-Command};
+ghost use Rattle.equivalents_app.specs.Words.{equivalents, flag_at, json_rule, options_meaning, IsBounded, IsFaultOf, IsTaken, Reads};
+ghost use Rattle.equivalents_app.specs.Words as asked;
+
+use clap::{Arg, ArgAction, ArgMatches, Command, Error};
+use mothra_cli::{Operators, WordsFault, every_option, number_at, operators_at, ops_option};
+use std::alloc::{AllocError, Global};
+use std::convert::AsStr;
+
+/// What the words ask for.
+#[derive(Debug, Drop)]
+pub struct Inquiry {
+    /// The operators whose mutants are asked about.
+    pub operators: Operators,
+    /// The step from one mutant of an operator to the next, 1 to 1,048,575.
+    pub every: u32,
+    /// Whether a JSON list is asked for in place of lines.
+    pub json: bool,
+}
+
+fn json_option<'a>(alloc: Global) -> Arg<'a>
+    ensures rule { rule_of result ≡ json_rule }
+    ensures global { result.global ≡ false }
+{
+    Arg::new(alloc, "json")
+        .long("json")
+        .help("Prints the JSON list that the key `equivalent` of a job takes")
+        .action(ArgAction::SetTrue)
+}
+
+fn command<'a>(alloc: Global) -> Result<Command<'a>, AllocError>
+    ensures app { IfOk result (λ c. app_of c ≡ equivalents) }
+    ensures globals { IfOk result (λ c. (out-Command c).has_globals ≡ false) }
+{
+    let command = Command::new(alloc, "equivalents")
+        .about(
+            "Names mutants of a FORTRAN 77 subroutine that no test can kill. The job is read from standard input",
+        )
+        .arg(ops_option(alloc))?
+        .arg(every_option(alloc))?
+        .arg(json_option(alloc))?;
+    Ok(command)
+}
+
+/// What the words say, or why they are refused.
+fn matches_in<'a, S: AsStr>(alloc: Global, words: &'a [S]) -> Result<ArgMatches<'a>, Error>
+    ensures kinds { FailsBy (fault_of equivalents (map S.text words.entry.now)) result }
+    ensures matches { IfOk result (λ m. rows_of (found_of m) ≡ matches_of equivalents (map S.text words.entry.now)) }
+{
+    command(alloc)?.try_get_matches_from(words)
+}
+
+/// Whether an option without a value was given.
+fn has_flag(matches: &ArgMatches<'_>, name: &str) -> bool
+    ensures { result ≡ flag_at name.now (rows_of (found_of matches.now)) }
+{
+    matches.get_one(name).unwrap_or(false)
+}
+
+/// What these values of the options ask for.
+fn inquiry_in(alloc: Global, matches: &ArgMatches<'_>) -> Result<Option<Inquiry>, WordsFault>
+    ensures { Reads (options_meaning (rows_of (found_of matches.now))) result }
+{
+    let Some(operators) = operators_at(alloc, matches)? else {
+        return Err(WordsFault::BadOperatorList);
+    };
+    let json = has_flag(matches, "json");
+    match number_at(matches, "every") {
+        Some(every) => Ok(Some(Inquiry {
+            operators,
+            every,
+            json,
+        })),
+        None => Ok(None),
+    }
+}
+
+/// What the words ask for, or why they ask for nothing. The first word is the program's name.
+pub fn inquiry_of<S: AsStr>(alloc: Global, words: &[S]) -> Result<Inquiry, WordsFault>
+    ensures inquiry { IfOk result (λ i. asked.inquiry_of (map S.text words.now) ≡ Some i) }
+    ensures bounds { IfOk result IsBounded }
+    ensures taken { OnOk result (IsTaken (map S.text words.now)) }
+    ensures fault { IfErr result (IsFaultOf (map S.text words.now)) }
+{
+    let matches = matches_in(alloc, words)?;
+    let inquiry = inquiry_in(alloc, &matches)?;
+    Ok(inquiry.unwrap())
+}

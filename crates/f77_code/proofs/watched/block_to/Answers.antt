@@ -1,0 +1,46 @@
+use Rattle.std.proofs.Common.{arith, ◌≡◌, ◌<◌, ◌∙◌, sym, ap, length, refl}
+use Rattle.std.specs.Prelude.{slice_get, Some}
+use Rattle.std.proofs.lemmas.Bool.{ltb-false}
+use Rattle.std.proofs.lemmas.Option.{slice_get_read}
+use Rattle.f77_code.specs.Block.{after}
+use Rattle.f77_code.specs.Operation.{point}
+use Rattle.f77_code.proofs.Sequences.{made_more, made_some}
+use Rattle.f77_code.proofs.watched.block_to.Goals as goal
+
+pub returns-in_default-clause-stands : goal.returns-in_default-clause-stands
+returns-in_default-clause-stands c = sym c.instructions.invariant.stands
+
+pub returns-in_default-clause-some : goal.returns-in_default-clause-some
+returns-in_default-clause-some c = λ below more.
+    made_some c.args.code.now (point c.args.start c.args.registers.now c.args.turns.now) (point c.instructions.place c.instructions.registers c.instructions.turns)
+    c.instructions.made below (ltb-false c.instructions.place (length c.args.code.now) (sym c.in_default.ensures.lookup.0)) c.instructions.invariant.stands
+
+pub instructions-preserved : goal.instructions-preserved
+instructions-preserved c =
+    let read : slice_get c.args.code.now c.instructions.place ≡ Some c.in-Some.shared.now =
+    slice_get_read c.args.code.now _ c.instructions.place c.in-Some.shared.now refl c.in-Some.ensures.lookup.3.0 c.in-Some.ensures.lookup.1 in
+    let at : slice_get c.args.code.now c.instructions.place ≡ Some c.deref-instruction.result.now = read ∙ ap Some (sym c.deref-instruction.ensures) in
+    let below : c.instructions.made < c.args.steps = c.instructions-test.true in
+    record {
+      held = c.step-place.ensures.held;
+      stands = made_more c.args.code.now c.instructions.made (point c.args.start c.args.registers.now c.args.turns.now)
+          (point c.instructions.place c.instructions.registers c.instructions.turns)
+          (point c.step-place.result c.step-place.new.registers c.step-place.new.turns) c.deref-instruction.result.now c.instructions.invariant.stands at
+          c.step-place.ensures.runs;
+      within = omega (arith, below);
+    }
+
+pub returns-then-place-watched-clause-stands : goal.returns-then-place-watched-clause-stands
+returns-then-place-watched-clause-stands c =
+    let read : slice_get c.args.code.now c.instructions.place ≡ Some c.in-Some.shared.now =
+    slice_get_read c.args.code.now _ c.instructions.place c.in-Some.shared.now refl c.in-Some.ensures.lookup.3.0 c.in-Some.ensures.lookup.1 in
+    let at : slice_get c.args.code.now c.instructions.place ≡ Some c.deref-instruction.result.now = read ∙ ap Some (sym c.deref-instruction.ensures) in
+    sym (made_more c.args.code.now c.instructions.made (point c.args.start c.args.registers.now c.args.turns.now)
+    (point c.instructions.place c.instructions.registers c.instructions.turns)
+    (point c.step-place.result c.step-place.new.registers c.step-place.new.turns) c.deref-instruction.result.now c.instructions.invariant.stands at
+    c.step-place.ensures.runs)
+
+pub returns-clause-stands : goal.returns-clause-stands
+returns-clause-stands c =
+    let whole : c.instructions.made ≡ c.args.steps = omega (arith, c.instructions.invariant.within, c.instructions-test.false) in
+    sym (ap (λ n. after c.args.code.now n (point c.args.start c.args.registers.now c.args.turns.now)) (sym whole) ∙ c.instructions.invariant.stands)

@@ -1,0 +1,10 @@
+pub mod Agreeing
+pub mod Values
+pub mod GoingOn
+pub mod Actions
+pub mod Changes
+pub mod Stepping
+pub mod Ending
+pub mod Holding
+pub mod Lockstep
+pub mod Replacing

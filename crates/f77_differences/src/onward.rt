@@ -1,0 +1,96 @@
+//! Where control goes on alike in two programs.
+
+ghost use Rattle.std.specs.Prelude.{◌≡◌, ◌<◌, ℕ, true, length, slice_get, Some};
+ghost use Rattle.f77_code.specs.declared.control.Place.TheVariants as place;
+ghost use Rattle.f77_differences.specs.Acting.{GoesOnAlike, JumpsAlike, AllJumpAlike, PassesAlike};
+ghost use Rattle.f77_differences.specs.Differences.{marks_at};
+ghost use Rattle.f77_differences.specs.Marks.{AreMarkedIn};
+
+use crate::differences::{Differences, may_differ};
+use f77_actions::{Jump, Resolved};
+use f77_code::Place;
+use f77_tree::Shared;
+
+/// The statement of this number. Statements are numbered from 0.
+pub(crate) fn statement_at(statements: &[Shared<Resolved>], i: usize) -> &Resolved
+    requires { i < length statements.now }
+    ensures { slice_get statements.now i ≡ Some result.now }
+{
+    &statements[i]
+}
+
+fn number_at(numbers: &[usize], k: usize) -> usize
+    requires { k < length numbers.now }
+    ensures { slice_get numbers.now k ≡ Some result }
+{
+    numbers[k]
+}
+
+/// What is marked may differ where one of these DOs is incremented.
+fn may_differ_at_ends(differences: &Differences, marks: &[bool], ends: &[usize]) -> bool
+    ensures { result ≡ true → (k d : ℕ) → slice_get ends.now k ≡ Some d
+        → AreMarkedIn marks.now (marks_at differences.now (place.Increment d)) }
+{
+    for k in 0..ends.len() {
+        if !may_differ(differences, marks, Place::Increment(number_at(ends, k))) {
+            return false;
+        }
+    }
+    true
+}
+
+/// Control goes on from the statement where slots that are marked may differ.
+pub(crate) fn goes_on(differences: &Differences, marks: &[bool], resolved: &Resolved) -> bool
+    ensures { result ≡ true → GoesOnAlike differences.now marks.now resolved.now }
+{
+    if !may_differ(differences, marks, Place::Execute(resolved.next)) {
+        return false;
+    }
+    may_differ_at_ends(differences, marks, &resolved.ends)
+}
+
+/// So does the jump.
+pub(crate) fn jumps(differences: &Differences, marks: &[bool], jump: &Jump) -> bool
+    ensures { result ≡ true → JumpsAlike differences.now marks.now jump.now }
+{
+    may_differ(differences, marks, Place::Execute(jump.target))
+}
+
+/// The jump of this number. Jumps are numbered from 0 here.
+fn jump_at(jumps: &[Jump], k: usize) -> &Jump
+    requires { k < length jumps.now }
+    ensures { slice_get jumps.now k ≡ Some result.now }
+{
+    &jumps[k]
+}
+
+/// So do all these jumps.
+pub(crate) fn all_jump(differences: &Differences, marks: &[bool], each: &[Jump]) -> bool
+    ensures { result ≡ true → AllJumpAlike differences.now marks.now each.now (length each.now) }
+{
+    for k in 0..each.len() {
+        if !jumps(differences, marks, jump_at(each, k)) {
+            return false;
+        }
+    }
+    true
+}
+
+/// So does the DO, to its first statement or behind its last one.
+pub(crate) fn passes(
+    differences: &Differences,
+    marks: &[bool],
+    statements: &[Shared<Resolved>],
+    d: usize,
+    terminal: usize,
+) -> bool
+    ensures { result ≡ true → PassesAlike differences.now marks.now statements.now d terminal }
+{
+    if statements.len() <= d || statements.len() <= terminal {
+        return false;
+    }
+    if !may_differ(differences, marks, Place::Execute(d + 1)) {
+        return false;
+    }
+    goes_on(differences, marks, statement_at(statements, terminal))
+}
