@@ -23,11 +23,14 @@ from unittest import mock
 TESTS = Path(__file__).resolve().parent
 ROOT = TESTS.parent
 TOOLS, MUTANTS = ROOT / "tools", ROOT / "bin" / "mutants"
-STAND_IN = TESTS / "stand_in"
+STAND_IN, PROVER = TESTS / "stand_in", TESTS / "stand_in_equivalents"
 EXAMPLES = ["triangle", "triangle-more", "sort", "euclid", "closure"]
 
 # What a test starts finds the Python that runs the test first: a front of it would take longer than most tests.
 os.environ["PATH"] = f"{Path(sys.executable).parent}:{os.environ['PATH']}"
+# A program equivalents that is built or installed here is not asked: without a word of a test nothing is proved.
+os.environ["EQUIVALENTS"] = str(PROVER)
+os.environ.pop("PROVED", None)
 
 # The modules of the package are imported where they lie, and leave no files there.
 sys.dont_write_bytecode = True
@@ -174,11 +177,16 @@ def refuses(case: unittest.TestCase, ended: Ended, *told: str) -> None:
 
 
 
-@cache
 def stand_in_module() -> Any:
-    """The stand-in as a module: what it answers without a process."""
-    loader = SourceFileLoader("stand_in", str(STAND_IN))
-    found = module_from_spec(spec_from_loader("stand_in", loader) or ModuleSpec("stand_in", loader))
+    """The stand-in of mothra as a module: what it answers without a process."""
+    return module_of(STAND_IN)
+
+
+@cache
+def module_of(path: Path) -> Any:
+    """A stand-in as a module."""
+    loader = SourceFileLoader(path.name, str(path))
+    found = module_from_spec(spec_from_loader(path.name, loader) or ModuleSpec(path.name, loader))
     loader.exec_module(found)
     return found
 
@@ -190,13 +198,14 @@ def call_stand_in(command: str, job: bytes, *words: str) -> bytes:
 
 
 def without_processes() -> ContextManager[object]:
-    """While it holds, what is asked of the stand-in is answered by it as a module, so that a test takes less time."""
-    module, call_process, answer_of_process = stand_in_module(), calling.call, many.Calls.answer
+    """While it holds, what is asked of the stand-ins is answered by them as modules, so that a test takes less time."""
+    modules = {str(path): module_of(path) for path in (STAND_IN, PROVER)}
+    call_process, answer_of_process = calling.call, many.Calls.answer
 
     def call(program: str, words: Sequence[str], job: bytes, seconds: float | None = None) -> tuple[str, int]:
-        if program != str(STAND_IN):
+        if program not in modules:
             return call_process(program, words, job, seconds)
-        text, status = module.answer(words, job)
+        text, status = modules[program].answer(words, job)
         return str(text), int(status)
 
     def answer(calls: many.Calls, words: Sequence[str], job: bytes) -> str:

@@ -71,7 +71,7 @@ class Examples(unittest.TestCase):
         names.write_text(json.dumps(job.equivalent))
         # The replay knows no outcomes, so nothing is expected of them.
         suite.write_text(json.dumps(job.suite))
-        words = ["--mothra", STAND_IN, "--no-page", "--report", report, "--equivalent", names]
+        words = ["--mothra", STAND_IN, "--no-proofs", "--no-page", "--report", report, "--equivalent", names]
         with self.replaying(Replay(job, whole)):
             files = running.example(name.split("-")[0], ".f"), suite
             status, out, errors = run("check", *words, *files)

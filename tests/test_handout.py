@@ -43,7 +43,7 @@ class Handout(unittest.TestCase):
         commands = [line for line in HANDOUT.split("\n") if re.match(r"(\$ )?bin/mutants (check|declare)", line)]
         self.assertGreater(len(commands), 3)
         for command in commands:
-            self.assertTrue(command.partition(" N --reason")[0] in LESSON, command)
+            self.assertTrue(command.partition(" N --no-proofs")[0] in LESSON, command)
 
     def test_what_no_build_needs_is_told(self) -> None:
         for told in ("Python 3.10", "crates/mothra/out/mothra", "export MOTHRA", "bin/mutants unproved"):

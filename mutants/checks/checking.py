@@ -9,6 +9,7 @@ from mutants.checks.choice import Choice, choose, lines_changed, lines_within, r
 from mutants.checks.faults import told_of_program
 from mutants.checks.outcomes import Difference, asked_outcomes, differences
 from mutants.checks.running import Means, asked_in_parts
+from mutants.declarations.proving import NO_PROVER, Prover
 from mutants.jobs.expecting import Expected, assert_header
 from mutants.jobs.making import made_of
 from mutants.jobs.sources import Wish
@@ -18,6 +19,7 @@ from mutants.pages.frame import joined_words
 from mutants.pages.program import statements_by_line
 from mutants.program.asking import asked_list, asked_print
 from mutants.program.calling import Fault
+from mutants.progress import Progress
 from mutants.texts.jobs import Job
 from mutants.texts.lines import Mutant
 from mutants.texts.reports import Report
@@ -157,7 +159,24 @@ def named(path: Path, find: Callable[[], Found]) -> Found:
         raise ValueError(f"{path}: {fault}") from None
 
 
-def check(asked: Asked, job: Job, said: Said, expected: Expected, means: Means, name: str) -> Checked:
+def with_proofs(
+    asked: Asked, job: Job, said: Said, listed: Sequence[Mutant], prover: Prover, name: str
+) -> tuple[Job, Said]:
+    """The job with the mutants declared that are proved equivalent, and what is said of it."""
+    progress = Progress(name)
+    if prover.program and progress.is_terminal:
+        progress.tell(f"asking which of {len(listed)} mutants are proved equivalent")
+    try:
+        proofs = prover.proofs(words_of_ops(asked), job.source, listed, job.equivalent)
+    finally:
+        progress.end()
+    declared = [*job.equivalent, *proofs.names]
+    return job._replace(equivalent=declared), said._replace(proofs=proofs)
+
+
+def check(
+    asked: Asked, job: Job, said: Said, expected: Expected, means: Means, name: str, prover: Prover = NO_PROVER
+) -> Checked:
     """Asks the program for all of it. What keeps the program or a test from being run is told before mutants are
     run."""
     program, shown = means.program, shown_of(job, said)
@@ -168,6 +187,7 @@ def check(asked: Asked, job: Job, said: Said, expected: Expected, means: Means, 
     choice = chosen(program, asked, job, printed, listed)
     outcomes = named(asked.tests, lambda: asked_outcomes(job, means, name))
     unexpected = named(expected.path, lambda: differences(expected.texts, outcomes, names))
+    job, said = with_proofs(asked, job, said, listed, prover, name)
     is_whole = len(choice.listed) == len(listed)
     whole = ran(job, printed, totals if is_whole else totals_of(totals, choice.listed), means, name)
     report = whole if is_whole else restricted(whole, choice.listed)

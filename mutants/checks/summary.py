@@ -6,9 +6,16 @@ from itertools import groupby
 from textwrap import wrap
 
 from mutants.checks.checking import Checked
-from mutants.pages.declared import NO_REASON, declared_groups
+from mutants.declarations.proofs import (
+    count_of_proved,
+    left_out_text,
+    score_without,
+    wrongly_declared,
+    wrongly_proved,
+)
+from mutants.pages.declared import NO_REASON, Group, groups_of_person, groups_of_proofs
 from mutants.pages.frame import joined_words, plural
-from mutants.pages.report import by_line, counts_by_line
+from mutants.pages.report import DISAGREE, by_line, counts_by_line, no_survivor_text
 from mutants.pages.suite import NUMBERS, alone_of, needless_text, values_of
 from mutants.pages.spans import change_of
 from mutants.texts.lines import Mutant
@@ -45,13 +52,25 @@ def difference_lines(checked: Checked) -> Iterator[str]:
         yield f"  test {each.test}  {values}: {each.outcome}, expected {each.expected}"
 
 
+def proved_count(checked: Checked) -> int:
+    """How many mutants do not count by a proof alone."""
+    return count_of_proved(checked.report.rows, checked.said.proofs)
+
+
 def score_line(checked: Checked) -> str:
     count = summed(checked.report.counts.values())
     wanted = count.total - count.equivalent
     score = "No score" if wanted == 0 else f"Score {score_of(count)} %"
     told = f"{score}: {count.killed} of {plural(wanted, 'mutant')} killed"
-    told += f", not counting {count.equivalent} declared equivalent" if count.equivalent else ""
+    told += left_out_text(count, proved_count(checked))
     return f"{told}, of those that were asked for." if checked.left_out else f"{told}."
+
+
+def proof_lines(checked: Checked) -> Iterator[str]:
+    """The score without the proofs."""
+    proved = proved_count(checked)
+    if proved:
+        yield f"Without the proofs it is {score_without(summed(checked.report.counts.values()), proved)}."
 
 
 def twin_lines(checked: Checked) -> Iterator[str]:
@@ -63,17 +82,41 @@ def twin_lines(checked: Checked) -> Iterator[str]:
 
 
 def wrong_lines(checked: Checked) -> Iterator[str]:
-    wrong = [name_of(row) for row in checked.report.rows if row.status == "W"]
+    rows, proofs = checked.report.rows, checked.said.proofs
+    wrong, proved = wrongly_declared(rows, proofs), wrongly_proved(rows, proofs)
     if wrong:
         verb = "it" if len(wrong) == 1 else "each of them"
         yield f"WRONGLY DECLARED EQUIVALENT: {joined_words(wrong)}. A test kills {verb}."
+    if proved:
+        yield f"PROVED, AND YET KILLED: {joined_words(proved)}. {DISAGREE}"
 
 
 def declared_lines(checked: Checked) -> Iterator[str]:
-    """The declared mutants with their texts and reasons, those first that a test kills."""
-    groups = declared_groups(checked.listed, checked.report.rows, checked.said.reasons)
+    """The mutants that a person declares, with their texts and reasons, those first that a test kills."""
+    said = checked.said
+    groups = groups_of_person(checked.listed, checked.report.rows, said.reasons, said.proofs)
     if groups:
         yield f"{plural(sum(len(each.mutants) for each in groups), 'mutant')} declared equivalent:"
+    yield from group_lines(checked, groups)
+
+
+def proved_lines(checked: Checked, shows_proved: bool) -> Iterator[str]:
+    """The mutants that are proved equivalent: their number, or each; and how many of them a person declares too."""
+    said = checked.said
+    groups = groups_of_proofs(checked.listed, checked.report.rows, said)
+    count = sum(len(each.mutants) for each in groups)
+    if count:
+        end = ":" if shows_proved else f" (--show-proved tells {'it' if count == 1 else 'each'})."
+        yield f"{plural(count, 'mutant')} proved equivalent{end}"
+    yield from group_lines(checked, groups if shows_proved else [])
+    both = [name for name in map(name_of, checked.listed) if name in said.proofs.whys and name in said.proofs.declared]
+    if both:
+        verb = "is" if len(both) == 1 else "are"
+        yield f"Of the declared mutants {len(both)} {verb} proved too, and need not be declared."
+
+
+def group_lines(checked: Checked, groups: Iterable[Group]) -> Iterator[str]:
+    """Declared mutants with their texts and reasons."""
     for each in groups:
         first = each.mutants[0]
         told = changed_text(checked.statements[first.line], first.text)
@@ -104,7 +147,7 @@ def survivor_lines(checked: Checked) -> Iterator[str]:
     survivors, counts = checked.report.survivors, counts_by_line(checked.listed, checked.report.rows)
     lines = by_line(survivors)
     if not survivors:
-        yield "No mutant survives that is not declared equivalent."
+        yield no_survivor_text(proved_count(checked))
         return
     told = f"{plural(len(survivors), 'survivor')} on {plural(len(lines), 'line')}"
     different = len(twins_in(survivors))
@@ -128,10 +171,16 @@ def half_declared_lines(checked: Checked) -> Iterator[str]:
 
 
 def unreached_lines(checked: Checked) -> Iterator[str]:
-    """The statements that no test comes to, as far as the report tells it: a trap in their place survives."""
-    found = [mutant.line for mutant in checked.report.survivors if mutant.op == "SAN" and mutant.text == "TRAP"]
-    if found:
-        yield f"No test comes to {'line' if len(found) == 1 else 'lines'} {joined_words(sorted(found))}."
+    """The statements that no test comes to, as far as the report tells it: a trap in their place survives. Where the
+    trap is proved equivalent, no test can."""
+    traps = [mutant for mutant in checked.listed if mutant.op == "SAN" and mutant.text == "TRAP"]
+    alive, proved = set(checked.report.survivors), checked.said.proofs.whys
+    for verb, lines in (
+        ("comes", [mutant.line for mutant in traps if mutant in alive]),
+        ("can come", [mutant.line for mutant in traps if name_of(mutant) in proved]),
+    ):
+        if lines:
+            yield f"No test {verb} to {'line' if len(lines) == 1 else 'lines'} {joined_words(sorted(lines))}."
 
 
 def ranges_text(numbers: Sequence[int]) -> str:
@@ -151,10 +200,11 @@ def suite_lines(checked: Checked) -> Iterator[str]:
         yield from wrap(f"They are {ranges_text(numbers)}.", WIDTH, subsequent_indent="  ")
 
 
-def summary(checked: Checked, program: object, more: Sequence[str]) -> str:
+def summary(checked: Checked, program: object, more: Sequence[str], shows_proved: bool = False) -> str:
     """The whole text; `more` are lines on what was written."""
     lines = [f"{checked.report.unit} of {program}: {plural(len(checked.job.suite), 'test')}", *outcome_lines(checked)]
-    lines += [*difference_lines(checked), "", *wrong_lines(checked), score_line(checked), *twin_lines(checked)]
+    lines += [*difference_lines(checked), "", *wrong_lines(checked), score_line(checked)]
+    lines += [*proof_lines(checked), *twin_lines(checked)]
     lines += [f"Left out: {each}." for each in checked.left_out]
     lines += [
         "",
@@ -162,6 +212,7 @@ def summary(checked: Checked, program: object, more: Sequence[str]) -> str:
         *half_declared_lines(checked),
         *unreached_lines(checked),
         *declared_lines(checked),
+        *proved_lines(checked, shows_proved),
         "",
         *suite_lines(checked),
     ]

@@ -7,11 +7,12 @@ itself does on each test, is written after these, and taken away before them.
 """
 
 import hashlib
-from collections.abc import Sequence
+from collections.abc import Callable, Collection, Sequence
 from pathlib import Path
 from typing import NamedTuple
 
 from mutants.declarations.files import NONE_MEANT, Meant, found_beside
+from mutants.declarations.proofs import NO_PROOFS, Proofs
 from mutants.files import written
 from mutants.jobs.making import Made, made_of, meant_for
 from mutants.jobs.sources import Wish, is_program
@@ -20,7 +21,7 @@ from mutants.program.calling import Fault
 
 class Task(NamedTuple):
     """A job of the class: its name, the program's file, its text, or why there is none; the source as it is shown, what
-    is declared, and what is told of program and table."""
+    is declared, what is told of program and table, and what is proved."""
 
     name: str
     program: Path | None
@@ -29,6 +30,7 @@ class Task(NamedTuple):
     shown: str = ""
     meant: Meant = NONE_MEANT
     remarks: Sequence[str] = ()
+    proofs: Proofs = NO_PROOFS
 
     @property
     def program_name(self) -> str:
@@ -75,21 +77,30 @@ def declared_for(program: Path, unit: str, programs: Sequence[Path]) -> Path | N
     return found_beside(program, unit) or next((path for path in common if path.exists()), None)
 
 
+# What is proved of the mutants of a source, of which some are declared.
+Prove = Callable[[str, Collection[str]], Proofs]
+
+
+def prove_nothing(source: str, declared: Collection[str]) -> Proofs:
+    return NO_PROOFS
+
+
 class Declaring:
-    """What is declared for the programs of a folder: mothra is asked once for each."""
+    """What is declared and proved for the programs of a folder: it is asked once for each."""
 
-    def __init__(self, programs: Sequence[Path], mothra: str) -> None:
-        self.programs, self.mothra = programs, mothra
-        self.known: dict[Path, Meant] = {}
+    def __init__(self, programs: Sequence[Path], mothra: str, prove: Prove = prove_nothing) -> None:
+        self.programs, self.mothra, self.prove = programs, mothra, prove
+        self.known: dict[Path, tuple[Meant, Proofs]] = {}
 
-    def meant(self, program: Path, made: Made) -> Meant:
+    def meant(self, program: Path, made: Made) -> tuple[Meant, Proofs]:
         if program not in self.known:
             file = declared_for(program, made.source.unit, self.programs)
             try:
-                self.known[program] = meant_for(made, program, file, lambda: self.mothra, looks_beside=False)
+                meant = meant_for(made, program, file, lambda: self.mothra, looks_beside=False)
+                self.known[program] = meant, self.prove(made.source.text, meant.names)
             except Fault:
                 # The source has a fault, which the run tells.
-                self.known[program] = NONE_MEANT
+                self.known[program] = NONE_MEANT, NO_PROOFS
         return self.known[program]
 
 
@@ -99,14 +110,16 @@ def task_of(name: str, program: Path | None, table: Path, wish: Wish, declaring:
         if program is None:
             raise ValueError(f"{table}: there is no program of this name")
         made = made_of(program, table, wish, is_strict=False)
-        meant = declaring.meant(program, made)
-        text = made.text(meant.names if meant.is_of_file else None)
-        return Task(name, program, text.encode(), None, made.source.shown, meant, made.remarks + meant.remarks)
+        meant, proofs = declaring.meant(program, made)
+        names = [*meant.names, *proofs.names]
+        text = made.text(names if meant.is_of_file or names else None)
+        remarks = made.remarks + meant.remarks
+        return Task(name, program, text.encode(), None, made.source.shown, meant, remarks, proofs)
     except ValueError as fault:
         return Task(name, program, None, " ".join(str(fault).split()).replace(f"{table.parent}/", ""))
 
 
-def tasks_in(folder: Path, mothra: str, wish: Wish) -> list[Task]:
+def tasks_in(folder: Path, mothra: str, wish: Wish, prove: Prove = prove_nothing) -> list[Task]:
     """The jobs that a folder asks for, by name: one for each table, and for each program without one of its own."""
     if not folder.is_dir():
         raise ValueError(f"{folder}: there is no such folder")
@@ -120,7 +133,7 @@ def tasks_in(folder: Path, mothra: str, wish: Wish) -> list[Task]:
     wanted |= {path.stem: (path, common) for path in programs if common and path not in having}
     if not wanted:
         raise ValueError(f"{folder}: there is no table of tests, a file that ends in .json or .csv")
-    declaring = Declaring(programs, mothra)
+    declaring = Declaring(programs, mothra, prove)
     return [task_of(name, *wanted[name], wish, declaring) for name in sorted(wanted)]
 
 

@@ -15,20 +15,23 @@ from mutants.classes.results import (
     reported_of,
     survivors_in_common,
 )
+from mutants.declarations.proofs import NO_PROOFS, Proofs, count_of_proved
 from mutants.pages.frame import Cell, bar, joined_words, page, plural, remark_part, table, text
 from mutants.pages.program import program_part
-from mutants.pages.report import by_line, counts_by_line, score_part
+from mutants.pages.report import by_line, counts_by_line, proofs_part, score_part
 from mutants.pages.suite import least_set_text, values_of
 from mutants.texts.lines import Mutant
-from mutants.texts.reports import Count, score_of, summed, with_status
+from mutants.texts.reports import Count, Row, score_of, summed, with_status
+from mutants.texts.twins import name_of
 
 
 class View(NamedTuple):
-    """What is shown of a program: its source, its printed statements by line, and its mutants."""
+    """What is shown of a program: its source, its printed statements by line, its mutants, and what is proved."""
 
     source: str
     statements: dict[int, str]
     listed: list[Mutant]
+    proofs: Proofs = NO_PROOFS
 
 
 # So many tests that kill most are shown, and so many names of those who have a test.
@@ -121,15 +124,21 @@ def listing_part(whole: Class, results: Sequence[Reported], known: View | None) 
     common = survivors_in_common(whole, results)
     if known is None:
         return f"<p>{plural(len(common), 'mutant')} survive in all suites.</p>\n"
-    rows = [
+    rows = rows_of_all(whole)
+    told = f"<p>{plural(len(common), 'mutant')} that no suite of the class kills. The counts are of all suites.</p>\n"
+    source, statements, listed, proofs = known
+    counts, every = counts_by_line(listed, rows), with_status(listed, rows, "E")
+    proved = [mutant for mutant in every if proofs.is_alone(name_of(mutant))]
+    declared = by_line(mutant for mutant in every if not proofs.is_alone(name_of(mutant)))
+    return told + program_part(source, statements, counts, by_line(common), declared, proved=by_line(proved))
+
+
+def rows_of_all(whole: Class) -> list[Row]:
+    """The row of each mutant as if all tests of the class were one suite."""
+    return [
         row._replace(status="K" if mask else "E" if row.status in "EW" else "S")
         for row, mask in zip(whole.rows, whole.killers)
     ]
-    told = f"<p>{plural(len(common), 'mutant')} that no suite of the class kills. The counts are of all suites.</p>\n"
-    source, statements, listed = known
-    counts = counts_by_line(listed, rows)
-    declared = by_line(with_status(listed, rows, "E"))
-    return told + program_part(source, statements, counts, by_line(common), declared)
 
 
 def overview(programs: Mapping[str, Sequence[Result]], classes: Mapping[str, Class | None]) -> str:
@@ -161,8 +170,10 @@ def program_section(place: int, name: str, results: Sequence[Result], whole: Cla
     head = f'<h2 id="program-{place}">{text(name or "Without a program")}</h2>\n'
     if whole is None:
         return head + refused
+    proofs = known.proofs if known else NO_PROOFS
+    count, proved = class_count(whole), count_of_proved(rows_of_all(whole), proofs)
     parts = [
-        (f"Together: {plural(len(reported), 'suite')}", score_part(class_count(whole))),
+        (f"Together: {plural(len(reported), 'suite')}", score_part(count, proved) + proofs_part(count, proved)),
         ("Scores", scores_part(reported) + refused),
         ("Survivors in common", listing_part(whole, reported, known)),
         ("Tests that kill most", best_tests_part(whole)),

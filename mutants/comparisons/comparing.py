@@ -31,9 +31,11 @@ class Comparison(NamedTuple):
     matched: Matched
     newly_killed: list[Change]
     newly_surviving: list[Change]
-    # Survivors that are declared equivalent since then, and those that are it no more.
+    # Survivors that are declared equivalent since then, and those that are it no more; and the same by proofs alone.
     declared: list[Mutant]
     undeclared: list[Mutant]
+    proved: list[Mutant]
+    unproved: list[Mutant]
     tests: list[TestChange]
     # The numbers of the tests that are in both states; of the others those of one are the rest.
     same_tests: list[tuple[int, int]]
@@ -73,9 +75,11 @@ def compared(old: State, new: State) -> Comparison:
     one, other = with_ops(old, ops), with_ops(new, ops)
     found = matched(one, other)
     killed = [(b, n) for b, n in found.pairs if n.is_killed and not b.is_killed]
-    lost = [(b, n) for b, n in found.pairs if b.is_killed and not n.is_killed]
+    # What is proved now no test can kill: the program has changed, and not what its tests say.
+    lost = [(b, n) for b, n in found.pairs if b.is_killed and not n.is_killed and not n.is_proved]
     # Survivors before and now.
     alive: list[tuple[Verdict, Verdict]] = [(b, n) for b, n in found.pairs if not b.is_killed and not n.is_killed]
+    by_word = [(b, n) for b, n in alive if not b.is_proved and not n.is_proved]
     tests = tests_matched(old.tests, new.tests)
     changes = [change_of_test(*pair, found) for pair in tests]
     return Comparison(
@@ -84,8 +88,10 @@ def compared(old: State, new: State) -> Comparison:
         found,
         [Change(n.mutant, n.killers, n.status == "W") for _, n in killed],
         [Change(n.mutant, b.killers, n.status == "E") for b, n in lost],
-        [n.mutant for b, n in alive if (b.status, n.status) == ("S", "E")],
-        [n.mutant for b, n in alive if (b.status, n.status) == ("E", "S")],
+        [n.mutant for b, n in by_word if (b.status, n.status) == ("S", "E")],
+        [n.mutant for b, n in by_word if (b.status, n.status) == ("E", "S")],
+        [n.mutant for b, n in found.pairs if n.is_proved and not b.is_proved],
+        [n.mutant for b, n in alive if b.is_proved and not n.is_proved],
         [change for change in changes if change.gained or change.lost],
         tests,
         remarks_on(old, new, ops),

@@ -9,6 +9,7 @@ from mutants.comparisons.telling import (
     items_of,
     items_of_changes,
     kills_in,
+    proof_lines,
     score_text,
     test_change_text,
     tests_alone,
@@ -59,11 +60,12 @@ def items_part(title: str, items: Sequence[Item], told: str = "") -> list[str]:
 
 def counts_table(old: State, new: State) -> list[str]:
     one, other = count_of(old.verdicts), count_of(new.verdicts)
+    has_proofs = any(verdict.is_proved for state in (old, new) for verdict in state.verdicts)
     rows: list[list[object]] = [
         ["Tests", len(old.tests), len(new.tests)],
         ["Mutants", one.total, other.total],
         ["Killed", one.killed, other.killed],
-        ["Declared equivalent, not killed", one.equivalent, other.equivalent],
+        [f"Declared {'or proved ' * has_proofs}equivalent, not killed", one.equivalent, other.equivalent],
         ["Survivors", *(count.total - count.killed - count.equivalent for count in (one, other))],
         ["Score", score_text(old), score_text(new)],
     ]
@@ -104,6 +106,7 @@ def comparison_markdown(comparison: Comparison) -> str:
     lines += alone_part("New", found.added, new) + alone_part("Gone", found.gone, old)
     lines += items_part("Declared equivalent since then", items_of(comparison.declared, new))
     lines += items_part("Declared equivalent no more", items_of(comparison.undeclared, new))
+    lines += proof_lines(comparison)
     rows = list(test_rows(comparison))
     lines += folded("Tests", table(["", "Test", "Values", "What it kills"], rows), len(rows)) if rows else []
     told = f"{plural(len(found.pairs), 'mutant')} in both, matched {found.how}."

@@ -1,7 +1,7 @@
 """States of files: of reports of `mothra run`, and of what `mutants check --json` writes."""
 
 import json
-from collections.abc import Mapping
+from collections.abc import Collection, Mapping
 from pathlib import Path
 from typing import Any
 
@@ -21,13 +21,15 @@ def initial_line(statements: Mapping[int, str], line: int) -> int:
     return max(first for first in statements if first <= line)
 
 
-def verdict_of(found: Mapping[str, Any], numbers: Mapping[str, int], statements: Mapping[int, str]) -> Verdict:
+def verdict_of(
+    found: Mapping[str, Any], numbers: Mapping[str, int], statements: Mapping[int, str], proved: Collection[str]
+) -> Verdict:
     """The verdict of a mutant of a mutation report."""
     op, place = found["id"].split(" ")
     line = initial_line(statements, found["location"]["start"]["line"])
     mutant = Mutant(op, numbers[found["id"]], int(place), line, text_in(found["description"]))
     status = STATUSES[found["status"]]["statusReason" in found]
-    return Verdict(mutant, status, tuple(map(int, found["killedBy"])))
+    return Verdict(mutant, status, tuple(map(int, found["killedBy"])), found["id"] in proved)
 
 
 def numbers_of(ids: list[str]) -> dict[str, int]:
@@ -47,7 +49,9 @@ def state_of_mutation_report(text: str) -> State:
         config, (file,) = report["config"], report["files"].values()
         statements = {int(line): told for line, told in config["statements"].items()}
         numbers = numbers_of([found["id"] for found in file["mutants"]])
-        verdicts = [verdict_of(found, numbers, statements) for found in file["mutants"]]
+        # Files of earlier versions tell of no proof.
+        proved = set(config.get("proved", []))
+        verdicts = [verdict_of(found, numbers, statements, proved) for found in file["mutants"]]
         tests = [json.dumps(test) for test in config["suite"]]
         remark = report["framework"]["name"].removeprefix("mutants").removeprefix(". ")
         told = config["operators"], verdicts, tests, statements, config["leftOut"], remark

@@ -14,11 +14,13 @@ from mutants.texts.reports import Count, Report, assert_same_mutants
 
 
 class Verdict(NamedTuple):
-    """A mutant, its status as reports have it, and the tests that kill it. Its line may be unknown: 0, and no text."""
+    """A mutant, its status as reports have it, the tests that kill it, and whether it is declared by a proof alone, as
+    far as that is known. Its line may be unknown: 0, and no text."""
 
     mutant: Mutant
     status: str
     killers: tuple[int, ...]
+    is_proved: bool = False
 
     @property
     def is_killed(self) -> bool:

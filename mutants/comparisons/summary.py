@@ -10,6 +10,7 @@ from mutants.comparisons.telling import (
     items_of,
     items_of_changes,
     kills_in,
+    proof_lines,
     score_text,
     test_change_text,
     tests_alone,
@@ -96,5 +97,6 @@ def comparison_text(comparison: Comparison, old_path: object, new_path: object) 
     lines += part(f"Declared equivalent since then: {plural(len(declared), 'mutant')}.", items_of(declared, new), new)
     title = f"Declared equivalent no more: {plural(len(undeclared), 'mutant')}."
     lines += part(title, items_of(undeclared, new), new)
+    lines += proof_lines(comparison)
     lines += test_lines(comparison)
     return "\n".join(lines) + "\n"

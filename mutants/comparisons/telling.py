@@ -112,3 +112,10 @@ def tests_alone(comparison: Comparison) -> tuple[list[int], list[int]]:
 
 def kills_in(state: State, number: int) -> int:
     return sum(number in verdict.killers for verdict in state.verdicts)
+
+
+def proof_lines(comparison: Comparison) -> list[str]:
+    """How many mutants are proved equivalent since then, and no more."""
+    told = (("Proved equivalent since then", comparison.proved), ("Proved equivalent no more", comparison.unproved))
+    lines = [f"{what}: {plural(len(mutants), 'mutant')}." for what, mutants in told if mutants]
+    return [*lines, ""] if lines else []

@@ -14,6 +14,7 @@ from mutants.pages.spans import Places, Span, placed
 from mutants.pages.suite import values_of
 from mutants.texts.cards import Place, cards_of, source_lines
 from mutants.texts.tabs import written_column
+from mutants.texts.twins import name_of
 
 SCHEMA_VERSION = "2"
 # From this score on, in percent, a file is shown as good, and below that one as bad.
@@ -54,7 +55,9 @@ def text_in(described: str) -> str:
 
 
 def config_object(checked: Checked) -> dict[str, Any]:
-    """What a comparison has to know beside the mutants: what was asked, the statements, all values of the tests."""
+    """What a comparison has to know beside the mutants: what was asked, the statements, all values of the tests, and
+    which mutants are declared by a proof alone."""
+    proofs = checked.said.proofs
     return {
         "unit": checked.report.unit,
         "steps": checked.report.steps,
@@ -62,6 +65,7 @@ def config_object(checked: Checked) -> dict[str, Any]:
         "leftOut": checked.left_out,
         "statements": {str(line): told for line, told in checked.statements.items()},
         "suite": checked.job.suite,
+        "proved": [name_of(mutant) for mutant in checked.listed if proofs.is_alone(name_of(mutant))],
     }
 
 
@@ -90,7 +94,7 @@ def tests_object(suite: Sequence[Any]) -> dict[str, Any]:
 def mutant_objects(checked: Checked, covered: Mapping[int, str]) -> list[dict[str, Any]]:
     cards = {card.line: card for card in cards_of(checked.shown)}
     places = {line: Places(cards[line], checked.statements[line]) for line in covered}
-    reasons, written = checked.said.reasons, partial(in_file, source_lines(checked.file))
+    reasons, written = checked.said.all_reasons, partial(in_file, source_lines(checked.file))
     return [
         mutant_object(told, places[told.mutant.line], reasons.get(told.name, ""), written)
         for told in told_of(checked, covered)

@@ -6,6 +6,7 @@ from collections.abc import Iterator, Mapping
 from typing import NamedTuple
 
 from mutants.checks.checking import Checked
+from mutants.declarations.proofs import PROVED
 from mutants.texts.lines import Mutant
 from mutants.texts.reports import Row
 from mutants.texts.twins import name_of, names_text, others_by_name
@@ -15,7 +16,7 @@ COLUMNS = "mutant operator line status declared before after killed_by covered_b
 
 class Told(NamedTuple):
     """A mutant, its statement, its status, whether it is declared equivalent, the tests that kill it and come to it,
-    and the names of those that are the same program."""
+    the names of those that are the same program, and whether it is declared by a proof alone."""
 
     mutant: Mutant
     before: str
@@ -24,6 +25,7 @@ class Told(NamedTuple):
     killed_by: list[int]
     covered_by: list[int]
     twins: str = ""
+    is_proved: bool = False
 
     @property
     def name(self) -> str:
@@ -51,7 +53,9 @@ def told_of(checked: Checked, covered: Mapping[int, str]) -> Iterator[Told]:
     for mutant, row in zip(checked.listed, checked.report.rows):
         bits, twins = covered[mutant.line], names_text(others.get(name_of(mutant), []))
         before, status = checked.statements[mutant.line], status_of(row, bits)
-        yield Told(mutant, before, status, row.status in "EW", tests_in(row.bits), tests_in(bits), twins)
+        is_proved = checked.said.proofs.is_alone(name_of(mutant))
+        numbers = tests_in(row.bits), tests_in(bits)
+        yield Told(mutant, before, status, row.status in "EW", *numbers, twins, is_proved)
 
 
 def table_text(checked: Checked, covered: Mapping[int, str]) -> str:
@@ -61,7 +65,7 @@ def table_text(checked: Checked, covered: Mapping[int, str]) -> str:
     table.writerow(COLUMNS)
     for each in told_of(checked, covered):
         tests = [" ".join(map(str, numbers)) for numbers in (each.killed_by, each.covered_by)]
-        declared = "yes" if each.is_declared else "no"
+        declared = PROVED if each.is_proved else "yes" if each.is_declared else "no"
         row = [each.name, each.mutant.op, each.mutant.line, each.status, declared, each.before, each.mutant.text]
         table.writerow([*row, *tests, each.twins])
     return kept.getvalue()

@@ -93,7 +93,8 @@ def compare_checks(mothra: str) -> Iterator[tuple[str, bool]]:
         for each in examples():
             report = Path(folder, f"{each.name}.report")
             words = [sys.executable, "-B", str(ROOT / "bin" / "mutants"), "check", "--mothra", mothra, "--no-page"]
-            words += ["--equivalent", str(each.declared)] if each.declared else []
+            # The stored reports have no mutants that are declared by a proof alone.
+            words += ["--no-proofs", *(["--equivalent", str(each.declared)] if each.declared else [])]
             told = written([*words, "--report", str(report), str(each.program), str(each.suite)])
             stored = each.stored(".report").read_text()
             count = summed(read_report(stored).counts.values())

@@ -1,9 +1,13 @@
-"""The declared mutants of a page: each with its change and its reason, and first those that a test kills anyway."""
+"""The declared mutants of a page: each with its change and its reason, and first those that a test kills anyway.
 
-from collections.abc import Iterable, Mapping, Sequence
+Those that are declared by a proof alone stand apart from those of a person, and are folded.
+"""
+
+from collections.abc import Callable, Iterable, Mapping, Sequence
 from types import MappingProxyType
 from typing import NamedTuple
 
+from mutants.declarations.proofs import NO_PROOFS, Proofs, wrongly_declared
 from mutants.pages.frame import Cell, joined_words, plural, table, text
 from mutants.pages.program import difference
 from mutants.texts.lines import Mutant
@@ -16,11 +20,18 @@ NO_REASON = "no reason is given"
 
 
 class Said(NamedTuple):
-    """What is known of a job beside its texts: the source as its file has it, reasons by mutant, and what is told."""
+    """What is known of a job beside its texts: the source as its file has it, reasons by mutant, what is told, and what
+    is proved of its mutants."""
 
     shown: str | None = None
     reasons: Mapping[str, str] = MappingProxyType({})
     remarks: Sequence[str] = ()
+    proofs: Proofs = NO_PROOFS
+
+    @property
+    def all_reasons(self) -> dict[str, str]:
+        """The reasons of a person, and of what nobody declares that of its proof."""
+        return {**{name: self.proofs.reason(name) for name in self.proofs.names}, **self.reasons}
 
 
 NOTHING = Said()
@@ -41,9 +52,12 @@ class Group(NamedTuple):
     reason: str
 
 
-def declared_groups(listed: Iterable[Mutant], rows: Iterable[Row], reasons: Mapping[str, str]) -> list[Group]:
-    """The declared mutants in their order, but those first that a test kills; twins of one reason together."""
-    found = {name_of(row): row for row in rows if row.status in "WE"}
+def declared_groups(
+    listed: Iterable[Mutant], rows: Iterable[Row], reasons: Mapping[str, str], is_meant: Callable[[str], bool]
+) -> list[Group]:
+    """The declared mutants that are meant, in their order, but those first that a test kills; twins of one reason
+    together."""
+    found = {name_of(row): row for row in rows if row.status in "WE" and is_meant(name_of(row))}
     groups: list[Group] = []
     for twins in twins_in(mutant for mutant in listed if name_of(mutant) in found):
         by_reason: dict[str, list[Mutant]] = {}
@@ -51,6 +65,18 @@ def declared_groups(listed: Iterable[Mutant], rows: Iterable[Row], reasons: Mapp
             by_reason.setdefault(reasons.get(name_of(mutant), ""), []).append(mutant)
         groups += [Group(alike, found[name_of(alike[0])], reason) for reason, alike in by_reason.items()]
     return sorted(groups, key=lambda group: group.row.status != "W")
+
+
+def groups_of_person(
+    listed: Iterable[Mutant], rows: Iterable[Row], reasons: Mapping[str, str], proofs: Proofs
+) -> list[Group]:
+    """The mutants that a person declares."""
+    return declared_groups(listed, rows, reasons, lambda name: not proofs.is_alone(name))
+
+
+def groups_of_proofs(listed: Iterable[Mutant], rows: Iterable[Row], said: Said) -> list[Group]:
+    """The mutants that are declared by a proof alone."""
+    return declared_groups(listed, rows, said.all_reasons, said.proofs.is_alone)
 
 
 def declared_row(group: Group, statement: str) -> list[Cell]:
@@ -66,21 +92,45 @@ def declared_row(group: Group, statement: str) -> list[Cell]:
     ]
 
 
+HEAD: list[Cell] = [("", "Mutant"), ("n", "Line"), ("", "Change"), ("", "Why")]
+
+
+def groups_table(groups: Sequence[Group], statements: Mapping[int, str], label: str) -> str:
+    return table(HEAD, [declared_row(group, statements[group.mutants[0].line]) for group in groups], label=label)
+
+
 def declared_part(
-    listed: Iterable[Mutant], rows: Sequence[Row], statements: Mapping[int, str], reasons: Mapping[str, str]
+    listed: Iterable[Mutant],
+    rows: Sequence[Row],
+    statements: Mapping[int, str],
+    reasons: Mapping[str, str],
+    proofs: Proofs = NO_PROOFS,
 ) -> str:
-    """The table of all declared mutants; no text where there is none."""
-    groups = declared_groups(listed, rows, reasons)
+    """The table of the mutants that a person declares; no text where there is none."""
+    groups = groups_of_person(listed, rows, reasons, proofs)
     if not groups:
         return ""
-    shown = [declared_row(group, statements[group.mutants[0].line]) for group in groups]
     count = sum(len(group.mutants) for group in groups)
-    wrong = sum(row.status == "W" for row in rows)
+    wrong = len(wrongly_declared(rows, proofs))
     told = f"{plural(count, 'mutant')} {'is' if count == 1 else 'are'} declared equivalent: no test can kill"
     told += f" {'it' if count == 1 else 'them'}, so it is said."
     told += f" Tests kill {wrong} of them all the same, and {wrong} counts as killed." if wrong else ""
-    head: list[Cell] = [("", "Mutant"), ("n", "Line"), ("", "Change"), ("", "Why")]
-    return f"<p>{told}</p>\n" + table(head, shown, label="Declared equivalent")
+    return f"<p>{told}</p>\n" + groups_table(groups, statements, "Declared equivalent")
+
+
+def proved_part(listed: Iterable[Mutant], rows: Sequence[Row], statements: Mapping[int, str], said: Said) -> str:
+    """The table of the mutants that are declared by a proof alone, folded; no text where there is none."""
+    groups = groups_of_proofs(listed, rows, said)
+    if not groups:
+        return ""
+    count = sum(len(group.mutants) for group in groups)
+    told = (
+        "No test that a suite may have kills these, and nobody has to think about them: of each it is proved that it"
+        " does what the program does, on all arguments on which the program returns or stops."
+    )
+    inner = groups_table(groups, statements, "Proved equivalent")
+    summary = f"<summary>{plural(count, 'mutant')} proved equivalent</summary>"
+    return f"<p>{told}</p>\n<details>{summary}\n{inner}</details>\n"
 
 
 def remarks_part(remarks: Iterable[str]) -> str:

@@ -2,6 +2,7 @@
 
 import re
 from collections.abc import Mapping, Sequence
+from types import MappingProxyType
 
 from mutants.pages.differences import pieces
 from mutants.pages.frame import bar, text
@@ -63,18 +64,21 @@ def program_part(
     declared: Mapping[int, Sequence[Mutant]],
     has_links: bool = False,
     reasons: Mapping[str, str] = NO_REASONS,
+    proved: Mapping[int, Sequence[Mutant]] = MappingProxyType({}),
 ) -> str:
-    """The whole program: counts of mutants, survivors and declared mutants are by the statement's initial line.
+    """The whole program: counts of mutants, and survivors, declared and proved mutants are by the statement's initial
+    line.
 
     The mutants of a statement stand behind its last line, so that its lines stay together.
     """
     ends, parts = last_lines(source), []
-    initial = {ends.get(line, line): line for line in {*survivors, *declared}}
+    initial = {ends.get(line, line): line for line in {*survivors, *declared, *proved}}
     for number, line in numbered_lines(source):
         parts.append(line_part(number, line, counts.get(number), len(survivors.get(number, [])), has_links))
         if number in initial:
             first = initial[number]
-            found, others = survivors.get(first, []), declared.get(first, [])
+            found, others, sure = (each.get(first, []) for each in (survivors, declared, proved))
             parts += [survivors_part(found, statements[first])] if found else []
             parts += [declared_part(others, statements[first], reasons)] if others else []
+            parts += [declared_part(sure, statements[first], reasons, "proved")] if sure else []
     return '<div class="program">\n' + "".join(parts) + "</div>\n"

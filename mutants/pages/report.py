@@ -4,8 +4,16 @@ from collections import Counter, defaultdict
 from collections.abc import Iterable, Mapping, Sequence
 from typing import NamedTuple
 
+from mutants.declarations.proofs import (
+    Proofs,
+    count_of_proved,
+    left_out_text,
+    score_without,
+    wrongly_declared,
+    wrongly_proved,
+)
 from mutants.operators import NAMES
-from mutants.pages.declared import NOTHING, Said, declared_part, remarks_part
+from mutants.pages.declared import NOTHING, Said, declared_part, proved_part, remarks_part
 from mutants.pages.frame import Cell, bar, joined_words, page, plural, remark_part, sections, table, text
 from mutants.pages.matrix import matrix_part
 from mutants.pages.program import program_part, statements_by_line
@@ -13,7 +21,7 @@ from mutants.pages.suite import tests_part
 from mutants.texts.jobs import Job
 from mutants.texts.lines import Mutant
 from mutants.texts.reports import Count, Report, Row, assert_same_mutants, score_of, summed, with_status
-from mutants.texts.twins import twins_in
+from mutants.texts.twins import name_of, twins_in
 
 
 def counts_by_line(listed: Sequence[Mutant], rows: Iterable[Row]) -> dict[int, Count]:
@@ -33,13 +41,18 @@ def by_line(mutants: Iterable[Mutant]) -> dict[int, list[Mutant]]:
     return found
 
 
-def score_part(count: Count) -> str:
-    """The score in large figures, and what it is made of."""
+def score_part(count: Count, proved: int = 0) -> str:
+    """The score in large figures, and what it is made of; so many mutants do not count by a proof alone."""
     score, wanted = score_of(count), count.total - count.equivalent
-    said = f"{count.killed} of {plural(wanted, 'mutant')} killed"
-    rest = f", not counting {count.equivalent} declared equivalent" if count.equivalent else ""
+    said = f"{count.killed} of {plural(wanted, 'mutant')} killed{left_out_text(count, proved)}"
     figures = "no score" if score == "NONE" else f"{score} %"
-    return f'<div class="score"><b>{figures}</b>{bar(count.killed, wanted)}<span>{said}{rest}</span></div>\n'
+    return f'<div class="score"><b>{figures}</b>{bar(count.killed, wanted)}<span>{said}</span></div>\n'
+
+
+def proofs_part(count: Count, proved: int) -> str:
+    """The score without the proofs, where there are some."""
+    told = f"Without the proofs the score is {score_without(count, proved)}."
+    return f'<p class="soft">{told}</p>\n' if proved else ""
 
 
 def facts_of(report: Report) -> str:
@@ -49,10 +62,10 @@ def facts_of(report: Report) -> str:
     return f'<p class="soft">{told}.</p>\n'
 
 
-def first_look(survivors: Sequence[Mutant]) -> str:
+def first_look(survivors: Sequence[Mutant], proved: int = 0) -> str:
     """Where the survivors are, in one sentence."""
     if not survivors:
-        return "<p>No mutant survives that is not declared equivalent.</p>\n"
+        return f"<p>{no_survivor_text(proved)}</p>\n"
     lines = Counter(mutant.line for mutant in survivors)
     line, most = lines.most_common(1)[0]
     told, different = f"{plural(len(survivors), 'survivor')} on {plural(len(lines), 'line')}", len(twins_in(survivors))
@@ -63,14 +76,21 @@ def first_look(survivors: Sequence[Mutant]) -> str:
     return f"<p>{told}. {asked}</p>\n"
 
 
-def wrong_part(rows: Iterable[Row]) -> str:
-    """The declared mutants that a test kills all the same."""
-    wrong = [f"{row.op} {row.place}" for row in rows if row.status == "W"]
-    if not wrong:
-        return ""
-    names = joined_words(wrong)
-    which = "it" if len(wrong) == 1 else "each of them"
-    return f'<p class="warn"><b>Wrongly declared equivalent:</b> {text(names)}. A test kills {which}.</p>\n'
+def no_survivor_text(proved: int) -> str:
+    """What is told where no mutant survives that counts."""
+    return f"No mutant survives that is not declared {'or proved ' if proved else ''}equivalent."
+
+
+def warning(what: str, names: Sequence[str], told: str) -> str:
+    """Mutants that a test kills though it should not be able to; no text where there is none."""
+    return f'<p class="warn"><b>{what}:</b> {text(joined_words(names))}. {told}</p>\n' if names else ""
+
+
+def wrong_part(rows: Sequence[Row], proofs: Proofs) -> str:
+    """The mutants that a test kills though a person declares them, or a proof does."""
+    wrong, proved = wrongly_declared(rows, proofs), wrongly_proved(rows, proofs)
+    which = f"A test kills {'it' if len(wrong) == 1 else 'each of them'}."
+    return warning("Wrongly declared equivalent", wrong, which) + warning("Proved, and yet killed", proved, DISAGREE)
 
 
 def operator_row(op: str, count: Count) -> list[Cell]:
@@ -94,6 +114,10 @@ def operators_part(counts: Mapping[str, Count]) -> str:
     without = [f"{op} ({NAMES.get(op, '')})" for op, count in counts.items() if not count.total]
     rest = f'<p class="soft">Without a mutant in this program: {text(joined_words(without))}.</p>\n' if without else ""
     return table(head, rows, total, label="The operators", does_sort=True) + rest
+
+
+# What is told where a test kills a mutant that is proved equivalent.
+DISAGREE = "The programs mothra and equivalents do not agree, which proved builds of the same sources never do."
 
 
 class Outcomes(NamedTuple):
@@ -127,25 +151,38 @@ def report_page(
     statements = statements_by_line(job.source, printed)
     if not {mutant.line for mutant in listed} <= set(statements):
         raise ValueError("the list has mutants of lines that are none of the job")
-    counts, survivors = counts_by_line(listed, report.rows), report.survivors
-    declared = by_line(with_status(listed, report.rows, "E"))
-    source = job.source if said.shown is None else said.shown
-    listing = program_part(source, statements, counts, by_line(survivors), declared, True, said.reasons)
-    reasons = declared_part(listed, report.rows, statements, said.reasons)
+    survivors, count, proofs = report.survivors, summed(report.counts.values()), said.proofs
+    listing = listing_part(job, statements, listed, report, said)
+    reasons = declared_part(listed, report.rows, statements, said.reasons, proofs)
+    folded, proved = proved_part(listed, report.rows, statements, said), count_of_proved(report.rows, proofs)
     links, bodies = sections(
         [
             ("program", "The program", program_key() + filter_part(survivors) + listing),
             *([("declared", "Declared equivalent", reasons)] if reasons else []),
+            *([("proved", "Proved equivalent", folded)] if folded else []),
             ("operators", "The operators", operators_part(report.counts)),
             ("tests", "The tests", tests_part(job.suite, report.rows, *outcomes)),
             ("matrix", "The kill matrix", matrix_part(listed, report.rows, statements, report.tests)),
         ]
     )
     head = f"<h1>{text(report.unit)}: which mutants the tests kill</h1>\n" + remark_part(remark)
-    head += unexpected_part(outcomes.unexpected) + score_part(summed(report.counts.values()))
-    head += facts_of(report) + wrong_part(report.rows)
+    head += remark_part(proofs.remark) if proved else ""
+    head += unexpected_part(outcomes.unexpected) + score_part(count, proved) + proofs_part(count, proved)
+    head += facts_of(report) + wrong_part(report.rows, proofs)
     head += remarks_part(said.remarks)
-    return page(f"{report.unit}: kills and survivors", head + first_look(survivors) + links, bodies)
+    return page(f"{report.unit}: kills and survivors", head + first_look(survivors, proved) + links, bodies)
+
+
+def listing_part(
+    job: Job, statements: Mapping[int, str], listed: Sequence[Mutant], report: Report, said: Said
+) -> str:
+    """The program with its survivors, and the declared and proved mutants that survived."""
+    counts, every = counts_by_line(listed, report.rows), with_status(listed, report.rows, "E")
+    proved = [mutant for mutant in every if said.proofs.is_alone(name_of(mutant))]
+    declared = by_line(mutant for mutant in every if not said.proofs.is_alone(name_of(mutant)))
+    source = job.source if said.shown is None else said.shown
+    survivors = by_line(report.survivors)
+    return program_part(source, statements, counts, survivors, declared, True, said.all_reasons, by_line(proved))
 
 
 def filter_part(survivors: Iterable[Mutant]) -> str:

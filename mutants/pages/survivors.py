@@ -103,9 +103,11 @@ def survivors_part(survivors: Iterable[Mutant], statement: str) -> str:
     return f'<div class="mutants">{parts}{folded(told, absolute, statement)}</div>\n'
 
 
-def declared_part(declared: Iterable[Mutant], statement: str, reasons: Mapping[str, str]) -> str:
-    """The mutants of a line that are declared equivalent and survived, folded."""
+def declared_part(
+    declared: Iterable[Mutant], statement: str, reasons: Mapping[str, str], how: str = "declared"
+) -> str:
+    """The mutants of a line that are declared equivalent, or proved so, and survived, folded."""
     every = list(declared)
-    summary = f"<summary>{len(every)} declared equivalent</summary>"
+    summary = f"<summary>{len(every)} {how} equivalent</summary>"
     shown = items(twins_in(every), statement, reasons)
     return f'<div class="mutants declared"><details>{summary}{shown}</details></div>\n'

@@ -1,1 +1,1 @@
-"""The program mothra: where it is found, and how it is called."""
+"""The programs mothra and equivalents: where they are found, and how they are called."""

@@ -1,10 +1,11 @@
-"""Calls of the program mothra."""
+"""Calls of the programs mothra and equivalents."""
 
 import subprocess
 from collections.abc import Callable, Sequence
 from pathlib import Path
 from typing import TypeVar
 
+from mutants.program.programs import MOTHRA
 from mutants.statuses import FAULT, SUCCESS, WORDS
 
 Text = TypeVar("Text", str, bytes)
@@ -12,10 +13,10 @@ Read = TypeVar("Read")
 
 
 class Fault(ValueError):
-    """What mothra wrote in place of an answer: its line, and its exit status."""
+    """What a program wrote in place of an answer: its line, and its exit status. Only mothra has commands."""
 
-    def __init__(self, command: str, line: str, status: int = FAULT) -> None:
-        super().__init__(f"mothra {command}: {line}")
+    def __init__(self, command: str, line: str, status: int = FAULT, program: str = MOTHRA.name) -> None:
+        super().__init__(f"{program} {command}: {line}" if command else f"{program}: {line}")
         self.line, self.status = line, status if status == WORDS else FAULT
 
 
@@ -41,6 +42,14 @@ def answer(program: str, words: Sequence[str], job: bytes, seconds: float | None
     if status == SUCCESS:
         return text
     raise Fault(words[0], failure_of(text, status), status)
+
+
+def plain_answer(name: str, program: str, words: Sequence[str], job: bytes) -> str:
+    """The same of a program of this name that has no commands."""
+    text, status = call(program, words, job)
+    if status == SUCCESS:
+        return text
+    raise Fault("", failure_of(text, status), status, name)
 
 
 def failure_of(text: str, status: int) -> str:

@@ -1,24 +1,22 @@
-"""Where the program mothra is. No other module looks for it."""
+"""Where the programs mothra and equivalents are. No other module looks for them."""
 
 import argparse
 import os
 import shutil
 import sys
+from pathlib import Path
 
+from mutants.program.programs import EQUIVALENTS, MOTHRA, Program
 from mutants.program.roots import ROOT
 from mutants.program.unproved import find_unproved, is_unproved, said
 
 BUILT = ROOT / "crates" / "mothra" / "out" / "mothra"
-VARIABLE = "MOTHRA"
-OPTION = "--mothra"
-HELP = (
-    f"the program mothra; else that of the environment's {VARIABLE}, the one built in the repository,"
-    " or that of the path"
-)
+BUILT_EQUIVALENTS = ROOT / "crates" / "equivalents" / "out" / "equivalents"
 
 # What is told where there is none: how one comes to it, and how long that takes.
 MISSING = f"""\
-the program mothra is not found: {OPTION} and {VARIABLE} name none, none is built here, and the path has none.
+the program mothra is not found: {MOTHRA.option} and {MOTHRA.variable} name none, none is built here, and the path has\
+ none.
   Prove and build it, from the top of the repository; from nothing that takes most of an hour, later seconds:
     (cd crates/mothra && rt run -- run < ../../examples/triangle.json)
   For a first look make an unproved build once, in a minute or two; it is kept, and all that it says is unproved:
@@ -37,30 +35,30 @@ def named_program(word: str, where: str) -> str:
     return os.path.abspath(found)
 
 
-def find_program(word: str | None = None) -> str:
-    """The path of the program. That it is an unproved build is told on standard error."""
-    program = searched_program(word)
-    if is_unproved(program):
-        sys.stderr.write(f"{program}: {said()}\n")
-    return program
+def searched_program(kind: Program, word: str | None, built: Path) -> str | None:
+    """The program of the option's word, of the environment, of the repository, of the path, or an unproved build.
 
-
-def searched_program(word: str | None) -> str:
-    """The program of the option's word, of the environment, of the repository, of the path, or an unproved build."""
+    That it is an unproved build is told on standard error.
+    """
     if word is not None:
-        return named_program(word, OPTION)
-    if os.environ.get(VARIABLE):
-        return named_program(os.environ[VARIABLE], VARIABLE)
-    if os.access(BUILT, os.X_OK):
-        return str(BUILT)
-    found = shutil.which("mothra") or find_unproved()
+        found: str | None = named_program(word, kind.option)
+    elif os.environ.get(kind.variable):
+        found = named_program(os.environ[kind.variable], kind.variable)
+    elif os.access(built, os.X_OK):
+        found = str(built)
+    else:
+        found = shutil.which(kind.name) or find_unproved(kind.name)
+    if found and is_unproved(found, kind.name):
+        sys.stderr.write(f"{os.path.abspath(found)}: {said(kind.name)}\n")
+    return os.path.abspath(found) if found else None
+
+
+def find_program(word: str | None = None) -> str:
+    """The path of the program mothra."""
+    found = searched_program(MOTHRA, word, BUILT)
     if not found:
         raise NoProgram(MISSING)
-    return os.path.abspath(found)
-
-
-def add_mothra_option(parser: argparse.ArgumentParser) -> None:
-    parser.add_argument(OPTION, metavar="PATH", help=HELP)
+    return found
 
 
 def find_program_if_any(word: str | None) -> str | None:
@@ -69,3 +67,16 @@ def find_program_if_any(word: str | None) -> str | None:
         return find_program(word)
     except NoProgram:
         return None
+
+
+def find_equivalents(word: str | None) -> str | None:
+    """The path of the program equivalents, or None where none is named and none is found."""
+    return searched_program(EQUIVALENTS, word, BUILT_EQUIVALENTS)
+
+
+def add_mothra_option(parser: argparse.ArgumentParser) -> None:
+    parser.add_argument(MOTHRA.option, metavar="PATH", help=MOTHRA.help)
+
+
+def add_equivalents_option(parser: argparse.ArgumentParser) -> None:
+    parser.add_argument(EQUIVALENTS.option, metavar="PATH", help=EQUIVALENTS.help)

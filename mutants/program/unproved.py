@@ -1,9 +1,9 @@
-"""An unproved build of the program mothra, for a first look: made once, kept, and called unproved wherever it is used.
+"""Unproved builds of the programs, for a first look: made once, kept, and called unproved wherever they are used.
 
-It is kept in the user's folder for caches, with a digest of the sources that it was built from. What lies there under
-its name is a script that says on standard error that the build is unproved, and then runs it: so a call of it is marked
-whoever makes it. Where the package lies beside other sources it is not used. Where it lies beside none, as when it was
-installed, there is nothing to compare with: the build is used, and told with the digest.
+A build is kept in the user's folder for caches, with a digest of the sources that it was built from. What lies there
+under its name is a script that says on standard error that the build is unproved, and then runs it: so a call of it is
+marked whoever makes it. Where the package lies beside other sources it is not used. Where it lies beside none, as when
+it was installed, there is nothing to compare with: the build is used, and told with the digest.
 """
 
 import hashlib
@@ -11,18 +11,21 @@ import os
 import shlex
 from pathlib import Path
 
+from mutants.program.programs import EQUIVALENTS, MOTHRA, PROGRAMS
 from mutants.program.roots import ROOT
 from mutants.program.trying import build
 
 CRATES = ROOT / "crates"
-# What is said wherever the build is used, and how each line begins that the script writes.
-SAID = "an unproved build of mothra: nothing that it says is proved"
+# What is said wherever a build is used, and how each line begins that the script writes.
+SAID_OF = "an unproved build of {}: nothing that it says is proved"
+SAID = SAID_OF.format(MOTHRA.name)
 MARK = "unproved build: "
 # So many digits of the digest are told.
 DIGITS = 12
-# A job, and what `mothra print` writes of it.
+# A job, and for each program the words with which a build of it is tried, and what it has to write of that job.
 JOB = b'{"source": "      SUBROUTINE ADD(I,J,K)\\n      K=I+J\\n      END\\n"}'
 PRINTED = b"      SUBROUTINE ADD(I,J,K)\n      K=I+J\n      END\n"
+TRIALS = {MOTHRA.name: (["print"], PRINTED), EQUIVALENTS.name: (["--ops", "SDL"], b"PROVED 0 OF 1\n")}
 SCRIPT = """\
 #!/bin/sh
 # Made by mutants unproved: what the program beside this file writes is proved by nothing, and each call says so.
@@ -31,18 +34,18 @@ exec {program} "$@"
 """
 
 
-def kept_path() -> Path:
-    """Where the build is called, whether it is there or not: the script that marks it."""
+def kept_path(name: str = MOTHRA.name) -> Path:
+    """Where the build of a program is called, whether it is there or not: the script that marks it."""
     caches = os.environ.get("XDG_CACHE_HOME") or Path.home() / ".cache"
-    return Path(caches, "mutants", "unproved-mothra").absolute()
+    return Path(caches, "mutants", f"unproved-{name}").absolute()
 
 
-def binary_path() -> Path:
-    return kept_path().with_name("unproved-mothra.binary")
+def binary_path(name: str = MOTHRA.name) -> Path:
+    return kept_path(name).with_name(f"unproved-{name}.binary")
 
 
-def digest_path() -> Path:
-    return kept_path().with_name("unproved-mothra.sources")
+def digest_path(name: str = MOTHRA.name) -> Path:
+    return kept_path(name).with_name(f"unproved-{name}.sources")
 
 
 def digest_of(crates: Path) -> str:
@@ -54,33 +57,34 @@ def digest_of(crates: Path) -> str:
     return found.hexdigest()
 
 
-def kept_digest() -> str | None:
-    """The digest of the sources that the build is of; None where there is no whole build."""
-    there = [path for path in (kept_path(), binary_path()) if os.access(path, os.X_OK)]
-    return digest_path().read_text().strip() if len(there) == 2 and digest_path().exists() else None
+def kept_digest(name: str = MOTHRA.name) -> str | None:
+    """The digest of the sources that a build is of; None where there is no whole build."""
+    there = [path for path in (kept_path(name), binary_path(name)) if os.access(path, os.X_OK)]
+    digest = digest_path(name)
+    return digest.read_text().strip() if len(there) == 2 and digest.exists() else None
 
 
-def find_unproved() -> str | None:
-    """The path of the build, where a whole one is kept and no other sources lie beside the package."""
-    digest = kept_digest()
+def find_unproved(name: str = MOTHRA.name) -> str | None:
+    """The path of a build, where a whole one is kept and no other sources lie beside the package."""
+    digest = kept_digest(name)
     if digest is None or CRATES.is_dir() and digest != digest_of(CRATES):
         return None
-    return str(kept_path())
+    return str(kept_path(name))
 
 
-def is_unproved(program: str) -> bool:
-    """Whether a program is the unproved build, called by the script or without it."""
-    kept = [path for path in (kept_path(), binary_path()) if path.exists()]
+def is_unproved(program: str, name: str = MOTHRA.name) -> bool:
+    """Whether a program is the unproved build of this name, called by the script or without it."""
+    kept = [path for path in (kept_path(name), binary_path(name)) if path.exists()]
     return os.path.exists(program) and any(os.path.samefile(program, path) for path in kept)
 
 
-def said() -> str:
+def said(name: str = MOTHRA.name) -> str:
     """What is said of the build that is kept."""
-    digest = kept_digest()
+    digest, told = kept_digest(name), SAID_OF.format(name)
     if digest is None:
-        return SAID
+        return told
     compared = "" if CRATES.is_dir() else ", and no sources are here to compare with"
-    return f"{SAID} (built from the sources with the digest {digest[:DIGITS]}{compared})"
+    return f"{told} (built from the sources with the digest {digest[:DIGITS]}{compared})"
 
 
 def remark_on(program: str) -> str:
@@ -88,28 +92,43 @@ def remark_on(program: str) -> str:
     return f"This is of {said()}." if is_unproved(program) else ""
 
 
-def remove() -> None:
-    for path in (digest_path(), kept_path(), binary_path()):
+def remark_on_proofs(program: str) -> str:
+    """The same for proofs that the program equivalents tells."""
+    name = EQUIVALENTS.name
+    return f"What is called proved here is of {said(name)}." if is_unproved(program, name) else ""
+
+
+def remove(name: str = MOTHRA.name) -> None:
+    for path in (digest_path(name), kept_path(name), binary_path(name)):
         path.unlink(missing_ok=True)
 
 
-def script_of(digest: str) -> str:
-    """The script that marks each call of the build."""
-    told = f"{MARK}nothing that this mothra says is proved (sources {digest[:DIGITS]})"
-    return SCRIPT.format(told=shlex.quote(told), program=shlex.quote(str(binary_path())))
+def script_of(digest: str, name: str) -> str:
+    """The script that marks each call of a build."""
+    told = f"{MARK}nothing that this {name} says is proved (sources {digest[:DIGITS]})"
+    return SCRIPT.format(told=shlex.quote(told), program=shlex.quote(str(binary_path(name))))
 
 
-def make() -> Path:
-    """Makes the build and keeps it. The digest comes last: a build without one is not used."""
+def programs_here() -> list[str]:
+    """The programs that the repository has; mothra where there is no repository, which then is told."""
+    return [name for name in PROGRAMS if (CRATES / name).is_dir()] or [MOTHRA.name]
+
+
+def make(name: str = MOTHRA.name) -> Path:
+    """Makes a build and keeps it. The digest comes last: a build without one is not used."""
     if not CRATES.is_dir():
         raise ValueError("there are no crates beside the package: an unproved build is made in the repository")
-    kept_path().parent.mkdir(parents=True, exist_ok=True)
-    remove()
-    digest, told = digest_of(CRATES), build(CRATES / "mothra", binary_path(), ["--", "print"], JOB)
-    if told != PRINTED:
-        remove()
-        raise ValueError(f"rt try built a program that does not print a job: {told[:80]!r}")
-    kept_path().write_text(script_of(digest))
-    kept_path().chmod(0o755)
-    digest_path().write_text(digest)
-    return kept_path()
+    if not (CRATES / name).is_dir():
+        raise ValueError(f"{CRATES} has no program {name}")
+    kept_path(name).parent.mkdir(parents=True, exist_ok=True)
+    remove(name)
+    words, wanted = TRIALS[name]
+    digest, told = digest_of(CRATES), build(CRATES / name, binary_path(name), ["--", *words], JOB)
+    if told != wanted:
+        remove(name)
+        does = "print a job" if name == MOTHRA.name else "answer a job"
+        raise ValueError(f"rt try built a program that does not {does}: {told[:80]!r}")
+    kept_path(name).write_text(script_of(digest, name))
+    kept_path(name).chmod(0o755)
+    digest_path(name).write_text(digest)
+    return kept_path(name)

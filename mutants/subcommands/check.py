@@ -16,6 +16,11 @@ do on the test: the outcome as `mothra exec` writes it, the word RETURNED left o
 3 4 5 *, or the values of some arguments, such as ITYPE=1; an empty cell expects nothing. --expect FILE has a line for
 each test in place of it. An outcome that is not as expected is told, and the exit status is 4.
 
+Where the program equivalents is there, it is asked which mutants are equivalent by a proof. These are declared by
+themselves, with the reason that they are proved: the score does not count them, and is told with and without them. They
+are folded, on the terminal to one line, which --show-proved unfolds. What a person declares stands apart. --no-proofs
+asks for no proofs.
+
 Options that are always the same can stand in mutants.ini beside the program (or mutants.toml), in its section
 [mutants], by the same names: `fail-under = 80`. What the command line says comes first.
 """
@@ -34,12 +39,14 @@ from mutants.checks.running import Means
 from mutants.checks.settings import with_settings
 from mutants.checks.summary import summary
 from mutants.declarations.files import NONE_MEANT, Meant
+from mutants.declarations.proofs import Proofs
+from mutants.declarations.proving import add_proofs_switch, prover_of
 from mutants.jobs.expecting import COLUMN, Expected, expected_in_file
 from mutants.jobs.making import Made, add_making_options, made_of, meant_for, wish_of
 from mutants.operators import codes_in
 from mutants.pages.declared import Said
 from mutants.program.calling import Fault
-from mutants.program.finding import add_mothra_option, find_program
+from mutants.program.finding import add_equivalents_option, add_mothra_option, find_program
 from mutants.program.unproved import remark_on
 from mutants.statuses import BELOW, SUCCESS, UNEXPECTED
 from mutants.texts.jobs import Job
@@ -71,6 +78,7 @@ def add_results(parser: argparse.ArgumentParser) -> None:
     told = "exit status 3 where the score is below this percentage"
     parser.add_argument("--fail-under", metavar="PERCENT", type=percent, help=told)
     parser.add_argument("--expect", metavar="FILE", type=Path, help="what the program has to do, a line for each test")
+    parser.add_argument("--show-proved", action="store_true", help="tell each mutant that is proved equivalent")
     parser.add_argument("--page", metavar="FILE", type=Path, help="where the page is written, else PROGRAM.html")
     parser.add_argument("--no-page", action="store_true", help="write no page")
     for option, told in (
@@ -85,6 +93,7 @@ def add_results(parser: argparse.ArgumentParser) -> None:
 def add_options(parser: argparse.ArgumentParser) -> None:
     add_choices(parser)
     add_means(parser)
+    add_proofs_switch(parser)
     add_results(parser)
 
 
@@ -92,6 +101,7 @@ def add_words(parser: argparse.ArgumentParser) -> None:
     parser.add_argument("program", metavar="PROGRAM.f", type=Path)
     parser.add_argument("tests", metavar="TESTS", type=Path, help="a table of tests, .json or .csv")
     add_mothra_option(parser)
+    add_equivalents_option(parser)
     add_options(parser)
 
 
@@ -146,23 +156,29 @@ def status_of(given: argparse.Namespace, checked: Checked) -> int:
     return BELOW if is_below(given, checked) else SUCCESS
 
 
+def end_lines(proofs: Proofs, settings: Path | None, remark: str) -> list[str]:
+    """What is told last: why nothing was proved, a file of options, and that a build is unproved."""
+    told = [proofs.told(), f"Options are from {settings}, too." if settings else "", proofs.remark, remark]
+    return [each for each in told if each]
+
+
 def run(given: argparse.Namespace, name: str) -> int:
     settings = with_settings(given, add_options)
     outputs = outputs_of(given)
     wish = wish_of(given)
     made = made_of(given.program, given.tests, wish)
     expected = expected_of(given, made)
-    means = means_of(given)
+    means, prover = means_of(given), prover_of(given)
     meant = declared_of(given, made, means)
     tell_remarks(name, made.remarks + meant.remarks)
     job = Job(made.source.text, made.suite, meant.names)
     said = Said(made.source.shown, meant.reasons, made.remarks + meant.remarks)
     asked = Asked(given.program, given.tests, given.ops, given.without or [], given.lines, given.changed, wish)
-    checked = check(asked, job, said, expected, means, name)._replace(file=made.source.file)
+    checked = check(asked, job, said, expected, means, name, prover)._replace(file=made.source.file)
     remark = remark_on(means.program)
     covered = covering(checked, means, name) if any(output.needs_cover for output in outputs) else {}
     shown = Shown(checked, given.program, given.tests, remark, covered)
     more = [*write_outputs(outputs, shown), *status_lines(given, checked)]
-    more += [f"Options are from {settings}, too."] if settings else []
-    sys.stdout.write(summary(checked, given.program, [*more, remark] if remark else more))
+    more += end_lines(checked.said.proofs, settings, remark)
+    sys.stdout.write(summary(checked, given.program, more, given.show_proved))
     return status_of(given, checked)

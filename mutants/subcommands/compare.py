@@ -15,7 +15,8 @@ Told are: mutants newly surviving and newly killed; those of one state alone, ne
 since then, or no more; and tests that are new, gone, or kill others than before. Where operators are in one file alone,
 their mutants are left out. --markdown writes the same for a review.
 
-The exit status is 3 where a mutant that was killed survives, whether it is declared equivalent or not.
+The exit status is 3 where a mutant that was killed survives, whether a person declares it equivalent or not. One that
+is proved equivalent now is counted apart: no test can kill it any more.
 """
 
 import argparse

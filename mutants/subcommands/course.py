@@ -6,8 +6,9 @@ The folder has programs in fixed form, NAME.f (or .for, .ftn, .f77), and tables 
 NAME.json or NAME.csv (or NAME.suite.json). With one program each table is a suite of it: a file for each student. With
 several a table is of the program whose name it has, or has before a hyphen (sort-anna.csv is of sort.f); a table named
 suite is of each program without a table of its own. NAME.equivalent.csv, or equivalent.csv with one program, has the
-mutants that are declared equivalent, as mutants declare writes them; a bare list in .json is read too. --unit, --size
-and --expand-tabs are those of mutants job, for each program of the folder.
+mutants that are declared equivalent, as mutants declare writes them; a bare list in .json is read too. Those that the
+program equivalents proves equivalent are declared by themselves; it is asked here, once for each program. --unit,
+--size and --expand-tabs are those of mutants job, for each program of the folder.
 
 Each table becomes a job. The jobs are run side by side, N at once (else one for each processor), each as a process with
 one thread. With --sshlogin GNU parallel spreads them over machines, and MOTHRA is then the name of the program on all
@@ -16,9 +17,10 @@ has changed. How many are done is told on standard error.
 
 Written are, in FOLDER/out: jobs/NAME.json, .report and .outcomes (the job, what mothra run wrote of it, and what the
 program itself does on each test), jobs/NAME.html (its page), course.html (the page of the class), and course.csv with
-these columns: name (of the table), program, unit, tests, mutants, killed, equivalent (declared, and not killed),
-survived, score (in percent, rounded down, or NONE), only_here (mutants that no other suite of the program kills),
-wrong (declared, but killed), fault (its code; - where there was no job or no answer) and told (the line of the fault).
+these columns: name (of the table), program, unit, tests, mutants, killed, equivalent (declared or proved, and not
+killed), survived, score (in percent, rounded down, or NONE), only_here (mutants that no other suite of the program
+kills), wrong (declared, but killed), fault (its code; - where there was no job or no answer) and told (the line of the
+fault).
 A job without a report is a row with its fault, and stops no other one. Where there are such jobs, it is told how many
 and which, and the exit status is 1. Those that have no answer are asked for again by the next call.
 """
@@ -26,16 +28,20 @@ and which, and the exit status is 1. Those that have no answer are asked for aga
 import argparse
 import csv
 import io
+import json
 import sys
+from collections.abc import Collection, Sequence
 from pathlib import Path
 
 from mutants.checks.outcomes import asked_outcomes
 from mutants.checks.running import Means
-from mutants.classes.folder import Results, Task, tasks_in
+from mutants.classes.folder import Prove, Results, Task, tasks_in
 from mutants.classes.page import View, course_page
 from mutants.classes.results import COLUMNS, Result, csv_row, failed_told, only_here, reported_of
 from mutants.classes.processes import run_here
 from mutants.classes.running import find_parallel, run_all
+from mutants.declarations.proofs import NO_PROOFS, Proofs
+from mutants.declarations.proving import add_proof_options, prover_of
 from mutants.files import written
 from mutants.jobs.making import add_reading_options, wish_of
 from mutants.pages.declared import Said
@@ -62,6 +68,7 @@ Known = tuple[list[str], list[Mutant]]
 def add_words(parser: argparse.ArgumentParser) -> None:
     parser.add_argument("folder", metavar="FOLDER", type=Path, help="the programs and the tables of tests")
     add_mothra_option(parser)
+    add_proof_options(parser)
     parser.add_argument("--jobs", metavar="N", type=number_from_1, help="how many jobs at once, on each machine")
     told = "a machine, as parallel takes it; may be given again"
     parser.add_argument("--sshlogin", metavar="LOGIN", action="append", default=[], help=told)
@@ -130,9 +137,27 @@ def known_programs(given: argparse.Namespace, program: str, tasks: list[Task]) -
     return {name: known for name, known in found.items() if known}
 
 
-def view_of(text: bytes, shown: str, known: Known) -> View:
+def view_of(task: Task, known: Known) -> View:
     """What the page of the class shows of a program."""
-    return View(shown, statements_by_line(read_job(text).source, known[0]), known[1])
+    return View(task.shown, statements_by_line(read_job(task.text or b"").source, known[0]), known[1], task.proofs)
+
+
+def prove_with(given: argparse.Namespace, program: str) -> Prove:
+    """What is proved of a source, whose mutants are those that mothra lists."""
+    prover, words = prover_of(given), asked_words(given, "ops", "every")
+
+    def prove(source: str, declared: Collection[str]) -> Proofs:
+        known = known_of(program, json.dumps({"source": source}).encode(), words)
+        # Of a source that has a fault the run tells it.
+        return prover.proofs(words, source, known[1], declared) if known else NO_PROOFS
+
+    return prove
+
+
+def proof_remarks(tasks: Sequence[Task]) -> list[str]:
+    """Why nothing was proved, and that a build is unproved."""
+    told = [text for task in tasks for text in (task.proofs.told(), task.proofs.remark) if text]
+    return list(dict.fromkeys(told))
 
 
 def outcomes_of(task: Task, means: Means, results: Results) -> Outcomes:
@@ -153,9 +178,9 @@ def write_pages(
     for task, result in zip(tasks, found):
         if task.text is None or task.program_name not in known:
             continue
-        views[task.program_name] = view_of(task.text, task.shown, known[task.program_name])
+        views[task.program_name] = view_of(task, known[task.program_name])
         if result.report is not None:
-            said = Said(task.shown, task.meant.reasons, task.remarks)
+            said = Said(task.shown, task.meant.reasons, task.remarks, task.proofs)
             outcomes = outcomes_of(task, means, results)
             text = report_page(read_job(task.text), *known[task.program_name], result.report, remark, outcomes, said)
             written(results.path(task.name, ".html"), text.encode())
@@ -177,7 +202,7 @@ def write_table(out: Path, found: list[Result]) -> None:
 
 def run(given: argparse.Namespace, name: str) -> int:
     program = find_program(given.mothra)
-    tasks = tasks_in(given.folder, program, wish_of(given))
+    tasks = tasks_in(given.folder, program, wish_of(given), prove_with(given, program))
     tell_remarks(name, dict.fromkeys(remark for task in tasks for remark in task.remarks))
     known = known_programs(given, program, tasks)
     out = given.folder / "out"
@@ -187,7 +212,7 @@ def run(given: argparse.Namespace, name: str) -> int:
     write_table(out, found)
     write_pages(out, Means(program, given.steps), tasks, found, known, results)
     print(f"{len(reported_of(found))} of {len(found)} with a report: {out / 'course.html'}")
-    print(remark_on(program), end="\n" if remark_on(program) else "")
+    print("".join(f"{line}\n" for line in [*proof_remarks(tasks), remark_on(program)] if line), end="")
     failed = failed_told(found)
     sys.stderr.write(f"{name}: {failed}\n" if failed else "")
     return FAULT if failed else SUCCESS

@@ -4,12 +4,16 @@
     mutants declare [OPTION..] PROGRAM.f --renew
 
 A mutant is a code and a number, as pages and reports name it; further numbers are of the same operator:
-ABS 7 9 12 ROR 1. Where other mutants are the same program, they are declared with it. An entry is put behind those of
-PROGRAM.equivalent.csv beside the program (of a unit that is picked among several, PROGRAM.UNIT.equivalent.csv): the
-mutant, its line before and after the change as mothra writes them, and the reason. Later calls look for an entry by
-these texts. Where they stand on one line alone the entry means that mutant, whatever its number has become; where they
-stand on several, the statements before or behind tell which is meant. Else it is refused, and named. So a changed
-program has no declared mutant that nobody looked at. With --renew the numbers of now are written into the file.
+ABS 7 9 12 ROR 1. Where other mutants are the same program, they are declared with it. A mutant that the program
+equivalents proves equivalent need not be declared: it is left out, and this is told; with --no-proofs it is declared
+all the same.
+
+An entry is put behind those of PROGRAM.equivalent.csv beside the program (of a unit that is picked among several,
+PROGRAM.UNIT.equivalent.csv): the mutant, its line before and after the change as mothra writes them, and the reason.
+Later calls look for an entry by these texts. Where they stand on one line alone the entry means that mutant, whatever
+its number has become; where they stand on several, the statements before or behind tell which is meant. Else it is
+refused, and named. So a changed program has no declared mutant that nobody looked at. With --renew the numbers of now
+are written into the file.
 """
 
 import argparse
@@ -20,6 +24,8 @@ from pathlib import Path
 
 from mutants.declarations.entries import Entry, appended, entries_text, written_entries
 from mutants.declarations.files import asked_present, path_beside
+from mutants.declarations.proofs import Proofs
+from mutants.declarations.proving import add_proof_options, prover_of
 from mutants.declarations.settling import Present, Settled, entry_for, settled
 from mutants.files import written
 from mutants.jobs.making import add_reading_options, made_of, told_of, wish_of
@@ -43,6 +49,7 @@ def add_words(parser: argparse.ArgumentParser) -> None:
     parser.add_argument("--equivalent", metavar="FILE.csv", type=Path, help=told)
     add_reading_options(parser)
     add_mothra_option(parser)
+    add_proof_options(parser)
 
 
 def names_in(words: Iterable[str]) -> list[Name]:
@@ -89,6 +96,16 @@ def new_entries(given: argparse.Namespace, names: Sequence[Name], found: Settled
     return [entry_for(mutant, " ".join(given.reason.split()), present) for mutant in wanted]
 
 
+def told_of_proved(left: Sequence[Entry], proofs: Proofs) -> str:
+    """What is said of mutants that need not be declared; no text where there is none."""
+    if not left:
+        return ""
+    is_one = len(left) == 1
+    told = joined_words(f"{entry.name} ({proofs.whys[entry.name]})" for entry in left)
+    verb, them = ("is", "it") if is_one else ("are", "them")
+    return f"{told} {verb} proved equivalent and need not be declared (--no-proofs declares {them} all the same)"
+
+
 def told_of_new(new: Sequence[Entry], names: Sequence[Name], found: Settled) -> str:
     """What was declared in one call, and which of it was not named."""
     twins = [entry.name for entry in new if (entry.op, entry.place) not in names]
@@ -111,9 +128,14 @@ def run(given: argparse.Namespace, name: str) -> int:
         written(path, entries_text(renewed(entries, found, present)).encode())
         told = f"{len(found.moved)} of {len(entries)} entries with a new number"
     else:
-        text, new = decoded(path.read_bytes()) if path.exists() else "", new_entries(given, names, found, present)
-        written(path, appended(text, new).encode())
-        told = told_of_new(new, names, found)
+        wanted = new_entries(given, names, found, present)
+        proofs = prover_of(given).proofs([], made.source.text, present.listed)
+        new = [entry for entry in wanted if entry.name not in proofs.whys]
+        if new:
+            text = decoded(path.read_bytes()) if path.exists() else ""
+            written(path, appended(text, new).encode())
+        left = told_of_proved([entry for entry in wanted if entry.name in proofs.whys], proofs)
+        told = "; ".join(each for each in (told_of_new(new, names, found), left) if each)
     for remark in found.remarks() if not given.renew else [f"{entry.name}: {why}" for entry, why in found.refused]:
         sys.stderr.write(f"{name}: {path}: {remark}\n")
     sys.stdout.write(f"{path}: {told}\n")

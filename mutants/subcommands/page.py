@@ -11,6 +11,9 @@ The program is asked for `print`, `list` and `run` with the job, and for `exec` 
 be given as a file instead, as the program wrote it, the outcomes a line each; with the first three the program is not
 needed. The page is one file that needs no script, and nothing in it is loaded from elsewhere.
 
+Before `run`, the program equivalents is asked, if it is there, which mutants are proved equivalent. These are declared
+too, and stand folded and apart. It is not asked with --no-proofs, and where the report is given as a file.
+
 `run` is asked for a few operators at a time, so that a line on standard error can say how far it is; the reports are
 joined. A text that is no such text, is cut short or is not of this job is refused with one line and status 1.
 """
@@ -23,6 +26,8 @@ from pathlib import Path
 
 from mutants.checks.outcomes import asked_outcomes
 from mutants.checks.running import Means
+from mutants.declarations.proofs import NO_PROOFS, Proofs
+from mutants.declarations.proving import add_proof_options, prover_of
 from mutants.jobs.given import given_job
 from mutants.jobs.making import add_making_options
 from mutants.pages.report import Outcomes, report_page
@@ -31,8 +36,8 @@ from mutants.program.calling import answer, read_as, text_of
 from mutants.program.finding import add_mothra_option, find_program
 from mutants.program.unproved import remark_on
 from mutants.statuses import SUCCESS
-from mutants.texts.jobs import Job, read_job
-from mutants.texts.lines import lines_of_text
+from mutants.texts.jobs import Job, declared_text, read_job
+from mutants.texts.lines import Mutant, lines_of_text
 from mutants.texts.lists import read_list
 from mutants.texts.prints import read_print
 from mutants.texts.reports import read_report
@@ -43,6 +48,7 @@ def add_words(parser: argparse.ArgumentParser) -> None:
     parser.add_argument("job", metavar="JOB|PROGRAM.f", type=Path, help="the job, a file, or a program in fixed form")
     parser.add_argument("tests", metavar="TESTS", type=Path, nargs="?", help="a table of tests of the program")
     add_mothra_option(parser)
+    add_proof_options(parser)
     add_making_options(parser)
     add_mothra_options(parser, "ops", "every", "steps", "workers")
     for option, command in (("print", "print"), ("list", "list"), ("report", "run")):
@@ -65,6 +71,14 @@ def outcomes_of(given: argparse.Namespace, program: str, job: Job, name: str) ->
     return Outcomes(lines)
 
 
+def proofs_of(given: argparse.Namespace, chosen: Sequence[str], job: Job, listed: Sequence[Mutant]) -> Proofs:
+    """What is proved of the mutants of a job. A report that is given is of declarations that were made before."""
+    if given.report:
+        return NO_PROOFS
+    declared = [name for name in job.equivalent if isinstance(name, str)]
+    return prover_of(given).proofs(chosen, job.source, listed, declared)
+
+
 def run(given: argparse.Namespace, name: str) -> int:
     command, find = name, cache(lambda: find_program(given.mothra))
     asked = given_job(given, given.job, given.tests, find)
@@ -77,12 +91,15 @@ def run(given: argparse.Namespace, name: str) -> int:
     printed = read_as(name, read_print, told)
     name, told = text_from(given.list, program, ["list", *chosen], text)
     totals, listed = read_as(name, read_list, told)
+    proofs = proofs_of(given, chosen, job, listed)
     if given.report:
         report = read_as(given.report, read_report, text_of(given.report))
     else:
-        report = asked_report(program, asked_words(given, "every", "steps", "workers"), totals, text, command)
+        words, text = asked_words(given, "every", "steps", "workers"), declared_text(text, proofs.names)
+        report = asked_report(program, words, totals, text, command)
     outcomes = outcomes_of(given, program, job, command)
     # A page is UTF-8 whatever the terminal takes.
-    told = report_page(job, printed, listed, report, remark_on(program), outcomes, asked.said)
+    said = asked.said._replace(proofs=proofs)
+    told = report_page(job, printed, listed, report, remark_on(program), outcomes, said)
     sys.stdout.buffer.write(told.encode())
     return SUCCESS

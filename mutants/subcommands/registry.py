@@ -42,5 +42,5 @@ SUBCOMMANDS = [
     Subcommand("page", "make one HTML file of what mothra says of a job"),
     Subcommand("explain", "say in words what a fault means for a job"),
     Subcommand("course", "run the suites of a class, and make a table and a page of them"),
-    Subcommand("unproved", "make an unproved build of mothra, for a first look"),
+    Subcommand("unproved", "make unproved builds of the programs, for a first look"),
 ]

@@ -13,7 +13,8 @@ looked at before the row is taken, and the survivors that it kills, by line; and
 how many of the rows that were tried came to their lines. A column `expect` of the table stays empty in new rows.
 
 An array of numbers that is in order in all tests stays so in all rows, and this is told; --free lifts it. Nothing else
-is known of what the arguments have to be: --ranges says it.
+is known of what the arguments have to be: --ranges says it. A mutant that the program equivalents proves equivalent is
+no survivor, and is not searched for.
 
 With --rounds the same seed gives the same text; with --seconds it depends on the machine. Ctrl-C ends the search, and
 what was found until then is told; the exit status is that of an interrupted command.
@@ -26,6 +27,7 @@ from pathlib import Path
 from mutants.checks.checking import Asked, check, dummies_of
 from mutants.checks.outputs import Output, assert_free
 from mutants.checks.settings import with_settings
+from mutants.declarations.proving import add_proof_options, prover_of
 from mutants.files import written
 from mutants.jobs.making import made_of, wish_of
 from mutants.jobs.tables import Table
@@ -78,6 +80,7 @@ def add_words(parser: argparse.ArgumentParser) -> None:
     parser.add_argument("program", metavar="PROGRAM.f", type=Path)
     parser.add_argument("tests", metavar="TESTS", type=Path, help="a table of tests, .json or .csv")
     add_mothra_option(parser)
+    add_proof_options(parser)
     checks.add_choices(parser)
     add_mothra_options(parser, "steps", "workers")
     told = "how many parts at once, where a run is in parts"
@@ -116,18 +119,17 @@ def run(given: argparse.Namespace, name: str) -> int:
     wish = wish_of(given)
     made = made_of(given.program, given.tests, wish)
     assert made.table
-    means = checks.means_of(given)
+    means, prover = checks.means_of(given), prover_of(given)
     meant = checks.declared_of(given, made, means)
     tell_remarks(name, made.remarks + meant.remarks)
     job = Job(made.source.text, made.suite, meant.names)
     said = Said(made.source.shown, meant.reasons, made.remarks + meant.remarks)
     asked = Asked(given.program, given.tests, given.ops, given.without or [], given.lines, given.changed, wish)
-    start = check(asked, job, said, checks.expected_of(given, made), means, name)
+    start = check(asked, job, said, checks.expected_of(given, made), means, name, prover)
     found = suggested(start, aim, means, clock, name)
     layout = layout_of(given.tests, made.table, dummies_of(start.printed))
     more = [write_table(given.table, given, made.table, found, layout)] if given.table else []
-    more += [f"Options are from {settings}, too."] if settings else []
-    more += [remark_on(means.program)] if remark_on(means.program) else []
+    more += checks.end_lines(start.said.proofs, settings, remark_on(means.program))
     text = summary(found, given.program, given.tests, layout, aim)
     sys.stdout.write(text + "".join(f"{line}\n" for line in more))
     return INTERRUPTED if found.is_cut else SUCCESS

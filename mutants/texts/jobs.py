@@ -1,6 +1,7 @@
 """Jobs as mothra takes them: a source, a suite of tests, and mutants that are declared equivalent."""
 
 import json
+from collections.abc import Sequence
 from typing import Any, NamedTuple
 
 # A value of a test is a number, a truth value or a list of either; what is read of a job may be anything.
@@ -27,3 +28,11 @@ def read_job(text: bytes) -> Job:
         if not isinstance(job.get(key, []), list):
             raise ValueError(f"it is no job: its key {key} has no list")
     return Job(job["source"], job.get("suite", []), job.get("equivalent", []))
+
+
+def declared_text(text: bytes, names: Sequence[str]) -> bytes:
+    """The text of a job with these mutants declared beside its own; the same bytes where there are none."""
+    if not names:
+        return text
+    job = json.loads(text.decode("utf-8-sig"))
+    return json.dumps({**job, "equivalent": [*job.get("equivalent", []), *names]}).encode()

@@ -1,0 +1,94 @@
+"""Mutants that are proved equivalent: they are declared by themselves, and kept apart from what a person declares."""
+
+from collections.abc import Collection, Iterable, Mapping, Sequence
+from types import MappingProxyType
+from typing import NamedTuple
+
+from mutants.texts.lines import Mutant
+from mutants.texts.proofs import WHYS, Proof
+from mutants.texts.reports import Count, Row, score_of
+from mutants.texts.twins import name_of
+
+PROVED = "proved"
+# A job declares no mutant with a greater number.
+MOST = 1_048_575
+NO_NAMES: Collection[str] = frozenset()
+
+
+class Proofs(NamedTuple):
+    """What is proved of the mutants of a program: what each proof rests on, by the name of the mutant; or why nothing
+    was asked. `declared` are the names that a person declares, whether they are proved or not."""
+
+    whys: Mapping[str, str] = MappingProxyType({})
+    declared: Collection[str] = NO_NAMES
+    not_asked: str = ""
+    remark: str = ""
+
+    @property
+    def names(self) -> list[str]:
+        """The mutants that are declared by their proofs alone."""
+        return [name for name in self.whys if name not in self.declared]
+
+    def is_alone(self, name: str) -> bool:
+        """Whether a mutant is declared by its proof alone."""
+        return name in self.whys and name not in self.declared
+
+    def reason(self, name: str) -> str:
+        """Why a mutant is equivalent that is proved so; no text for another one."""
+        why = self.whys.get(name)
+        return f"{PROVED} ({why}): {WHYS[why]}" if why else ""
+
+    def told(self) -> str:
+        """One sentence where nothing was asked. Else no text."""
+        return f"Which mutants can be proved equivalent was not asked: {self.not_asked}." if self.not_asked else ""
+
+
+NO_PROOFS = Proofs()
+
+
+def proofs_of(found: Iterable[Proof], declared: Collection[str] = NO_NAMES, remark: str = "") -> Proofs:
+    """The proofs that hold for each limit on steps, of mutants that a job may declare."""
+    taken = [proof for proof in found if not proof.has_spare and proof.mutant.place <= MOST]
+    whys = {name_of(proof.mutant): proof.why for proof in taken}
+    return Proofs(whys, frozenset(declared), remark=remark)
+
+
+def assert_listed(found: Iterable[Proof], listed: Iterable[Mutant]) -> None:
+    """Each mutant that is proved is one of the list of mothra: else the programs are of different sources."""
+    known = set(listed)
+    for proof in found:
+        if proof.mutant not in known:
+            raise ValueError(
+                f"equivalents names {name_of(proof.mutant)}, which is another mutant in the list of mothra: build both"
+                " programs of the same sources, or call with --no-proofs"
+            )
+
+
+def count_of_proved(rows: Iterable[Row], proofs: Proofs) -> int:
+    """How many mutants do not count since they are proved equivalent, and for no other reason."""
+    return sum(row.status == "E" and proofs.is_alone(name_of(row)) for row in rows)
+
+
+def score_without(count: Count, proved: int) -> str:
+    """The score as it is where so many mutants are not declared by a proof: in percent, and of how many mutants."""
+    other = count._replace(equivalent=count.equivalent - proved)
+    wanted = other.total - other.equivalent
+    return f"{score_of(other)} %: {other.killed} of {wanted} mutant{'s' * (wanted != 1)} killed"
+
+
+def wrongly_proved(rows: Sequence[Row], proofs: Proofs) -> list[str]:
+    """The mutants that are proved equivalent and that a test kills, which never is where both programs are proved."""
+    return [name_of(row) for row in rows if row.status in "WK" and name_of(row) in proofs.whys]
+
+
+def wrongly_declared(rows: Iterable[Row], proofs: Proofs) -> list[str]:
+    """The mutants that a person declares equivalent and that a test kills."""
+    return [name_of(row) for row in rows if row.status == "W" and not proofs.is_alone(name_of(row))]
+
+
+def left_out_text(count: Count, proved: int) -> str:
+    """What a score does not count, in words; no text where it counts all."""
+    declared = count.equivalent - proved
+    parts = [f"{declared} declared"] if declared else []
+    parts += [f"{proved} {PROVED}"] if proved else []
+    return f", not counting {' and '.join(parts)} equivalent" if parts else ""

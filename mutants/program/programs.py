@@ -1,0 +1,31 @@
+"""The programs of the repository that the command calls."""
+
+from typing import NamedTuple
+
+
+class Program(NamedTuple):
+    """A program, by its name, which is that of its crate."""
+
+    name: str
+
+    @property
+    def variable(self) -> str:
+        """The variable of the environment that names it."""
+        return self.name.upper()
+
+    @property
+    def option(self) -> str:
+        """The option that names it."""
+        return f"--{self.name}"
+
+    @property
+    def help(self) -> str:
+        return (
+            f"the program {self.name}; else that of the environment's {self.variable}, the one built in the"
+            " repository, or that of the path"
+        )
+
+
+# It runs mutants; and it proves some of them equivalent.
+MOTHRA, EQUIVALENTS = Program("mothra"), Program("equivalents")
+PROGRAMS = {program.name: program for program in (MOTHRA, EQUIVALENTS)}
