@@ -38,7 +38,10 @@ fn command<'a>(alloc: Global) -> Result<Command<'a>, AllocError>
 {
     let command = Command::new(alloc, "equivalents")
         .about(
-            "Names mutants of a FORTRAN 77 subroutine that no test can kill. The job is read from standard input",
+            "Names mutants of a FORTRAN 77 subroutine that no test can kill, each by a proof: whatever the arguments, where the \
+             subroutine returns or stops, the mutant does so too, with the same values. Of arguments on which the subroutine \
+             itself fails, or does not end within the limit on steps, nothing is said: no suite may have them. A mutant that is \
+             not named may be equivalent too. The job is read from standard input",
         )
         .arg(ops_option(alloc))?
         .arg(every_option(alloc))?

@@ -56,7 +56,9 @@ fn mark_elements(
     subscript: &Number,
 ) -> Result<(), AllocError> {
     match constant_of(subscript) {
-        Some(place) => mark_from(marks, first.saturating_add(place), 1),
+        Some(place) if place < bound as usize => mark_from(marks, first.saturating_add(place), 1),
+        // There is no such element, so none is set.
+        Some(_) => Ok(()),
         None => mark_from(marks, first, bound as usize),
     }
 }

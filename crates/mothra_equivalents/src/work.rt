@@ -7,7 +7,7 @@ use f77_tree::Stmt;
 use std::alloc::{AllocError, Global};
 
 /// How much work is done for all mutants of a plan, in facts of slots that are looked at.
-const MOST: u64 = 4_000_000_000;
+const MOST: u64 = 2_000_000_000;
 
 /// How much work a mutant is taken for at least.
 const LEAST: u64 = 20_000;
@@ -19,11 +19,27 @@ pub(crate) struct Work {
     by_statement: Vec<u64>,
 }
 
-/// How much work a mutant of the statement is taken for: each two of its nodes may ask for the facts of all slots.
-fn work_at(alloc: Global, slots: usize, stmt: &Stmt) -> Result<u64, AllocError> {
-    let count = nodes(alloc, stmt)?.len() as u64;
-    let facts = (slots as u64).saturating_add(64);
-    Ok(facts.saturating_mul(count).saturating_mul(count).max(LEAST))
+/// How much work it is to follow other values to where they would be read, through all statements.
+fn following(checked: &Checked) -> u64 {
+    let slots = checked.slots() as u64;
+    let statements = checked.count() as u64;
+    let marks = slots.saturating_mul((statements / 8).saturating_add(16));
+    statements.saturating_mul(300).saturating_add(marks)
+}
+
+/// How much work it is to compare a statement of so many nodes: each two of them may ask for the facts of all slots.
+fn comparing(checked: &Checked, nodes: usize) -> u64 {
+    let facts = (checked.slots() as u64).saturating_add(64);
+    facts
+        .saturating_mul(nodes as u64)
+        .saturating_mul(nodes as u64)
+}
+
+/// How much work a mutant of the statement is taken for.
+fn work_at(alloc: Global, checked: &Checked, stmt: &Stmt) -> Result<u64, AllocError> {
+    let count = nodes(alloc, stmt)?.len();
+    let work = comparing(checked, count).saturating_add(following(checked));
+    Ok(work.max(LEAST))
 }
 
 impl Work {
@@ -31,7 +47,7 @@ impl Work {
     pub(crate) fn of(alloc: Global, checked: &Checked) -> Result<Work, AllocError> {
         let mut by_statement = Vec::new(alloc);
         for line in checked.program().lines() {
-            by_statement.push(work_at(alloc, checked.slots(), &line.stmt)?)?;
+            by_statement.push(work_at(alloc, checked, &line.stmt)?)?;
         }
         Ok(Work {
             left: MOST,
