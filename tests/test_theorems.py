@@ -192,4 +192,4 @@ class Pages(unittest.TestCase):
     def test_the_page_of_the_repository_stands(self) -> None:
         status, out, errors = running.run("theorems")
         self.assertEqual((status, errors), (0, ""), out)
-        self.assertRegex(out, r"\A\d+ clauses and \d+ definitions stand\n\Z")
+        self.assertRegex(out, r"\A\d+ clauses and \d+ definitions stand, and what \d+ rules name\n\Z")

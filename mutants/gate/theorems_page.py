@@ -1,7 +1,7 @@
 """The page of theorems: what its tables name, and what of that the repository does not have."""
 
 import re
-from collections.abc import Callable, Iterable, Mapping, Sequence
+from collections.abc import Callable, Iterable, Iterator, Mapping, Sequence
 from functools import cache
 from pathlib import Path
 from typing import NamedTuple
@@ -58,18 +58,22 @@ def row_of(number: int, cells: Sequence[str]) -> Row:
     return Row(number, crate[0], call[0], clauses, definitions_in(cells[4]))
 
 
-def read_rows(text: str) -> list[Row]:
-    """The rows of all tables of the page that name clauses."""
-    rows: list[Row] = []
+def rows_under(text: str, is_head: Callable[[list[str]], bool]) -> Iterator[tuple[int, list[str]]]:
+    """The rows of all tables of a page with such a head: the line of each, and its cells."""
     is_table = False
     for number, line in enumerate(text.split("\n"), 1):
         cells = cells_of(line) if line.startswith("|") else []
-        if cells == HEAD:
+        if is_head(cells):
             is_table = True
         elif not cells:
             is_table = False
         elif is_table and not re.fullmatch(r"[|: -]+", line):
-            rows.append(row_of(number, cells))
+            yield number, cells
+
+
+def read_rows(text: str) -> list[Row]:
+    """The rows of all tables of the page that name clauses."""
+    rows = [row_of(number, cells) for number, cells in rows_under(text, lambda cells: cells == HEAD)]
     if not rows:
         raise ValueError("it has no table of clauses")
     return rows
@@ -94,7 +98,8 @@ def faults_of(root: Path, rows: Iterable[Row]) -> list[tuple[int, str]]:
             continue
         told = faults_of_call(row, contracts(row.crate))
         clauses = contracts(row.crate).get(row.call, {})
-        told += faults_of_definitions(row, [clauses[name] for name in row.clauses if name in clauses], texts)
+        citing = [clauses[name] for name in row.clauses if name in clauses]
+        told += faults_of_definitions(row.definitions, f"{row.crate}: {row.call}", citing, texts)
         found += [(row.line, each) for each in told]
     return found
 
@@ -107,11 +112,13 @@ def faults_of_call(row: Row, contracts: Mapping[str, Clauses]) -> list[str]:
     return [f"{row.crate}: {row.call} {MISSES.get(name, 'has no clause ' + name)}" for name in gone]
 
 
-def faults_of_definitions(row: Row, citing: Iterable[str], texts: Callable[[str], str | None]) -> list[str]:
-    """What is said of the definitions of a row, of which `citing` are the clauses that are there."""
+def faults_of_definitions(
+    definitions: Iterable[Definition], who: str, citing: Iterable[str], texts: Callable[[str], str | None]
+) -> list[str]:
+    """What is said of the definitions of a row: `citing` are the clauses that are there, and `who` has them."""
     told, known = [], list(citing)
     is_known = bool(known)
-    for file, name in row.definitions:
+    for file, name in definitions:
         text = texts(file)
         definition = definition_in(text, name) if text is not None else None
         if text is None:
@@ -120,7 +127,7 @@ def faults_of_definitions(row: Row, citing: Iterable[str], texts: Callable[[str]
             told.append(f"{file} has no definition {name}")
         else:
             if is_known and not any(cites(each, name) for each in known):
-                told.append(f"{row.crate}: {row.call} does not cite {name}")
+                told.append(f"{who} does not cite {name}")
             known.append(definition)
     return told
 
