@@ -21,7 +21,8 @@ use Rattle.f77_code.specs.declared.instruction.Operation.{Operation, Set, SetEle
 use Rattle.f77_code.specs.declared.instruction.Operation.{Continue, Goto, Return, Stop, Trap, Move, Add, Subtract, Multiply, Load}
 use Rattle.f77_code.specs.declared.instruction.Operation.{Store, StoreSum, StoreDifference}
 use Rattle.f77_code.specs.declared.instruction.Operation.{IfLess, IfLessOrEqual, IfEqual, IfNotEqual, IfGreaterOrEqual, IfGreater}
-use Rattle.f77_code.specs.declared.term.Term.{Term, Register, Element, Sum, Difference, Product, Compared, TooLarge, Vector', Matrix'}
+use Rattle.f77_code.specs.declared.term.Term.{Term, Register, Element, ElementAtSum, ElementAtDifference}
+use Rattle.f77_code.specs.declared.term.Term.{Sum, Difference, Product, Compared, TooLarge, Vector', Matrix'}
 use Rattle.f77_code.specs.declared.term.Term.{Add', Subtract', Multiply', Calculated', Negated', Absolute', ZeroPush', Related', Connected', Not'}
 use Rattle.f77_code.specs.Block.{code_within}
 use Rattle.f77_code.specs.Code.{Giving, Storing, Comparing, giving, storing, comparing, Assigns, Tests, IsOperation, Stands, Increments, AreCode, onward}
@@ -70,6 +71,12 @@ module _ (plan : Plan) (n : ℕ) (room : n ≡ plan.slots + length plan.constant
   number_there (number.Element (Variable k)) (Register r) h w = slot_there r k h.0 h.1.0
   number_there (number.Element (slots.Vector' first bound p x)) (Element start count s) h w =
       let parts = and_parts _ _ w in and_from _ _ (array_there start first count bound h.0 h.1 parts.0) (number_there x (Register s) h.3 parts.1)
+  number_there (number.Element (slots.Vector' first bound p x)) (ElementAtSum start count l r) h w =
+      let parts = and_parts _ _ w in
+      and_from _ _ (array_there start first count bound h.0 h.1 parts.0) (number_there x (Sum l r) h.3 parts.1)
+  number_there (number.Element (slots.Vector' first bound p x)) (ElementAtDifference start count l r) h w =
+      let parts = and_parts _ _ w in
+      and_from _ _ (array_there start first count bound h.0 h.1 parts.0) (number_there x (Difference l r) h.3 parts.1)
   number_there (number.Element (slots.Vector' first bound p x)) (Vector' start count q s) h w =
       let parts = and_parts _ _ w in and_from _ _ (array_there start first count bound h.0 h.1 parts.0) (number_there x s h.3 parts.1)
   number_there (number.Element (slots.Matrix' first rows columns p x q y)) (Matrix' start height width o row column) h w =
@@ -101,6 +108,12 @@ module _ (plan : Plan) (n : ℕ) (room : n ≡ plan.slots + length plan.constant
   element_there kind (Variable k) (Register r) h w = slot_there r k h.0 h.1.0
   element_there kind (slots.Vector' first bound p x) (Element start count s) h w =
       let parts = and_parts _ _ w in and_from _ _ (array_there start first count bound h.0 h.1 parts.0) (number_there x (Register s) h.3 parts.1)
+  element_there kind (slots.Vector' first bound p x) (ElementAtSum start count l r) h w =
+      let parts = and_parts _ _ w in
+      and_from _ _ (array_there start first count bound h.0 h.1 parts.0) (number_there x (Sum l r) h.3 parts.1)
+  element_there kind (slots.Vector' first bound p x) (ElementAtDifference start count l r) h w =
+      let parts = and_parts _ _ w in
+      and_from _ _ (array_there start first count bound h.0 h.1 parts.0) (number_there x (Difference l r) h.3 parts.1)
   element_there kind (slots.Vector' first bound p x) (Vector' start count q s) h w =
       let parts = and_parts _ _ w in and_from _ _ (array_there start first count bound h.0 h.1 parts.0) (number_there x s h.3 parts.1)
   element_there kind (slots.Matrix' first rows columns p x q y) (Matrix' start height width o row column) h w =

@@ -19,7 +19,8 @@ use Rattle.f77_values.specs.declared.finish.Fault.{Fault}
 use Rattle.f77_values.specs.Number.{in_range, negated, size}
 use Rattle.f77_values.specs.Told.{truth, of_truth, negation}
 use Rattle.f77_values.specs.Value.{given, both, logic, element, pushed}
-use Rattle.f77_code.specs.declared.term.Term.{Term, Register, Element, Sum, Difference, Product, Compared, TooLarge, Vector', Matrix'}
+use Rattle.f77_code.specs.declared.term.Term.{Term, Register, Element, ElementAtSum, ElementAtDifference}
+use Rattle.f77_code.specs.declared.term.Term.{Sum, Difference, Product, Compared, TooLarge, Vector', Matrix'}
 use Rattle.f77_code.specs.declared.term.Term.{Add', Subtract', Multiply', Calculated', Negated', Absolute', ZeroPush', Related', Connected', Not'}
 use Rattle.f77_code.specs.Evaluation.{held_in, slot_in, number_in, truth_in, calculated, compared, joined}
 use Rattle.f77_code.specs.Holds.{Plan, Holds, IsSlot, AreSlots, IsConstant, read_as}
@@ -131,6 +132,12 @@ module _ (plan : Plan) (registers : List ℤ) (cells : Cells) (holds : Holds pla
     reads_same kind (Variable k) (Register r) h = ap (register registers) h.0 ∙ slot_same kind k h.1
     reads_same kind (slots.Vector' first bound p x) (Element start count s) h =
         (λ i. element_at registers (h.0 i) (vector_place (h.1 i) (same_term x (Register s) h.3 i))) ∙ vector_same kind first bound h.2 (number_in cells x)
+    reads_same kind (slots.Vector' first bound p x) (ElementAtSum start count a b) h =
+        (λ i. element_at registers (h.0 i) (vector_place (h.1 i) (same_term x (Sum a b) h.3 i)))
+        ∙ vector_same kind first bound h.2 (number_in cells x)
+    reads_same kind (slots.Vector' first bound p x) (ElementAtDifference start count a b) h =
+        (λ i. element_at registers (h.0 i) (vector_place (h.1 i) (same_term x (Difference a b) h.3 i)))
+        ∙ vector_same kind first bound h.2 (number_in cells x)
     reads_same kind (slots.Vector' first bound p x) (Vector' start count q t) h =
         (λ i. element_at registers (h.0 i) (vector_place (h.1 i) (same_term x t h.3 i))) ∙ vector_same kind first bound h.2 (number_in cells x)
     reads_same kind (slots.Matrix' first rows columns p x q y) (Matrix' start height width o row column) h =

@@ -10,7 +10,8 @@ use Rattle.f77_actions.specs.declared.expression.Number.{Number, Constant, TooLa
 use Rattle.f77_actions.specs.declared.expression.Number as number
 use Rattle.f77_code.specs.declared.constants.Constants.{Constants}
 use Rattle.f77_code.specs.declared.term.Pair.{Pair}
-use Rattle.f77_code.specs.declared.term.Term.{Term, Register, Element, Sum, Difference, Product, Vector', Add', Subtract', Multiply', Calculated'}
+use Rattle.f77_code.specs.declared.term.Term.{Term, Register, Element, ElementAtSum, ElementAtDifference, Sum}
+use Rattle.f77_code.specs.declared.term.Term.{Difference, Product, Vector', Add', Subtract', Multiply', Calculated'}
 use Rattle.f77_code.specs.declared.term.Term as term
 use Rattle.f77_code.specs.declared.term.Term.TheViews as terms
 use Rattle.f77_code.specs.Compile.{IsReadTerm, IsNumberTerm, ArePair, IsVectorOf, IsCalculationOf}
@@ -78,6 +79,10 @@ module _ (plan : Plan) where
   vector_reads : (kind : Kind) (first bound : ℕ) (a : Box Number Global) (s t : Term) → IsVectorOf first bound s t → HasSlots plan kind (views.Vector first bound a)
       → IsTerm plan a.value s → Reads plan kind (views.Vector first bound a) t
   vector_reads kind first bound a s (Element start count r) h has stands = (h.0, h.1, has.0, subst (IsTerm plan a.value) h.2 stands)
+  vector_reads kind first bound a s (ElementAtSum start count l r) h has stands =
+      (h.0, h.1, has.0, subst (IsTerm plan a.value) h.2 stands)
+  vector_reads kind first bound a s (ElementAtDifference start count l r) h has stands =
+      (h.0, h.1, has.0, subst (IsTerm plan a.value) h.2 stands)
   vector_reads kind first bound a s (Vector' start count q r) h has stands = (h.0, h.1, has.0, subst (IsTerm plan a.value) h.2 stands)
   vector_reads kind first bound a s _ h has stands = absurd h
 

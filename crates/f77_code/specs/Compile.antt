@@ -9,7 +9,8 @@ use Rattle.f77_actions.specs.declared.expression.Number.{Number}
 use Rattle.f77_actions.specs.declared.expression.Condition.{Condition}
 use Rattle.f77_code.specs.declared.constants.Constants.{Constants}
 use Rattle.f77_code.specs.declared.term.Pair.{Pair}
-use Rattle.f77_code.specs.declared.term.Term.{Term, Register, Element, Sum, Difference, Product, Compared, Vector'}
+use Rattle.f77_code.specs.declared.term.Term.{Term, Register, Element, ElementAtSum, ElementAtDifference}
+use Rattle.f77_code.specs.declared.term.Term.{Sum, Difference, Product, Compared, Vector'}
 use Rattle.f77_code.specs.declared.term.Term.{Add', Subtract', Multiply', Calculated', Related'}
 use Rattle.f77_code.specs.Constants.{Begins}
 use Rattle.f77_code.specs.Holds.{Plan}
@@ -36,6 +37,10 @@ pub record ArePair (table : Constants) (x y : Number) (pair : Pair) : Type 0 whe
 -- an element of an array of one dimension, by this subscript
 abbrev pub IsVectorOf : ℕ → ℕ → Term → Term → Type 0
 IsVectorOf first bound x (Element start count subscript) = (start ≡ first) × (count ≡ bound) × (x ≡ Register subscript)
+IsVectorOf first bound x (ElementAtSum start count left right) =
+    (start ≡ first) × (count ≡ bound) × (x ≡ Sum left right)
+IsVectorOf first bound x (ElementAtDifference start count left right) =
+    (start ≡ first) × (count ≡ bound) × (x ≡ Difference left right)
 IsVectorOf first bound x (Vector' start count q subscript) = (start ≡ first) × (count ≡ bound) × (x ≡ subscript)
 IsVectorOf first bound x _ = ⊥
 

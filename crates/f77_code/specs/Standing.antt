@@ -9,7 +9,8 @@ use Rattle.f77_actions.specs.declared.expression.Number.{Number, Constant, Binar
 use Rattle.f77_actions.specs.declared.expression.Number as number
 use Rattle.f77_actions.specs.declared.expression.Condition.{Condition, Related}
 use Rattle.f77_actions.specs.declared.expression.Condition as condition
-use Rattle.f77_code.specs.declared.term.Term.{Term, Register, Element, Sum, Difference, Product, Compared, TooLarge, Vector', Matrix'}
+use Rattle.f77_code.specs.declared.term.Term.{Term, Register, Element, ElementAtSum, ElementAtDifference}
+use Rattle.f77_code.specs.declared.term.Term.{Sum, Difference, Product, Compared, TooLarge, Vector', Matrix'}
 use Rattle.f77_code.specs.declared.term.Term.{Add', Subtract', Multiply', Calculated', Negated', Absolute', ZeroPush', Related', Connected', Not'}
 use Rattle.f77_code.specs.Holds.{Plan, IsSlot, AreSlots, IsConstant}
 use Rattle.f77_values.specs.Told.{truth}
@@ -20,6 +21,10 @@ abbrev mutual
   Reads plan kind (Variable k) (Register r) = (r ≡ k) × IsSlot plan kind k
   Reads plan kind (slots.Vector' first bound p x) (Element start count subscript) =
       (start ≡ first) × (count ≡ bound) × AreSlots plan kind first bound × IsTerm plan x (Register subscript)
+  Reads plan kind (slots.Vector' first bound p x) (ElementAtSum start count left right) =
+      (start ≡ first) × (count ≡ bound) × AreSlots plan kind first bound × IsTerm plan x (Sum left right)
+  Reads plan kind (slots.Vector' first bound p x) (ElementAtDifference start count left right) =
+      (start ≡ first) × (count ≡ bound) × AreSlots plan kind first bound × IsTerm plan x (Difference left right)
   Reads plan kind (slots.Vector' first bound p x) (Vector' start count q subscript) =
       (start ≡ first) × (count ≡ bound) × AreSlots plan kind first bound × IsTerm plan x subscript
   Reads plan kind (slots.Matrix' first rows columns p x q y) (Matrix' start height width o row column) =

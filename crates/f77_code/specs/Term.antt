@@ -6,7 +6,8 @@ use Rattle.f77_actions.specs.declared.expression.Connective.TheVariants as conne
 use Rattle.f77_actions.specs.declared.expression.Relation.{Relation}
 use Rattle.f77_values.specs.declared.finish.Fault.{Fault}
 use Rattle.f77_values.specs.declared.finish.Fault.TheVariants.{Overflow}
-use Rattle.f77_code.specs.declared.term.Term.{Term, Register, Element, Sum, Difference, Product, Compared, TooLarge, Vector', Matrix'}
+use Rattle.f77_code.specs.declared.term.Term.{Term, Register, Element, ElementAtSum, ElementAtDifference}
+use Rattle.f77_code.specs.declared.term.Term.{Sum, Difference, Product, Compared, TooLarge, Vector', Matrix'}
 use Rattle.f77_code.specs.declared.term.Term.{Add', Subtract', Multiply', Calculated', Negated', Absolute', ZeroPush', Related', Connected', Not'}
 use Rattle.f77_code.specs.Evaluation.{calculated, compared}
 use Rattle.f77_code.specs.Registers.{register, vector_place, matrix_place, element_at}
@@ -28,6 +29,12 @@ connected connective.NotEquivalent a b = Ok (exclusion a b)
 abbrev pub term_value : List ℤ → Term → Result ℤ Fault
 term_value registers (Register r) = register registers r
 term_value registers (Element first bound subscript) = element_at registers first (vector_place bound (register registers subscript))
+term_value registers (ElementAtSum first bound left right) =
+    element_at registers first
+    (vector_place bound (both (calculated arithmetic.Add) (register registers left) (register registers right)))
+term_value registers (ElementAtDifference first bound left right) =
+    element_at registers first
+    (vector_place bound (both (calculated arithmetic.Subtract) (register registers left) (register registers right)))
 term_value registers (Sum left right) = both (calculated arithmetic.Add) (register registers left) (register registers right)
 term_value registers (Difference left right) = both (calculated arithmetic.Subtract) (register registers left) (register registers right)
 term_value registers (Product left right) = both (calculated arithmetic.Multiply) (register registers left) (register registers right)
@@ -51,6 +58,10 @@ term_value registers (Not' p operand) = given (term_value registers operand) (λ
 abbrev pub term_within : ℕ → Term → Bool
 term_within n (Register r) = nat_lt r n
 term_within n (Element first bound subscript) = not (nat_lt n (first + bound)) && nat_lt subscript n
+term_within n (ElementAtSum first bound left right) =
+    not (nat_lt n (first + bound)) && (nat_lt left n && nat_lt right n)
+term_within n (ElementAtDifference first bound left right) =
+    not (nat_lt n (first + bound)) && (nat_lt left n && nat_lt right n)
 term_within n (Sum left right) = nat_lt left n && nat_lt right n
 term_within n (Difference left right) = nat_lt left n && nat_lt right n
 term_within n (Product left right) = nat_lt left n && nat_lt right n

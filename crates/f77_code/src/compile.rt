@@ -36,7 +36,8 @@ pub(crate) fn paired(alloc: Global, left: Term, right: Term) -> Result<Box<Pair>
     Ok(Box::new(alloc, Pair { left, right })?)
 }
 
-/// An element of an array of one dimension, without a call where its subscript is in a register.
+/// An element of an array of one dimension, without a box where its subscript is a register, or the sum or difference
+/// of two.
 fn vector(alloc: Global, first: u32, bound: u32, subscript: Term) -> Result<Term, CodeFault>
     ensures { IfOk result (λ term. IsVectorOf first bound subscript term) }
 {
@@ -45,6 +46,18 @@ fn vector(alloc: Global, first: u32, bound: u32, subscript: Term) -> Result<Term
             first,
             bound,
             subscript: *subscript,
+        }),
+        Term::Sum { left, right } => Ok(Term::ElementAtSum {
+            first,
+            bound,
+            left: *left,
+            right: *right,
+        }),
+        Term::Difference { left, right } => Ok(Term::ElementAtDifference {
+            first,
+            bound,
+            left: *left,
+            right: *right,
         }),
         _ => Ok(Term::Vector {
             first,

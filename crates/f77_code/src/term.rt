@@ -14,6 +14,20 @@ pub enum Term {
         bound: u32,
         subscript: u32,
     },
+    /// An element of an array of one dimension, by the sum of two registers.
+    ElementAtSum {
+        first: u32,
+        bound: u32,
+        left: u32,
+        right: u32,
+    },
+    /// The same by their difference.
+    ElementAtDifference {
+        first: u32,
+        bound: u32,
+        left: u32,
+        right: u32,
+    },
     /// The sum of two registers.
     Sum {
         left: u32,
@@ -37,7 +51,7 @@ pub enum Term {
     },
     /// A constant above 2147483647.
     TooLarge,
-    /// An element of an array of one dimension.
+    /// An element of an array of one dimension, by any subscript.
     Vector {
         first: u32,
         bound: u32,
