@@ -3,6 +3,7 @@ pub mod Replacements
 pub mod Edits
 pub mod Original
 pub mod Given
+pub mod Giving
 pub mod Listing
 pub mod Plan
 pub mod InPlaces

@@ -6,6 +6,7 @@ mod editing;
 mod expressions;
 mod fault;
 mod given;
+mod giving;
 mod in_expressions;
 mod in_places;
 pub mod law;

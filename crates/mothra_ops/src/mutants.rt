@@ -14,7 +14,7 @@ ghost use Rattle.mothra_ops.specs.declared.fault.OpsFault.TheVariants.{Memory};
 
 use crate::edit::Edit;
 use crate::fault::OpsFault;
-use crate::given::Given;
+use crate::giving::Giving;
 use crate::original::Original;
 use crate::plan::Plan;
 use f77_program::{SyntaxFault, print_stmt};
@@ -33,13 +33,12 @@ pub struct Mutant {
 }
 
 /// The mutants of a plan. What the operators draw from its program is found once, and what an operator gives a node once for
-/// mutants of that node in a row.
+/// its mutants of that node in a row.
 #[derive(Drop)]
 pub struct Mutants<'a> {
     plan: &'a Plan,
     original: Original<'a>,
-    /// What was given for the mutant before.
-    given: Given,
+    giving: Giving,
 }
 
 impl<'a> Model for Mutants<'a> {
@@ -51,7 +50,7 @@ impl<'a> Model for Mutants<'a> {
     ghost use Rattle.f77_actions.specs.contracts.expression.Condition as condition;
     ghost use Rattle.f77_actions.specs.contracts.expression.Element as element;
     ghost use Rattle.f77_actions.specs.contracts.expression.Number as number;
-    ghost use Rattle.mothra_ops.specs.Given.{IsGiven};
+    ghost use Rattle.mothra_ops.specs.Giving.{AreGiven};
     ghost use Rattle.mothra_ops.specs.Original.{IsOriginal};
     ghost use Rattle.mothra_ops.specs.Plan.{PlanFields};
 
@@ -70,7 +69,7 @@ impl<'a> Model for Mutants<'a> {
     ghost view = { λ mutants. mutants.plan.now };
 
     ghost invariant = { λ mutants. IsOriginal mutants.original × (mutants.original.checked.now ≡ mutants.plan.now.checked)
-        × IsGiven mutants.original mutants.given };
+        × AreGiven mutants.original mutants.giving.list.items };
 }
 
 impl<'a> Mutants<'a> {
@@ -80,10 +79,11 @@ impl<'a> Mutants<'a> {
         ensures memory { IfErr result (λ fault. fault ≡ Memory) }
     {
         let original = Original::of(alloc, plan.program())?;
+        let giving = Giving::nothing(alloc)?;
         Ok(Mutants {
             plan,
             original,
-            given: Given::nothing(alloc),
+            giving,
         })
     }
 
@@ -111,8 +111,7 @@ impl<'a> Mutants<'a> {
         ensures made { IfOk result (λ mutant. option_map mutant_fields mutant ≡ mutant_made (program_of self.old) edit.now) }
         ensures memory { IfErr result (λ fault. fault ≡ Memory) }
     {
-        self.given.turn_to(alloc, &self.original, edit)?;
-        match self.given.made(alloc, &self.original, edit)? {
+        match self.giving.made(alloc, &self.original, edit)? {
             Some(stmt) => Ok(Some(Mutant {
                 number: edit.statement,
                 stmt,

@@ -11,7 +11,7 @@ returns-clause-made c =
     let original = c.self.inside.original in
     let plan = c.args.self.now in
     let same = c.self.invariant.1 ∙ ap (λ (plan : PlanFields). plan.checked) c.self.view_is in
-    elim c.match-branch-3.branch [
+    elim c.match-branch-2.branch [
       | in-Some w ↦ rw w.result-is (made_of original plan c.args.edit.now (Some (statement_of w.in-Some.stmt)) c.self.invariant.0 same
           (sym (ap (option_map statement_of) w.in-Some.is) ∙ c.in_ok-stmt.ensures.made))
       | in-None w ↦ rw w.result-is (made_of original plan c.args.edit.now None c.self.invariant.0 same
