@@ -9,6 +9,7 @@ use Rattle.f77_code.specs.Moves.{Cells}
 use Rattle.f77_facts.specs.declared.facts.Fact.{Fact}
 use Rattle.f77_facts.specs.Facts.{AreIn}
 use Rattle.f77_facts.proofs.Used.{used_for, both_used}
+use Rattle.f77_linear.specs.Conditions.{HasTruthOf}
 use Rattle.f77_equivalence.specs.Cases.{SameWhere}
 use Rattle.f77_equivalence.specs.Same.{Agrees, SameTruth}
 
@@ -43,4 +44,11 @@ own_cases facts c d same cells inside = by (truth_in cells c) refl
   where
     by : (r : Result Bool Fault) → truth_in cells c ≡ r → Agrees r (truth_in cells d)
     by (Ok b) e = subst (λ r. Agrees r (truth_in cells d)) e (same cells b inside e)
+    by (Err fault) e = tt
+
+pub sums_told : (facts : List Fact) (c d : Condition) → HasTruthOf facts c d → SameTruth facts c d
+sums_told facts c d told cells inside = by (truth_in cells c) refl
+  where
+    by : (r : Result Bool Fault) → truth_in cells c ≡ r → Agrees r (truth_in cells d)
+    by (Ok b) e = told cells b inside e
     by (Err fault) e = tt

@@ -14,6 +14,7 @@ use f77_actions::{Condition, Connective};
 use f77_facts::bounds::truths_of;
 use f77_facts::facts::{Fact, copy, is_empty};
 use f77_facts::refining::refine;
+use f77_linear::same::is_same_by_sums;
 use std::alloc::{AllocError, Global};
 
 fn is_one_connective(a: Connective, b: Connective) -> bool
@@ -177,7 +178,7 @@ fn is_same_by_parts(
 }
 
 /// The second condition has the truth value of the first, unless that faults.
-#[tactic(auto, using(crate::proofs::Cases::own_cases))]
+#[tactic(auto, using(crate::proofs::Cases::own_cases, crate::proofs::Cases::sums_told))]
 pub fn is_same_condition(
     alloc: Global,
     facts: &[Fact],
@@ -191,5 +192,9 @@ pub fn is_same_condition(
         return Ok(true);
     }
     let told = is_same_by_parts(alloc, facts, c, c, d)?;
-    Ok(told)
+    if told {
+        return Ok(true);
+    }
+    let summed = is_same_by_sums(alloc, facts, c, d)?;
+    Ok(summed)
 }

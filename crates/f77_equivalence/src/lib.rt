@@ -2,7 +2,7 @@
 #![tactic(auto)]
 
 mod acting;
-mod conditions;
+pub mod conditions;
 pub mod entries_alike;
 pub mod equivalent;
 mod forms;

@@ -1,17 +1,20 @@
 -- Entries are added, and what led into those that there were still does.
-use Rattle.std.proofs.Common.{arith, ◌≡◌, ◌≢◌, ◌⊎◌, inl, inr, ℕ, zero, suc, ◌+◌, ◌<◌, List, [], ◌∷◌, ◌++◌, length, Some, None, refl, sym, subst}
+use Rattle.std.proofs.Common.{arith, ◌≡◌, ◌≢◌, ◌⊎◌, inl, inr, ℕ, zero, suc, ◌+◌, ◌<◌, Bool, List, [], ◌∷◌, ◌++◌, length, Some, None, refl, sym, subst}
 use Rattle.std.specs.Prelude.{slice_get, slice_set}
+use Rattle.f77_actions.specs.declared.action.Action.{AssignTruth}
 use Rattle.f77_actions.specs.declared.action.Jump.{Jump}
+use Rattle.f77_actions.specs.declared.expression.Condition.{Condition}
+use Rattle.f77_actions.specs.declared.expression.Element.{Element}
 use Rattle.f77_actions.specs.declared.expression.Number.{Number}
 use Rattle.f77_actions.specs.declared.resolved.Resolved.{Resolved}
 use Rattle.f77_code.specs.declared.control.Place.{Place}
-use Rattle.f77_code.specs.Moves.{Move, Goes, Ends, go_on, jump_to}
+use Rattle.f77_code.specs.Moves.{Move, Goes, Ends, go_on, jump_to, acted}
 use Rattle.f77_facts.specs.declared.entries.Entry.{Entry}
 use Rattle.f77_facts.specs.declared.facts.Fact.{Fact}
 use Rattle.f77_facts.specs.declared.known.Known.{Known}
 use Rattle.f77_facts.specs.declared.loops.LoopFact.{LoopFact}
 use Rattle.f77_facts.specs.Entries.{Grows, Adds, Lands, AreCovered, Keeps}
-use Rattle.f77_facts.specs.Keeping.{GoesOn, JumpsWithin, JumpsEach, EndsInto}
+use Rattle.f77_facts.specs.Keeping.{GoesOn, JumpsWithin, JumpsEach, EndsInto, AssignsTruth}
 use Rattle.f77_facts.proofs.Slots.{same_or_not}
 
 -- what a list has at its places is still there behind it, and then comes what was added
@@ -70,6 +73,11 @@ module _ (old new : List Entry) (grows : Grows old new) where
 
   pub goes_more : (r : Resolved) (facts : List Fact) (loops : List LoopFact) → GoesOn old r facts loops → GoesOn new r facts loops
   goes_more r facts loops claim cells turns inside left = lands_more (go_on r cells turns) (claim cells turns inside left)
+
+  pub assigns_more : (r : Resolved) (e : Element) (x : Condition) {truth : Bool} (facts : List Fact) (loops : List LoopFact)
+      → AssignsTruth old r e x truth facts loops → AssignsTruth new r e x truth facts loops
+  assigns_more r e x facts loops claim statements i cells turns inside left is =
+      lands_more (acted statements i r (AssignTruth e x) cells turns) (claim statements i cells turns inside left is)
 
   pub within_more : (jump : Jump) (x : Number) (to : Known) (facts : List Fact) (loops : List LoopFact) → JumpsWithin old jump x to facts loops
       → JumpsWithin new jump x to facts loops

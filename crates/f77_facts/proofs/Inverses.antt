@@ -1,10 +1,9 @@
 -- What results say of operands.
-use Rattle.std.proofs.Common.{arith, ◌≡◌, ◌≢◌, ◌⊎◌, inl, inr, zero, suc, Bool, true, false, refl, sym, ap, subst, ℤ, pos, negsuc}
-use Rattle.std.specs.Prelude.{Result, Ok, Err, if◌then◌else◌, ◌≤ℤ◌, ◌<ℤ◌}
+use Rattle.std.proofs.Common.{arith, ◌≡◌, ◌≢◌, ◌⊎◌, inl, inr, zero, suc, Bool, true, false, refl, subst, ℤ, pos, negsuc}
+use Rattle.std.specs.Prelude.{Ok, if◌then◌else◌, ◌≤ℤ◌, ◌<ℤ◌}
 use Rattle.std.proofs.lemmas.Int.{ints}
 use Rattle.f77_values.specs.Number.{negated, size, quotient, modulus, is_below}
 use Rattle.f77_values.specs.Value.{pushed}
-use Rattle.f77_facts.specs.Known.{IsBetween}
 use Rattle.f77_facts.proofs.Comparisons.{below_lt, not_below_le}
 
 pub quotient_divides : (u v w : ℤ) → quotient u v ≡ Ok w → v ≢ pos 0

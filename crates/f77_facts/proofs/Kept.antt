@@ -28,16 +28,14 @@ use Rattle.f77_facts.specs.declared.known.Known.{Known}
 use Rattle.f77_facts.specs.declared.loops.LoopFact.{LoopFact}
 use Rattle.f77_facts.specs.declared.loops.LoopFact.TheVariants.{Active}
 use Rattle.f77_facts.specs.declared.reaching.Reach.{Reach}
-use Rattle.f77_facts.specs.declared.truths.Truths.{Truths}
 use Rattle.f77_facts.specs.Known.{IsBetween, Suits}
-use Rattle.f77_facts.specs.Truths.{SuitsTruth}
 use Rattle.f77_facts.specs.Facts.{AreIn}
 use Rattle.f77_facts.specs.Loops.{SuitsTurn, AreLeft}
 use Rattle.f77_facts.specs.Reaching.{IsReached, SuitsSlot}
-use Rattle.f77_facts.specs.Bounds.{CoversSlot, Covers, CoversTruth}
+use Rattle.f77_facts.specs.Bounds.{CoversSlot, Covers}
 use Rattle.f77_facts.specs.Refining.{Refines}
 use Rattle.f77_facts.specs.Entries.{Lands, AreCovered, Keeps, KeepAll, IsAmong, IsInductive}
-use Rattle.f77_facts.specs.Keeping.{GoesOn, GoesOnWithin, JumpsWithin, JumpsEach, EndsInto, PassesInto, PassesAt, Acts, ActsAnywhere, Begins, makes_pass}
+use Rattle.f77_facts.specs.Keeping.{GoesOn, GoesOnWithin, JumpsWithin, JumpsEach, EndsInto, PassesInto, PassesAt, Acts, ActsAnywhere, AssignsTruth, Begins, makes_pass}
 use Rattle.f77_facts.proofs.Slots.{got_within, same_or_not}
 
 -- nothing is read behind a list alone
@@ -74,20 +72,31 @@ module _ (entries : List Entry) (r : Resolved) (facts after : List Fact) (loops 
       (assigns cells k z held_there (subst (λ q. SuitsSlot reach q) at (slots cells held_there)) (subst (λ q. Suits known q) is (values cells held_there)))
       left))
 
-  pub truth_acts : (e : Element) (x : Condition) (reach : Reach) (truths : Truths) (there : List Fact)
-      → ((cells : Cells) (k : ℕ) (b : Bool) → AreIn facts cells → slot_in cells e ≡ Ok k → truth_in cells x ≡ Ok b → AreIn there cells)
-      → CoversSlot there e reach → CoversTruth there x truths
-      → ((cells : Cells) (k : ℕ) (b : Bool) → AreIn there cells → IsReached reach.first reach.count k → SuitsTruth truths (Ok b)
-      → AreIn after (slice_set cells k (Some (held.Truth b))))
-      → ActsAnywhere entries r (AssignTruth e x) facts loops
-  truth_acts e x reach truths there told slots values assigns statements i cells turns inside left =
+  pub outcome_acts : (e : Element) (x : Condition) (truth : Bool) (reach : Reach) (there : List Fact)
+      → ((cells : Cells) (k : ℕ) → AreIn facts cells → slot_in cells e ≡ Ok k → truth_in cells x ≡ Ok truth → AreIn there cells)
+      → CoversSlot there e reach
+      → ((cells : Cells) (k : ℕ) → AreIn there cells → IsReached reach.first reach.count k → AreIn after (slice_set cells k (Some (held.Truth truth))))
+      → AssignsTruth entries r e x truth facts loops
+  outcome_acts e x truth reach there told slots assigns statements i cells turns inside left is =
       lands_used entries (slot_in cells e) cells (λ k. used (truth_in cells x) cells (λ b. go_on r (slice_set cells k (Some (held.Truth b))) turns))
-      (λ k at. lands_used entries (truth_in cells x) cells (λ b. go_on r (slice_set cells k (Some (held.Truth b))) turns)
-      (λ b is.
-      let held_there = told cells k b inside at is in
-      goes (slice_set cells k (Some (held.Truth b))) turns
-      (assigns cells k b held_there (subst (λ q. SuitsSlot reach q) at (slots cells held_there)) (subst (λ q. SuitsTruth truths q) is (values cells held_there)))
-      left))
+      (λ k at.
+      let held_there = told cells k inside at is in
+      subst (λ q. Lands entries (used q cells (λ b. go_on r (slice_set cells k (Some (held.Truth b))) turns))) (sym is)
+      (goes (slice_set cells k (Some (held.Truth truth))) turns
+      (assigns cells k held_there (subst (λ q. SuitsSlot reach q) at (slots cells held_there))) left))
+
+module _ (entries : List Entry) (r : Resolved) (e : Element) (x : Condition) (facts : List Fact) (loops : List LoopFact) where
+  -- where the condition has no value, the statement faults
+  pub truth_acts : AssignsTruth entries r e x true facts loops → AssignsTruth entries r e x false facts loops → ActsAnywhere entries r (AssignTruth e x) facts loops
+  truth_acts holds fails statements i cells turns inside left = by (truth_in cells x) refl
+    where
+      by : (q : Result Bool Fault) → truth_in cells x ≡ q → Lands entries (acted statements i r (AssignTruth e x) cells turns)
+      by (Ok true) is = holds statements i cells turns inside left is
+      by (Ok false) is = fails statements i cells turns inside left is
+      by (Err fault) is =
+          lands_used entries (slot_in cells e) cells (λ k. used (truth_in cells x) cells (λ b. go_on r (slice_set cells k (Some (held.Truth b))) turns))
+          (λ k at. lands_used entries (truth_in cells x) cells (λ b. go_on r (slice_set cells k (Some (held.Truth b))) turns)
+          (λ b other. absurd (cc (is, other))))
 
 module _ (entries : List Entry) (r : Resolved) (c : Condition) (facts holds fails : List Fact) (loops : List LoopFact) (first : Refines facts holds c true)
     (second : Refines facts fails c false) where

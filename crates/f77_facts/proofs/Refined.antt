@@ -1,6 +1,6 @@
 -- What is told by the values of expressions.
 use Rattle.std.proofs.Common.{arith, ◌≡◌, ℕ, ◌^◌, Bool, true, false, List, refl, sym, ap, subst, ◌∙◌, ℤ, pos, negsuc}
-use Rattle.std.specs.Prelude.{Result, Ok, Err, not, nat_lt, slice_set}
+use Rattle.std.specs.Prelude.{Result, Ok, not, nat_lt, slice_set}
 use Rattle.f77_actions.specs.declared.expression.Condition.{Condition}
 use Rattle.f77_actions.specs.declared.expression.Element.{Element}
 use Rattle.f77_actions.specs.declared.expression.Number.{Number}

@@ -2,12 +2,14 @@
 use Rattle.std.specs.Prelude.{◌≡◌, ◌≢◌, ◌≤◌, ◌<◌, ◌+◌, ℕ, zero, suc, Bool, true, false, ℤ, pos, List, Some, None, slice_get, slice_set, Ok}
 use Rattle.f77_actions.specs.declared.action.Action.{Action}
 use Rattle.f77_actions.specs.declared.action.Jump.{Jump}
+use Rattle.f77_actions.specs.declared.expression.Condition.{Condition}
+use Rattle.f77_actions.specs.declared.expression.Element.{Element}
 use Rattle.f77_actions.specs.declared.expression.Number.{Number}
 use Rattle.f77_actions.specs.declared.resolved.Resolved.{Resolved}
 use Rattle.f77_values.specs.declared.value.Value.TheVariants as held
 use Rattle.f77_values.specs.Number.{trip_count}
 use Rattle.f77_code.specs.declared.control.Place.TheVariants.{Execute}
-use Rattle.f77_code.specs.Evaluation.{number_in}
+use Rattle.f77_code.specs.Evaluation.{number_in, truth_in}
 use Rattle.f77_code.specs.Moves.{Cells, Turns, Goes, state, go_on, jump_to, passing_at, acted}
 use Rattle.f77_facts.specs.declared.entries.Entry.{Entry}
 use Rattle.f77_facts.specs.declared.facts.Fact.{Fact}
@@ -68,6 +70,12 @@ Acts statements entries i r action facts loops =
 -- so it does by an action that asks for neither its number nor for other statements
 abbrev pub ActsAnywhere : List Entry → Resolved → Action → List Fact → List LoopFact → Type 0
 ActsAnywhere entries r action facts loops = (statements : List Resolved) (i : ℕ) → Acts statements entries i r action facts loops
+
+-- so does the assignment of a LOGICAL value where the condition has this value
+abbrev pub AssignsTruth : List Entry → Resolved → Element → Condition → Bool → List Fact → List LoopFact → Type 0
+AssignsTruth entries r e c truth facts loops =
+    (statements : List Resolved) (i : ℕ) (cells : Cells) (turns : Turns) → AreIn facts cells → AreLeft loops turns → truth_in cells c ≡ Ok truth
+    → Lands entries (acted statements i r (Action.AssignTruth e c) cells turns)
 
 -- a DO with this number of passes makes one
 abbrev pub makes_pass : ℕ → Bool

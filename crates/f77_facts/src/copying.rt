@@ -16,7 +16,7 @@ use crate::facts::{self, Fact};
 use crate::known::Known;
 use crate::loops::{self, LoopFact, set_loop};
 use crate::reaching::Reach;
-use crate::refining::{limit, limit_subscripts, refine, settle, settle_number};
+use crate::refining::{limit, limit_subscripts, refine, settle_number};
 use crate::truths::Truths;
 use f77_actions::{Condition, Element, Number};
 use std::alloc::{AllocError, Global};
@@ -65,19 +65,20 @@ pub(crate) fn with_value(
     Ok(after)
 }
 
-/// What is known where the reference names a slot and the condition has a value.
-pub(crate) fn with_truth_value(
+/// What is known where the reference names a slot and the condition has this value.
+pub(crate) fn with_outcome(
     alloc: Global,
     facts: &[Fact],
     element: &Element,
     condition: &Condition,
+    truth: bool,
 ) -> Result<Vec<Fact>, AllocError>
-    ensures { IfOk result (λ v. (cells : Cells) (k : ℕ) (b : Bool) → AreIn facts.now cells
-        → slot_in cells element.now ≡ Ok k → truth_in cells condition.now ≡ Ok b → AreIn v.items cells) }
+    ensures { IfOk result (λ v. (cells : Cells) (k : ℕ) → AreIn facts.now cells → slot_in cells element.now ≡ Ok k
+        → truth_in cells condition.now ≡ Ok truth → AreIn v.items cells) }
 {
     let mut after = facts::copy(alloc, facts)?;
     limit_subscripts(&mut after, element);
-    settle(&mut after, condition);
+    refine(&mut after, condition, truth);
     Ok(after)
 }
 

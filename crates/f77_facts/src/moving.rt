@@ -3,17 +3,18 @@
 ghost use Rattle.std.specs.Prelude.{◌≡◌, ◌+◌, ◌<◌, ◌^◌, true, IfOk, IfSome};
 ghost use Rattle.f77_code.specs.declared.control.Place.TheVariants.{Execute};
 ghost use Rattle.f77_facts.specs.Entries.{Adds, Keeps};
-ghost use Rattle.f77_facts.specs.Keeping.{Acts, ActsAnywhere};
+ghost use Rattle.f77_facts.specs.Keeping.{Acts, ActsAnywhere, AssignsTruth};
 
 use crate::beginning::is_begin_kept;
-use crate::bounds::{known_of, reach_of, truths_of};
+use crate::bounds::{known_of, reach_of};
 use crate::choosing::is_jump_kept;
-use crate::copying::{given_number, given_truth, refined, with_truth_value, with_value};
+use crate::copying::{given_number, given_truth, refined, with_outcome, with_value};
 use crate::entries::{Entry, are_covered};
 use crate::facts::{self, Fact};
 use crate::jumping::goes_on;
 use crate::looping::{is_increment_kept, statement_at};
 use crate::loops::LoopFact;
+use crate::truths::Truths;
 use f77_actions::{Action, Condition, Element, Number, Resolved};
 use f77_code::Place;
 use f77_tree::Shared;
@@ -39,7 +40,28 @@ fn is_number_kept(
     goes_on(alloc, moves, resolved, after, loops)
 }
 
-/// Adds where an assignment of a LOGICAL value leads.
+/// Adds where an assignment of a LOGICAL value leads if that is this value.
+fn is_outcome_kept(
+    alloc: Global,
+    moves: &mut Vec<Entry>,
+    resolved: &Resolved,
+    element: &Element,
+    condition: &Condition,
+    truth: bool,
+    facts: &[Fact],
+    loops: &[LoopFact],
+) -> Result<(), AllocError>
+    ensures { IfOk result (λ _. Adds moves.old.items moves.new.items
+        (AssignsTruth moves.new.items resolved.now element.now condition.now truth facts.now loops.now)) }
+{
+    let there = with_outcome(alloc, facts, element, condition, truth)?;
+    let reach = reach_of(&there, element);
+    let after = given_truth(there, reach, Truths::exactly(truth));
+    goes_on(alloc, moves, resolved, after, loops)
+}
+
+/// Adds where an assignment of a LOGICAL value leads. What each of its values tells of slots stands in an
+/// entry of its own.
 fn is_truth_kept(
     alloc: Global,
     moves: &mut Vec<Entry>,
@@ -52,11 +74,12 @@ fn is_truth_kept(
     ensures { IfOk result (λ _. Adds moves.old.items moves.new.items (ActsAnywhere moves.new.items resolved.now
         (Action.AssignTruth element.now condition.now) facts.now loops.now)) }
 {
-    let there = with_truth_value(alloc, facts, element, condition)?;
-    let reach = reach_of(&there, element);
-    let truths = truths_of(&there, condition);
-    let after = given_truth(there, reach, truths);
-    goes_on(alloc, moves, resolved, after, loops)
+    is_outcome_kept(
+        alloc, moves, resolved, element, condition, true, facts, loops,
+    )?;
+    is_outcome_kept(
+        alloc, moves, resolved, element, condition, false, facts, loops,
+    )
 }
 
 /// Adds where an action leads that asks for no other statement.

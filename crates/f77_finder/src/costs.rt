@@ -8,6 +8,12 @@ use std::alloc::{AllocError, Global};
 /// How much is spent at most before the search is given up.
 pub(crate) const MOST: u64 = 200_000_000;
 
+/// How many facts are kept at most where a place has more than one entry.
+const MOST_FACTS: u64 = 4_000_000;
+
+/// How many entries a place has at most.
+const MOST_APART: u64 = 4;
+
 /// How often each statement is looked at, about.
 const LOOKS: u64 = 20;
 
@@ -146,11 +152,29 @@ pub(crate) fn cost_at(costs: &[u64], place: Place) -> u64 {
     if i < costs.len() { costs[i] } else { 1 }
 }
 
-/// The search would cost too much.
-pub(crate) fn is_too_much(costs: &[u64]) -> bool {
+/// What it costs to find one entry for each place.
+fn total_of(costs: &[u64]) -> u64 {
     let mut total: u64 = 0;
     for cost in costs {
         total = total.saturating_add(*cost);
     }
-    MOST < total.saturating_mul(LOOKS)
+    total.saturating_mul(LOOKS)
+}
+
+/// The search would cost too much.
+pub(crate) fn is_too_much(costs: &[u64]) -> bool {
+    MOST < total_of(costs)
+}
+
+/// How many facts the statements have, with an entry for each of them.
+fn facts_of(statements: usize, slots: usize) -> u64 {
+    let own = slots.saturating_add(statements);
+    statements.saturating_mul(own) as u64
+}
+
+/// How many entries a place may have, in a program with so many slots, so that not too much is spent or kept.
+pub(crate) fn room_within(costs: &[u64], slots: usize) -> usize {
+    let by_costs = MOST / total_of(costs).max(1);
+    let by_facts = MOST_FACTS / facts_of(costs.len(), slots).max(1);
+    by_costs.min(by_facts).min(MOST_APART).max(1) as usize
 }

@@ -1,6 +1,6 @@
 //! Finds what is known at each place of a program.
 
-use crate::costs::{costs_of, is_too_much};
+use crate::costs::{costs_of, is_too_much, room_within};
 use crate::descending::narrowed;
 use crate::rounds::settled_entries;
 use crate::starting::starting_entry;
@@ -10,7 +10,7 @@ use f77_facts::entries::Entry;
 use std::alloc::{AllocError, Global};
 
 /// What is known where a run of the program starts and of each place where control comes from there:
-/// an entry for each place, or none at all, as for a program that would take too long.
+/// an entry for each place, or a few that are kept apart, or none at all, as for a program that would take too long.
 /// Nothing is claimed of them: they are to be checked.
 pub fn entries_of(alloc: Global, checked: &Checked) -> Result<Vec<Entry>, AllocError> {
     let statements = checked.statements();
@@ -25,5 +25,6 @@ pub fn entries_of(alloc: Global, checked: &Checked) -> Result<Vec<Entry>, AllocE
         return Ok(entries);
     }
     let start = starting_entry(alloc, checked)?;
-    narrowed(alloc, statements, &start, entries)
+    let room = room_within(&costs, start.facts.len());
+    narrowed(alloc, statements, &start, entries, room)
 }

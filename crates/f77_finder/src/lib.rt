@@ -1,6 +1,7 @@
 //! Finds what is known at each place of a program. Nothing is claimed of what is found: it is to be checked.
 #![tactic(auto)]
 
+mod apart;
 mod behind;
 mod collecting;
 mod costs;

@@ -2,13 +2,13 @@
 
 ghost use Rattle.std.specs.Prelude.{◌≡◌, ◌<◌, length, Some, vec_len};
 
+use crate::apart::{lies_in, taker_of};
 use crate::ordering::{Ways, order_of};
 use crate::widening::{Manner, join};
 use f77_actions::Resolved;
 use f77_code::Place;
 use f77_facts::entries::Entry;
-use f77_facts::facts::{is_empty, is_inside};
-use f77_facts::loops::is_loops_inside;
+use f77_facts::facts::is_empty;
 use f77_tree::Shared;
 use std::alloc::AllocError;
 
@@ -35,6 +35,15 @@ pub(crate) fn newly_reached(statements: &[Shared<Resolved>], entry: Entry) -> Re
     }
 }
 
+/// What becomes of what is known where control comes to a place by several ways.
+#[derive(Clone, Copy)]
+pub(crate) enum Meeting<'a> {
+    /// It is joined, and widened to these thresholds in the end.
+    Widened(&'a [i32]),
+    /// It is kept apart in so many entries, and joined beyond.
+    Apart(usize),
+}
+
 /// Where the place is in the list.
 fn number_of(list: &[Reached], place: Place) -> Option<usize>
     ensures { (n : _) → result ≡ Some n → n < length list.now }
@@ -59,18 +68,44 @@ fn manner_after(joins: u32, thresholds: &[i32]) -> Manner {
 }
 
 /// Control comes to the place by another way.
-fn take_in(reached: &mut Reached, entry: &Entry, thresholds: Option<&[i32]>) {
-    let own = &reached.entry;
-    if is_inside(&entry.facts, &own.facts) && is_loops_inside(&entry.loops, &own.loops) {
+fn take_in(reached: &mut Reached, entry: &Entry, manner: Manner) {
+    if lies_in(entry, &reached.entry) {
         return;
     }
-    let manner = match thresholds {
-        Some(list) => manner_after(reached.joins, list),
-        None => Manner::Plain,
-    };
     join(&mut reached.entry, entry, manner);
     reached.joins = reached.joins.saturating_add(1);
     reached.waits = true;
+}
+
+/// Joins what is known there with what is known of the place.
+fn join_there(
+    list: &mut Vec<Reached>,
+    statements: &[Shared<Resolved>],
+    entry: Entry,
+    thresholds: &[i32],
+) -> Result<(), AllocError> {
+    match number_of(list, entry.place) {
+        Some(number) => {
+            let manner = manner_after(list[number].joins, thresholds);
+            take_in(&mut list[number], &entry, manner);
+        }
+        None => list.push(newly_reached(statements, entry))?,
+    }
+    Ok(())
+}
+
+/// Keeps what is known there beside what is known of the place, where there is room for it.
+fn keep_there(
+    list: &mut Vec<Reached>,
+    statements: &[Shared<Resolved>],
+    entry: Entry,
+    room: usize,
+) -> Result<(), AllocError> {
+    match taker_of(list, &entry, room) {
+        Some(number) => take_in(&mut list[number], &entry, Manner::Plain),
+        None => list.push(newly_reached(statements, entry))?,
+    }
+    Ok(())
 }
 
 /// Control comes to a place, if the way is gone and anything is allowed there.
@@ -79,29 +114,27 @@ fn reach(
     statements: &[Shared<Resolved>],
     entry: Entry,
     ways: Ways,
-    thresholds: Option<&[i32]>,
+    meeting: Meeting,
 ) -> Result<(), AllocError> {
     if !ways.lead_to(order_of(statements, entry.place)) || is_empty(&entry.facts) {
         return Ok(());
     }
-    match number_of(list, entry.place) {
-        Some(number) => take_in(&mut list[number], &entry, thresholds),
-        None => list.push(newly_reached(statements, entry))?,
+    match meeting {
+        Meeting::Widened(thresholds) => join_there(list, statements, entry, thresholds),
+        Meeting::Apart(room) => keep_there(list, statements, entry, room),
     }
-    Ok(())
 }
 
-/// Control comes to places by these ways. Where thresholds are given, what is known of a place is widened to them
-/// in the end.
+/// Control comes to places by these ways.
 pub(crate) fn reach_all(
     list: &mut Vec<Reached>,
     statements: &[Shared<Resolved>],
     entries: Vec<Entry>,
     ways: Ways,
-    thresholds: Option<&[i32]>,
+    meeting: Meeting,
 ) -> Result<(), AllocError> {
     for entry in entries {
-        reach(list, statements, entry, ways, thresholds)?;
+        reach(list, statements, entry, ways, meeting)?;
     }
     Ok(())
 }

@@ -5,7 +5,7 @@ ghost use Rattle.std.specs.Prelude.{◌≡◌, ◌<◌, length, Some};
 use crate::behind::entries_behind;
 use crate::costs::{MOST, cost_at};
 use crate::ordering::Ways;
-use crate::reached::{Reached, newly_reached, reach_all};
+use crate::reached::{Meeting, Reached, newly_reached, reach_all};
 use f77_actions::Resolved;
 use f77_facts::entries::Entry;
 use f77_tree::Shared;
@@ -66,7 +66,13 @@ fn settle(
             return Ok(false);
         }
         let entries = moves_from(alloc, statements, &mut list[number])?;
-        reach_all(list, statements, entries, Ways::All, Some(thresholds))?;
+        reach_all(
+            list,
+            statements,
+            entries,
+            Ways::All,
+            Meeting::Widened(thresholds),
+        )?;
     }
     Ok(false)
 }

@@ -3,7 +3,7 @@
 use f77_code::Place;
 use f77_facts::entries::Entry;
 use f77_facts::facts::known_at;
-use f77_facts::known::Known;
+use f77_facts::known::{Known, hull_of};
 use f77_finder::finding::entries_of;
 use sample_programs::checked;
 use std::process::Abort;
@@ -17,19 +17,19 @@ fn between(low: i32, high: i32) -> Known {
     }
 }
 
-/// The entry where control is at the statement, if it comes there.
-fn entry_of(entries: &[Entry], i: usize) -> Option<&Entry> {
-    entries
-        .iter()
-        .find(|entry| entry.place == Place::Execute(i))
-}
-
-/// What is known of a slot where control is at the statement.
+/// What is known of a slot where control is at the statement, by all entries that tell of it.
 fn known_of(entries: &[Entry], i: usize, slot: usize) -> Option<Known> {
-    match entry_of(entries, i) {
-        Some(entry) => Some(known_at(&entry.facts, slot)),
-        None => None,
+    let mut known: Option<Known> = None;
+    for entry in entries {
+        if entry.place == Place::Execute(i) {
+            let own = known_at(&entry.facts, slot);
+            known = Some(match known {
+                Some(other) => hull_of(other, own),
+                None => own,
+            });
+        }
     }
+    known
 }
 
 /// Compares what is known of a slot at a statement.
@@ -80,12 +80,30 @@ fn tells_what_had_a_value(rt: HostRuntime) -> Result<(), Fail> {
 }
 
 #[test]
+fn keeps_apart_what_branches_tell(rt: HostRuntime) -> Result<(), Fail> {
+    assert_known(&rt, SIGNS, 5, 0, Some(between(1, i32::MAX)))?;
+    assert_known(&rt, SIGNS, 7, 0, Some(between(i32::MIN, -1)))
+}
+
+#[test]
+fn keeps_apart_what_a_truth_value_tells(rt: HostRuntime) -> Result<(), Fail> {
+    assert_known(&rt, FLAGS, 4, 0, Some(between(1, 12)))
+}
+
+#[test]
 fn gives_up_what_costs_too_much(rt: HostRuntime) -> Result<(), Fail> {
     let checked = checked(&rt, LARGE)?;
     let entries = entries_of(rt.alloc(), &checked)?;
     assert!(rt; entries.is_empty());
     Ok(())
 }
+
+const SIGNS: &str =
+    "SUBROUTINE S(N); K=0; IF (N.LT.0) K=-1; IF (N.GT.0) K=1; IF (K.NE.1) GO TO 10; N=N-1; \
+    10 IF (K.EQ.-1) THEN; N=0; END IF; END";
+
+const FLAGS: &str =
+    "SUBROUTINE S(N); LOGICAL P; P=N.GE.1.AND.N.LE.12; IF (.NOT.P) RETURN; N=N+1; END";
 
 const SIZES: &str = "SUBROUTINE S(N); J=IABS(N); N=J; END";
 

@@ -19,7 +19,7 @@ fn assert_kept(rt: &(impl AllocGlobal + Abort), statements: &str) -> Result<(), 
 
 #[test]
 fn finds_what_is_kept(rt: HostRuntime) -> Result<(), Fail> {
-    for statements in [ADD, LOOP, PRESET, ARRAYS, ENDS, JUMPS] {
+    for statements in [ADD, LOOP, PRESET, ARRAYS, ENDS, JUMPS, BRANCHES] {
         assert_kept(&rt, statements)?;
     }
     Ok(())
@@ -35,3 +35,7 @@ const ENDS: &str =
 const JUMPS: &str =
     "SUBROUTINE S(N); 10 GO TO (20,30),N; IF (N) 40,30,20; 20 N=N-1; GO TO 10; 30 N=N+1; GO TO 10; \
     40 RETURN; END";
+
+const BRANCHES: &str =
+    "SUBROUTINE S(N,K,P); LOGICAL P; DO 10 I=1,N; IF (K.LT.I) K=I; P=K.GT.5.OR.P; IF (P) K=K-1; \
+    IF (K.EQ.0) GO TO 20; 10 CONTINUE; K=N; 20 N=0; END";

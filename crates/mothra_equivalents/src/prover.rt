@@ -12,6 +12,7 @@ ghost use Rattle.mothra_ops.specs.declared.fault.OpsFault.TheVariants.{Memory};
 use crate::rules::rule_of;
 use crate::why::Why;
 use crate::work::Work;
+use f77_conditions::conditions::Conditions;
 use f77_equivalence::invariant::Invariant;
 use f77_finder::finding::entries_of;
 use mothra_codes::Ticket;
@@ -24,11 +25,12 @@ use std::marker::Model;
 pub(crate) struct Prover<'a> {
     mutants: Mutants<'a>,
     invariant: Invariant<'a>,
+    conditions: Option<Conditions<'a>>,
     work: Work,
 }
 
 impl<'a> Model for Prover<'a> {
-    ghost use Rattle.std.specs.Prelude.{◌≡◌};
+    ghost use Rattle.std.specs.Prelude.{◌≡◌, IfSome};
     ghost use Rattle.std.specs.Coded.{codes};
     ghost use Rattle.f77_tree.specs.contracts.tree.Expr as expr;
     ghost use Rattle.f77_tree.specs.contracts.statement.Stmt as stmt;
@@ -52,7 +54,8 @@ impl<'a> Model for Prover<'a> {
 
     ghost view = { λ prover. prover.mutants };
 
-    ghost invariant = { λ prover. prover.invariant.checked ≡ prover.mutants.checked };
+    ghost invariant = { λ prover. (prover.invariant.checked ≡ prover.mutants.checked)
+        × IfSome prover.conditions (λ conditions. conditions.checked ≡ prover.invariant.checked) };
 }
 
 impl<'a> Prover<'a> {
@@ -65,11 +68,13 @@ impl<'a> Prover<'a> {
         let entries = entries_of(alloc, checked)?;
         match Invariant::of(alloc, checked, entries)? {
             Some(invariant) => {
-                let work = Work::of(alloc, checked)?;
+                let work = Work::of(alloc, checked, invariant.entries())?;
+                let conditions = Conditions::of(alloc, checked)?;
                 let mutants = Mutants::of(alloc, plan)?;
                 Ok(Some(Prover {
                     mutants,
                     invariant,
+                    conditions,
                     work,
                 }))
             }
@@ -86,7 +91,7 @@ impl<'a> Prover<'a> {
         ensures memory { IfErr result (λ fault. fault ≡ Memory) }
     {
         self.work.spend(mutant.number);
-        rule_of(alloc, &self.invariant, mutant)
+        rule_of(alloc, &self.invariant, &self.conditions, mutant)
     }
 
     /// The rule by which the ticket's mutant is equivalent, if one says so. There is none once all work is done.

@@ -11,6 +11,9 @@ ghost use Rattle.mothra_ops.specs.declared.fault.OpsFault.TheVariants.{Memory};
 
 use crate::why::Why;
 use f77_check::Resolved;
+use f77_conditions::conditions::Conditions;
+use f77_conditions::equivalent::is_equivalent_where_told;
+use f77_continuations::spare::continues;
 use f77_differences::unread::is_unread;
 use f77_equivalence::equivalent::is_equivalent;
 use f77_equivalence::invariant::{Invariant, is_unreached};
@@ -42,13 +45,42 @@ fn is_unread_throughout(
     )
 }
 
+/// The mutant, whose statement is resolved so, decides alike where conditions are told that hold there or do not.
+fn is_told_throughout(
+    alloc: Global,
+    invariant: &Invariant<'_>,
+    conditions: &Option<Conditions<'_>>,
+    mutant: &Mutant,
+    resolved: &Shared<Resolved>,
+) -> Result<bool, AllocError>
+    requires one { IfSome conditions.now (λ told. told.checked ≡ invariant.now.checked) }
+    requires mutant { IsMutant (map line_of invariant.now.checked.program) mutant.now.number (statement_of mutant.now.stmt) }
+    requires in_place { IsInPlace invariant.now.checked mutant.now.number (statement_of mutant.now.stmt) resolved.now }
+    ensures { IfOk result (λ yes. yes ≡ true → IsEquivalent (map line_of invariant.now.checked.program)
+        (patched (map line_of invariant.now.checked.program) mutant.now.number (statement_of mutant.now.stmt))) }
+{
+    match conditions {
+        Some(conditions) => is_equivalent_where_told(
+            alloc,
+            invariant,
+            conditions,
+            mutant.number,
+            &mutant.stmt,
+            resolved,
+        ),
+        None => Ok(false),
+    }
+}
+
 /// The first rule by which the mutant is equivalent, whose statement is resolved so.
 fn rule_in_place(
     alloc: Global,
     invariant: &Invariant<'_>,
+    conditions: &Option<Conditions<'_>>,
     mutant: &Mutant,
     resolved: &Shared<Resolved>,
 ) -> Result<Option<Why>, AllocError>
+    requires one { IfSome conditions.now (λ told. told.checked ≡ invariant.now.checked) }
     requires mutant { IsMutant (map line_of invariant.now.checked.program) mutant.now.number (statement_of mutant.now.stmt) }
     requires in_place { IsInPlace invariant.now.checked mutant.now.number (statement_of mutant.now.stmt) resolved.now }
     ensures { IfOk result (λ found. IfSome found (λ _. IsEquivalent (map line_of invariant.now.checked.program)
@@ -61,6 +93,12 @@ fn rule_in_place(
         }
         return Ok(Some(Why::Same));
     }
+    if is_told_throughout(alloc, invariant, conditions, mutant, resolved)? {
+        return Ok(Some(Why::Same));
+    }
+    if continues(alloc, invariant, number, &mutant.stmt, resolved)? {
+        return Ok(Some(Why::Continues));
+    }
     if is_unread_throughout(alloc, invariant, mutant, resolved)? {
         return Ok(Some(Why::Unread));
     }
@@ -72,9 +110,11 @@ fn rule_in_place(
 fn rule_for(
     alloc: Global,
     invariant: &Invariant<'_>,
+    conditions: &Option<Conditions<'_>>,
     mutant: &Mutant,
 ) -> Result<Option<Why>, OpsFault>
-    requires { IsMutant (map line_of invariant.now.checked.program) mutant.now.number (statement_of mutant.now.stmt) }
+    requires one { IfSome conditions.now (λ told. told.checked ≡ invariant.now.checked) }
+    requires mutant { IsMutant (map line_of invariant.now.checked.program) mutant.now.number (statement_of mutant.now.stmt) }
     ensures equivalent { IfOk result (λ found. IfSome found (λ _. IsEquivalent (map line_of invariant.now.checked.program)
         (patched (map line_of invariant.now.checked.program) mutant.now.number (statement_of mutant.now.stmt)))) }
     ensures memory { IfErr result (λ fault. fault ≡ Memory) }
@@ -83,7 +123,7 @@ fn rule_for(
         .checked()
         .resolved_in_place(mutant.number, &mutant.stmt)
     {
-        Ok(Some(resolved)) => Ok(rule_in_place(alloc, invariant, mutant, &resolved)?),
+        Ok(Some(resolved)) => Ok(rule_in_place(alloc, invariant, conditions, mutant, &resolved)?),
         Ok(None) => Ok(None),
         // A legal program is refused for want of memory alone.
         Err(_) => Err(OpsFault::Memory),
@@ -94,14 +134,16 @@ fn rule_for(
 pub(crate) fn rule_of(
     alloc: Global,
     invariant: &Invariant<'_>,
+    conditions: &Option<Conditions<'_>>,
     mutant: Mutant,
 ) -> Result<Option<Why>, OpsFault>
-    requires { IsMutant (map line_of invariant.now.checked.program) mutant.number (statement_of mutant.stmt) }
+    requires one { IfSome conditions.now (λ told. told.checked ≡ invariant.now.checked) }
+    requires mutant { IsMutant (map line_of invariant.now.checked.program) mutant.number (statement_of mutant.stmt) }
     ensures equivalent { IfOk result (λ found. IfSome found (λ _. IsEquivalent (map line_of invariant.now.checked.program)
         (patched (map line_of invariant.now.checked.program) mutant.number (statement_of mutant.stmt)))) }
     ensures memory { IfErr result (λ fault. fault ≡ Memory) }
 {
-    let found = rule_for(alloc, invariant, &mutant);
+    let found = rule_for(alloc, invariant, conditions, &mutant);
     drop(mutant);
     found
 }

@@ -2,6 +2,8 @@
 //! mutants proved.
 
 use f77_check::Checked;
+use f77_code::Place;
+use f77_facts::entries::Entry;
 use f77_nodes::nodes;
 use f77_tree::Stmt;
 use std::alloc::{AllocError, Global};
@@ -19,7 +21,31 @@ pub(crate) struct Work {
     by_statement: Vec<u64>,
 }
 
-/// How much work it is to follow other values to where they would be read, through all statements.
+/// Control is at the statement `i`, from 0.
+fn is_at(place: Place, i: usize) -> bool {
+    match place {
+        Place::Execute(own) | Place::Increment(own) => own == i,
+    }
+}
+
+/// How many entries tell of the statement `i`, from 0. A statement that has none is taken for one that has one.
+fn entries_at(entries: &[Entry], i: usize) -> u64 {
+    let mut count: u64 = 0;
+    for entry in entries {
+        if is_at(entry.place, i) {
+            count = count.saturating_add(1);
+        }
+    }
+    count.max(1)
+}
+
+/// How many entries a statement has, about.
+fn entries_each(checked: &Checked, entries: &[Entry]) -> u64 {
+    let each = entries.len() / checked.count().max(1);
+    (each as u64).saturating_add(1)
+}
+
+/// How much work it is to follow other values to where they would be read, through all statements with an entry for each.
 fn following(checked: &Checked) -> u64 {
     let slots = checked.slots() as u64;
     let statements = checked.count() as u64;
@@ -27,7 +53,7 @@ fn following(checked: &Checked) -> u64 {
     statements.saturating_mul(300).saturating_add(marks)
 }
 
-/// How much work it is to compare a statement of so many nodes: each two of them may ask for the facts of all slots.
+/// How much work it is to compare a statement of so many nodes at one entry: each two of them may ask for the facts of all slots.
 fn comparing(checked: &Checked, nodes: usize) -> u64 {
     let facts = (checked.slots() as u64).saturating_add(64);
     facts
@@ -35,19 +61,32 @@ fn comparing(checked: &Checked, nodes: usize) -> u64 {
         .saturating_mul(nodes as u64)
 }
 
-/// How much work a mutant of the statement is taken for.
-fn work_at(alloc: Global, checked: &Checked, stmt: &Stmt) -> Result<u64, AllocError> {
+/// How much work a mutant of the statement is taken for, of which so many entries tell, where others have so many each.
+fn work_at(
+    alloc: Global,
+    checked: &Checked,
+    stmt: &Stmt,
+    own: u64,
+    each: u64,
+) -> Result<u64, AllocError> {
     let count = nodes(alloc, stmt)?.len();
-    let work = comparing(checked, count).saturating_add(following(checked));
-    Ok(work.max(LEAST))
+    let here = comparing(checked, count).saturating_mul(own);
+    let onward = following(checked).saturating_mul(each);
+    Ok(here.saturating_add(onward).max(LEAST))
 }
 
 impl Work {
-    /// None of it is done yet.
-    pub(crate) fn of(alloc: Global, checked: &Checked) -> Result<Work, AllocError> {
+    /// None of it is done yet, with these entries.
+    pub(crate) fn of(
+        alloc: Global,
+        checked: &Checked,
+        entries: &[Entry],
+    ) -> Result<Work, AllocError> {
+        let each = entries_each(checked, entries);
         let mut by_statement = Vec::new(alloc);
-        for line in checked.program().lines() {
-            by_statement.push(work_at(alloc, checked, &line.stmt)?)?;
+        for (i, line) in checked.program().lines().iter().enumerate() {
+            let own = entries_at(entries, i);
+            by_statement.push(work_at(alloc, checked, &line.stmt, own, each)?)?;
         }
         Ok(Work {
             left: MOST,

@@ -1,6 +1,6 @@
 use Rattle.std.proofs.Common.{arith}
 use Rattle.std.proofs.lemmas.Int.{ints}
-use Rattle.std.proofs.Common.{subst, sym, inl, inr}
+use Rattle.std.proofs.Common.{subst, inl, inr}
 use Rattle.f77_values.specs.Number.{size}
 use Rattle.f77_facts.specs.Known.{IsBetween}
 use Rattle.f77_facts.proofs.Inverses.{of_size, size_above}

@@ -1,0 +1,12 @@
+use Rattle.std.proofs.Common.{◌≡◌, ◌<◌, ℕ, Some}
+use Rattle.std.specs.Prelude.{Contains, slice_get}
+use Rattle.f77_actions.specs.declared.action.Jump.{Jump}
+use Rattle.f77_code.specs.declared.control.Place.{Place}
+use Rattle.f77_code.specs.declared.control.Place.TheVariants.{Execute}
+use Rattle.f77_conditions.proofs.places.with_targets.Given as goal
+
+abbrev pub invariant-loop-k : goal.invariant-loop-k
+invariant-loop-k l = record {
+  kept : (p : Place) → Contains l.fn.places.items p → Contains l.more.items p;
+  each : (k : ℕ) (jump : Jump) → k < l.k → slice_get l.jumps k ≡ Some jump → Contains l.more.items (Execute jump.target);
+}

@@ -1,0 +1,147 @@
+//! What is told at the places where control may be.
+
+ghost use Rattle.std.specs.Prelude.{◌≡◌, ◌<◌, All, Contains, List, Some, true, length, option_map, slice_get, IfOk};
+ghost use Rattle.f77_actions.specs.declared.resolved.Resolved.{Resolved};
+ghost use Rattle.f77_code.specs.Moves.{Cells, State};
+ghost use Rattle.f77_conditions.specs.Table.{row_in, row_at, IsRow, Tells, Allows, Keeps, IsKept};
+ghost use Rattle.f77_conditions.specs.Told.{AreTold};
+
+use crate::told::{Told, is_among, one_at};
+use crate::ways::{Way, ways_of};
+use f77_actions::Resolved;
+use f77_code::Place;
+use f77_tree::Shared;
+use std::alloc::{AllocError, Global};
+
+/// For each place what is told there, or that control never comes there. Statements are numbered from 0.
+#[derive(Drop)]
+pub struct Table {
+    /// Where control is at a statement that is to be executed, by its number.
+    pub executing: Vec<Option<Vec<Told>>>,
+    /// Where control is at a DO that is to be incremented, by its number.
+    pub incrementing: Vec<Option<Vec<Told>>>,
+}
+
+/// What the row of this number tells.
+fn told_in(rows: &[Option<Vec<Told>>], k: usize) -> Option<&[Told]>
+    ensures { option_map (λ told. told.now) result ≡ row_in rows.now k }
+{
+    if k >= rows.len() {
+        return None;
+    }
+    match &rows[k] {
+        Some(told) => Some(told),
+        None => None,
+    }
+}
+
+/// What is told at the place, if control may be there.
+pub(crate) fn told_at(table: &Table, place: Place) -> Option<&[Told]>
+    ensures { option_map (λ told. told.now) result ≡ row_at table.now place }
+{
+    match place {
+        Place::Execute(i) => told_in(&table.executing, i),
+        Place::Increment(d) => told_in(&table.incrementing, d),
+    }
+}
+
+/// All that the first list tells is in the second.
+pub(crate) fn are_among(few: &[Told], told: &[Told]) -> bool
+    ensures { result ≡ true → All (Contains told.now) few.now }
+{
+    for k in 0..few.len() {
+        if !is_among(told, one_at(few, k)) {
+            return false;
+        }
+    }
+    true
+}
+
+/// What is told at the place is so where this is told.
+fn allows_at(table: &Table, place: Place, told: &[Told]) -> bool
+    ensures { result ≡ true → (statements : List Resolved) (cells : Cells) → AreTold statements cells told.now
+        → IsRow statements cells (row_at table.now place) }
+{
+    match told_at(table, place) {
+        Some(row) => are_among(row, told),
+        None => false,
+    }
+}
+
+fn place_at(places: &[Place], k: usize) -> Place
+    requires { k < length places.now }
+    ensures { slice_get places.now k ≡ Some result }
+{
+    places[k]
+}
+
+/// What is told wherever the way leads is so there.
+fn allows_way(table: &Table, way: &Way) -> bool
+    ensures { result ≡ true → (statements : List Resolved) (s : State) → Contains way.now.places.items s.place
+        → AreTold statements s.cells way.now.told.items → Tells statements table.now s }
+{
+    for k in 0..way.places.len() {
+        if !allows_at(table, place_at(&way.places, k), &way.told) {
+            return false;
+        }
+    }
+    true
+}
+
+fn way_at(ways: &[Way], k: usize) -> &Way
+    requires { k < length ways.now }
+    ensures { slice_get ways.now k ≡ Some result.now }
+{
+    &ways[k]
+}
+
+/// What is told wherever one of the ways leads is so there.
+fn allows(table: &Table, ways: &[Way]) -> bool
+    ensures { result ≡ true → Allows table.now ways.now }
+{
+    for k in 0..ways.len() {
+        if !allows_way(table, way_at(ways, k)) {
+            return false;
+        }
+    }
+    true
+}
+
+/// What is told is so behind a step from the place.
+fn is_place_kept(
+    alloc: Global,
+    statements: &[Shared<Resolved>],
+    table: &Table,
+    place: Place,
+) -> Result<bool, AllocError>
+    ensures { IfOk result (λ yes. yes ≡ true → Keeps statements.now table.now place) }
+{
+    match told_at(table, place) {
+        Some(told) => {
+            let ways = ways_of(alloc, statements, place, told)?;
+            Ok(allows(table, &ways))
+        }
+        None => Ok(true),
+    }
+}
+
+/// What is told is so behind each step. The table need not be trusted.
+pub fn is_kept(
+    alloc: Global,
+    statements: &[Shared<Resolved>],
+    table: &Table,
+) -> Result<bool, AllocError>
+    ensures { IfOk result (λ yes. yes ≡ true → IsKept statements.now table.now) }
+{
+    for i in 0..statements.len() {
+        let executed = is_place_kept(alloc, statements, table, Place::Execute(i))?;
+        if !executed {
+            return Ok(false);
+        }
+        let incremented = is_place_kept(alloc, statements, table, Place::Increment(i))?;
+        if !incremented {
+            return Ok(false);
+        }
+    }
+    Ok(true)
+}

@@ -1,0 +1,5 @@
+pub mod Ways
+pub mod Exits
+pub mod Choosing
+pub mod Continuing
+pub mod Within

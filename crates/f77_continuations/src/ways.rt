@@ -1,0 +1,77 @@
+//! Where control comes by steps that do nothing else.
+
+ghost use Rattle.std.specs.Prelude.{◌≡◌, ◌<◌, length, slice_get, Some, IfSome};
+ghost use Rattle.f77_continuations.specs.Ways.{IsStep, IsWay};
+
+use crate::exits::{Exit, plain_exit};
+use f77_actions::Resolved;
+use f77_tree::Shared;
+
+/// Where control comes.
+#[derive(Clone, Copy, Debug, PartialEq, Eq)]
+pub enum Destination {
+    /// To the statement of this number, from 0, which is to be executed.
+    Statement(usize),
+    /// To a return.
+    Returned,
+    /// To a stop.
+    Stopped,
+}
+
+/// Where control comes by so many steps that leave slots and active DOs as they are.
+#[derive(Clone, Copy, Debug, PartialEq, Eq)]
+pub struct Way {
+    pub steps: usize,
+    pub to: Destination,
+}
+
+/// The statement of this number. Statements are numbered from 0.
+pub(crate) fn statement_at(statements: &[Shared<Resolved>], i: usize) -> &Resolved
+    requires { i < length statements.now }
+    ensures { slice_get statements.now i ≡ Some result.now }
+{
+    &statements[i]
+}
+
+/// Where a step leads from this statement that does nothing else. None is told from the statement `i`, which may be another one.
+fn step_from(statements: &[Shared<Resolved>], i: usize, place: usize) -> Option<Destination>
+    ensures { IfSome result (λ to. IsStep statements.now i place to) }
+{
+    if place == i || statements.len() <= place {
+        return None;
+    }
+    let resolved = statement_at(statements, place);
+    let Exit { leaves, to } = plain_exit(resolved, &resolved.action)?;
+    if !leaves.is_empty() {
+        return None;
+    }
+    Some(to)
+}
+
+/// As far as such steps lead from the statement `start`, without the statement `i`. A way that goes round is cut off.
+pub(crate) fn way_from(statements: &[Shared<Resolved>], i: usize, start: usize) -> Way
+    ensures { IsWay statements.now i (Destination.Statement start) result }
+{
+    let mut place = start;
+    for steps in 0..statements.len() {
+        match step_from(statements, i, place) {
+            Some(Destination::Statement(next)) => place = next,
+            Some(to) => {
+                return Way {
+                    steps: steps + 1,
+                    to,
+                };
+            }
+            None => {
+                return Way {
+                    steps,
+                    to: Destination::Statement(place),
+                };
+            }
+        }
+    }
+    Way {
+        steps: statements.len(),
+        to: Destination::Statement(place),
+    }
+}

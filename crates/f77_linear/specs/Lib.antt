@@ -1,0 +1,4 @@
+pub mod Sums
+pub mod Inequalities
+pub mod Cases
+pub mod Conditions
