@@ -13,7 +13,7 @@ use Rattle.f77_facts.specs.declared.truths.Truths.{Truths}
 use Rattle.f77_facts.specs.Truths.{SuitsTruth}
 use Rattle.f77_linear.specs.declared.truth.Cases.{Cases}
 use Rattle.f77_linear.specs.Cases.{IsOneOf}
-use Rattle.f77_linear.specs.Conditions.{IsAmong}
+use Rattle.f77_linear.specs.Conditions.{IsCovered}
 use Rattle.f77_linear.specs.Sums.{as_number, number_held}
 
 abbrev pub ok_of : ℤ → Result ℤ Fault
@@ -32,15 +32,15 @@ in_range_is x z e = by (fits x) refl
 
 -- a relation of two numbers is among cases if it is wherever both have values
 pub related_among : (cells : Cells) (op : Relation) (r s : Result ℤ Fault) (cases : Cases)
-    → ((u v : ℤ) → r ≡ Ok u → s ≡ Ok v → IsAmong cells (Ok (compared op u v)) cases)
-    → IsAmong cells (both (λ u v. Ok (compared op u v)) r s) cases
+    → ((u v : ℤ) → r ≡ Ok u → s ≡ Ok v → IsCovered cells (Ok (compared op u v)) cases)
+    → IsCovered cells (both (λ u v. Ok (compared op u v)) r s) cases
 related_among cells op (Ok u) (Ok v) cases f = f u v refl refl
 related_among cells op (Ok u) (Err fault) cases f = tt
 related_among cells op (Err fault) s cases f = tt
 
 -- both truth values have their cases
 pub among_by : (cells : Cells) (b : Bool) (cases : Cases) → (b ≡ true → IsOneOf cells (pos 0) cases.holds.items)
-    → (b ≡ false → IsOneOf cells (pos 0) cases.fails.items) → IsAmong cells (Ok b) cases
+    → (b ≡ false → IsOneOf cells (pos 0) cases.fails.items) → IsCovered cells (Ok b) cases
 among_by cells true cases f g = f refl
 among_by cells false cases f g = g refl
 
@@ -48,19 +48,19 @@ among_by cells false cases f g = g refl
 pub logic_among : (cells : Cells) (r : Result ℕ Fault) (slot : ℕ) (cases : Cases) → ((k : ℕ) → r ≡ Ok k → k ≡ slot)
     → (is_below (pos 0) (number_held cells slot) ≡ true → IsOneOf cells (pos 0) cases.holds.items)
     → (not (is_below (pos 0) (number_held cells slot)) ≡ true → IsOneOf cells (pos 0) cases.fails.items)
-    → IsAmong cells (given r (λ k. logic (held_in cells k))) cases
+    → IsCovered cells (given r (λ k. logic (held_in cells k))) cases
 logic_among cells (Err fault) slot cases one f g = tt
 logic_among cells (Ok k) slot cases one f g =
-    subst (λ (j : ℕ). IsAmong cells (logic (held_in cells j)) cases) (sym (one k refl)) (by (held_in cells slot) f g)
+    subst (λ (j : ℕ). IsCovered cells (logic (held_in cells j)) cases) (sym (one k refl)) (by (held_in cells slot) f g)
   where
     by : (cell : Option Value) → (is_below (pos 0) (as_number cell) ≡ true → IsOneOf cells (pos 0) cases.holds.items)
-        → (not (is_below (pos 0) (as_number cell)) ≡ true → IsOneOf cells (pos 0) cases.fails.items) → IsAmong cells (logic cell) cases
+        → (not (is_below (pos 0) (as_number cell)) ≡ true → IsOneOf cells (pos 0) cases.fails.items) → IsCovered cells (logic cell) cases
     by (Some (held.Truth true)) f g = f refl
     by (Some (held.Truth false)) f g = g refl
     by (Some (held.Number z)) f g = tt
     by None f g = tt
 
-pub alike_there : (cells : Cells) (a b : Cases) (u v : Bool) → IsAmong cells (Ok u) a → IsAmong cells (Ok v) b → same_truth u v ≡ true
+pub alike_there : (cells : Cells) (a b : Cases) (u v : Bool) → IsCovered cells (Ok u) a → IsCovered cells (Ok v) b → same_truth u v ≡ true
     → (IsOneOf cells (pos 0) a.holds.items × IsOneOf cells (pos 0) b.holds.items)
     ⊎ (IsOneOf cells (pos 0) a.fails.items × IsOneOf cells (pos 0) b.fails.items)
 alike_there cells a b true true p q e = inl (p, q)
@@ -68,7 +68,7 @@ alike_there cells a b false false p q e = inr (p, q)
 alike_there cells a b true false p q e = absurd (cc)
 alike_there cells a b false true p q e = absurd (cc)
 
-pub unlike_there : (cells : Cells) (a b : Cases) (u v : Bool) → IsAmong cells (Ok u) a → IsAmong cells (Ok v) b → same_truth u v ≡ false
+pub unlike_there : (cells : Cells) (a b : Cases) (u v : Bool) → IsCovered cells (Ok u) a → IsCovered cells (Ok v) b → same_truth u v ≡ false
     → (IsOneOf cells (pos 0) a.holds.items × IsOneOf cells (pos 0) b.fails.items)
     ⊎ (IsOneOf cells (pos 0) a.fails.items × IsOneOf cells (pos 0) b.holds.items)
 unlike_there cells a b true false p q e = inl (p, q)
@@ -79,7 +79,7 @@ unlike_there cells a b false false p q e = absurd (cc)
 pub and_among : (cells : Cells) (a b cases : Cases) (x y : Result Bool Fault)
     → (IsOneOf cells (pos 0) a.holds.items → IsOneOf cells (pos 0) b.holds.items → IsOneOf cells (pos 0) cases.holds.items)
     → (IsOneOf cells (pos 0) a.fails.items ⊎ IsOneOf cells (pos 0) b.fails.items → IsOneOf cells (pos 0) cases.fails.items)
-    → IsAmong cells x a → IsAmong cells y b → IsAmong cells (both (λ u v. Ok (u && v)) x y) cases
+    → IsCovered cells x a → IsCovered cells y b → IsCovered cells (both (λ u v. Ok (u && v)) x y) cases
 and_among cells a b cases (Ok true) (Ok true) f g p q = f p q
 and_among cells a b cases (Ok true) (Ok false) f g p q = g (inr q)
 and_among cells a b cases (Ok false) (Ok v) f g p q = g (inl p)
@@ -89,7 +89,7 @@ and_among cells a b cases (Err fault) y f g p q = tt
 pub or_among : (cells : Cells) (a b cases : Cases) (x y : Result Bool Fault)
     → (IsOneOf cells (pos 0) a.fails.items → IsOneOf cells (pos 0) b.fails.items → IsOneOf cells (pos 0) cases.fails.items)
     → (IsOneOf cells (pos 0) a.holds.items ⊎ IsOneOf cells (pos 0) b.holds.items → IsOneOf cells (pos 0) cases.holds.items)
-    → IsAmong cells x a → IsAmong cells y b → IsAmong cells (both (λ u v. Ok (u || v)) x y) cases
+    → IsCovered cells x a → IsCovered cells y b → IsCovered cells (both (λ u v. Ok (u || v)) x y) cases
 or_among cells a b cases (Ok false) (Ok false) f g p q = f p q
 or_among cells a b cases (Ok false) (Ok true) f g p q = g (inr q)
 or_among cells a b cases (Ok true) (Ok v) f g p q = g (inl p)
@@ -98,7 +98,7 @@ or_among cells a b cases (Err fault) y f g p q = tt
 
 -- neither of two conditions is true where the other is false, and the second has a value
 pub same_truths : (cells : Cells) (r s : Result Bool Fault) (truths : Truths) (first second : Cases) → truths.may_lack ≡ false → SuitsTruth truths s
-    → IsAmong cells r first → IsAmong cells s second
+    → IsCovered cells r first → IsCovered cells s second
     → (IsOneOf cells (pos 0) first.holds.items → ¬ (IsOneOf cells (pos 0) second.fails.items))
     → (IsOneOf cells (pos 0) first.fails.items → ¬ (IsOneOf cells (pos 0) second.holds.items))
     → (b : Bool) → r ≡ Ok b → s ≡ Ok b

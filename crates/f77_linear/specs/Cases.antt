@@ -7,14 +7,14 @@ use Rattle.f77_linear.specs.Inequalities.{AreBelow}
 use Rattle.f77_linear.specs.Sums.{sum_value}
 
 -- the number has the value of the sum, if that is told
-abbrev pub IsTold : Cells → ℤ → Option Sum → Type 0
-IsTold cells z (Some sum) = sum_value cells sum ≡ z
-IsTold cells z None = Unit {0}
+abbrev pub IsWorth : Cells → ℤ → Option Sum → Type 0
+IsWorth cells z (Some sum) = sum_value cells sum ≡ z
+IsWorth cells z None = Unit {0}
 
 -- the case is there: its bounds hold, and the number has the value that is told
 pub record IsCase (cells : Cells) (z : ℤ) (case : Case) : Type 0 where
   pub bounds : AreBelow cells case.bounds.items
-  pub value : IsTold cells z case.value
+  pub value : IsWorth cells z case.value
 
 -- one of the cases is there
 abbrev pub IsOneOf : Cells → ℤ → List Case → Type 0

@@ -13,23 +13,26 @@ use Rattle.f77_linear.specs.Cases.{IsOneOf}
 
 -- where the number has a value, one of its cases is there
 abbrev pub CoversNumber : List Fact → Number → List Case → Type 0
-CoversNumber facts x cases = (cells : Cells) (z : ℤ) → AreIn facts cells → number_in cells x ≡ Ok z → IsOneOf cells z cases
+CoversNumber facts x cases =
+    (cells : Cells) (z : ℤ) → AreIn facts cells → number_in cells x ≡ Ok z → IsOneOf cells z cases
 
 -- One of the cases of a truth value is there. They tell of no number, so that any does.
-abbrev pub IsAmong : Cells → Result Bool Fault → Cases → Type 0
-IsAmong cells (Ok true) cases = IsOneOf cells (pos 0) cases.holds.items
-IsAmong cells (Ok false) cases = IsOneOf cells (pos 0) cases.fails.items
-IsAmong cells (Err fault) cases = Unit {0}
+abbrev pub IsCovered : Cells → Result Bool Fault → Cases → Type 0
+IsCovered cells (Ok true) cases = IsOneOf cells (pos 0) cases.holds.items
+IsCovered cells (Ok false) cases = IsOneOf cells (pos 0) cases.fails.items
+IsCovered cells (Err fault) cases = Unit {0}
 
 -- the same of the truth value of a condition
 abbrev pub CoversCondition : List Fact → Condition → Cases → Type 0
-CoversCondition facts c cases = (cells : Cells) → AreIn facts cells → IsAmong cells (truth_in cells c) cases
+CoversCondition facts c cases = (cells : Cells) → AreIn facts cells → IsCovered cells (truth_in cells c) cases
 
 -- where the first condition has a truth value, the second has it
 abbrev pub HasTruthOf : List Fact → Condition → Condition → Type 0
-HasTruthOf facts c d = (cells : Cells) (b : Bool) → AreIn facts cells → truth_in cells c ≡ Ok b → truth_in cells d ≡ Ok b
+HasTruthOf facts c d =
+    (cells : Cells) (b : Bool) → AreIn facts cells → truth_in cells c ≡ Ok b → truth_in cells d ≡ Ok b
 
 -- the same where one of these cases is there
 abbrev pub HasTruthWhere : List Fact → List Case → Condition → Condition → Type 0
 HasTruthWhere facts given c d =
-    (cells : Cells) (b : Bool) → AreIn facts cells → IsOneOf cells (pos 0) given → truth_in cells c ≡ Ok b → truth_in cells d ≡ Ok b
+    (cells : Cells) (b : Bool) → AreIn facts cells → IsOneOf cells (pos 0) given → truth_in cells c ≡ Ok b
+    → truth_in cells d ≡ Ok b

@@ -1,5 +1,6 @@
 -- Sums over what slots hold.
-use Rattle.std.specs.Prelude.{◌≡◌, if◌then◌else◌, ◌∷◌, ◌+ℤ◌, ◌*ℤ◌, ℕ, List, [], Option, Some, None, IfSome, ℤ, pos}
+use Rattle.std.specs.Prelude.{◌≡◌, if◌then◌else◌, ◌∷◌, ◌+ℤ◌, ◌*ℤ◌, ℕ, List, [], Option}
+use Rattle.std.specs.Prelude.{Some, None, IfSome, ℤ, pos}
 use Rattle.f77_values.specs.declared.value.Value.{Value}
 use Rattle.f77_values.specs.declared.value.Value.TheVariants as held
 use Rattle.f77_code.specs.Evaluation.{held_in}
@@ -29,4 +30,5 @@ sum_value cells sum = sum.constant +ℤ terms_value cells sum.terms.items
 -- if there is a sum, it is the first, so many times, and the second, so many times
 abbrev pub IsCombined : ℤ → Sum → ℤ → Sum → Option Sum → Type 0
 IsCombined m a n b combined =
-    IfSome combined (λ sum. (cells : Cells) → sum_value cells sum ≡ m *ℤ sum_value cells a +ℤ n *ℤ sum_value cells b)
+    IfSome combined (λ sum. (cells : Cells)
+    → sum_value cells sum ≡ m *ℤ sum_value cells a +ℤ n *ℤ sum_value cells b)

@@ -3,7 +3,7 @@
 ghost use Rattle.std.specs.Prelude.{◌≡◌, ◌⊎◌, ◌+ℤ◌, ◌*ℤ◌, ◌≤ℤ◌, ℤ, pos, IfOk};
 ghost use Rattle.f77_code.specs.Moves.{Cells};
 ghost use Rattle.f77_linear.specs.Sums.{sum_value};
-ghost use Rattle.f77_linear.specs.Cases.{IsTold, IsCase, IsOneOf, Stay, above_zero};
+ghost use Rattle.f77_linear.specs.Cases.{IsWorth, IsCase, IsOneOf, Stay, above_zero};
 
 use crate::inequalities::{add_all, add_bound};
 use crate::sums::{Sum, combined, constant_sum, copy};
@@ -21,7 +21,8 @@ pub struct Case {
 
 /// One case without bounds.
 pub fn one_case(alloc: Global, value: Option<Sum>) -> Result<Vec<Case>, AllocError>
-    ensures { IfOk result (λ cases. (cells : Cells) (z : ℤ) → IsTold cells z value → IsOneOf cells z cases.items) }
+    ensures { IfOk result (λ cases. (cells : Cells) (z : ℤ) → IsWorth cells z value
+        → IsOneOf cells z cases.items) }
 {
     let mut cases = Vec::new(alloc);
     cases.push(Case {
@@ -41,7 +42,8 @@ pub fn anything(alloc: Global) -> Result<Vec<Case>, AllocError>
 /// Adds a case.
 pub fn add_case(cases: &mut Vec<Case>, case: Case) -> Result<(), AllocError>
     ensures kept { IfOk result (λ _. Stay cases.old.items cases.new.items) }
-    ensures added { IfOk result (λ _. (cells : Cells) (z : ℤ) → IsCase cells z case → IsOneOf cells z cases.new.items) }
+    ensures added { IfOk result (λ _. (cells : Cells) (z : ℤ) → IsCase cells z case
+        → IsOneOf cells z cases.new.items) }
 {
     cases.push(case)?;
     Ok(())
@@ -49,8 +51,8 @@ pub fn add_case(cases: &mut Vec<Case>, case: Case) -> Result<(), AllocError>
 
 /// The cases of the first and those of the second.
 pub fn either(first: Vec<Case>, second: Vec<Case>) -> Result<Vec<Case>, AllocError>
-    ensures { IfOk result (λ cases. (cells : Cells) (z : ℤ) → IsOneOf cells z first.items ⊎ IsOneOf cells z second.items
-        → IsOneOf cells z cases.items) }
+    ensures { IfOk result (λ cases. (cells : Cells) (z : ℤ)
+        → IsOneOf cells z first.items ⊎ IsOneOf cells z second.items → IsOneOf cells z cases.items) }
 {
     let mut cases = first;
     let mut more = second;
@@ -75,8 +77,8 @@ fn narrowed(alloc: Global, case: &Case, m: i64, sum: &Sum, value: Sum) -> Result
 /// Adds the case where the sum, which is the number, is not below 0, and that of 0 where it is not above.
 fn add_split(alloc: Global, cases: &mut Vec<Case>, case: &Case, sum: &Sum) -> Result<(), AllocError>
     ensures kept { IfOk result (λ _. Stay cases.old.items cases.new.items) }
-    ensures added { IfOk result (λ _. (cells : Cells) (z : ℤ) → IsCase cells z case.now → sum_value cells sum.now ≡ z
-        → IsOneOf cells (above_zero z) cases.new.items) }
+    ensures added { IfOk result (λ _. (cells : Cells) (z : ℤ) → IsCase cells z case.now
+        → sum_value cells sum.now ≡ z → IsOneOf cells (above_zero z) cases.new.items) }
 {
     let copied = copy(alloc, sum)?;
     let above = narrowed(alloc, case, -1, sum, copied)?;
@@ -124,8 +126,8 @@ fn combined_value(
     n: i64,
     b: &Option<Sum>,
 ) -> Result<Option<Sum>, AllocError>
-    ensures { IfOk result (λ value. (cells : Cells) (y z : ℤ) → IsTold cells y a.now → IsTold cells z b.now
-        → IsTold cells (m *ℤ y +ℤ n *ℤ z) value) }
+    ensures { IfOk result (λ value. (cells : Cells) (y z : ℤ) → IsWorth cells y a.now → IsWorth cells z b.now
+        → IsWorth cells (m *ℤ y +ℤ n *ℤ z) value) }
 {
     let Some(first) = a else {
         return Ok(None);
@@ -158,8 +160,8 @@ fn add_combined_cases(
     others: &[Case],
 ) -> Result<(), AllocError>
     ensures kept { IfOk result (λ _. Stay cases.old.items cases.new.items) }
-    ensures added { IfOk result (λ _. (cells : Cells) (y z : ℤ) → IsCase cells y first.now → IsOneOf cells z others.now
-        → IsOneOf cells (m *ℤ y +ℤ n *ℤ z) cases.new.items) }
+    ensures added { IfOk result (λ _. (cells : Cells) (y z : ℤ) → IsCase cells y first.now
+        → IsOneOf cells z others.now → IsOneOf cells (m *ℤ y +ℤ n *ℤ z) cases.new.items) }
 {
     for other in others {
         let both = combined_case(alloc, m, first, n, other)?;
@@ -183,8 +185,8 @@ pub fn combined_cases(
     n: i64,
     others: &[Case],
 ) -> Result<Vec<Case>, AllocError>
-    ensures { IfOk result (λ cases. (cells : Cells) (y z : ℤ) → IsOneOf cells y firsts.now → IsOneOf cells z others.now
-        → IsOneOf cells (m *ℤ y +ℤ n *ℤ z) cases.items) }
+    ensures { IfOk result (λ cases. (cells : Cells) (y z : ℤ) → IsOneOf cells y firsts.now
+        → IsOneOf cells z others.now → IsOneOf cells (m *ℤ y +ℤ n *ℤ z) cases.items) }
 {
     if !are_few(firsts, others) {
         return anything(alloc);

@@ -17,8 +17,8 @@ use std::alloc::{AllocError, Global};
 
 /// The one slot that a reference may name.
 pub fn slot_of(facts: &[Fact], element: &Element) -> Option<usize>
-    ensures { IfSome result (λ slot. (cells : Cells) (k : ℕ) → AreIn facts.now cells → slot_in cells element.now ≡ Ok k
-        → k ≡ slot) }
+    ensures { IfSome result (λ slot. (cells : Cells) (k : ℕ) → AreIn facts.now cells
+        → slot_in cells element.now ≡ Ok k → k ≡ slot) }
 {
     let reach = reach_of(facts, element);
     if reach.count == 1 {
@@ -78,8 +78,8 @@ fn product_cases(
 
 /// The cases of the first number less the second where it is above 0, and of 0 where it is not.
 fn excess_cases(alloc: Global, lefts: &[Case], rights: &[Case]) -> Result<Vec<Case>, AllocError>
-    ensures { IfOk result (λ cases. (cells : Cells) (u v : ℤ) → IsOneOf cells u lefts.now → IsOneOf cells v rights.now
-        → IsOneOf cells (above_zero (u -ℤ v)) cases.items) }
+    ensures { IfOk result (λ cases. (cells : Cells) (u v : ℤ) → IsOneOf cells u lefts.now
+        → IsOneOf cells v rights.now → IsOneOf cells (above_zero (u -ℤ v)) cases.items) }
 {
     let differences = combined_cases(alloc, 1, lefts, -1, rights)?;
     above_zero_cases(alloc, &differences)
@@ -87,8 +87,8 @@ fn excess_cases(alloc: Global, lefts: &[Case], rights: &[Case]) -> Result<Vec<Ca
 
 /// The cases of the lesser of two numbers: the first less what it is more than the second.
 fn least_cases(alloc: Global, lefts: &[Case], rights: &[Case]) -> Result<Vec<Case>, AllocError>
-    ensures { IfOk result (λ cases. (cells : Cells) (u v : ℤ) → IsOneOf cells u lefts.now → IsOneOf cells v rights.now
-        → IsOneOf cells (if is_below v u then v else u) cases.items) }
+    ensures { IfOk result (λ cases. (cells : Cells) (u v : ℤ) → IsOneOf cells u lefts.now
+        → IsOneOf cells v rights.now → IsOneOf cells (if is_below v u then v else u) cases.items) }
 {
     let excess = excess_cases(alloc, lefts, rights)?;
     combined_cases(alloc, 1, lefts, -1, &excess)
@@ -96,8 +96,8 @@ fn least_cases(alloc: Global, lefts: &[Case], rights: &[Case]) -> Result<Vec<Cas
 
 /// The cases of the greater of two numbers: the second and what the first is more.
 fn greatest_cases(alloc: Global, lefts: &[Case], rights: &[Case]) -> Result<Vec<Case>, AllocError>
-    ensures { IfOk result (λ cases. (cells : Cells) (u v : ℤ) → IsOneOf cells u lefts.now → IsOneOf cells v rights.now
-        → IsOneOf cells (if is_below u v then v else u) cases.items) }
+    ensures { IfOk result (λ cases. (cells : Cells) (u v : ℤ) → IsOneOf cells u lefts.now
+        → IsOneOf cells v rights.now → IsOneOf cells (if is_below u v then v else u) cases.items) }
 {
     let excess = excess_cases(alloc, lefts, rights)?;
     combined_cases(alloc, 1, rights, 1, &excess)

@@ -5,7 +5,7 @@ ghost use Rattle.f77_code.specs.Evaluation.{compared};
 ghost use Rattle.f77_code.specs.Moves.{Cells};
 ghost use Rattle.f77_linear.specs.Sums.{sum_value};
 ghost use Rattle.f77_linear.specs.Inequalities.{AreBelow};
-ghost use Rattle.f77_linear.specs.Cases.{IsTold, IsCase, IsOneOf};
+ghost use Rattle.f77_linear.specs.Cases.{IsWorth, IsCase, IsOneOf};
 
 use crate::cases::{Case, either};
 use crate::inequalities::{add_all, add_bound};
@@ -43,8 +43,8 @@ fn add_told_relation(
     relation: Relation,
     value: &Option<Sum>,
 ) -> Result<(), AllocError>
-    ensures { IfOk result (λ _. (cells : Cells) (z : ℤ) → AreBelow cells bounds.old.items → IsTold cells z value.now
-        → compared relation z (pos 0) ≡ true → AreBelow cells bounds.new.items) }
+    ensures { IfOk result (λ _. (cells : Cells) (z : ℤ) → AreBelow cells bounds.old.items
+        → IsWorth cells z value.now → compared relation z (pos 0) ≡ true → AreBelow cells bounds.new.items) }
 {
     let Some(sum) = value else {
         return Ok(());

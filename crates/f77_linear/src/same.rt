@@ -35,8 +35,8 @@ fn exclude_each_other(
     first: &[Case],
     second: &[Case],
 ) -> Result<bool, AllocError>
-    ensures { IfOk result (λ yes. yes ≡ true → (cells : Cells) → AreIn facts.now cells → IsOneOf cells (pos 0) first.now
-        → ¬ (IsOneOf cells (pos 0) second.now)) }
+    ensures { IfOk result (λ yes. yes ≡ true → (cells : Cells) → AreIn facts.now cells
+        → IsOneOf cells (pos 0) first.now → ¬ (IsOneOf cells (pos 0) second.now)) }
 {
     let both = combined_cases(alloc, 1, first, 1, second)?;
     is_none_there(alloc, facts, &both)
@@ -81,8 +81,8 @@ fn exclude_one_by_one(
     first: &[Case],
     second: &[Case],
 ) -> Result<bool, AllocError>
-    ensures { IfOk result (λ yes. yes ≡ true → (cells : Cells) → AreIn facts.now cells → IsOneOf cells (pos 0) first.now
-        → ¬ (IsOneOf cells (pos 0) second.now)) }
+    ensures { IfOk result (λ yes. yes ≡ true → (cells : Cells) → AreIn facts.now cells
+        → IsOneOf cells (pos 0) first.now → ¬ (IsOneOf cells (pos 0) second.now)) }
 {
     for k in 0..first.len() {
         let apart = exclude_each_other(alloc, facts, alone(first, k), second)?;

@@ -1,6 +1,7 @@
 //! Sums over what slots hold: a constant and terms, each a factor times what its slot holds.
 
-ghost use Rattle.std.specs.Prelude.{◌≡◌, ◌≤◌, ◌<◌, ◌+ℤ◌, ◌*ℤ◌, pos, true, length, slice_get, slice_set, Some, IfOk};
+ghost use Rattle.std.specs.Prelude.{◌≡◌, ◌≤◌, ◌<◌, ◌+ℤ◌, ◌*ℤ◌, pos, true, length};
+ghost use Rattle.std.specs.Prelude.{slice_get, slice_set, Some, IfOk};
 ghost use Rattle.f77_code.specs.Moves.{Cells};
 ghost use Rattle.f77_linear.specs.Sums.{number_held, terms_value, sum_value, IsCombined};
 

@@ -6,7 +6,7 @@ ghost use Rattle.f77_values.specs.Value.{given, both, same_truth};
 ghost use Rattle.f77_code.specs.Evaluation.{compared, joined};
 ghost use Rattle.f77_code.specs.Moves.{Cells};
 ghost use Rattle.f77_linear.specs.Cases.{IsOneOf};
-ghost use Rattle.f77_linear.specs.Conditions.{IsAmong, CoversCondition};
+ghost use Rattle.f77_linear.specs.Conditions.{IsCovered, CoversCondition};
 
 use crate::cases::{Case, anything, combined_cases, either, one_case};
 use crate::numbers::{number_cases, slot_of};
@@ -26,7 +26,7 @@ pub struct Cases {
 
 /// The cases of a constant.
 fn constant_cases(alloc: Global, truth: bool) -> Result<Cases, AllocError>
-    ensures { IfOk result (λ cases. (cells : Cells) → IsAmong cells (Ok truth) cases) }
+    ensures { IfOk result (λ cases. (cells : Cells) → IsCovered cells (Ok truth) cases) }
 {
     let there = anything(alloc)?;
     if truth {
@@ -67,7 +67,7 @@ fn relation_cases(
     differences: &[Case],
 ) -> Result<Cases, AllocError>
     ensures { IfOk result (λ cases. (cells : Cells) (u v : ℤ) → IsOneOf cells (u -ℤ v) differences.now
-        → IsAmong cells (Ok (compared relation u v)) cases) }
+        → IsCovered cells (Ok (compared relation u v)) cases) }
 {
     let holds = related_cases(alloc, relation, differences)?;
     let fails = related_cases(alloc, opposite_of(relation), differences)?;
@@ -76,16 +76,16 @@ fn relation_cases(
 
 /// The cases in which both are there.
 fn joint(alloc: Global, first: &[Case], second: &[Case]) -> Result<Vec<Case>, AllocError>
-    ensures { IfOk result (λ cases. (cells : Cells) → IsOneOf cells (pos 0) first.now → IsOneOf cells (pos 0) second.now
-        → IsOneOf cells (pos 0) cases.items) }
+    ensures { IfOk result (λ cases. (cells : Cells) → IsOneOf cells (pos 0) first.now
+        → IsOneOf cells (pos 0) second.now → IsOneOf cells (pos 0) cases.items) }
 {
     combined_cases(alloc, 1, first, 1, second)
 }
 
 /// The cases in which both have the same truth value.
 fn alike(alloc: Global, a: &Cases, b: &Cases) -> Result<Vec<Case>, AllocError>
-    ensures { IfOk result (λ cases. (cells : Cells) (u v : Bool) → IsAmong cells (Ok u) a.now
-        → IsAmong cells (Ok v) b.now → same_truth u v ≡ true → IsOneOf cells (pos 0) cases.items) }
+    ensures { IfOk result (λ cases. (cells : Cells) (u v : Bool) → IsCovered cells (Ok u) a.now
+        → IsCovered cells (Ok v) b.now → same_truth u v ≡ true → IsOneOf cells (pos 0) cases.items) }
 {
     let hold = joint(alloc, &a.holds, &b.holds)?;
     let fail = joint(alloc, &a.fails, &b.fails)?;
@@ -94,8 +94,8 @@ fn alike(alloc: Global, a: &Cases, b: &Cases) -> Result<Vec<Case>, AllocError>
 
 /// The cases in which one is true and the other is false.
 fn unlike(alloc: Global, a: &Cases, b: &Cases) -> Result<Vec<Case>, AllocError>
-    ensures { IfOk result (λ cases. (cells : Cells) (u v : Bool) → IsAmong cells (Ok u) a.now
-        → IsAmong cells (Ok v) b.now → same_truth u v ≡ false → IsOneOf cells (pos 0) cases.items) }
+    ensures { IfOk result (λ cases. (cells : Cells) (u v : Bool) → IsCovered cells (Ok u) a.now
+        → IsCovered cells (Ok v) b.now → same_truth u v ≡ false → IsOneOf cells (pos 0) cases.items) }
 {
     let first = joint(alloc, &a.holds, &b.fails)?;
     let second = joint(alloc, &a.fails, &b.holds)?;
@@ -109,8 +109,8 @@ fn connected_cases(
     a: Cases,
     b: Cases,
 ) -> Result<Cases, AllocError>
-    ensures { IfOk result (λ cases. (cells : Cells) (x y : Result Bool Fault) → IsAmong cells x a → IsAmong cells y b
-        → IsAmong cells (both (λ u v. Ok (joined connective u v)) x y) cases) }
+    ensures { IfOk result (λ cases. (cells : Cells) (x y : Result Bool Fault) → IsCovered cells x a
+        → IsCovered cells y b → IsCovered cells (both (λ u v. Ok (joined connective u v)) x y) cases) }
 {
     match connective {
         Connective::And => Ok(Cases {
