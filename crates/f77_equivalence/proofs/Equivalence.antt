@@ -3,43 +3,30 @@ use Rattle.std.proofs.Common.{◌≡◌, ℕ, List, map, sym, subst}
 use Rattle.f77_program.specs.Program.{LineFields, line_of}
 use Rattle.f77_check.specs.Checked.{CheckedFields}
 use Rattle.f77_actions.specs.declared.resolved.Resolved.{Resolved}
-use Rattle.f77_values.specs.declared.finish.Fault.{Fault}
-use Rattle.f77_values.specs.declared.finish.Fault.TheVariants as fault
 use Rattle.f77_values.specs.declared.finish.Finish.{Finish}
 use Rattle.f77_values.specs.declared.finish.Finish.TheVariants as finish
 use Rattle.f77_facts.specs.declared.entries.Entry.{Entry}
 use Rattle.f77_facts.specs.Entries.{IsInductive}
 use Rattle.f77_run.specs.declared.argument.Arg.{Arg}
-use Rattle.f77_run.specs.declared.outcome.Outcome.{Outcome}
-use Rattle.f77_run.specs.Interpreter.{AreFitting, Tells, told, values_in}
+use Rattle.f77_run.specs.Interpreter.{AreFitting, values_in}
 use Rattle.f77_run.specs.Outcome.{IsOutcome}
 use Rattle.f77_run.specs.Site.{site_of}
-use Rattle.f77_run.specs.Value.{Store}
 use Rattle.f77_run.proofs.OneAnswer.{one_start}
 use Rattle.f77_run.proofs.Runs.{stands_for}
 use Rattle.f77_run.proofs.Unreached.{starts_same, tells_same}
-use Rattle.f77_equivalence.specs.Changed.{IsChange, SameWhereChanged, EquivalentWhereSame}
-use Rattle.f77_equivalence.specs.Equivalent.{IsEnd, KeepsEnds}
+use Rattle.f77_equivalence.specs.Changed.{IsChange, IsEnding, SameWhereChanged, EquivalentWhereSame}
+use Rattle.f77_equivalence.specs.Equivalent.{KeepsEnds}
 use Rattle.f77_equivalence.specs.Start.{start_state, StartsIn}
+use Rattle.f77_equivalence.proofs.Ending.{is_ending}
 use Rattle.f77_equivalence.proofs.Lifted.{IsSafe, same_end}
 use Rattle.f77_equivalence.proofs.Throughout.{runs_there, starts_there}
 
--- no fault is told as an end
-told_otherwise : (fault : Fault) → IsEnd (told fault) → ⊥
-told_otherwise fault.Overflow end = end
-told_otherwise fault.DivideByZero end = end
-told_otherwise fault.ZeroPower end = end
-told_otherwise fault.BadSubscript end = end
-told_otherwise fault.ZeroStep end = end
-told_otherwise fault.Undefined end = end
-told_otherwise fault.Trapped end = end
-
--- so a run that is told as one has no fault
-ends_safely : (p : List LineFields) (finish : Finish) (values : Store) (outcome : Outcome) → Tells p finish values outcome → IsEnd outcome → IsSafe finish
-ends_safely p finish.Returned values outcome tells end = tt
-ends_safely p finish.Stopped values outcome tells end = tt
-ends_safely p finish.StepLimit values outcome tells end = tt
-ends_safely p (finish.Failed fault) values outcome tells end = told_otherwise fault (subst IsEnd tells end)
+-- a run that returns or stops has no fault
+ending_safe : (finish : Finish) → IsEnding finish → IsSafe finish
+ending_safe finish.Returned end = tt
+ending_safe finish.Stopped end = tt
+ending_safe finish.StepLimit end = tt
+ending_safe (finish.Failed fault) end = end
 
 -- what a run with these arguments comes to, that of the changed program does
 pub keeps_ends : (checked : CheckedFields) (i : ℕ) (program : List LineFields) (changed : List Resolved) (entries : List Entry)
@@ -51,7 +38,7 @@ keeps_ends checked i program changed entries change inductive same arguments fit
     let start = stands_for (site_of checked arguments) (start_state checked arguments) in
     let one : is.start ≡ start
     = one_start p (map values_in arguments) is.start start is.starts (starts_there checked change.own arguments fits) in
-    let safe = ends_safely p is.finish is.values outcome is.tells end in
+    let safe = ending_safe is.finish (is_ending p is.finish is.values outcome is.tells end) in
     let ends : IsOutcome program limit start is.finish is.values
     = same_end checked i program changed entries change same arguments inductive limit (start_state checked arguments) is.finish is.values
     (runs_there checked change.own arguments fits) begins safe (subst (λ c. IsOutcome p limit c is.finish is.values) one is.ends) in

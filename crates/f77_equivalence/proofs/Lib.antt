@@ -1,3 +1,4 @@
+pub mod Lists
 pub mod Alike
 pub mod Actions
 pub mod Turning
@@ -8,6 +9,7 @@ pub mod Relations
 pub mod Sizes
 pub mod Throughout
 pub mod Lifted
+pub mod Ending
 pub mod Equivalence
 pub mod StartSlots
 pub mod InPlace

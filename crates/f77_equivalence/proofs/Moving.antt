@@ -1,8 +1,7 @@
 -- Steps of two programs.
-use Rattle.std.proofs.Common.{arith, ◌≡◌, ◌≢◌, ◌⊎◌, inl, inr, ℕ, ◌+◌, ◌-◌, ◌<◌, Bool, true, false, List, Option, Some, None, refl, sym, ap, subst, ◌∙◌}
+use Rattle.std.proofs.Common.{◌≡◌, ◌≢◌, ◌⊎◌, inl, inr, ℕ, ◌-◌, Bool, true, false, List, Option, Some, None, refl, sym, ap, subst, ◌∙◌}
 use Rattle.std.specs.Prelude.{Result, Ok, Err, IfOk, slice_get, slice_set, option_map, ◌+ℤ◌, if◌then◌else◌}
 use Rattle.std.specs.Option.{option_and_then, option_map_or}
-use Rattle.std.proofs.lemmas.Bool.Decides.{eqb_tells}
 use Rattle.f77_actions.specs.declared.action.Action.{Action, LogicalIf', Loop}
 use Rattle.f77_actions.specs.declared.resolved.Resolved.{Resolved}
 use Rattle.f77_values.specs.declared.finish.Fault.{Fault}
@@ -14,10 +13,10 @@ use Rattle.f77_code.specs.declared.control.Place.TheVariants.{Execute, Increment
 use Rattle.f77_code.specs.declared.control.Turn.{Turn}
 use Rattle.f77_code.specs.Evaluation.{held_in, number_in, truth_in}
 use Rattle.f77_code.specs.Moves.{Cells, Turns, Move, Goes, state, used, chosen, acted, begun, incremented, go_on, passing, passing_at, moved, turn_at, is_executed, is_loop}
-use Rattle.f77_facts.specs.declared.entries.Entry.{Entry}
 use Rattle.f77_facts.specs.declared.facts.Fact.{Fact}
 use Rattle.f77_facts.specs.declared.loops.LoopFact.{LoopFact}
-use Rattle.f77_equivalence.specs.Same.{Follows, SameMoves, SameInAll}
+use Rattle.f77_facts.proofs.Slots.{same_or_not}
+use Rattle.f77_equivalence.specs.Same.{Follows, SameMoves}
 use Rattle.f77_equivalence.specs.Alike.{AgreeBut, GoOnAlike, PassAlike, PassesAlike, ActsAlike, site}
 use Rattle.f77_equivalence.proofs.Actions.{one_follows, begun_alike}
 
@@ -26,7 +25,7 @@ ok_then (Ok x) p f = f x p
 ok_then (Err e) p f = tt
 
 -- what is done at all is this
-if_done : (b : Bool) (m n : Move) → (if b then Some m else None) ≡ Some n → m ≡ n
+pub if_done : (b : Bool) (m n : Move) → (if b then Some m else None) ≡ Some n → m ≡ n
 if_done true m n e = cc (e)
 if_done false m n e = absurd (cc (e))
 
@@ -78,9 +77,6 @@ used_same : {A : Type 0} (x : Result A Fault) (cells : Cells) (f g : A → Move)
 used_same (Ok v) cells f g each = each v
 used_same (Err fault) cells f g each = refl
 
-same_or_not : (j k : ℕ) → (j ≡ k) ⊎ (j ≢ k)
-same_or_not j k = elim (eqb_tells j k) [ inl p ↦ inl p.1 | inr p ↦ inr p.1 ]
-
 -- at the statements that are the same in both programs
 module _ (statements others : List Resolved) (changed : ℕ) (agree : AgreeBut changed statements others) (pass : PassAlike statements others changed) where
   every_pass : (t : ℕ) → PassAlike statements others t
@@ -91,6 +87,12 @@ module _ (statements others : List Resolved) (changed : ℕ) (agree : AgreeBut c
           subst (λ n. passing_at others n d passes step cells turns ≡ passing_at statements n d passes step cells turns) (sym same) (pass d passes step cells turns)
       by (inr differ) =
           ap (λ (o : Option Resolved). option_map_or (λ end. passing end d passes step cells turns) o (Goes (state (Execute t) cells turns))) (sym (agree t differ))
+
+  -- so are the passes of whatever an action is
+  pub passes_same : (action : Action) → PassesAlike statements others action
+  passes_same (LogicalIf' x p action) = passes_same action
+  passes_same (Loop variable first last step t) = every_pass t
+  passes_same _ = tt
 
   acted_same : (i : ℕ) (r : Resolved) (action : Action) (cells : Cells) (turns : Turns)
       → acted others i r action cells turns ≡ acted statements i r action cells turns
@@ -151,15 +153,3 @@ module _ (statements others : List Resolved) (changed : ℕ) (agree : AgreeBut c
   pub moves_elsewhere : (place : Place) (facts : List Fact) (loops : List LoopFact) → site place ≢ changed → SameMoves statements others place facts loops
   moves_elsewhere place facts loops differ cells turns move inside left e =
       (move, moved_same place cells turns differ ∙ e, one_follows move move refl)
-
--- one entry more
-pub one_more : (statements others : List Resolved) (entries : List Entry) (n : ℕ) (entry : Entry) → slice_get entries n ≡ Some entry
-    → SameMoves statements others entry.place entry.facts.items entry.loops.items → SameInAll statements others entries n → SameInAll statements others entries (n + 1)
-one_more statements others entries n entry is same before k below = by (same_or_not k n)
-  where
-    by : (k ≡ n) ⊎ (k ≢ n) → (other : Entry) → slice_get entries k ≡ Some other → SameMoves statements others other.place other.facts.items other.loops.items
-    by (inl here) other e =
-        let there : slice_get entries n ≡ Some other = subst (λ j. slice_get entries j ≡ Some other) here e in
-        let one : entry ≡ other = cc (is, there) in
-        subst (λ x. SameMoves statements others x.place x.facts.items x.loops.items) one same
-    by (inr differ) other e = let less : k < n = omega (arith, below, differ) in before k less other e

@@ -4,7 +4,6 @@ use Rattle.std.specs.Prelude.{Ok, option_map, replicate, slice_get, slice_set}
 use Rattle.std.specs.List.{list_all, zip}
 use Rattle.std.specs.Option.{option_and_then}
 use Rattle.std.proofs.lemmas.Bool.{and_parts, eqb-true}
-use Rattle.std.proofs.lemmas.Bool.Decides.{eqb_tells}
 use Rattle.std.proofs.lemmas.List.{length-map, length-replicate, length-set}
 use Rattle.std.proofs.lemmas.Option.{slice_get_within, slice_get-map}
 use Rattle.f77_tree.specs.declared.data.Constant.{Constant}
@@ -30,7 +29,7 @@ use Rattle.f77_facts.specs.declared.truths.Truths.{Truths}
 use Rattle.f77_facts.specs.Facts.{SuitsFact, AreIn}
 use Rattle.f77_facts.specs.Known.{Suits}
 use Rattle.f77_facts.specs.Loops.{SuitsTurn, AreLeft}
-use Rattle.f77_facts.proofs.Slots.{got_other, got_same, got_within}
+use Rattle.f77_facts.proofs.Slots.{got_other, got_same, got_within, same_or_not}
 use Rattle.f77_run.specs.declared.argument.Arg.{Arg}
 use Rattle.f77_run.specs.declared.argument.Arg.TheVariants.{Int, Truth, Ints, Truths as TruthList}
 use Rattle.f77_run.specs.Interpreter.{AreFitting, has_shape, values_in}
@@ -101,9 +100,6 @@ sized kind (Some n) (TruthList bs) fit = length-map bs _ ∙ sym (eqb-true n (le
 filled_length : (cells : Cells) (first : ℕ) (vs : List Value) → length (filled cells first vs) ≡ length cells
 filled_length cells first [] = refl
 filled_length cells first (v ∷ vs) = filled_length (slice_set cells first (Some v)) (first + 1) vs ∙ length-set cells first (Some v)
-
-same_or_not : (j k : ℕ) → (j ≡ k) ⊎ (j ≢ k)
-same_or_not j k = elim (eqb_tells j k) [ inl p ↦ inl p.1 | inr p ↦ inr p.1 ]
 
 module _ (slot : ℕ) where
   -- of the slots from the first on so many hold values that pass a test, and the others what they held before

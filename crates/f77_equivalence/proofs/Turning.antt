@@ -16,7 +16,7 @@ use Rattle.f77_facts.specs.Facts.{AreIn}
 use Rattle.f77_facts.specs.Known.{IsBetween, Suits}
 use Rattle.f77_equivalence.specs.Alike.{JumpAlike, ActsAlike}
 use Rattle.f77_equivalence.specs.Same.{SameNumber, Follows}
-use Rattle.f77_equivalence.specs.Sizes.{AgreesInSize, measured}
+use Rattle.f77_equivalence.specs.Sizes.{AgreesInSize}
 use Rattle.f77_equivalence.proofs.Actions.{used_follows}
 
 pub chosen_alike : (known : Known) (negative null positive : Bool) (a b c d e f : Jump)

@@ -9,4 +9,6 @@ use Rattle.f77_equivalence.specs.Same.{Agrees}
 
 -- where the third has a value, the second has that of the first, unless that is a fault
 abbrev pub SameWhere : List Fact → Condition → Condition → Condition → Type 0
-SameWhere facts part c d = (cells : Cells) (b : Bool) → AreIn facts cells → truth_in cells part ≡ Ok b → Agrees (truth_in cells c) (truth_in cells d)
+SameWhere facts part c d =
+    (cells : Cells) (b : Bool) → AreIn facts cells → truth_in cells part ≡ Ok b
+    → Agrees (truth_in cells c) (truth_in cells d)

@@ -1,5 +1,6 @@
 pub mod Same
 pub mod Alike
+pub mod Ways
 pub mod Cases
 pub mod Sizes
 pub mod Storable

@@ -34,12 +34,14 @@ abbrev pub Follows : Move → Move → Type 0
 Follows (Ends (Failed fault) cells) other = Unit {0}
 Follows move other = other ≡ move
 
--- From a state of the place of which this is known, the second program makes the move of the first, unless that is a fault.
+-- From a state of the place of which this is known, the second program makes the move of the first, unless that is a
+-- fault.
 abbrev pub SameMoves : List Resolved → List Resolved → Place → List Fact → List LoopFact → Type 0
 SameMoves statements others place facts loops =
     (cells : Cells) (turns : Turns) (move : Move) → AreIn facts cells → AreLeft loops turns
     → moved statements (record { place = place; cells = cells; turns = turns }) ≡ Some move
-    → (other : Move) × (moved others (record { place = place; cells = cells; turns = turns }) ≡ Some other) × Follows move other
+    → (other : Move) × (moved others (record { place = place; cells = cells; turns = turns }) ≡ Some other)
+    × Follows move other
 
 -- so it does from each of the first n entries
 abbrev pub SameInAll : List Resolved → List Resolved → List Entry → ℕ → Type 0

@@ -23,13 +23,16 @@ start_turns checked = replicate (length checked.program) None
 
 -- control is at the first executable statement
 abbrev pub start_state : CheckedFields → List Arg → State
-start_state checked arguments = state (Execute checked.start.entry) (start_cells checked arguments) (start_turns checked)
+start_state checked arguments =
+    state (Execute checked.start.entry) (start_cells checked arguments) (start_turns checked)
 
 -- an entry says what is there where the run with these arguments starts
 abbrev pub StartsIn : CheckedFields → List Entry → List Arg → Type 0
-StartsIn checked entries arguments = IsAmong entries (Execute checked.start.entry) (start_cells checked arguments) (start_turns checked)
+StartsIn checked entries arguments =
+    IsAmong entries (Execute checked.start.entry) (start_cells checked arguments) (start_turns checked)
 
 -- whatever arguments fit whose numbers INTEGER holds
 abbrev pub HoldsStart : CheckedFields → List Entry → Type 0
 HoldsStart checked entries =
-    (arguments : List Arg) → AreFitting checked.arguments arguments → AreStorable arguments → StartsIn checked entries arguments
+    (arguments : List Arg) → AreFitting checked.arguments arguments → AreStorable arguments
+    → StartsIn checked entries arguments

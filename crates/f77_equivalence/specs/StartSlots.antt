@@ -1,5 +1,6 @@
 -- What slots may hold where a run starts, and what is known that says so.
-use Rattle.std.specs.Prelude.{◌≡◌, ◌⊎◌, ◌+◌, ◌≤◌, ◌<◌, ◌&&◌, ℕ, Bool, true, List, Option, Some, length, option_map, slice_get}
+use Rattle.std.specs.Prelude.{◌≡◌, ◌⊎◌, ◌+◌, ◌≤◌, ◌<◌, ◌&&◌, ℕ, Bool, true, List}
+use Rattle.std.specs.Prelude.{Option, Some, length, option_map, slice_get}
 use Rattle.f77_tree.specs.declared.data.Constant.{Constant}
 use Rattle.f77_tree.specs.declared.tree.Kind.{Kind}
 use Rattle.f77_check.specs.Checked.{CheckedFields}
@@ -42,18 +43,21 @@ MayHold dummies shapes slot initial cell =
 -- what an argument n may have suits the fact of a slot
 abbrev pub AllowsArgument : Fact → List ℕ → List Shape → ℕ → ℕ → Type 0
 AllowsArgument fact dummies shapes slot n =
-    (shape : Shape) (value : Value) → IsOfDummy dummies shapes slot n shape → is_argument shape.kind value ≡ true → SuitsFact fact (Some value)
+    (shape : Shape) (value : Value) → IsOfDummy dummies shapes slot n shape → is_argument shape.kind value ≡ true
+    → SuitsFact fact (Some value)
 
 -- what the slot may hold suits it
 abbrev pub AllowsSlot : Fact → Option Constant → List ℕ → List Shape → ℕ → Type 0
 AllowsSlot fact initial dummies shapes slot =
-    (cell : Option Value) → MayHold dummies shapes slot (option_map constant_value initial) cell → SuitsFact fact cell
+    (cell : Option Value) → MayHold dummies shapes slot (option_map constant_value initial) cell
+    → SuitsFact fact cell
 
 -- the same of each slot
-pub record AllowSlots (facts : List Fact) (initials : List (Option Constant)) (dummies : List ℕ) (shapes : List Shape) : Type 0 where
+pub record AllowSlots (facts : List Fact) (initials : List (Option Constant)) (dummies : List ℕ)
+    (shapes : List Shape) : Type 0 where
   pub count : length facts ≡ length initials
-  pub each : (k : ℕ) (fact : Fact) (initial : Option Constant) → slice_get facts k ≡ Some fact → slice_get initials k ≡ Some initial
-      → AllowsSlot fact initial dummies shapes k
+  pub each : (k : ℕ) (fact : Fact) (initial : Option Constant) → slice_get facts k ≡ Some fact
+      → slice_get initials k ≡ Some initial → AllowsSlot fact initial dummies shapes k
 
 abbrev pub AreInactive : List LoopFact → Type 0
 AreInactive loops = (d : ℕ) (fact : LoopFact) → slice_get loops d ≡ Some fact → fact ≡ Inactive

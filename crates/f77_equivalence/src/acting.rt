@@ -173,8 +173,8 @@ fn ends_alike(one: &Action, other: &Action) -> bool
     )
 }
 
-/// The second action does what the first does, where neither is a logical IF.
-fn plainly_alike(
+/// The second action does what the first does, where neither is a logical IF. Of those it tells nothing.
+pub fn plainly_alike(
     alloc: Global,
     facts: &[Fact],
     one: &Action,

@@ -25,7 +25,8 @@ fn is_one_connective(a: Connective, b: Connective) -> bool
 
 /// The condition has this truth value.
 pub fn is_forced(facts: &[Fact], condition: &Condition, truth: bool) -> bool
-    ensures { result ≡ true → (cells : Cells) → AreIn facts.now cells → truth_in cells condition.now ≡ Ok truth }
+    ensures { result ≡ true → (cells : Cells) → AreIn facts.now cells
+        → truth_in cells condition.now ≡ Ok truth }
 {
     is_truth(truths_of(facts, condition), truth)
 }

@@ -29,8 +29,8 @@ fn with_other(
     Ok(others)
 }
 
-/// Whether what is known throughout tells that the program with this statement in the place of the one of this number, from 1, comes to
-/// what the program comes to wherever that returns or stops.
+/// Whether what is known throughout tells that the program with this statement in the place of the one of this number,
+/// from 1, comes to what the program comes to wherever that returns or stops.
 pub fn is_equivalent(
     alloc: Global,
     invariant: &Invariant<'_>,

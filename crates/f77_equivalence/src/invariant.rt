@@ -43,7 +43,10 @@ impl<'a> Model for Invariant<'a> {
 
     ghost view = { λ invariant. record { checked = invariant.checked.now; entries = invariant.entries.items } };
 
-    ghost invariant = { λ invariant. HoldsThroughout (record { checked = invariant.checked.now; entries = invariant.entries.items }) };
+    ghost invariant = { λ invariant. HoldsThroughout (record {
+      checked = invariant.checked.now;
+      entries = invariant.entries.items;
+    }) };
 }
 
 impl<'a> Invariant<'a> {

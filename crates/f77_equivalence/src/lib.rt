@@ -1,7 +1,7 @@
 //! When a changed program can be told from the program by no test.
 #![tactic(auto)]
 
-mod acting;
+pub mod acting;
 pub mod conditions;
 pub mod entries_alike;
 pub mod equivalent;
@@ -15,4 +15,4 @@ mod settled;
 mod signs;
 pub mod start;
 mod turns;
-mod ways;
+pub mod ways;

@@ -53,7 +53,8 @@ fn advances_alike(
 ) -> bool
     ensures loops { result ≡ true → moves.is_loop other.now ≡ true }
     ensures alike { result ≡ true → (d : ℕ) (turn : Turn) (cells : Cells) (turns : Turns)
-        → incremented others.now d other.now turn cells turns ≡ incremented statements.now d one.now turn cells turns }
+        → incremented others.now d other.now turn cells turns
+        ≡ incremented statements.now d one.now turn cells turns }
 {
     match (one, other) {
         (

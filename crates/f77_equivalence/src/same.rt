@@ -173,8 +173,8 @@ pub fn is_same_size(facts: &[Fact], x: &Number, y: &Number) -> bool
 /// matter to MOD.
 #[cycle(numbers)]
 fn is_same_right(facts: &[Fact], operation: Arithmetic, x: &Number, y: &Number) -> bool
-    ensures { result ≡ true → (cells : Cells) (left other : Result ℤ Fault) → AreIn facts.now cells → Agrees left other
-        → Agrees (both (calculated operation) left (number_in cells x.now))
+    ensures { result ≡ true → (cells : Cells) (left other : Result ℤ Fault) → AreIn facts.now cells
+        → Agrees left other → Agrees (both (calculated operation) left (number_in cells x.now))
         (both (calculated operation) other (number_in cells y.now)) }
 {
     match operation {

@@ -1,6 +1,7 @@
 //! The entries that say what is known where a run starts.
 
-ghost use Rattle.std.specs.Prelude.{◌≡◌, ◌<◌, ◌≤◌, ◌+◌, ℕ, ℤ, true, false, length, option_map, slice_get, Some, Ok};
+ghost use Rattle.std.specs.Prelude.{◌≡◌, ◌<◌, ◌≤◌, ◌+◌, ℕ, ℤ, true, false, length, option_map};
+ghost use Rattle.std.specs.Prelude.{slice_get, Some, Ok};
 ghost use Rattle.f77_values.specs.declared.value.Value.{Value};
 ghost use Rattle.f77_values.specs.Number.{fits};
 ghost use Rattle.f77_facts.specs.Facts.{SuitsFact};
@@ -9,7 +10,8 @@ ghost use Rattle.f77_check.specs.declared.checked.Shape.{Shape};
 ghost use Rattle.f77_run.specs.Spans.{size_of};
 ghost use Rattle.f77_run.specs.Start.{constant_value};
 ghost use Rattle.f77_equivalence.specs.Start.{HoldsStart};
-ghost use Rattle.f77_equivalence.specs.StartSlots.{IsOfDummy, is_argument, AllowsArgument, AllowsSlot, AllowSlots, AreInactive, AllowsStart};
+ghost use Rattle.f77_equivalence.specs.StartSlots.{IsOfDummy, is_argument, AllowsArgument, AllowsSlot, AllowSlots};
+ghost use Rattle.f77_equivalence.specs.StartSlots.{AreInactive, AllowsStart};
 
 use f77_check::{Checked, Shape};
 use f77_code::Place;
@@ -20,7 +22,7 @@ use f77_facts::loops::{LoopFact, loop_at};
 use f77_tree::{Constant, Kind};
 
 /// How many elements a dummy argument of this shape has.
-fn size(shape: Shape) -> usize
+pub fn size(shape: Shape) -> usize
     ensures { result ≡ size_of shape }
 {
     match shape.elements {
@@ -90,14 +92,16 @@ fn allows_constant(fact: Fact, initial: Option<Constant>) -> bool
     }
 }
 
-fn first_at(dummies: &[usize], n: usize) -> usize
+/// The first slot of the dummy argument of this number, from 0.
+pub fn first_at(dummies: &[usize], n: usize) -> usize
     requires { n < length dummies.now }
     ensures { slice_get dummies.now n ≡ Some result }
 {
     dummies[n]
 }
 
-fn shape_at(shapes: &[Shape], n: usize) -> Shape
+/// The shape of the argument of this number, from 0.
+pub fn shape_at(shapes: &[Shape], n: usize) -> Shape
     requires { n < length shapes.now }
     ensures { slice_get shapes.now n ≡ Some result }
 {

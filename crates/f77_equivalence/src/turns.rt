@@ -82,7 +82,8 @@ pub fn turns_alike(
     e: &Jump,
     f: &Jump,
 ) -> bool
-    ensures { result ≡ true → ActsAlike facts.now (ArithmeticIf x.now a.now b.now c.now) (ArithmeticIf y.now d.now e.now f.now) }
+    ensures { result ≡ true
+        → ActsAlike facts.now (ArithmeticIf x.now a.now b.now c.now) (ArithmeticIf y.now d.now e.now f.now) }
 {
     let known = known_of(facts, x);
     if sizes_alike(known, a, b, c, d, e, f) {

@@ -1,10 +1,11 @@
-//! Whether control goes on alike in two programs.
+//! Statements and jumps by their numbers, and whether control goes on alike in two programs.
 
-ghost use Rattle.std.specs.Prelude.{◌≡◌, ◌<◌, ℤ, true, length, slice_get, Some};
+ghost use Rattle.std.specs.Prelude.{◌≡◌, ◌<◌, ◌↔◌, ℤ, IsTrue, true, length, slice_get, Some};
 ghost use Rattle.std.specs.Option.{option_map_or};
 ghost use Rattle.f77_code.specs.Choice as choice;
 ghost use Rattle.f77_code.specs.Moves.{Cells, Turns, Move, jump_to};
 ghost use Rattle.f77_equivalence.specs.Alike.{GoOnAlike, JumpAlike, PassAlike, PassesAlike};
+ghost use Rattle.f77_equivalence.specs.Ways.{HaveOneTarget, HaveOneWayOn};
 
 use f77_actions::{Action, Jump, Resolved};
 use f77_tree::Shared;
@@ -17,33 +18,50 @@ pub fn statement_at(statements: &[Shared<Resolved>], i: usize) -> &Resolved
     &statements[i]
 }
 
+/// The statement that is shared.
+pub fn resolved_in(resolved: &Shared<Resolved>) -> &Resolved
+    ensures { result.now ≡ resolved.now }
+{
+    resolved
+}
+
+/// The number in this place of a list, from 0.
+pub fn number_at(numbers: &[usize], k: usize) -> usize
+    requires { k < length numbers.now }
+    ensures { slice_get numbers.now k ≡ Some result }
+{
+    numbers[k]
+}
+
+/// The jump of this number. Jumps are numbered from 0 here.
+pub fn jump_at(jumps: &[Jump], k: usize) -> &Jump
+    requires { k < length jumps.now }
+    ensures { slice_get jumps.now k ≡ Some result.now }
+{
+    &jumps[k]
+}
+
 /// Both lists have the same numbers in the same order.
-fn is_same_list(one: &Vec<usize>, other: &Vec<usize>) -> bool
-    ensures { result ≡ true → other.now.items ≡ one.now.items }
+pub fn is_same_list(one: &[usize], other: &[usize]) -> bool
+    ensures { IsTrue result ↔ (other.now ≡ one.now) }
 {
     one == other
 }
 
 /// Control goes on from both statements in one way.
 pub fn goes_on_alike(own: &Resolved, other: &Resolved) -> bool
-    ensures { result ≡ true → GoOnAlike own.now other.now }
+    ensures exact { IsTrue result ↔ HaveOneWayOn own.now other.now }
+    ensures alike { result ≡ true → GoOnAlike own.now other.now }
 {
     own.next == other.next && is_same_list(&own.ends, &other.ends)
 }
 
 /// Both jumps lead to one statement, and leave the same DOs.
 pub fn jumps_alike(one: &Jump, other: &Jump) -> bool
-    ensures { result ≡ true → JumpAlike one.now other.now }
+    ensures exact { IsTrue result ↔ HaveOneTarget one.now other.now }
+    ensures alike { result ≡ true → JumpAlike one.now other.now }
 {
     one.target == other.target && is_same_list(&one.leaves, &other.leaves)
-}
-
-/// The jump of this number. Jumps are numbered from 0 here.
-fn jump_at(jumps: &[Jump], k: usize) -> &Jump
-    requires { k < length jumps.now }
-    ensures { slice_get jumps.now k ≡ Some result.now }
-{
-    &jumps[k]
 }
 
 /// The jumps of two computed GO TOs do the same, in order.

@@ -3,7 +3,7 @@ use Rattle.f77_equivalence.proofs.acting.leaps_alike.Goals as goal
 
 pub returns-in-Goto-Goto : goal.returns-in-Goto-Goto
 returns-in-Goto-Goto c e =
-    rw (c.in-Goto-Goto.is-0, c.in-Goto-Goto.is-1) (gone_to c.args.facts.now c.in-Goto-Goto.jump c.in-Goto-Goto.other_jump (c.jumps_alike.ensures e))
+    rw (c.in-Goto-Goto.is-0, c.in-Goto-Goto.is-1) (gone_to c.args.facts.now c.in-Goto-Goto.jump c.in-Goto-Goto.other_jump (c.jumps_alike.ensures.alike e))
 
 pub returns-then-is_same_number : goal.returns-then-is_same_number
 returns-then-is_same_number c e =

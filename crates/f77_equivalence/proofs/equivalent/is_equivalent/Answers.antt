@@ -1,4 +1,4 @@
-use Rattle.std.proofs.Common.{arith, ◌≡◌, ◌∙◌, length, ap, subst, sym}
+use Rattle.std.proofs.Common.{arith, ◌∙◌, length, ap, subst, sym}
 use Rattle.f77_tree.specs.Statement.{statement_of}
 use Rattle.f77_check.specs.Checked.{CheckedFields, IsChecked}
 use Rattle.f77_facts.specs.Entries.{IsInductive}

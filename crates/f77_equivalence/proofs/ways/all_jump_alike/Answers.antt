@@ -6,7 +6,7 @@ pub loop-k-preserved : goal.loop-k-preserved
 loop-k-preserved c =
     below_more _ _ c.loop-k.invariant
     (one_pair c.args.one.now c.args.other.now c.loop-k.k c.jump_at.result.now c.jump_at-in-loop-k.result.now c.jump_at.ensures c.jump_at-in-loop-k.ensures
-    (c.jumps_alike.ensures c.if-not-jumps_alike.false))
+    (c.jumps_alike.ensures.alike c.if-not-jumps_alike.false))
 
 pub returns : goal.returns
 returns c e = all_pairs c.args.one.now c.args.other.now (omega arith) (λ k h. c.loop-k.invariant k (omega (arith, h)))

@@ -1,0 +1,184 @@
+-- A changed program comes to what the program comes to where its runs end alike.
+use Rattle.std.proofs.Common.{arith, ◌≡◌, ◌+◌, ◌∙◌, ℕ, zero, suc, inr, List, map, Some, refl, sym, ap, subst}
+use Rattle.f77_program.specs.Program.{LineFields, line_of}
+use Rattle.f77_legal.specs.Names.{bounds_of}
+use Rattle.f77_legal.proofs.FrameNames.{bounds_of_same}
+use Rattle.f77_legal.proofs.SameFrame.{length_same}
+use Rattle.f77_check.specs.Checked.{CheckedFields, shapes}
+use Rattle.f77_check.specs.Slots.{slot_count}
+use Rattle.f77_actions.specs.declared.resolved.Resolved.{Resolved}
+use Rattle.f77_values.specs.declared.finish.Fault.{Fault}
+use Rattle.f77_values.specs.declared.finish.Fault.TheVariants as fault
+use Rattle.f77_values.specs.declared.finish.Finish.{Finish}
+use Rattle.f77_values.specs.declared.finish.Finish.TheVariants as finish
+use Rattle.f77_code.specs.Moves.{Cells, State, Move, Goes, Ends}
+use Rattle.f77_code.specs.Sequences.{moved_by}
+use Rattle.f77_run.specs.declared.argument.Arg.{Arg}
+use Rattle.f77_run.specs.declared.outcome.Outcome.{Outcome}
+use Rattle.f77_run.specs.declared.outcome.Outcome.TheVariants as outcome
+use Rattle.f77_run.specs.Control.{Comes}
+use Rattle.f77_run.specs.Endless.{Reaches}
+use Rattle.f77_run.specs.Interpreter.{AreFitting, AreArguments, IsOutcomeOf, Tells, told, values_in}
+use Rattle.f77_run.specs.Machine.{config_of, values_of}
+use Rattle.f77_run.specs.Outcome.{IsOutcome}
+use Rattle.f77_run.specs.Running.{Site, values_at}
+use Rattle.f77_run.specs.Site.{site_of}
+use Rattle.f77_run.specs.Start.{IsStart, argument_values}
+use Rattle.f77_run.specs.Step.{Config}
+use Rattle.f77_run.specs.Value.{Store}
+use Rattle.f77_run.proofs.Moving.{IsRunningIn, ComesIn, moves_by, comes_by}
+use Rattle.f77_run.proofs.OneAnswer.{one_start}
+use Rattle.f77_run.proofs.OneWay.{one_outcome}
+use Rattle.f77_run.proofs.Runs.{stands_for}
+use Rattle.f77_run.proofs.Unreached.{starts_same, tells_same}
+use Rattle.f77_equivalence.specs.Changed.{EndsAlike, EndsAlikeWithin, EquivalentWhereEndsAlike, HoldAlike, IsChange, IsEnding}
+use Rattle.f77_equivalence.specs.Equivalent.{IsEnd}
+use Rattle.f77_equivalence.specs.Start.{start_state}
+use Rattle.f77_equivalence.specs.Storable.{AreStorable}
+use Rattle.f77_equivalence.proofs.Throughout.{runs_there, starts_there}
+
+-- no fault is told as an end
+told_otherwise : (fault : Fault) → IsEnd (told fault) → ⊥
+told_otherwise fault.Overflow end = end
+told_otherwise fault.DivideByZero end = end
+told_otherwise fault.ZeroPower end = end
+told_otherwise fault.BadSubscript end = end
+told_otherwise fault.ZeroStep end = end
+told_otherwise fault.Undefined end = end
+told_otherwise fault.Trapped end = end
+
+-- where so many steps were made, the limit is met
+limit_met : (p : List LineFields) (n : ℕ) (c d : Config) → Reaches p n c d → IsOutcome p n c finish.StepLimit d.values
+limit_met p zero c d here = (refl, ap (λ (x : Config). x.values) here)
+limit_met p (suc n) c d on = inr (on.0, on.1, limit_met p n on.0 d on.2)
+
+-- what is told as an end is one
+pub is_ending : (p : List LineFields) (end : Finish) (values : Store) (answer : Outcome) → Tells p end values answer → IsEnd answer → IsEnding end
+is_ending p finish.Returned values answer tells end = tt
+is_ending p finish.Stopped values answer tells end = tt
+is_ending p finish.StepLimit values answer tells end = subst IsEnd tells end
+is_ending p (finish.Failed fault) values answer tells end = told_otherwise fault (subst IsEnd tells end)
+
+-- where the dummy arguments hold the same, the same is told of an end
+arguments_alike : (p : List LineFields) (s t : Store) (arguments : List Arg) → argument_values p t ≡ argument_values p s → AreArguments p s arguments
+    → AreArguments p t arguments
+arguments_alike p s t arguments same are = record { fitting = are.fitting; values = same ∙ are.values }
+
+tells_alike : (p : List LineFields) (end : Finish) (s t : Store) (answer : Outcome) → argument_values p t ≡ argument_values p s → IsEnding end
+    → Tells p end s answer → Tells p end t answer
+tells_alike p finish.Returned s t (outcome.Returned arguments) same is tells = arguments_alike p s t arguments same tells
+tells_alike p finish.Returned s t _ same is tells = absurd tells
+tells_alike p finish.Stopped s t (outcome.Stopped arguments) same is tells = arguments_alike p s t arguments same tells
+tells_alike p finish.Stopped s t _ same is tells = absurd tells
+tells_alike p _ s t answer same is tells = absurd is
+
+module _ (checked : CheckedFields) (i : ℕ) (program : List LineFields) (changed : List Resolved) (change : IsChange checked i program changed)
+    (arguments : List Arg) (fits : AreFitting checked.arguments arguments) where
+  abbrev p : List LineFields
+  p = map line_of checked.program
+
+  -- the site of the program, and that of the changed one
+  abbrev at : Site
+  at = site_of checked arguments
+
+  abbrev there : Site
+  there = record { program = program; names = checked.names; given = map values_in arguments }
+
+  abbrev start : State
+  start = start_state checked arguments
+
+  bounds : bounds_of p ≡ bounds_of program
+  bounds = λ k name. bounds_of_same p program change.frame name k
+
+  running : IsRunningIn at checked.statements start
+  running = runs_there checked change.own arguments fits
+
+  starts : IsStart program (map values_in arguments) (stands_for there start)
+  starts =
+      subst (λ b. IsStart program (map values_in arguments) (config_of b checked.names start)) bounds
+      (starts_same p program change.frame (map values_in arguments) (stands_for at start) (starts_there checked change.own arguments fits))
+
+  running_there : IsRunningIn there changed start
+  running_there = record {
+    formed = change.formed;
+    legal = change.legal;
+    resolved = change.resolved;
+    cells = running.cells ∙ ap (λ b. slot_count b checked.names) bounds;
+    turns = running.turns ∙ length_same p program change.frame;
+    comes = Comes.at_start starts;
+  }
+
+  -- the run of the changed program that ends alike
+  ends_there : (limit : ℕ) (end : Finish) (cells others : Cells) (answer : Outcome) → IsEnding end → Tells p end (values_at at cells) answer
+      → moved_by changed limit start ≡ Some (Ends end others) → HoldAlike checked cells others → IsOutcomeOf program arguments limit answer
+  ends_there limit end cells others answer is tells e alike =
+      let came : ComesIn there changed limit (stands_for there start) (Ends end others)
+      = comes_by there changed limit start (Ends end others) running_there e in
+      let told : Tells program end (values_at at others) answer
+      = tells_same p program change.frame end (values_at at others) answer (tells_alike p end (values_at at cells) (values_at at others) answer alike is tells) in
+      record {
+        start = stands_for there start;
+        starts = starts;
+        finish = end;
+        values = values_at there others;
+        ends = came.0;
+        tells = subst (λ b. Tells program end (values_of b checked.names others) answer) bounds told;
+      }
+
+  -- what the program comes to, the changed one does, under a limit that spares so many steps
+  keeps_ends : (spare : ℕ) → EndsAlikeWithin spare checked changed arguments → (limit : ℕ) (answer : Outcome)
+      → IsOutcomeOf p arguments limit answer → IsEnd answer → IsOutcomeOf program arguments (limit + spare) answer
+  keeps_ends spare alike limit answer is end = by made.0 made.1 made.2
+    where
+      one : is.start ≡ stands_for at start
+      one = one_start p (map values_in arguments) is.start (stands_for at start) is.starts (starts_there checked change.own arguments fits)
+
+      ending : IsEnding is.finish
+      ending = is_ending p is.finish is.values answer is.tells end
+
+      outcome_here : IsOutcome p limit (stands_for at start) is.finish is.values
+      outcome_here = subst (λ c. IsOutcome p limit c is.finish is.values) one is.ends
+
+      made : (move : Move) × (moved_by checked.statements limit start ≡ Some move) × ComesIn at checked.statements limit (stands_for at start) move
+      made = moves_by at checked.statements limit start running
+
+      by : (move : Move) → moved_by checked.statements limit start ≡ Some move → ComesIn at checked.statements limit (stands_for at start) move
+          → IsOutcomeOf program arguments (limit + spare) answer
+      by (Goes t) e came =
+          let met = limit_met p limit (stands_for at start) (stands_for at t) came.0 in
+          let same = one_outcome p limit (stands_for at start) is.finish finish.StepLimit is.values (stands_for at t).values outcome_here met in
+          absurd (subst IsEnding same.0 ending)
+      by (Ends f cells) e came =
+          let same = one_outcome p limit (stands_for at start) is.finish f is.values (values_at at cells) outcome_here came.0 in
+          let is_end : IsEnding f = subst IsEnding same.0 ending in
+          let tells : Tells p f (values_at at cells) answer
+          = subst (λ end. Tells p end (values_at at cells) answer) same.0 (subst (λ s. Tells p is.finish s answer) same.1 is.tells) in
+          let other = alike limit f cells is_end e in
+          ends_there (limit + spare) f cells other.0 answer is_end tells other.1 other.2
+
+-- whatever arguments fit whose numbers INTEGER holds
+pub keeps_ends_within : (checked : CheckedFields) (i : ℕ) (program : List LineFields) (changed : List Resolved) (spare : ℕ)
+    → IsChange checked i program changed
+    → ((arguments : List Arg) → AreFitting checked.arguments arguments → AreStorable arguments
+    → EndsAlikeWithin spare checked changed arguments)
+    → (arguments : List Arg) → AreFitting (shapes (map line_of checked.program)) arguments → AreStorable arguments
+    → (limit : ℕ) (answer : Outcome) → IsOutcomeOf (map line_of checked.program) arguments limit answer → IsEnd answer
+    → IsOutcomeOf program arguments (limit + spare) answer
+keeps_ends_within checked i program changed spare change alike arguments fits storable =
+    let fitting : AreFitting checked.arguments arguments = subst (λ list. AreFitting list arguments) (sym change.own.arguments) fits in
+    keeps_ends checked i program changed change arguments fitting spare (alike arguments fitting storable)
+
+-- with none to spare
+none_more : (checked : CheckedFields) (changed : List Resolved) (arguments : List Arg) → EndsAlike checked changed arguments
+    → EndsAlikeWithin 0 checked changed arguments
+none_more checked changed arguments alike n finish cells is e =
+    let it = alike n finish cells is e in
+    let same : n ≡ n + 0 = omega arith in
+    (it.0, subst (λ k. moved_by changed k (start_state checked arguments) ≡ Some (Ends finish it.0)) same it.1, it.2)
+
+pub equivalent_where_ends_alike : EquivalentWhereEndsAlike
+equivalent_where_ends_alike checked i program changed change alike arguments fits storable limit answer is end =
+    let same : limit + 0 ≡ limit = omega arith in
+    subst (λ k. IsOutcomeOf program arguments k answer) same
+    (keeps_ends_within checked i program changed 0 change
+    (λ arguments fits storable. none_more checked changed arguments (alike arguments fits storable)) arguments fits storable limit answer is end)
