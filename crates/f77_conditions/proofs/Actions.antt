@@ -15,9 +15,9 @@ use Rattle.f77_code.specs.Choice.{by_sign, numbered}
 use Rattle.f77_code.specs.Evaluation.{truth_in}
 use Rattle.f77_code.specs.Moves.{Cells, Turns, State, Move, Goes, Ends, state, used, chosen, acted, go_on, jump_to}
 use Rattle.f77_conditions.specs.declared.told.Told.{Told}
-use Rattle.f77_conditions.specs.declared.ways.Way.{Way}
+use Rattle.f77_conditions.specs.declared.edges.Edge.{Edge}
 use Rattle.f77_conditions.specs.Told.{condition_of, condition_at, AreTold}
-use Rattle.f77_conditions.specs.Ways.{Stays, IsLed, Lands, GoesOn, Acts}
+use Rattle.f77_conditions.specs.Edges.{Stays, IsLed, IsAlong, GoesOnAlong, ActsAlong}
 
 -- the condition of a statement, with its truth value
 pub own_told : (statements : List Resolved) (i : ℕ) (r : Resolved) (c : Condition) (cells : Cells) (b : Bool) → slice_get statements i ≡ Some r
@@ -56,40 +56,40 @@ pub used_stays : {A : Type 0} (places : List Place) (x : Result A Fault) (cells 
 used_stays places (Ok v) cells f each = each v
 used_stays places (Err fault) cells f each = tt
 
-module _ (statements : List Resolved) (ways : List Way) where
-  pub used_lands : {A : Type 0} (x : Result A Fault) (cells : Cells) (f : A → Move) → ((v : A) → x ≡ Ok v → Lands statements ways (f v))
-      → Lands statements ways (used x cells f)
-  used_lands (Ok v) cells f each = each v refl
-  used_lands (Err fault) cells f each = tt
+module _ (statements : List Resolved) (edges : List Edge) where
+  pub used_along : {A : Type 0} (x : Result A Fault) (cells : Cells) (f : A → Move) → ((v : A) → x ≡ Ok v → IsAlong statements edges (f v))
+      → IsAlong statements edges (used x cells f)
+  used_along (Ok v) cells f each = each v refl
+  used_along (Err fault) cells f each = tt
 
   -- IFs
-  pub guarded : (inside : List Way) (i : ℕ) (r : Resolved) (c : Condition) (p : Box Action Global) (action : Action) (told holds fails : List Told)
+  pub guarded : (inside : List Edge) (i : ℕ) (r : Resolved) (c : Condition) (p : Box Action Global) (action : Action) (told holds fails : List Told)
       → action ≡ p.value → ((cells : Cells) → AreTold statements cells told → truth_in cells c ≡ Ok true → AreTold statements cells holds)
       → ((cells : Cells) → AreTold statements cells told → truth_in cells c ≡ Ok false → AreTold statements cells fails)
-      → ((s : State) → IsLed statements inside s → IsLed statements ways s) → Acts statements inside i r action holds → GoesOn statements ways r fails
-      → Acts statements ways i r (actions.LogicalIf c p) told
+      → ((s : State) → IsLed statements inside s → IsLed statements edges s) → ActsAlong statements inside i r action holds → GoesOnAlong statements edges r fails
+      → ActsAlong statements edges i r (actions.LogicalIf c p) told
   guarded inside i r c p action told holds fails same is_true is_false kept acts on cells turns is =
-      used_lands (truth_in cells c) cells (λ b. chosen b (acted statements i r p.value cells turns) (go_on r cells turns)) by
+      used_along (truth_in cells c) cells (λ b. chosen b (acted statements i r p.value cells turns) (go_on r cells turns)) by
     where
-      more : (move : Move) → Lands statements inside move → Lands statements ways move
+      more : (move : Move) → IsAlong statements inside move → IsAlong statements edges move
       more (Goes s) led = kept s led
       more (Ends finish after) led = tt
 
-      by : (b : Bool) → truth_in cells c ≡ Ok b → Lands statements ways (chosen b (acted statements i r p.value cells turns) (go_on r cells turns))
+      by : (b : Bool) → truth_in cells c ≡ Ok b → IsAlong statements edges (chosen b (acted statements i r p.value cells turns) (go_on r cells turns))
       by true e =
           more (acted statements i r p.value cells turns)
-          (subst (λ a. Lands statements inside (acted statements i r a cells turns)) same (acts cells turns (is_true cells is e)))
+          (subst (λ a. IsAlong statements inside (acted statements i r a cells turns)) same (acts cells turns (is_true cells is e)))
       by false e = on cells turns (is_false cells is e)
 
   pub branched : (i : ℕ) (r : Resolved) (c : Condition) (t : ℕ) (told holds fails : List Told)
       → ((cells : Cells) → AreTold statements cells told → truth_in cells c ≡ Ok true → AreTold statements cells holds)
       → ((cells : Cells) → AreTold statements cells told → truth_in cells c ≡ Ok false → AreTold statements cells fails)
-      → GoesOn statements ways r holds
-      → ((s : State) → s.place ≡ Execute t → AreTold statements s.cells fails → IsLed statements ways s)
-      → Acts statements ways i r (Branch c t) told
+      → GoesOnAlong statements edges r holds
+      → ((s : State) → s.place ≡ Execute t → AreTold statements s.cells fails → IsLed statements edges s)
+      → ActsAlong statements edges i r (Branch c t) told
   branched i r c t told holds fails is_true is_false on otherwise cells turns is =
-      used_lands (truth_in cells c) cells (λ b. chosen b (go_on r cells turns) (Goes (state (Execute t) cells turns))) by
+      used_along (truth_in cells c) cells (λ b. chosen b (go_on r cells turns) (Goes (state (Execute t) cells turns))) by
     where
-      by : (b : Bool) → truth_in cells c ≡ Ok b → Lands statements ways (chosen b (go_on r cells turns) (Goes (state (Execute t) cells turns)))
+      by : (b : Bool) → truth_in cells c ≡ Ok b → IsAlong statements edges (chosen b (go_on r cells turns) (Goes (state (Execute t) cells turns)))
       by true e = on cells turns (is_true cells is e)
       by false e = otherwise (state (Execute t) cells turns) refl (is_false cells is e)

@@ -12,7 +12,7 @@ use Rattle.f77_facts.specs.declared.reaching.Reach.{Reach}
 use Rattle.f77_facts.specs.Reaching.{IsReached}
 use Rattle.f77_facts.proofs.Slots.{got_other}
 use Rattle.f77_facts.proofs.Used.{used_for}
-use Rattle.f77_conditions.specs.Reading.{AgreeOutside}
+use Rattle.f77_conditions.specs.Reading.{KeepsOthers}
 
 -- the place of an element is below the bound
 place_below : (bound : ℕ) (z : ℤ) (k : ℕ) → element (bound ∷ []) (z ∷ []) ≡ Ok k → k < bound
@@ -53,6 +53,6 @@ matrix_slots first rows columns x y k e =
 
 -- where a slot is set, the others hold the same
 pub others_kept : (set : Reach) (cells : Cells) (k : ℕ) (value : Value) → IsReached set.first set.count k
-    → AgreeOutside set cells (slice_set cells k (Some value))
+    → KeepsOthers set cells (slice_set cells k (Some value))
 others_kept set cells k value is j apart =
     ap (option_and_then (λ cell. cell)) (got_other cells k j (Some value) (λ same. apart (subst (IsReached set.first set.count) (sym same) is)))

@@ -1,33 +1,17 @@
 -- Where control goes on.
 use Rattle.std.proofs.Common.{◌≡◌, ◌+◌, ℕ, zero, suc, ℤ, Bool, true, false, List, [], ◌∷◌, Option, Some, None, refl, sym, subst}
 use Rattle.std.specs.Prelude.{Contains, Result, Ok, Err, IfOk, is_some, slice_get, slice_set}
-use Rattle.std.specs.List.{find}
 use Rattle.std.specs.Option.{option_map_or}
 use Rattle.f77_actions.specs.declared.resolved.Resolved.{Resolved}
 use Rattle.f77_code.specs.declared.control.Place.{Place}
 use Rattle.f77_code.specs.declared.control.Place.TheVariants.{Execute, Increment}
 use Rattle.f77_code.specs.Moves.{Cells, Turns, innermost, place_behind, turn_at, passing}
-use Rattle.f77_conditions.specs.Ways.{Stays, PassesTo}
-
-pub ok_then : {A E : Type 0} (r : Result A E) {P Q : A → Type 0} → IfOk r P → ((x : A) → P x → Q x) → IfOk r Q
-ok_then (Ok x) p f = f x p
-ok_then (Err e) p f = tt
+use Rattle.f77_equivalence.proofs.Lists.{found_among}
+use Rattle.f77_conditions.specs.Edges.{Stays, PassesTo}
 
 pub ok_both : {A E : Type 0} (r : Result A E) {P Q R : A → Type 0} → IfOk r P → IfOk r Q → ((x : A) → P x → Q x → R x) → IfOk r R
 ok_both (Ok x) p q f = f x p q
 ok_both (Err e) p q f = tt
-
--- what is found in a list is in it
-found_among : {A : Type 0} (test : A → Bool) (xs : List A) (x : A) → find test xs ≡ Some x → (k : ℕ) × (slice_get xs k ≡ Some x)
-found_among test [] x e = absurd (cc (e))
-found_among test (y ∷ ys) x e = by (test y) refl (found_among test ys x)
-  where
-    by : (b : Bool) → test y ≡ b → (find test ys ≡ Some x → (k : ℕ) × (slice_get ys k ≡ Some x)) → (k : ℕ) × (slice_get (y ∷ ys) k ≡ Some x)
-    by true f later = let found = rw f at e in (0, found)
-    by false f later =
-        let rest = rw f at e in
-        let it = later rest in
-        (suc it.0, it.1)
 
 -- wherever control goes on from the statement
 pub behind_there : (r : Resolved) (places : List Place) → Contains places (Execute r.next)

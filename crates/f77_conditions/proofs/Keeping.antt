@@ -7,23 +7,23 @@ use Rattle.f77_code.specs.declared.control.Place.{Place}
 use Rattle.f77_code.specs.declared.control.Place.TheVariants.{Execute, Increment}
 use Rattle.f77_code.specs.Moves.{Cells, Turns, Move, Goes, Ends, state, moved}
 use Rattle.f77_conditions.specs.declared.table.Table.{Table}
-use Rattle.f77_conditions.specs.declared.ways.Way.{Way}
-use Rattle.f77_conditions.specs.Table.{TellsBehind, Allows, Keeps, IsKept}
-use Rattle.f77_conditions.specs.Ways.{Lands}
+use Rattle.f77_conditions.specs.declared.edges.Edge.{Edge}
+use Rattle.f77_conditions.specs.Table.{TellsBehind, Allows, KeepsTold, IsKept}
+use Rattle.f77_conditions.specs.Edges.{IsAlong}
 
-pub allowed_behind : (statements : List Resolved) (table : Table) (ways : List Way) (move : Move) → Allows table ways → Lands statements ways move
+pub allowed_behind : (statements : List Resolved) (table : Table) (edges : List Edge) (move : Move) → Allows table edges → IsAlong statements edges move
     → TellsBehind statements table move
-allowed_behind statements table ways (Goes s) allows lands = allows statements s lands
-allowed_behind statements table ways (Ends finish cells) allows lands = tt
+allowed_behind statements table edges (Goes s) allows lands = allows statements s lands
+allowed_behind statements table edges (Ends finish cells) allows lands = tt
 
 -- no step is made where there is no statement
 past_kept : (statements : List Resolved) (table : Table) (place : Place) → ((cells : Cells) (turns : Turns) → moved statements (state place cells turns) ≡ None)
-    → Keeps statements table place
+    → KeepsTold statements table place
 past_kept statements table place none cells turns move row e = let never : None ≡ Some move = cc (none cells turns, e) in absurd (cc (never))
 
 module _ (statements : List Resolved) (table : Table) (n : ℕ) (all : length statements ≤ n)
-    (each : (j : ℕ) → j < n → Keeps statements table (Execute j) × Keeps statements table (Increment j)) where
-  place_kept : (place : Place) → Keeps statements table place
+    (each : (j : ℕ) → j < n → KeepsTold statements table (Execute j) × KeepsTold statements table (Increment j)) where
+  place_kept : (place : Place) → KeepsTold statements table place
   place_kept (Execute j) = elim (cases_lt j (length statements)) [
     | inl below ↦ let kept = each j (omega (arith, below, all)) in kept.0
     | inr past ↦ past_kept statements table (Execute j) (λ cells turns. rw (slice_get_past statements j past) refl)

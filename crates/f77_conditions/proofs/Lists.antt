@@ -32,18 +32,6 @@ pub contained_told : (statements : List Resolved) (cells : Cells) (told row : Li
 contained_told statements cells told row among is =
     All-weaker (Contains told) (IsTold statements cells) (λ one there. All-contains (IsTold statements cells) told one is there) row among
 
--- the same of the elements that have numbers
-pub one_more_got : {A : Type 0} (P : A → Type 0) (xs : List A) (n : ℕ) (x : A) → slice_get xs n ≡ Some x → P x
-    → ((k : ℕ) (y : A) → k < n → slice_get xs k ≡ Some y → P y) → (k : ℕ) (y : A) → k < n + 1 → slice_get xs k ≡ Some y → P y
-one_more_got P xs n x is holds before k y below e = by (same_or_not k n)
-  where
-    by : (k ≡ n) ⊎ (k ≢ n) → P y
-    by (inl here) =
-        let at : slice_get xs n ≡ Some y = subst (λ j. slice_get xs j ≡ Some y) here e in
-        let one : x ≡ y = cc (is, at) in
-        subst P one holds
-    by (inr differ) = before k y (omega (arith, below, differ)) e
-
 pub got_contained : {A : Type 0} (xs : List A) (x : A) → Contains xs x → (k : ℕ) × (k < length xs) × (slice_get xs k ≡ Some x)
 got_contained xs x there =
     let it = got_within xs there.0 there.1 in

@@ -1,6 +1,6 @@
 -- A changed program is equivalent where its IF statement does the same wherever what is told is so.
 use Rattle.std.proofs.Common.{◌≡◌, ◌≢◌, ◌⊎◌, ◌-◌, inl, inr, ℕ, zero, suc, Bool, true, false, List, [], Option, Some, None, length, map, refl, sym, ap, subst, ◌∙◌}
-use Rattle.std.specs.Prelude.{slice_get, slice_set, if◌then◌else◌}
+use Rattle.std.specs.Prelude.{slice_get, slice_set}
 use Rattle.std.specs.Option.{option_and_then}
 use Rattle.std.proofs.lemmas.List.Elements.{All-nil}
 use Rattle.std.proofs.lemmas.Option.{slice_get_within}
@@ -22,27 +22,22 @@ use Rattle.f77_facts.specs.Entries.{IsAmong, IsInductive}
 use Rattle.f77_facts.proofs.Slots.{got_same, same_or_not}
 use Rattle.f77_run.specs.declared.argument.Arg.{Arg}
 use Rattle.f77_equivalence.specs.Alike.{AgreeBut, GoOnAlike, PassAlike}
+use Rattle.f77_equivalence.specs.Changed.{EndsAlike, IsEnding}
 use Rattle.f77_equivalence.specs.Equivalent.{IsEquivalent}
 use Rattle.f77_equivalence.specs.Invariant.{InvariantFields, HoldsThroughout}
 use Rattle.f77_equivalence.specs.Same.{Follows}
 use Rattle.f77_equivalence.specs.Start.{HoldsStart, StartsIn, start_cells, start_turns}
 use Rattle.f77_equivalence.proofs.Actions.{one_follows}
 use Rattle.f77_equivalence.proofs.Alike.{pass_same}
+use Rattle.f77_equivalence.proofs.Ending.{equivalent_where_ends_alike}
 use Rattle.f77_equivalence.proofs.InPlace.{agree_but, change_in_place}
-use Rattle.f77_equivalence.proofs.Moving.{moved_same}
-use Rattle.f77_differences.specs.Ends.{IsEnding, EndsAlike}
-use Rattle.f77_differences.proofs.Ending.{equivalent_where_ends_alike}
+use Rattle.f77_equivalence.proofs.Moving.{if_done, moved_same, passes_same}
 use Rattle.f77_conditions.specs.declared.table.Table.{Table}
 use Rattle.f77_conditions.specs.declared.told.Told.{Told}
 use Rattle.f77_conditions.specs.Conditions.{ConditionsFields, AreThroughout}
 use Rattle.f77_conditions.specs.Same.{AllActWhereTold}
 use Rattle.f77_conditions.specs.Table.{row_at, IsRow, IsKept}
 use Rattle.f77_conditions.specs.Told.{IsTold, AreTold}
-
--- what is done at all is this
-if_done : (b : Bool) (m n : Move) → (if b then Some m else None) ≡ Some n → m ≡ n
-if_done true m n e = cc (e)
-if_done false m n e = absurd (cc (e))
 
 -- an end that is no fault is followed by the same
 followed_end : (finish : Finish) (cells : Cells) (other : Move) → IsEnding finish → Follows (Ends finish cells) other → other ≡ Ends finish cells
@@ -72,7 +67,7 @@ module _ (statements changed : List Resolved) (i : ℕ) (own other : Resolved) (
       let same = if_done (is_executed own.action) (acted statements i own own.action cells turns) move (rw own_is at e) in
       let acts =
       alike among.number (slice_get_within entries among.number among.entry among.is) among.entry among.is among.there changed i own other cells
-      turns on among.inside is in (
+      turns on (passes_same statements changed i agree pass own.action) among.inside is in (
         acted changed i other other.action cells turns,
         rw (other_is, executed) refl,
         subst (λ m. Follows m (acted changed i other other.action cells turns)) same acts,

@@ -1,6 +1,6 @@
 pub mod Told
 pub mod Reading
-pub mod Ways
+pub mod Edges
 pub mod Table
 pub mod Conditions
 pub mod Same

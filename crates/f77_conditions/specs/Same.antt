@@ -9,7 +9,7 @@ use Rattle.f77_code.specs.Moves.{Cells, Turns, acted}
 use Rattle.f77_facts.specs.declared.entries.Entry.{Entry}
 use Rattle.f77_facts.specs.declared.facts.Fact.{Fact}
 use Rattle.f77_facts.specs.Facts.{AreIn}
-use Rattle.f77_equivalence.specs.Alike.{GoOnAlike}
+use Rattle.f77_equivalence.specs.Alike.{GoOnAlike, PassesAlike}
 use Rattle.f77_equivalence.specs.Same.{Follows}
 use Rattle.f77_conditions.specs.declared.told.Told.{Told}
 use Rattle.f77_conditions.specs.Told.{AreTold}
@@ -17,20 +17,16 @@ use Rattle.f77_conditions.specs.Told.{AreTold}
 -- where the facts and what is told are so, the second condition has the truth value of the first, if that has one
 abbrev pub SameWhereTold : List Resolved → List Fact → List Told → Condition → Condition → Type 0
 SameWhereTold statements facts told c d =
-    (cells : Cells) (b : Bool) → AreIn facts cells → AreTold statements cells told → truth_in cells c ≡ Ok b → truth_in cells d ≡ Ok b
+    (cells : Cells) (b : Bool) → AreIn facts cells → AreTold statements cells told → truth_in cells c ≡ Ok b
+    → truth_in cells d ≡ Ok b
 
--- In a statement, the second action does what the first does in a statement from which control goes on alike, unless that faults. They ask
--- for no other statement.
-abbrev pub DoesAlike : List Fact → Action → Action → Type 0
-DoesAlike facts one other =
-    (statements others : List Resolved) (i : ℕ) (r s : Resolved) (cells : Cells) (turns : Turns) → GoOnAlike r s → AreIn facts cells
-    → Follows (acted statements i r one cells turns) (acted others i s other cells turns)
-
--- so it does where what is told is so
+-- In a statement, where the facts and what is told are so, the second action does what the first does in a statement
+-- from which control goes on alike, unless that faults.
 abbrev pub ActsWhereTold : List Resolved → List Fact → List Told → Action → Action → Type 0
 ActsWhereTold statements facts told one other =
-    (others : List Resolved) (i : ℕ) (r s : Resolved) (cells : Cells) (turns : Turns) → GoOnAlike r s → AreIn facts cells
-    → AreTold statements cells told → Follows (acted statements i r one cells turns) (acted others i s other cells turns)
+    (others : List Resolved) (i : ℕ) (r s : Resolved) (cells : Cells) (turns : Turns) → GoOnAlike r s
+    → PassesAlike statements others one → AreIn facts cells → AreTold statements cells told
+    → Follows (acted statements i r one cells turns) (acted others i s other cells turns)
 
 -- so it does from each of the first n entries of the statement i
 abbrev pub AllActWhereTold : List Resolved → List Entry → ℕ → ℕ → List Told → Action → Action → Type 0

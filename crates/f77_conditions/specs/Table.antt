@@ -8,9 +8,9 @@ use Rattle.f77_code.specs.declared.control.Place.TheVariants.{Execute, Increment
 use Rattle.f77_code.specs.Moves.{Cells, Turns, State, Move, Goes, Ends, state, moved}
 use Rattle.f77_conditions.specs.declared.table.Table.{Table}
 use Rattle.f77_conditions.specs.declared.told.Told.{Told}
-use Rattle.f77_conditions.specs.declared.ways.Way.{Way}
+use Rattle.f77_conditions.specs.declared.edges.Edge.{Edge}
 use Rattle.f77_conditions.specs.Told.{AreTold}
-use Rattle.f77_conditions.specs.Ways.{IsLed}
+use Rattle.f77_conditions.specs.Edges.{IsLed}
 
 -- what the row of this number tells, if control may be there
 abbrev pub row_in : List (Option (Vec Told Global)) → ℕ → Option (List Told)
@@ -35,16 +35,18 @@ abbrev pub TellsBehind : List Resolved → Table → Move → Type 0
 TellsBehind statements table (Goes s) = Tells statements table s
 TellsBehind statements table (Ends finish cells) = Unit {0}
 
--- so it is wherever one of the ways leads
-abbrev pub Allows : Table → List Way → Type 0
-Allows table ways = (statements : List Resolved) (s : State) → IsLed statements ways s → Tells statements table s
+-- so it is wherever one of the edges leads
+abbrev pub Allows : Table → List Edge → Type 0
+Allows table edges = (statements : List Resolved) (s : State) → IsLed statements edges s → Tells statements table s
 
 -- so it is behind each step from a state of the place of which the table tells
-abbrev pub Keeps : List Resolved → Table → Place → Type 0
-Keeps statements table place =
+abbrev pub KeepsTold : List Resolved → Table → Place → Type 0
+KeepsTold statements table place =
     (cells : Cells) (turns : Turns) (move : Move) → IsRow statements cells (row_at table place)
     → moved statements (state place cells turns) ≡ Some move → TellsBehind statements table move
 
 -- from whatever state
 abbrev pub IsKept : List Resolved → Table → Type 0
-IsKept statements table = (s : State) (move : Move) → Tells statements table s → moved statements s ≡ Some move → TellsBehind statements table move
+IsKept statements table =
+    (s : State) (move : Move) → Tells statements table s → moved statements s ≡ Some move
+    → TellsBehind statements table move

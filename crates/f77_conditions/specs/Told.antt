@@ -20,7 +20,8 @@ condition_at statements i = option_and_then (λ r. condition_of r.action) (slice
 
 -- the statement has a condition, with the truth value that is told
 abbrev pub IsTold : List Resolved → Cells → Told → Type 0
-IsTold statements cells told = option_map (truth_in cells) (condition_at statements told.statement) ≡ Some (Ok told.holds)
+IsTold statements cells told =
+    option_map (truth_in cells) (condition_at statements told.statement) ≡ Some (Ok told.holds)
 
 -- so it is with each of these
 abbrev pub AreTold : List Resolved → Cells → List Told → Type 0

@@ -43,7 +43,10 @@ impl<'a> Model for Conditions<'a> {
 
     ghost view = { λ conditions. record { checked = conditions.checked.now; table = conditions.table } };
 
-    ghost invariant = { λ conditions. AreThroughout (record { checked = conditions.checked.now; table = conditions.table }) };
+    ghost invariant = { λ conditions. AreThroughout (record {
+      checked = conditions.checked.now;
+      table = conditions.table;
+    }) };
 }
 
 /// Control may be at the statement, and nothing is told there.

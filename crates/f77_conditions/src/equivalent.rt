@@ -8,24 +8,19 @@ ghost use Rattle.f77_program.specs.Program.{line_of};
 ghost use Rattle.f77_tree.specs.Statement.{statement_of};
 ghost use Rattle.f77_equivalence.specs.Equivalent.{IsEquivalent};
 
-use crate::acting::{all_act_where_told, goes_on_alike, is_executed, is_no_loop};
+use crate::acting::{all_act_where_told, is_no_loop};
 use crate::conditions::Conditions;
 use crate::table::told_at;
-use crate::told::statement_at;
 use f77_actions::Resolved;
 use f77_code::Place;
+use f77_equivalence::acting::is_executed;
 use f77_equivalence::invariant::Invariant;
+use f77_equivalence::ways::{goes_on_alike, resolved_in, statement_at};
 use f77_tree::{Shared, Stmt};
 use std::alloc::{AllocError, Global};
 
-fn resolved_in(resolved: &Shared<Resolved>) -> &Resolved
-    ensures { result.now ≡ resolved.now }
-{
-    resolved
-}
-
-/// Whether what is told of conditions, and of slots, shows that the program with this IF statement in the place of the one of this
-/// number, from 1, comes to what the program comes to wherever that returns or stops.
+/// Whether what is told of conditions, and of slots, shows that the program with this IF statement in the place of the
+/// one of this number, from 1, comes to what the program comes to wherever that returns or stops.
 pub fn is_equivalent_where_told(
     alloc: Global,
     invariant: &Invariant<'_>,

@@ -1,8 +1,8 @@
 //! Finds what is told at the places of a program. Nothing is claimed of what is found: it is to be checked.
 
+use crate::edges::{Edge, edges_of};
 use crate::table::{Table, are_among, told_at};
 use crate::told::{Told, is_among};
-use crate::ways::{Way, ways_of};
 use f77_actions::Resolved;
 use f77_code::Place;
 use f77_tree::Shared;
@@ -66,36 +66,36 @@ fn meet_at(
     }
 }
 
-fn meet_along(alloc: Global, table: &mut Table, way: &Way) -> Result<bool, AllocError> {
+fn meet_along(alloc: Global, table: &mut Table, edge: &Edge) -> Result<bool, AllocError> {
     let mut more = false;
-    for place in &way.places {
-        let new = meet_at(alloc, table, *place, &way.told)?;
+    for place in &edge.places {
+        let new = meet_at(alloc, table, *place, &edge.told)?;
         more = more || new;
     }
     Ok(more)
 }
 
-fn meet_along_all(alloc: Global, table: &mut Table, ways: &[Way]) -> Result<bool, AllocError> {
+fn meet_along_all(alloc: Global, table: &mut Table, edges: &[Edge]) -> Result<bool, AllocError> {
     let mut more = false;
-    for way in ways {
-        let new = meet_along(alloc, table, way)?;
+    for edge in edges {
+        let new = meet_along(alloc, table, edge)?;
         more = more || new;
     }
     Ok(more)
 }
 
-/// Follows the ways of the place, if control comes there.
+/// Follows the edges of the place, if control comes there.
 fn spread_from(
     alloc: Global,
     table: &mut Table,
     statements: &[Shared<Resolved>],
     place: Place,
 ) -> Result<bool, AllocError> {
-    let ways = match told_at(table, place) {
-        Some(told) => ways_of(alloc, statements, place, told)?,
+    let edges = match told_at(table, place) {
+        Some(told) => edges_of(alloc, statements, place, told)?,
         None => return Ok(false),
     };
-    meet_along_all(alloc, table, &ways)
+    meet_along_all(alloc, table, &edges)
 }
 
 /// Looks at all statements once. Says whether something was new.

@@ -1,8 +1,10 @@
-//! Which conditions of statements are known to hold, or not to hold, where control is; and conditions that are the same there.
+//! Which conditions of statements are known to hold, or not to hold, where control is; and conditions that are the same
+//! there.
 #![tactic(auto)]
 
 mod acting;
 pub mod conditions;
+mod edges;
 pub mod equivalent;
 mod finding;
 mod places;
@@ -10,4 +12,3 @@ mod reading;
 pub mod same;
 pub mod table;
 pub mod told;
-mod ways;

@@ -1,15 +1,16 @@
 //! The places where control may go on.
 
-ghost use Rattle.std.specs.Prelude.{◌≡◌, ◌+◌, ◌<◌, ◌^◌, Contains, ℕ, ℤ, length, slice_get, Some, IfOk};
+ghost use Rattle.std.specs.Prelude.{◌≡◌, ◌+◌, ◌<◌, ◌^◌, Contains, ℕ, ℤ, length, slice_get, Some};
+ghost use Rattle.std.specs.Prelude.{IfOk};
 ghost use Rattle.f77_actions.specs.declared.action.Jump.{Jump};
 ghost use Rattle.f77_code.specs.declared.control.Place.{Place};
 ghost use Rattle.f77_code.specs.declared.control.Place.TheVariants as place;
 ghost use Rattle.f77_code.specs.Moves.{Turns, place_behind};
-ghost use Rattle.f77_conditions.specs.Ways.{PassesTo};
+ghost use Rattle.f77_conditions.specs.Edges.{PassesTo};
 
-use crate::told::statement_at;
 use f77_actions::{Jump, Resolved};
 use f77_code::Place;
+use f77_equivalence::ways::{jump_at, number_at, statement_at};
 use f77_tree::Shared;
 use std::alloc::{AllocError, Global};
 
@@ -21,13 +22,6 @@ pub(crate) fn with_place(places: Vec<Place>, place: Place) -> Result<Vec<Place>,
     let mut more = places;
     more.push(place)?;
     Ok(more)
-}
-
-fn number_at(numbers: &[usize], k: usize) -> usize
-    requires { k < length numbers.now }
-    ensures { slice_get numbers.now k ≡ Some result }
-{
-    numbers[k]
 }
 
 /// The places of these DOs that are incremented, and others.
@@ -51,14 +45,6 @@ pub(crate) fn places_behind(alloc: Global, resolved: &Resolved) -> Result<Vec<Pl
     with_ends(next, &resolved.ends)
 }
 
-/// The jump of this number. Jumps are numbered from 0 here.
-fn jump_at(jumps: &[Jump], k: usize) -> &Jump
-    requires { k < length jumps.now }
-    ensures { slice_get jumps.now k ≡ Some result.now }
-{
-    &jumps[k]
-}
-
 /// Where these jumps lead, and other places.
 pub(crate) fn with_targets(places: Vec<Place>, jumps: &[Jump]) -> Result<Vec<Place>, AllocError>
     ensures kept { IfOk result (λ more. (p : Place) → Contains places.items p → Contains more.items p) }
@@ -72,7 +58,8 @@ pub(crate) fn with_targets(places: Vec<Place>, jumps: &[Jump]) -> Result<Vec<Pla
     Ok(more)
 }
 
-/// Where control may go on from the DO `d`, which ends at the statement `terminal`: to its first statement, or behind its last one.
+/// Where control may go on from the DO `d`, which ends at the statement `terminal`: to its first statement, or behind
+/// its last one.
 pub(crate) fn places_of_passes(
     alloc: Global,
     statements: &[Shared<Resolved>],

@@ -27,7 +27,8 @@ fn are_apart(a: Reach, b: Reach) -> bool
 /// The slots of an array of one dimension that a subscript may name: one where it is a constant, and all else.
 fn vector_extent(first: usize, bound: u32, subscript: &Number) -> Reach
     ensures { (cells : Cells) (k : ℕ) → given (number_in cells subscript.now)
-        (λ z. given (element (bound ∷ []) (z ∷ [])) (λ n. Ok (first + n))) ≡ Ok k → IsReached result.first result.count k }
+        (λ z. given (element (bound ∷ []) (z ∷ [])) (λ n. Ok (first + n))) ≡ Ok k
+        → IsReached result.first result.count k }
 {
     match subscript {
         Number::Constant(value) => vector_reach(first, bound, Known::exactly(*value)),
@@ -41,7 +42,8 @@ fn vector_extent(first: usize, bound: u32, subscript: &Number) -> Reach
 
 /// The slots that a variable or an array element may be in, whatever slots hold.
 pub(crate) fn extent_of(element: &Element) -> Reach
-    ensures { (cells : Cells) (k : ℕ) → slot_in cells element.now ≡ Ok k → IsReached result.first result.count k }
+    ensures { (cells : Cells) (k : ℕ) → slot_in cells element.now ≡ Ok k
+        → IsReached result.first result.count k }
 {
     match element {
         Element::Variable(slot) => one_slot(*slot),

@@ -59,8 +59,8 @@ fn with_used(
     c: &Condition,
     d: &Condition,
 ) -> Result<Vec<Told>, AllocError>
-    ensures { IfOk result (λ more. (cells : Cells) → AreTold statements.now cells used.items → IsTold statements.now cells one
-        → AreTold statements.now cells more.items) }
+    ensures { IfOk result (λ more. (cells : Cells) → AreTold statements.now cells used.items
+        → IsTold statements.now cells one → AreTold statements.now cells more.items) }
 {
     let mut more = used;
     if more.len() < MOST_USED && is_used(statements, slots, one, c, d) {
@@ -110,8 +110,8 @@ fn cases_of(
 
 /// The cases in which both are there, or those of the first alone where these are too many.
 fn with_cases(alloc: Global, cases: Vec<Case>, own: &[Case]) -> Result<Vec<Case>, AllocError>
-    ensures { IfOk result (λ both. (cells : Cells) → IsOneOf cells (pos 0) cases.items → IsOneOf cells (pos 0) own.now
-        → IsOneOf cells (pos 0) both.items) }
+    ensures { IfOk result (λ both. (cells : Cells) → IsOneOf cells (pos 0) cases.items
+        → IsOneOf cells (pos 0) own.now → IsOneOf cells (pos 0) both.items) }
 {
     if cases.len().saturating_mul(own.len()) > MOST_CASES {
         return Ok(cases);

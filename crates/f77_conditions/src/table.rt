@@ -1,13 +1,14 @@
 //! What is told at the places where control may be.
 
-ghost use Rattle.std.specs.Prelude.{◌≡◌, ◌<◌, All, Contains, List, Some, true, length, option_map, slice_get, IfOk};
+ghost use Rattle.std.specs.Prelude.{◌≡◌, ◌<◌, All, Contains, List, Some, true, length, option_map, slice_get};
+ghost use Rattle.std.specs.Prelude.{IfOk};
 ghost use Rattle.f77_actions.specs.declared.resolved.Resolved.{Resolved};
 ghost use Rattle.f77_code.specs.Moves.{Cells, State};
-ghost use Rattle.f77_conditions.specs.Table.{row_in, row_at, IsRow, Tells, Allows, Keeps, IsKept};
+ghost use Rattle.f77_conditions.specs.Table.{row_in, row_at, IsRow, Tells, Allows, KeepsTold, IsKept};
 ghost use Rattle.f77_conditions.specs.Told.{AreTold};
 
+use crate::edges::{Edge, edges_of};
 use crate::told::{Told, is_among, one_at};
-use crate::ways::{Way, ways_of};
 use f77_actions::Resolved;
 use f77_code::Place;
 use f77_tree::Shared;
@@ -75,32 +76,32 @@ fn place_at(places: &[Place], k: usize) -> Place
     places[k]
 }
 
-/// What is told wherever the way leads is so there.
-fn allows_way(table: &Table, way: &Way) -> bool
-    ensures { result ≡ true → (statements : List Resolved) (s : State) → Contains way.now.places.items s.place
-        → AreTold statements s.cells way.now.told.items → Tells statements table.now s }
+/// What the edge tells is so wherever it leads.
+fn allows_edge(table: &Table, edge: &Edge) -> bool
+    ensures { result ≡ true → (statements : List Resolved) (s : State) → Contains edge.now.places.items s.place
+        → AreTold statements s.cells edge.now.told.items → Tells statements table.now s }
 {
-    for k in 0..way.places.len() {
-        if !allows_at(table, place_at(&way.places, k), &way.told) {
+    for k in 0..edge.places.len() {
+        if !allows_at(table, place_at(&edge.places, k), &edge.told) {
             return false;
         }
     }
     true
 }
 
-fn way_at(ways: &[Way], k: usize) -> &Way
-    requires { k < length ways.now }
-    ensures { slice_get ways.now k ≡ Some result.now }
+fn edge_at(edges: &[Edge], k: usize) -> &Edge
+    requires { k < length edges.now }
+    ensures { slice_get edges.now k ≡ Some result.now }
 {
-    &ways[k]
+    &edges[k]
 }
 
-/// What is told wherever one of the ways leads is so there.
-fn allows(table: &Table, ways: &[Way]) -> bool
-    ensures { result ≡ true → Allows table.now ways.now }
+/// The same of all these edges.
+fn allows(table: &Table, edges: &[Edge]) -> bool
+    ensures { result ≡ true → Allows table.now edges.now }
 {
-    for k in 0..ways.len() {
-        if !allows_way(table, way_at(ways, k)) {
+    for k in 0..edges.len() {
+        if !allows_edge(table, edge_at(edges, k)) {
             return false;
         }
     }
@@ -114,12 +115,12 @@ fn is_place_kept(
     table: &Table,
     place: Place,
 ) -> Result<bool, AllocError>
-    ensures { IfOk result (λ yes. yes ≡ true → Keeps statements.now table.now place) }
+    ensures { IfOk result (λ yes. yes ≡ true → KeepsTold statements.now table.now place) }
 {
     match told_at(table, place) {
         Some(told) => {
-            let ways = ways_of(alloc, statements, place, told)?;
-            Ok(allows(table, &ways))
+            let edges = edges_of(alloc, statements, place, told)?;
+            Ok(allows(table, &edges))
         }
         None => Ok(true),
     }

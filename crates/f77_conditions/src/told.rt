@@ -1,15 +1,17 @@
 //! What is told of the conditions of statements.
 
-ghost use Rattle.std.specs.Prelude.{◌≡◌, ◌<◌, Contains, List, true, length, slice_get, Some, Ok, IfOk, option_map};
+ghost use Rattle.std.specs.Prelude.{◌≡◌, ◌<◌, Contains, List, true, length, slice_get, Some, Ok, IfOk};
+ghost use Rattle.std.specs.Prelude.{option_map};
 ghost use Rattle.f77_actions.specs.declared.resolved.Resolved.{Resolved};
 ghost use Rattle.f77_code.specs.Evaluation.{truth_in};
 ghost use Rattle.f77_code.specs.Moves.{Cells};
-ghost use Rattle.f77_conditions.specs.Reading.{AgreeOutside};
+ghost use Rattle.f77_conditions.specs.Reading.{KeepsOthers};
 ghost use Rattle.f77_conditions.specs.Told as spec;
 ghost use Rattle.f77_conditions.specs.Told.{IsTold, AreTold};
 
 use crate::reading::keeps_truth;
 use f77_actions::{Action, Condition, Resolved};
+use f77_equivalence::ways::statement_at;
 use f77_facts::reaching::Reach;
 use f77_tree::Shared;
 use std::alloc::{AllocError, Global};
@@ -22,14 +24,6 @@ const MOST_TOLD: usize = 16;
 pub struct Told {
     pub statement: usize,
     pub holds: bool,
-}
-
-/// The statement of this number. Statements are numbered from 0.
-pub(crate) fn statement_at(statements: &[Shared<Resolved>], i: usize) -> &Resolved
-    requires { i < length statements.now }
-    ensures { slice_get statements.now i ≡ Some result.now }
-{
-    &statements[i]
 }
 
 /// The condition of an IF statement.
@@ -64,7 +58,7 @@ pub(crate) fn condition_at(statements: &[Shared<Resolved>], i: usize) -> Option<
 
 /// What is told of the statement is so too where these slots are set.
 fn is_undisturbed(statements: &[Shared<Resolved>], told: Told, set: Reach) -> bool
-    ensures { result ≡ true → (cells others : Cells) → AgreeOutside set cells others
+    ensures { result ≡ true → (cells others : Cells) → KeepsOthers set cells others
         → IsTold statements.now cells told → IsTold statements.now others told }
 {
     match condition_at(statements, told.statement) {
@@ -88,7 +82,8 @@ fn with_undisturbed(
     one: Told,
     set: Reach,
 ) -> Result<Vec<Told>, AllocError>
-    ensures { IfOk result (λ more. (cells others : Cells) → AgreeOutside set cells others → IsTold statements.now cells one
+    ensures { IfOk result (λ more. (cells others : Cells) → KeepsOthers set cells others
+        → IsTold statements.now cells one
         → AreTold statements.now others left.items → AreTold statements.now others more.items) }
 {
     let mut more = left;
@@ -105,7 +100,7 @@ pub(crate) fn undisturbed(
     told: &[Told],
     set: Reach,
 ) -> Result<Vec<Told>, AllocError>
-    ensures { IfOk result (λ left. (cells others : Cells) → AgreeOutside set cells others
+    ensures { IfOk result (λ left. (cells others : Cells) → KeepsOthers set cells others
         → AreTold statements.now cells told.now → AreTold statements.now others left.items) }
 {
     let mut left = Vec::new(alloc);

@@ -1,18 +1,18 @@
 use Rattle.std.proofs.Common.{subst}
 use Rattle.f77_actions.specs.declared.action.Action.{Branch}
+use Rattle.f77_equivalence.proofs.Moving.{ok_then}
 use Rattle.f77_conditions.specs.Same.{ActsWhereTold}
 use Rattle.f77_conditions.proofs.Choosing.{guarded_alike, branches_alike}
-use Rattle.f77_conditions.proofs.Going.{ok_then}
 use Rattle.f77_conditions.proofs.acting.acts_where_told.Goals as goal
 
-pub returns-else-not-does_alike : goal.returns-else-not-does_alike
-returns-else-not-does_alike c =
+pub returns-else-not-alike : goal.returns-else-not-alike
+returns-else-not-alike c =
     let it = c.in-LogicalIf-LogicalIf in
     ok_then c.is_same_where_told.result c.is_same_where_told.ensures
     (λ yes same e.
     rw (it.is-0, it.is-1)
     (guarded_alike c.args.statements.now c.args.facts.now c.args.told.now it.c it.d (same e) it.inner it.other_inner c.deref.result.now
-    c.deref-in-LogicalIf-LogicalIf.result.now c.deref.ensures c.deref-in-LogicalIf-LogicalIf.ensures (c.does_alike.ensures c.if-not-does_alike.false)))
+    c.deref-in-LogicalIf-LogicalIf.result.now c.deref.ensures c.deref-in-LogicalIf-LogicalIf.ensures (c.in_ok-alike-in-LogicalIf-LogicalIf.ensures c.if-not-alike.false)))
 
 pub returns-else-otherwise-other_otherwise : goal.returns-else-otherwise-other_otherwise
 returns-else-otherwise-other_otherwise c =

@@ -4,9 +4,9 @@ use Rattle.f77_check.specs.Checked.{CheckedFields, IsChecked}
 use Rattle.f77_check.specs.Patching.{IsInPlace}
 use Rattle.f77_tree.specs.Statement.{statement_of}
 use Rattle.f77_code.specs.declared.control.Place.TheVariants.{Execute}
+use Rattle.f77_equivalence.proofs.Moving.{ok_then}
 use Rattle.f77_conditions.specs.Same.{AllActWhereTold}
 use Rattle.f77_conditions.specs.Table.{row_at}
-use Rattle.f77_conditions.proofs.Going.{ok_then}
 use Rattle.f77_conditions.proofs.Together.{told_there}
 use Rattle.f77_conditions.proofs.equivalent.is_equivalent_where_told.Goals as goal
 
@@ -28,7 +28,7 @@ returns c =
     (subst (IsInPlace invariant.checked c.args.number statement) (sym c.resolved_in-other.ensures) c.requires.in_place)
     c.checked.ensures.throughout c.table.ensures.throughout
     (c.statements-statements.ensures.statements ∙ ap (λ (checked : CheckedFields). checked.statements) program) c.statement_at-own.ensures
-    (c.goes_on_alike.ensures c.if-not-goes_on_alike.false)
+    (c.goes_on_alike.ensures.alike c.if-not-goes_on_alike.false)
     (subst (λ table. row_at table (Execute i) ≡ Some told) c.table.ensures.table
     (sym c.told_at.ensures ∙ ap (option_map (λ told. told.now)) c.in-Some.is))
     (sym c.is_executed.ensures ∙ c.if-not-is_executed.false) (c.is_no_loop.ensures c.if-not-is_no_loop.false)

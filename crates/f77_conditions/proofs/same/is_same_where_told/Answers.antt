@@ -1,7 +1,7 @@
 use Rattle.std.proofs.Common.{pos, sym, subst}
 use Rattle.f77_linear.specs.Cases.{IsOneOf}
+use Rattle.f77_equivalence.proofs.Moving.{ok_then}
 use Rattle.f77_conditions.specs.Told.{AreTold}
-use Rattle.f77_conditions.proofs.Going.{ok_then}
 use Rattle.f77_conditions.proofs.same.is_same_where_told.Goals as goal
 
 pub returns : goal.returns

@@ -1,5 +1,5 @@
 use Rattle.std.proofs.Common.{pos}
-use Rattle.f77_conditions.proofs.Going.{ok_then}
+use Rattle.f77_equivalence.proofs.Moving.{ok_then}
 use Rattle.f77_conditions.proofs.same.with_cases.Goals as goal
 
 pub returns : goal.returns

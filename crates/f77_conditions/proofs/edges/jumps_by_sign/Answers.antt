@@ -2,9 +2,9 @@ use Rattle.f77_code.specs.declared.control.Place.TheVariants.{Execute}
 use Rattle.f77_code.specs.Choice.{by_sign}
 use Rattle.f77_code.specs.Evaluation.{number_in}
 use Rattle.f77_code.specs.Moves.{jump_to, used}
+use Rattle.f77_equivalence.proofs.Moving.{ok_then}
 use Rattle.f77_conditions.proofs.Actions.{stays_of_sign, used_stays}
-use Rattle.f77_conditions.proofs.Going.{ok_then}
-use Rattle.f77_conditions.proofs.ways.jumps_by_sign.Goals as goal
+use Rattle.f77_conditions.proofs.edges.jumps_by_sign.Goals as goal
 
 pub returns : goal.returns
 returns c =
@@ -13,7 +13,7 @@ returns c =
     let d = c.args.positive.now in
     let places = c.in_ok-all.all.items in
     ok_then c.along.result c.along.ensures
-    (λ ways leads statements i r x cells turns is.
+    (λ edges leads statements i r x cells turns is.
     leads statements cells (used (number_in cells x) cells (λ z. jump_to (by_sign z a b d) cells turns))
     (used_stays places (number_in cells x) cells (λ z. jump_to (by_sign z a b d) cells turns)
     (λ z. stays_of_sign places cells turns z a b d

@@ -5,9 +5,9 @@ use Rattle.f77_code.specs.declared.control.Place.{Place}
 use Rattle.f77_code.specs.Moves.{Cells}
 use Rattle.f77_conditions.specs.Table.{row_at, IsRow}
 use Rattle.f77_conditions.specs.Told.{AreTold}
-use Rattle.f77_conditions.proofs.table.allows_way.Given as goal
+use Rattle.f77_conditions.proofs.table.allows_edge.Given as goal
 
 abbrev pub invariant-loop-k : goal.invariant-loop-k
 invariant-loop-k l =
-    (k : ℕ) (place : Place) → k < l.k → slice_get l.way.places.items k ≡ Some place → (statements : List Resolved) (cells : Cells)
-    → AreTold statements cells l.way.told.items → IsRow statements cells (row_at l.table place)
+    (k : ℕ) → k < l.k → (place : Place) → slice_get l.edge.places.items k ≡ Some place → (statements : List Resolved) (cells : Cells)
+    → AreTold statements cells l.edge.told.items → IsRow statements cells (row_at l.table place)

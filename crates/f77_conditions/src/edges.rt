@@ -6,94 +6,97 @@ ghost use Rattle.f77_actions.specs.declared.resolved.Resolved.{Resolved};
 ghost use Rattle.f77_code.specs.declared.control.Place.TheVariants as place;
 ghost use Rattle.f77_code.specs.Moves.{Cells, State, Move};
 ghost use Rattle.f77_conditions.specs.Told.{AreTold};
-ghost use Rattle.f77_conditions.specs.Ways.{Stays, IsLed, Lands, GoesOn, GoesOnSet, Acts, PassesSet, Leads};
+ghost use Rattle.f77_conditions.specs.Edges.{Stays, IsLed, IsAlong, GoesOnAlong, SetsAlong, ActsAlong, PassesAlong};
+ghost use Rattle.f77_conditions.specs.Edges.{LeadsAlong};
 
 use crate::places::{places_behind, places_of_passes, with_place, with_targets};
 use crate::reading::extent_of;
-use crate::told::{Told, statement_at, undisturbed, with_told};
+use crate::told::{Told, undisturbed, with_told};
 use f77_actions::{Action, Element, Jump, Resolved};
 use f77_code::Place;
+use f77_equivalence::ways::statement_at;
 use f77_facts::reaching::one_slot;
 use f77_tree::Shared;
 use std::alloc::{AllocError, Global};
 
 /// At each of these places this is told.
 #[derive(Drop)]
-pub struct Way {
+pub struct Edge {
     pub places: Vec<Place>,
     pub told: Vec<Told>,
 }
 
-/// One way more.
-fn with_way(ways: Vec<Way>, places: Vec<Place>, told: Vec<Told>) -> Result<Vec<Way>, AllocError>
-    ensures kept { IfOk result (λ more. (statements : List Resolved) (s : State) → IsLed statements ways.items s
+/// An edge more.
+fn with_edge(edges: Vec<Edge>, places: Vec<Place>, told: Vec<Told>) -> Result<Vec<Edge>, AllocError>
+    ensures kept { IfOk result (λ more. (statements : List Resolved) (s : State) → IsLed statements edges.items s
         → IsLed statements more.items s) }
     ensures there { IfOk result (λ more. (statements : List Resolved) (s : State) → Contains places.items s.place
         → AreTold statements s.cells told.items → IsLed statements more.items s) }
 {
-    let mut more = ways;
-    more.push(Way { places, told })?;
+    let mut more = edges;
+    more.push(Edge { places, told })?;
     Ok(more)
 }
 
-/// One way to these places, where no slot is set.
-fn along(alloc: Global, places: Vec<Place>, told: &[Told]) -> Result<Vec<Way>, AllocError>
-    ensures { IfOk result (λ ways. (statements : List Resolved) (cells : Cells) (move : Move)
-        → Stays places.items cells move → AreTold statements cells told.now → Lands statements ways.items move) }
+/// The edge to these places, where no slot is set.
+fn along(alloc: Global, places: Vec<Place>, told: &[Told]) -> Result<Vec<Edge>, AllocError>
+    ensures { IfOk result (λ edges. (statements : List Resolved) (cells : Cells) (move : Move)
+        → Stays places.items cells move → AreTold statements cells told.now
+        → IsAlong statements edges.items move) }
 {
     let there = Vec::from_slice(alloc, told)?;
-    with_way(Vec::new(alloc), places, there)
+    with_edge(Vec::new(alloc), places, there)
 }
 
-/// The way on from the statement, and others.
-fn with_way_on(
+/// The edge by which control goes on from the statement, and others.
+fn with_edge_on(
     alloc: Global,
-    ways: Vec<Way>,
+    edges: Vec<Edge>,
     resolved: &Resolved,
     told: Vec<Told>,
-) -> Result<Vec<Way>, AllocError>
-    ensures kept { IfOk result (λ more. (statements : List Resolved) (s : State) → IsLed statements ways.items s
+) -> Result<Vec<Edge>, AllocError>
+    ensures kept { IfOk result (λ more. (statements : List Resolved) (s : State) → IsLed statements edges.items s
         → IsLed statements more.items s) }
     ensures on { IfOk result (λ more. (statements : List Resolved)
-        → GoesOn statements more.items resolved.now told.items) }
+        → GoesOnAlong statements more.items resolved.now told.items) }
 {
     let places = places_behind(alloc, resolved)?;
-    with_way(ways, places, told)
+    with_edge(edges, places, told)
 }
 
-/// The way on from an assignment to the element.
+/// The edge of an assignment to the element.
 fn sets(
     alloc: Global,
     statements: &[Shared<Resolved>],
     resolved: &Resolved,
     element: &Element,
     told: &[Told],
-) -> Result<Vec<Way>, AllocError>
-    ensures { IfOk result (λ ways. GoesOnSet statements.now ways.items resolved.now element.now told.now) }
+) -> Result<Vec<Edge>, AllocError>
+    ensures { IfOk result (λ edges. SetsAlong statements.now edges.items resolved.now element.now told.now) }
 {
     let left = undisturbed(alloc, statements, told, extent_of(element))?;
-    with_way_on(alloc, Vec::new(alloc), resolved, left)
+    with_edge_on(alloc, Vec::new(alloc), resolved, left)
 }
 
-/// The way along a GO TO.
-fn jumps(alloc: Global, jump: &Jump, told: &[Told]) -> Result<Vec<Way>, AllocError>
-    ensures { IfOk result (λ ways. (statements : List Resolved) (i : ℕ) (r : Resolved)
-        → Acts statements ways.items i r (Action.Goto jump.now) told.now) }
+/// The edge of a GO TO.
+fn jumps(alloc: Global, jump: &Jump, told: &[Told]) -> Result<Vec<Edge>, AllocError>
+    ensures { IfOk result (λ edges. (statements : List Resolved) (i : ℕ) (r : Resolved)
+        → ActsAlong statements edges.items i r (Action.Goto jump.now) told.now) }
 {
     let places = with_place(Vec::new(alloc), Place::Execute(jump.target))?;
     along(alloc, places, told)
 }
 
-/// The way along an arithmetic IF.
+/// The edge of an arithmetic IF.
 fn jumps_by_sign(
     alloc: Global,
     negative: &Jump,
     zero: &Jump,
     positive: &Jump,
     told: &[Told],
-) -> Result<Vec<Way>, AllocError>
-    ensures { IfOk result (λ ways. (statements : List Resolved) (i : ℕ) (r : Resolved) (x : Number)
-        → Acts statements ways.items i r (Action.ArithmeticIf x negative.now zero.now positive.now) told.now) }
+) -> Result<Vec<Edge>, AllocError>
+    ensures { IfOk result (λ edges. (statements : List Resolved) (i : ℕ) (r : Resolved) (x : Number)
+        → ActsAlong statements edges.items i r (Action.ArithmeticIf x negative.now zero.now positive.now) told.now) }
 {
     let below = with_place(Vec::new(alloc), Place::Execute(negative.target))?;
     let up_to_zero = with_place(below, Place::Execute(zero.target))?;
@@ -101,40 +104,41 @@ fn jumps_by_sign(
     along(alloc, all, told)
 }
 
-/// The way along a computed GO TO.
+/// The edge of a computed GO TO.
 fn jumps_by_number(
     alloc: Global,
     resolved: &Resolved,
     jumps: &Vec<Jump>,
     told: &[Told],
-) -> Result<Vec<Way>, AllocError>
-    ensures { IfOk result (λ ways. (statements : List Resolved) (i : ℕ) (x : Number)
-        → Acts statements ways.items i resolved.now (Action.ComputedGoto x jumps.now) told.now) }
+) -> Result<Vec<Edge>, AllocError>
+    ensures { IfOk result (λ edges. (statements : List Resolved) (i : ℕ) (x : Number)
+        → ActsAlong statements edges.items i resolved.now (Action.ComputedGoto x jumps.now) told.now) }
 {
     let behind = places_behind(alloc, resolved)?;
     let all = with_targets(behind, jumps)?;
     along(alloc, all, told)
 }
 
-/// The way on from a block IF, or to the next branch of its block.
+/// The edges of a block IF: on from it, and to the next branch of its block.
 fn branches(
     alloc: Global,
     resolved: &Resolved,
     otherwise: usize,
     holds: Vec<Told>,
     fails: Vec<Told>,
-) -> Result<Vec<Way>, AllocError>
-    ensures on { IfOk result (λ ways. (statements : List Resolved)
-        → GoesOn statements ways.items resolved.now holds.items) }
-    ensures otherwise { IfOk result (λ ways. (statements : List Resolved) (s : State)
-        → s.place ≡ place.Execute otherwise → AreTold statements s.cells fails.items → IsLed statements ways.items s) }
+) -> Result<Vec<Edge>, AllocError>
+    ensures on { IfOk result (λ edges. (statements : List Resolved)
+        → GoesOnAlong statements edges.items resolved.now holds.items) }
+    ensures otherwise { IfOk result (λ edges. (statements : List Resolved) (s : State)
+        → s.place ≡ place.Execute otherwise → AreTold statements s.cells fails.items
+        → IsLed statements edges.items s) }
 {
-    let on = with_way_on(alloc, Vec::new(alloc), resolved, holds)?;
+    let on = with_edge_on(alloc, Vec::new(alloc), resolved, holds)?;
     let places = with_place(Vec::new(alloc), Place::Execute(otherwise))?;
-    with_way(on, places, fails)
+    with_edge(on, places, fails)
 }
 
-/// The way of the DO `d`, which ends at the statement `terminal`, where its variable was set.
+/// The edge of the DO `d`, which ends at the statement `terminal`, where its variable was set.
 fn passes(
     alloc: Global,
     statements: &[Shared<Resolved>],
@@ -142,26 +146,26 @@ fn passes(
     variable: usize,
     terminal: usize,
     told: &[Told],
-) -> Result<Vec<Way>, AllocError>
+) -> Result<Vec<Edge>, AllocError>
     requires { d + 1 < 2 ^ 64 }
-    ensures { IfOk result (λ ways. PassesSet statements.now ways.items d variable terminal told.now) }
+    ensures { IfOk result (λ edges. PassesAlong statements.now edges.items d variable terminal told.now) }
 {
     let left = undisturbed(alloc, statements, told, one_slot(variable))?;
     let places = places_of_passes(alloc, statements, d, terminal)?;
-    with_way(Vec::new(alloc), places, left)
+    with_edge(Vec::new(alloc), places, left)
 }
 
-/// The ways of what the statement `i` does, where no condition of its own is told.
-fn ways_of_action(
+/// The edges of what the statement `i` does, where no condition of its own is told.
+fn edges_of_action(
     alloc: Global,
     statements: &[Shared<Resolved>],
     i: usize,
     resolved: &Resolved,
     action: &Action,
     told: &[Told],
-) -> Result<Vec<Way>, AllocError>
+) -> Result<Vec<Edge>, AllocError>
     requires { i + 1 < 2 ^ 64 }
-    ensures { IfOk result (λ ways. Acts statements.now ways.items i resolved.now action.now told.now) }
+    ensures { IfOk result (λ edges. ActsAlong statements.now edges.items i resolved.now action.now told.now) }
 {
     match action {
         Action::AssignNumber(element, _) | Action::AssignTruth(element, _) => {
@@ -176,15 +180,15 @@ fn ways_of_action(
             ..
         } => jumps_by_sign(alloc, negative, zero, positive, told),
         Action::LogicalIf { action, .. } => {
-            let inside = ways_of_action(alloc, statements, i, resolved, action, told)?;
-            with_way_on(alloc, inside, resolved, Vec::from_slice(alloc, told)?)
+            let inside = edges_of_action(alloc, statements, i, resolved, action, told)?;
+            with_edge_on(alloc, inside, resolved, Vec::from_slice(alloc, told)?)
         }
         Action::Branch { otherwise, .. } => {
             let holds = Vec::from_slice(alloc, told)?;
             let fails = Vec::from_slice(alloc, told)?;
             branches(alloc, resolved, *otherwise, holds, fails)
         }
-        Action::Continue => with_way_on(
+        Action::Continue => with_edge_on(
             alloc,
             Vec::new(alloc),
             resolved,
@@ -203,57 +207,57 @@ fn ways_of_action(
     }
 }
 
-/// The ways of the statement `i`, where its own condition is told.
-fn ways_of_own(
+/// The edges of the statement `i`, where its own condition is told.
+fn edges_of_own(
     alloc: Global,
     statements: &[Shared<Resolved>],
     i: usize,
     resolved: &Resolved,
     told: &[Told],
-) -> Result<Vec<Way>, AllocError>
+) -> Result<Vec<Edge>, AllocError>
     requires there { slice_get statements.now i ≡ Some resolved.now }
     requires counted { i + 1 < 2 ^ 64 }
-    ensures { IfOk result (λ ways. Acts statements.now ways.items i resolved.now resolved.now.action told.now) }
+    ensures { IfOk result (λ edges. ActsAlong statements.now edges.items i resolved.now resolved.now.action told.now) }
 {
     match &resolved.action {
         Action::LogicalIf { action, .. } => {
             let holds = with_told(alloc, told, i, true)?;
             let fails = with_told(alloc, told, i, false)?;
-            let inside = ways_of_action(alloc, statements, i, resolved, action, &holds)?;
-            with_way_on(alloc, inside, resolved, fails)
+            let inside = edges_of_action(alloc, statements, i, resolved, action, &holds)?;
+            with_edge_on(alloc, inside, resolved, fails)
         }
         Action::Branch { otherwise, .. } => {
             let holds = with_told(alloc, told, i, true)?;
             let fails = with_told(alloc, told, i, false)?;
             branches(alloc, resolved, *otherwise, holds, fails)
         }
-        _ => ways_of_action(alloc, statements, i, resolved, &resolved.action, told),
+        _ => edges_of_action(alloc, statements, i, resolved, &resolved.action, told),
     }
 }
 
-/// The ways of the statement `i`, none where there is no such statement.
-fn ways_of_statement(
+/// The edges of the statement `i`, none where there is no such statement.
+fn edges_of_statement(
     alloc: Global,
     statements: &[Shared<Resolved>],
     i: usize,
     told: &[Told],
-) -> Result<Vec<Way>, AllocError>
-    ensures { IfOk result (λ ways. Leads statements.now ways.items (place.Execute i) told.now) }
+) -> Result<Vec<Edge>, AllocError>
+    ensures { IfOk result (λ edges. LeadsAlong statements.now edges.items (place.Execute i) told.now) }
 {
     if i >= statements.len() {
         return Ok(Vec::new(alloc));
     }
-    ways_of_own(alloc, statements, i, statement_at(statements, i), told)
+    edges_of_own(alloc, statements, i, statement_at(statements, i), told)
 }
 
-/// The ways of the DO `d` where it is incremented, none where there is no such DO.
-fn ways_of_increment(
+/// The edges of the DO `d` where it is incremented, none where there is no such DO.
+fn edges_of_increment(
     alloc: Global,
     statements: &[Shared<Resolved>],
     d: usize,
     told: &[Told],
-) -> Result<Vec<Way>, AllocError>
-    ensures { IfOk result (λ ways. Leads statements.now ways.items (place.Increment d) told.now) }
+) -> Result<Vec<Edge>, AllocError>
+    ensures { IfOk result (λ edges. LeadsAlong statements.now edges.items (place.Increment d) told.now) }
 {
     if d >= statements.len() {
         return Ok(Vec::new(alloc));
@@ -268,17 +272,17 @@ fn ways_of_increment(
     }
 }
 
-/// The ways of a step from the place, where this is told.
-pub(crate) fn ways_of(
+/// The edges of a step from the place, where this is told.
+pub(crate) fn edges_of(
     alloc: Global,
     statements: &[Shared<Resolved>],
     place: Place,
     told: &[Told],
-) -> Result<Vec<Way>, AllocError>
-    ensures { IfOk result (λ ways. Leads statements.now ways.items place told.now) }
+) -> Result<Vec<Edge>, AllocError>
+    ensures { IfOk result (λ edges. LeadsAlong statements.now edges.items place told.now) }
 {
     match place {
-        Place::Execute(i) => ways_of_statement(alloc, statements, i, told),
-        Place::Increment(d) => ways_of_increment(alloc, statements, d, told),
+        Place::Execute(i) => edges_of_statement(alloc, statements, i, told),
+        Place::Increment(d) => edges_of_increment(alloc, statements, d, told),
     }
 }

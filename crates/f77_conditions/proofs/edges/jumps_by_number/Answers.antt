@@ -6,9 +6,9 @@ use Rattle.f77_code.specs.declared.control.Place.TheVariants.{Execute}
 use Rattle.f77_code.specs.Choice.{numbered}
 use Rattle.f77_code.specs.Evaluation.{number_in}
 use Rattle.f77_code.specs.Moves.{go_on, jump_to, place_behind, used}
+use Rattle.f77_equivalence.proofs.Moving.{ok_then}
 use Rattle.f77_conditions.proofs.Actions.{stays_of_number, used_stays}
-use Rattle.f77_conditions.proofs.Going.{ok_then}
-use Rattle.f77_conditions.proofs.ways.jumps_by_number.Goals as goal
+use Rattle.f77_conditions.proofs.edges.jumps_by_number.Goals as goal
 
 pub returns : goal.returns
 returns c =
@@ -16,7 +16,7 @@ returns c =
     let jumps = c.args.jumps.now.items in
     let places = c.in_ok-all.all.items in
     ok_then c.along.result c.along.ensures
-    (λ ways leads statements i x cells turns is.
+    (λ edges leads statements i x cells turns is.
     leads statements cells
     (used (number_in cells x) cells (λ z. option_map_or (λ jump. jump_to jump cells turns) (numbered jumps z) (go_on r cells turns)))
     (used_stays places (number_in cells x) cells
