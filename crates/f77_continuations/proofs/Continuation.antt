@@ -10,9 +10,10 @@ use Rattle.f77_facts.specs.declared.entries.Entry.{Entry}
 use Rattle.f77_facts.specs.Entries.{IsAmong, IsInductive, Lands}
 use Rattle.f77_facts.proofs.Slots.{same_or_not}
 use Rattle.f77_equivalence.specs.Alike.{AgreeBut, PassAlike, site}
+use Rattle.f77_equivalence.specs.Changed.{IsEnding}
 use Rattle.f77_equivalence.proofs.Moving.{moved_same}
-use Rattle.f77_continuations.specs.Continuing.{ComesNoLater, Continues, ContinuesFrom, ContinuesWhereChanged, IsEnding, spared}
-use Rattle.f77_continuations.specs.Ways.{LeadsBy}
+use Rattle.f77_continuations.specs.Continuing.{ComesNoLater, Continues, ContinuesFrom, ContinuesWhereChanged, spared}
+use Rattle.f77_continuations.specs.Paths.{LeadsBy}
 
 module _ (finish : Finish) (cells : Cells) where
   -- so many moves behind this one come to the end

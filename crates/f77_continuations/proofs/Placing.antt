@@ -1,6 +1,6 @@
 -- A statement in the place of another from which control continues as from that.
 use Rattle.std.proofs.Common.{◌≡◌, ◌-◌, ℕ, Bool, true, false, List, Some, None, length, map, refl, sym, subst}
-use Rattle.std.specs.Prelude.{if◌then◌else◌, slice_get, slice_set}
+use Rattle.std.specs.Prelude.{slice_get, slice_set}
 use Rattle.std.proofs.lemmas.Option.{slice_get_within}
 use Rattle.f77_program.specs.Patching.{patched}
 use Rattle.f77_program.specs.Program.{line_of}
@@ -18,14 +18,10 @@ use Rattle.f77_equivalence.specs.Alike.{AgreeBut, GoOnAlike}
 use Rattle.f77_equivalence.specs.Start.{HoldsStart}
 use Rattle.f77_equivalence.proofs.Alike.{pass_same}
 use Rattle.f77_equivalence.proofs.InPlace.{agree_but, change_in_place}
+use Rattle.f77_equivalence.proofs.Moving.{if_done}
 use Rattle.f77_continuations.specs.Continuing.{Continues, ContinuesFrom, ContinuesInAll, ContinuesWhere, ContinuesWhereChanged}
 use Rattle.f77_continuations.specs.Within.{IsEquivalentWithin}
 use Rattle.f77_continuations.proofs.Lifting.{equivalent_where_continues}
-
--- what is done at all is this
-if_done : (b : Bool) (m n : Move) → (if b then Some m else None) ≡ Some n → m ≡ n
-if_done true m n e = cc (e)
-if_done false m n e = absurd (cc (e))
 
 module _ (statements changed : List Resolved) (i : ℕ) (own other : Resolved) (is : slice_get statements i ≡ Some own)
     (put : slice_get changed i ≡ Some other) (executed : is_executed other.action ≡ true) (agree : AgreeBut i statements changed) where

@@ -8,7 +8,7 @@ use Rattle.f77_code.specs.Choice.{by_sign}
 use Rattle.f77_code.specs.Evaluation.{number_in, truth_in}
 use Rattle.f77_code.specs.Moves.{Cells, Turns, Move, acted, chosen, without}
 use Rattle.f77_continuations.specs.declared.exits.Exit.{Exit}
-use Rattle.f77_continuations.specs.Ways.{come}
+use Rattle.f77_continuations.specs.Paths.{come}
 
 -- control leaves by the exit
 abbrev pub leave : Exit → Cells → Turns → Move
@@ -29,7 +29,8 @@ exit_of _ cells = Ok 0
 -- in whatever statements, control leaves the action by the exit
 abbrev pub LeavesPlainly : Resolved → Action → Exit → Type 0
 LeavesPlainly r action exit =
-    (statements : List Resolved) (i : ℕ) (cells : Cells) (turns : Turns) → acted statements i r action cells turns ≡ leave exit cells turns
+    (statements : List Resolved) (i : ℕ) (cells : Cells) (turns : Turns)
+    → acted statements i r action cells turns ≡ leave exit cells turns
 
 -- so it does where this is the number of its exit
 abbrev pub LeavesBy : Resolved → Action → ℕ → Exit → Type 0

@@ -1,4 +1,4 @@
-pub mod Ways
+pub mod Paths
 pub mod Exits
 pub mod Choosing
 pub mod Continuing

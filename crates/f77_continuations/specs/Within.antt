@@ -1,11 +1,8 @@
 -- When a changed program comes to what the program comes to, with so many more steps allowed.
-use Rattle.std.specs.Prelude.{◌≡◌, ◌+◌, ℕ, List, Some, map}
+use Rattle.std.specs.Prelude.{◌+◌, ℕ, List, map}
 use Rattle.f77_program.specs.Program.{LineFields, line_of}
 use Rattle.f77_actions.specs.declared.resolved.Resolved.{Resolved}
 use Rattle.f77_check.specs.Checked.{CheckedFields, shapes}
-use Rattle.f77_values.specs.declared.finish.Finish.{Finish}
-use Rattle.f77_code.specs.Moves.{Cells, Ends}
-use Rattle.f77_code.specs.Sequences.{moved_by}
 use Rattle.f77_facts.specs.declared.entries.Entry.{Entry}
 use Rattle.f77_facts.specs.Entries.{IsInductive}
 use Rattle.f77_run.specs.declared.argument.Arg.{Arg}
@@ -14,32 +11,30 @@ use Rattle.f77_run.specs.Interpreter.{AreFitting, IsOutcomeOf}
 use Rattle.f77_equivalence.specs.Alike.{AgreeBut, PassAlike}
 use Rattle.f77_equivalence.specs.Changed.{IsChange}
 use Rattle.f77_equivalence.specs.Equivalent.{IsEnd}
-use Rattle.f77_equivalence.specs.Start.{HoldsStart, start_state}
+use Rattle.f77_equivalence.specs.Start.{HoldsStart}
 use Rattle.f77_equivalence.specs.Storable.{AreStorable}
-use Rattle.f77_continuations.specs.Continuing.{ContinuesWhereChanged, IsEnding}
+use Rattle.f77_continuations.specs.Continuing.{ContinuesWhereChanged}
 
--- with these arguments, and whatever the limit on steps, where the first program returns or stops, the second comes to the same under a limit
--- that spares so many steps
+-- with these arguments, and whatever the limit on steps, where the first program returns or stops, the second comes to
+-- the same under a limit that spares so many steps
 abbrev pub KeepsEndsWithin : ℕ → List LineFields → List LineFields → List Arg → Type 0
 KeepsEndsWithin spare p q arguments =
-    (limit : ℕ) (outcome : Outcome) → IsOutcomeOf p arguments limit outcome → IsEnd outcome → IsOutcomeOf q arguments (limit + spare) outcome
+    (limit : ℕ) (outcome : Outcome) → IsOutcomeOf p arguments limit outcome → IsEnd outcome
+    → IsOutcomeOf q arguments (limit + spare) outcome
 
 -- so it does whatever arguments fit whose numbers INTEGER holds
 abbrev pub IsEquivalentWithin : ℕ → List LineFields → List LineFields → Type 0
 IsEquivalentWithin spare p q =
-    (arguments : List Arg) → AreFitting (shapes p) arguments → AreStorable arguments → KeepsEndsWithin spare p q arguments
+    (arguments : List Arg) → AreFitting (shapes p) arguments → AreStorable arguments
+    → KeepsEndsWithin spare p q arguments
 
--- where the program returns or stops within so many steps, the changed one does the same, with those to spare
-abbrev pub EndsWithin : ℕ → CheckedFields → List Resolved → List Arg → Type 0
-EndsWithin spare checked changed arguments =
-    (n : ℕ) (end : Finish) (cells : Cells) → IsEnding end → moved_by checked.statements n (start_state checked arguments) ≡ Some (Ends end cells)
-    → moved_by changed (n + spare) (start_state checked arguments) ≡ Some (Ends end cells)
-
--- A changed program is equivalent, with so many steps to spare, where entries that say what is known at the start and behind each step tell that
--- it continues from the changed statement as the program does.
+-- A changed program is equivalent, with so many steps to spare, where entries that say what is known at the start and
+-- behind each step tell that it continues from the changed statement as the program does.
 abbrev pub EquivalentWhereContinues : Type 0
 EquivalentWhereContinues =
-    (checked : CheckedFields) (i : ℕ) (program : List LineFields) (changed : List Resolved) (entries : List Entry) (spare : ℕ)
-    → IsChange checked i program changed → AgreeBut i checked.statements changed → PassAlike checked.statements changed i
-    → HoldsStart checked entries → IsInductive checked.statements entries → ContinuesWhereChanged checked.statements changed spare entries i
+    (checked : CheckedFields) (i : ℕ) (program : List LineFields) (changed : List Resolved)
+    (entries : List Entry) (spare : ℕ)
+    → IsChange checked i program changed → AgreeBut i checked.statements changed
+    → PassAlike checked.statements changed i → HoldsStart checked entries → IsInductive checked.statements entries
+    → ContinuesWhereChanged checked.statements changed spare entries i
     → IsEquivalentWithin spare (map line_of checked.program) program

@@ -51,14 +51,16 @@ pub(crate) fn choose_alike(
 
 /// The number does not fault.
 fn has_value(facts: &[Fact], value: &Number) -> bool
-    ensures { result ≡ true → (cells : Cells) → AreIn facts.now cells → (z : ℤ) × (number_in cells value.now ≡ Ok z) }
+    ensures { result ≡ true → (cells : Cells) → AreIn facts.now cells
+        → (z : ℤ) × (number_in cells value.now ≡ Ok z) }
 {
     !known_of(facts, value).may_lack
 }
 
 /// Nor does the condition.
 fn has_truth(facts: &[Fact], condition: &Condition) -> bool
-    ensures { result ≡ true → (cells : Cells) → AreIn facts.now cells → (b : Bool) × (truth_in cells condition.now ≡ Ok b) }
+    ensures { result ≡ true → (cells : Cells) → AreIn facts.now cells
+        → (b : Bool) × (truth_in cells condition.now ≡ Ok b) }
 {
     !truths_of(facts, condition).may_lack
 }

@@ -4,7 +4,8 @@ ghost use Rattle.std.specs.Prelude.{◌≡◌, ◌≤◌, false, true, length, I
 ghost use Rattle.f77_actions.specs.declared.resolved.Resolved as resolved;
 ghost use Rattle.f77_code.specs.declared.control.Place.TheVariants as places;
 ghost use Rattle.f77_equivalence.specs.Alike.{site};
-ghost use Rattle.f77_continuations.specs.Continuing.{ContinuesAt, ContinuesInAll, ContinuesWhere, MeetAll, MeetEach, MeetInPairs};
+ghost use Rattle.f77_continuations.specs.Continuing.{ContinuesAt, ContinuesInAll, ContinuesWhere, MeetAll, MeetEach};
+ghost use Rattle.f77_continuations.specs.Continuing.{MeetInPairs};
 
 use crate::choosing::{choose_alike, surely_leaves};
 use crate::exits::exit_count;
@@ -100,7 +101,8 @@ fn spare_by_any(
     spare_from_all(statements, i, own, other, own_count, count)
 }
 
-/// How many steps are to be spared where the changed statement stands in the place of the statement, from states of which the facts tell.
+/// How many steps are to be spared where the changed statement stands in the place of the statement, from states of
+/// which the facts tell.
 fn spare_where(
     alloc: Global,
     statements: &[Shared<Resolved>],
@@ -109,7 +111,8 @@ fn spare_where(
     other: &Resolved,
     facts: &[Fact],
 ) -> Result<Option<usize>, AllocError>
-    ensures { IfOk result (λ found. IfSome found (λ spare. ContinuesWhere statements.now i own.now other.now facts.now spare)) }
+    ensures { IfOk result (λ found. IfSome found (λ spare.
+        ContinuesWhere statements.now i own.now other.now facts.now spare)) }
 {
     let alike = choose_alike(alloc, facts, &own.action, &other.action)?;
     if !alike {
@@ -131,7 +134,8 @@ fn spare_in(
     other: &Resolved,
     entry: &Entry,
 ) -> Result<Option<usize>, AllocError>
-    ensures { IfOk result (λ found. IfSome found (λ spare. ContinuesAt statements.now i own.now other.now spare entry.now)) }
+    ensures { IfOk result (λ found. IfSome found (λ spare.
+        ContinuesAt statements.now i own.now other.now spare entry.now)) }
 {
     match entry.place {
         Place::Execute(place) => {

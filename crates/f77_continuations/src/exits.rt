@@ -1,16 +1,18 @@
 //! How control leaves statements.
 
-ghost use Rattle.std.specs.Prelude.{◌≡◌, ◌<◌, ℕ, ℤ, Bool, true, List, length, slice_get, Some, Ok, IfSome};
+ghost use Rattle.std.specs.Prelude.{◌≡◌, ◌<◌, ℕ, ℤ, Bool, true, List, length, slice_get, Some, Ok};
+ghost use Rattle.std.specs.Prelude.{IfSome};
 ghost use Rattle.std.specs.Option.{option_map_or};
 ghost use Rattle.f77_actions.specs.declared.resolved.Resolved.{Resolved};
 ghost use Rattle.f77_code.specs.Choice as choice;
 ghost use Rattle.f77_code.specs.Moves.{Cells, Turns, acted, chosen, go_on, is_executed, jump_to};
 ghost use Rattle.f77_continuations.specs.Exits.{LeavesBy, LeavesPlainly, exit_of, exit_numbered, leave};
 
-use crate::ways::Destination;
+use crate::paths::Destination;
 use f77_actions::{Action, Jump, Resolved};
+use f77_equivalence::ways::jump_at;
 
-/// A way out of a statement: the DOs that are left by it, and where control comes.
+/// An exit of a statement: the DOs that are left by it, and where control comes.
 #[derive(Clone, Copy, Drop)]
 pub(crate) struct Exit<'a> {
     pub(crate) leaves: &'a [usize],
@@ -28,7 +30,8 @@ fn jump_exit(jump: &Jump) -> Exit<'_>
 
 /// Where control goes on from the statement; told where no DO ends there.
 fn onward_exit(resolved: &Resolved) -> Option<Exit<'_>>
-    ensures { IfSome result (λ exit. (cells : Cells) (turns : Turns) → go_on resolved.now cells turns ≡ leave exit cells turns) }
+    ensures { IfSome result (λ exit. (cells : Cells) (turns : Turns)
+        → go_on resolved.now cells turns ≡ leave exit cells turns) }
 {
     if !resolved.ends.is_empty() {
         return None;
@@ -39,7 +42,7 @@ fn onward_exit(resolved: &Resolved) -> Option<Exit<'_>>
     })
 }
 
-/// The way out of an action that chooses nothing and sets no slot. An end leaves no DO.
+/// The exit of an action that chooses nothing and sets no slot. An end leaves no DO.
 pub(crate) fn plain_exit<'a>(resolved: &'a Resolved, action: &'a Action) -> Option<Exit<'a>>
     ensures executed { IfSome result (λ _. is_executed action.now ≡ true) }
     ensures leaves { IfSome result (λ exit. LeavesPlainly resolved.now action.now exit) }
@@ -71,18 +74,12 @@ fn sign_exit<'a>(negative: &'a Jump, zero: &'a Jump, positive: &'a Jump, k: usiz
     }
 }
 
-fn jump_at(jumps: &[Jump], k: usize) -> &Jump
-    requires { k < length jumps.now }
-    ensures { slice_get jumps.now k ≡ Some result.now }
-{
-    &jumps[k]
-}
-
 /// The jump of this number of a computed GO TO, from 0; behind the last one, where control goes on.
 fn numbered_exit<'a>(resolved: &'a Resolved, jumps: &'a [Jump], k: usize) -> Option<Exit<'a>>
-    ensures { IfSome result (λ exit. (z : ℤ) (cells : Cells) (turns : Turns) → exit_numbered (length jumps.now) z ≡ k
-        → option_map_or (λ jump. jump_to jump cells turns) (choice.numbered jumps.now z) (go_on resolved.now cells turns)
-        ≡ leave exit cells turns) }
+    ensures { IfSome result (λ exit. (z : ℤ) (cells : Cells) (turns : Turns)
+        → exit_numbered (length jumps.now) z ≡ k
+        → option_map_or (λ jump. jump_to jump cells turns) (choice.numbered jumps.now z)
+        (go_on resolved.now cells turns) ≡ leave exit cells turns) }
 {
     if k < jumps.len() {
         return Some(jump_exit(jump_at(jumps, k)));
@@ -90,10 +87,11 @@ fn numbered_exit<'a>(resolved: &'a Resolved, jumps: &'a [Jump], k: usize) -> Opt
     onward_exit(resolved)
 }
 
-/// The way out of a logical IF where its condition holds, with what it executes, and where it does not.
+/// The exit of a logical IF where its condition holds, with what it executes, and where it does not.
 fn guarded_exit<'a>(resolved: &'a Resolved, action: &'a Action, k: usize) -> Option<Exit<'a>>
     ensures { IfSome result (λ exit. (statements : List Resolved) (i : ℕ) (b : Bool) (cells : Cells) (turns : Turns)
-        → chosen b 0 1 ≡ k → chosen b (acted statements i resolved.now action.now cells turns) (go_on resolved.now cells turns)
+        → chosen b 0 1 ≡ k
+        → chosen b (acted statements i resolved.now action.now cells turns) (go_on resolved.now cells turns)
         ≡ leave exit cells turns) }
 {
     if k == 0 {
@@ -102,7 +100,7 @@ fn guarded_exit<'a>(resolved: &'a Resolved, action: &'a Action, k: usize) -> Opt
     onward_exit(resolved)
 }
 
-/// How many ways there are out of the action.
+/// How many exits the action has.
 pub(crate) fn exit_count(action: &Action) -> usize
     ensures { (cells : Cells) (k : ℕ) → exit_of action.now cells ≡ Ok k → k < result }
 {
@@ -114,7 +112,7 @@ pub(crate) fn exit_count(action: &Action) -> usize
     }
 }
 
-/// The way out of the action of this number, from 0.
+/// The exit of the action that has this number, from 0.
 pub(crate) fn exit_at<'a>(resolved: &'a Resolved, action: &'a Action, k: usize) -> Option<Exit<'a>>
     ensures { IfSome result (λ exit. LeavesBy resolved.now action.now k exit) }
 {

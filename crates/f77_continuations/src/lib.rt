@@ -6,5 +6,5 @@ mod continuing;
 mod exits;
 pub mod law;
 mod meeting;
+mod paths;
 pub mod spare;
-mod ways;

@@ -2,25 +2,26 @@
 
 ghost use Rattle.std.specs.Prelude.{◌≡◌, ◌≤◌, true, IfSome};
 ghost use Rattle.f77_continuations.specs.Continuing.{Meet, MeetAt};
-ghost use Rattle.f77_continuations.specs.Ways.{IsEnd, IsWay};
+ghost use Rattle.f77_continuations.specs.Paths.{EndsRun, IsPath};
 
 use crate::exits::{Exit, exit_at};
-use crate::ways::{Destination, Way, way_from};
+use crate::paths::{Destination, Path, path_from};
 use f77_actions::Resolved;
+use f77_equivalence::ways::is_same_list;
 use f77_tree::Shared;
 
 /// As far as control comes from there by steps that do nothing else, without the statement `i`.
-fn way_behind(statements: &[Shared<Resolved>], i: usize, from: Destination) -> Way
-    ensures { IsWay statements.now i from result }
+fn path_behind(statements: &[Shared<Resolved>], i: usize, from: Destination) -> Path
+    ensures { IsPath statements.now i from result }
 {
     match from {
-        Destination::Statement(start) => way_from(statements, i, start),
-        Destination::Returned | Destination::Stopped => Way { steps: 0, to: from },
+        Destination::Statement(start) => path_from(statements, i, start),
+        Destination::Returned | Destination::Stopped => Path { steps: 0, to: from },
     }
 }
 
-fn is_end(to: Destination) -> bool
-    ensures { result ≡ true → IsEnd to }
+fn ends_run(to: Destination) -> bool
+    ensures { result ≡ true → EndsRun to }
 {
     match to {
         Destination::Statement(_) => false,
@@ -34,13 +35,6 @@ fn is_one_place(one: Destination, other: Destination) -> bool
     one == other
 }
 
-/// Both lists have the same numbers in the same order.
-pub(crate) fn is_same_list(one: &[usize], other: &[usize]) -> bool
-    ensures { result ≡ true → other.now ≡ one.now }
-{
-    one == other
-}
-
 /// How many steps more the second exit takes to where both lead; none where the run goes on.
 fn spare_between(
     statements: &[Shared<Resolved>],
@@ -50,15 +44,15 @@ fn spare_between(
 ) -> Option<usize>
     ensures { IfSome result (λ spare. Meet statements.now i spare one.now other.now) }
 {
-    let own = way_behind(statements, i, one.to);
-    let way = way_behind(statements, i, other.to);
-    if !is_one_place(own.to, way.to) {
+    let own = path_behind(statements, i, one.to);
+    let path = path_behind(statements, i, other.to);
+    if !is_one_place(own.to, path.to) {
         return None;
     }
-    if is_end(own.to) {
-        return Some(way.steps.saturating_sub(own.steps));
+    if ends_run(own.to) {
+        return Some(path.steps.saturating_sub(own.steps));
     }
-    if way.steps <= own.steps && is_same_list(one.leaves, other.leaves) {
+    if path.steps <= own.steps && is_same_list(one.leaves, other.leaves) {
         return Some(0);
     }
     None

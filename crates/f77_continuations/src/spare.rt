@@ -1,8 +1,8 @@
-//! Whether control comes from a changed statement to where it comes in the program, and how many steps have to be spared for it.
+//! Whether control comes from a changed statement to where it comes in the program, and how many steps have to be
+//! spared for it.
 
 ghost use Rattle.std.specs.Prelude.{◌≡◌, true, map, IfOk, IfSome};
 ghost use Rattle.f77_check.specs.Patching.{IsInPlace};
-ghost use Rattle.f77_equivalence.specs.Alike.{GoOnAlike};
 ghost use Rattle.f77_equivalence.specs.Equivalent.{IsEquivalent};
 ghost use Rattle.f77_equivalence.specs.Start.{HoldsStart};
 ghost use Rattle.f77_facts.specs.Entries.{IsInductive};
@@ -14,30 +14,16 @@ ghost use Rattle.f77_continuations.specs.Within.{IsEquivalentWithin};
 
 use crate::choosing::has_exits;
 use crate::continuing::spare_in_all;
-use crate::meeting::is_same_list;
-use crate::ways::statement_at;
 use f77_actions::Resolved;
 use f77_check::Checked;
 use f77_equivalence::invariant::Invariant;
+use f77_equivalence::ways::{goes_on_alike, resolved_in, statement_at};
 use f77_facts::entries::Entry;
 use f77_tree::{Shared, Stmt};
 use std::alloc::{AllocError, Global};
 
-fn resolved_in(resolved: &Shared<Resolved>) -> &Resolved
-    ensures { result.now ≡ resolved.now }
-{
-    resolved
-}
-
-/// Control goes on from both statements in one way.
-fn goes_on_alike(own: &Resolved, other: &Resolved) -> bool
-    ensures { result ≡ true → GoOnAlike own.now other.now }
-{
-    own.next == other.next && is_same_list(&own.ends, &other.ends)
-}
-
-/// How many steps are to be spared with this statement in the place of the one of this number, from 1, by what the entries of the program
-/// tell.
+/// How many steps are to be spared with this statement in the place of the one of this number, from 1, by what the
+/// entries of the program tell.
 fn spare_in_place(
     alloc: Global,
     checked: &Checked,
@@ -67,9 +53,9 @@ fn spare_in_place(
     spare_in_all(alloc, statements, i, own, other, entries)
 }
 
-/// By how many steps a limit is to be larger for the program with this statement in the place of the one of this number, from 1, to come to
-/// what the program comes to wherever that returns or stops; it may be that fewer do. None is told where control does not come from both
-/// statements to one place.
+/// By how many steps a limit is to be larger for the program with this statement in the place of the one of this
+/// number, from 1, to come to what the program comes to wherever that returns or stops; it may be that fewer do. None
+/// is told where control does not come from both statements to one place.
 pub fn steps_to_spare(
     alloc: Global,
     invariant: &Invariant<'_>,
@@ -80,7 +66,8 @@ pub fn steps_to_spare(
     requires fits { Fits (map line_of invariant.now.checked.program) number (statement_of stmt.now) }
     requires legal { IsLegal (patched (map line_of invariant.now.checked.program) number (statement_of stmt.now)) }
     requires in_place { IsInPlace invariant.now.checked number (statement_of stmt.now) resolved.now }
-    ensures within { IfOk result (λ found. IfSome found (λ spare. IsEquivalentWithin spare (map line_of invariant.now.checked.program)
+    ensures within { IfOk result (λ found. IfSome found (λ spare.
+        IsEquivalentWithin spare (map line_of invariant.now.checked.program)
         (patched (map line_of invariant.now.checked.program) number (statement_of stmt.now)))) }
     ensures equivalent { IfOk result (λ found. IfSome found (λ spare. spare ≡ 0
         → IsEquivalent (map line_of invariant.now.checked.program)
@@ -91,8 +78,8 @@ pub fn steps_to_spare(
     spare_in_place(alloc, checked, entries, number, stmt, resolved)
 }
 
-/// Whether the program with this statement in the place of the one of this number, from 1, comes to what the program comes to wherever that
-/// returns or stops, since control comes from both statements to one place, in no more steps.
+/// Whether the program with this statement in the place of the one of this number, from 1, comes to what the program
+/// comes to wherever that returns or stops, since control comes from both statements to one place, in no more steps.
 pub fn continues(
     alloc: Global,
     invariant: &Invariant<'_>,

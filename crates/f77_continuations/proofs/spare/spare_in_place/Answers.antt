@@ -25,5 +25,5 @@ returns c =
     continues_in_place c.args.checked.now c.args.number statement c.statement_at-own.result.now other c.args.entries.now spare
     c.statements-statements.result.now c.statements-statements.ensures.checked c.requires.legal
     (subst (IsInPlace c.args.checked.now c.args.number statement) (sym c.resolved_in-other.ensures) c.requires.in_place)
-    c.statements-statements.ensures.statements c.statement_at-own.ensures (c.goes_on_alike.ensures c.if-not-goes_on_alike.false)
+    c.statements-statements.ensures.statements c.statement_at-own.ensures (c.goes_on_alike.ensures.alike c.if-not-goes_on_alike.false)
     (c.has_exits.ensures c.if-not-has_exits.false) all holds inductive))

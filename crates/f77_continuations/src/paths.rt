@@ -1,10 +1,11 @@
 //! Where control comes by steps that do nothing else.
 
 ghost use Rattle.std.specs.Prelude.{◌≡◌, ◌<◌, length, slice_get, Some, IfSome};
-ghost use Rattle.f77_continuations.specs.Ways.{IsStep, IsWay};
+ghost use Rattle.f77_continuations.specs.Paths.{StepsTo, IsPath};
 
 use crate::exits::{Exit, plain_exit};
 use f77_actions::Resolved;
+use f77_equivalence::ways::statement_at;
 use f77_tree::Shared;
 
 /// Where control comes.
@@ -20,22 +21,15 @@ pub enum Destination {
 
 /// Where control comes by so many steps that leave slots and active DOs as they are.
 #[derive(Clone, Copy, Debug, PartialEq, Eq)]
-pub struct Way {
+pub struct Path {
     pub steps: usize,
     pub to: Destination,
 }
 
-/// The statement of this number. Statements are numbered from 0.
-pub(crate) fn statement_at(statements: &[Shared<Resolved>], i: usize) -> &Resolved
-    requires { i < length statements.now }
-    ensures { slice_get statements.now i ≡ Some result.now }
-{
-    &statements[i]
-}
-
-/// Where a step leads from this statement that does nothing else. None is told from the statement `i`, which may be another one.
+/// Where a step leads from this statement that does nothing else. None is told from the statement `i`, which may be
+/// another one.
 fn step_from(statements: &[Shared<Resolved>], i: usize, place: usize) -> Option<Destination>
-    ensures { IfSome result (λ to. IsStep statements.now i place to) }
+    ensures { IfSome result (λ to. StepsTo statements.now i place to) }
 {
     if place == i || statements.len() <= place {
         return None;
@@ -48,29 +42,29 @@ fn step_from(statements: &[Shared<Resolved>], i: usize, place: usize) -> Option<
     Some(to)
 }
 
-/// As far as such steps lead from the statement `start`, without the statement `i`. A way that goes round is cut off.
-pub(crate) fn way_from(statements: &[Shared<Resolved>], i: usize, start: usize) -> Way
-    ensures { IsWay statements.now i (Destination.Statement start) result }
+/// As far as such steps lead from the statement `start`, without the statement `i`. A path that goes round is cut off.
+pub(crate) fn path_from(statements: &[Shared<Resolved>], i: usize, start: usize) -> Path
+    ensures { IsPath statements.now i (Destination.Statement start) result }
 {
     let mut place = start;
     for steps in 0..statements.len() {
         match step_from(statements, i, place) {
             Some(Destination::Statement(next)) => place = next,
             Some(to) => {
-                return Way {
+                return Path {
                     steps: steps + 1,
                     to,
                 };
             }
             None => {
-                return Way {
+                return Path {
                     steps,
                     to: Destination::Statement(place),
                 };
             }
         }
     }
-    Way {
+    Path {
         steps: statements.len(),
         to: Destination::Statement(place),
     }
