@@ -23,9 +23,10 @@ use Rattle.f77_facts.specs.Facts.{AreIn}
 use Rattle.f77_facts.specs.Known.{Suits}
 use Rattle.f77_facts.specs.Reaching.{SuitsSlot}
 use Rattle.f77_facts.specs.Truths.{SuitsTruth}
+use Rattle.f77_equivalence.specs.Alike.{GoOnAlike}
 use Rattle.f77_differences.specs.declared.differences.Differences.{Differences}
 use Rattle.f77_differences.specs.Acting.{GoesOnAlike}
-use Rattle.f77_differences.specs.Changing.{GoesOnBut, MayGoOnBut, NamesMarked, SetsMarked, SurelySetsSlot, SurelyHasNumber, SurelyHasTruth, SurelySetsMarked, GoOnAlike}
+use Rattle.f77_differences.specs.Changing.{GoesOnBut, MayGoOnBut, NamesMarked, SetsMarked, SurelySetsSlot, SurelyHasNumber, SurelyHasTruth, SurelySetsMarked}
 use Rattle.f77_differences.specs.Differences.{Alike}
 use Rattle.f77_differences.specs.Marks.{AgreeOutside, AreMarkedIn, AreMarked, is_marked}
 use Rattle.f77_differences.specs.Reading.{OneSlot, OneNumber, OneTruth}

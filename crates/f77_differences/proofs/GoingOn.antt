@@ -1,30 +1,18 @@
 -- Where control goes on alike.
 use Rattle.std.proofs.Common.{◌≡◌, ◌≢◌, ◌⊎◌, inl, inr, ◌<◌, ◌+◌, ℕ, zero, suc, ℤ, Bool, true, false, List, [], ◌∷◌, Option, Some, None, length, refl, sym, subst, arith}
 use Rattle.std.specs.Prelude.{slice_get, slice_set, is_some}
-use Rattle.std.specs.List.{find}
 use Rattle.std.specs.Option.{option_map_or}
 use Rattle.f77_actions.specs.declared.action.Jump.{Jump}
 use Rattle.f77_actions.specs.declared.resolved.Resolved.{Resolved}
 use Rattle.f77_code.specs.declared.control.Place.TheVariants.{Execute, Increment}
 use Rattle.f77_code.specs.Moves.{Cells, Turns, innermost, place_behind, turn_at, passing, passing_at}
 use Rattle.f77_facts.proofs.Slots.{same_or_not}
+use Rattle.f77_equivalence.proofs.Lists.{found_among}
 use Rattle.f77_differences.specs.declared.differences.Differences.{Differences}
 use Rattle.f77_differences.specs.Acting.{GoesOnAlike, JumpsAlike, AllJumpAlike, PassesAlike}
 use Rattle.f77_differences.specs.Differences.{Alike, marks_at}
 use Rattle.f77_differences.specs.Marks.{AgreeOutside, AreMarkedIn}
 use Rattle.f77_differences.proofs.Agreeing.{agree_within}
-
--- what is found in a list is in it
-found_among : {A : Type 0} (test : A → Bool) (xs : List A) (x : A) → find test xs ≡ Some x → (k : ℕ) × (slice_get xs k ≡ Some x)
-found_among test [] x e = absurd (cc (e))
-found_among test (y ∷ ys) x e = by (test y) refl (found_among test ys x)
-  where
-    by : (b : Bool) → test y ≡ b → (find test ys ≡ Some x → (k : ℕ) × (slice_get ys k ≡ Some x)) → (k : ℕ) × (slice_get (y ∷ ys) k ≡ Some x)
-    by true f later = let found = rw f at e in (0, found)
-    by false f later =
-        let rest = rw f at e in
-        let it = later rest in
-        (suc it.0, it.1)
 
 -- what is marked may differ where one of these DOs is incremented
 abbrev pub MayDifferAtEnds : Differences → List Bool → List ℕ → Type 0
@@ -56,17 +44,6 @@ module _ (differences : Differences) (marks : List Bool) where
   pub jump_alike : (jump : Jump) → AreMarkedIn marks (marks_at differences (Execute jump.target)) → JumpsAlike differences marks jump
   jump_alike jump there cells others turns agree =
       (others, refl, agree_within marks (marks_at differences (Execute jump.target)) cells others there agree)
-
-  pub one_jump_more : (jumps : List Jump) (n : ℕ) (jump : Jump) → slice_get jumps n ≡ Some jump → JumpsAlike differences marks jump
-      → AllJumpAlike differences marks jumps n → AllJumpAlike differences marks jumps (n + 1)
-  one_jump_more jumps n jump is alike before k below = by (same_or_not k n)
-    where
-      by : (k ≡ n) ⊎ (k ≢ n) → (other : Jump) → slice_get jumps k ≡ Some other → JumpsAlike differences marks other
-      by (inl here) other e =
-          let there : slice_get jumps n ≡ Some other = subst (λ j. slice_get jumps j ≡ Some other) here e in
-          let one : jump ≡ other = cc (is, there) in
-          subst (JumpsAlike differences marks) one alike
-      by (inr differ) other e = let less : k < n = omega (arith, below, differ) in before k less other e
 
   -- a DO makes its next pass, or has none left
   passing_alike : (end : Resolved) (d : ℕ) → GoesOnAlike differences marks end → AreMarkedIn marks (marks_at differences (Execute (d + 1)))

@@ -4,7 +4,6 @@ pub mod GoingOn
 pub mod Actions
 pub mod Changes
 pub mod Stepping
-pub mod Ending
 pub mod Holding
 pub mod Lockstep
 pub mod Replacing

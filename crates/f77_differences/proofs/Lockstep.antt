@@ -25,12 +25,13 @@ use Rattle.f77_run.specs.declared.argument.Arg.{Arg}
 use Rattle.f77_run.specs.Interpreter.{AreFitting}
 use Rattle.f77_run.specs.Spans.{size_of, span}
 use Rattle.f77_equivalence.specs.Alike.{AgreeBut, PassAlike, site}
+use Rattle.f77_equivalence.specs.Changed.{IsEnding, HoldAlike, EndsAlike}
 use Rattle.f77_equivalence.specs.Start.{start_cells, start_turns, StartsIn}
 use Rattle.f77_equivalence.proofs.Moving.{moved_same}
 use Rattle.f77_differences.specs.declared.differences.Differences.{Differences}
-use Rattle.f77_differences.specs.Acting.{MovesAlike}
+use Rattle.f77_differences.specs.Acting.{MovesAlike, AllMoveAlike}
 use Rattle.f77_differences.specs.Differences.{Alike, marks_at}
-use Rattle.f77_differences.specs.Ends.{IsEnding, HoldAlike, EndsAlike, AllMoveAlike, IsDummyUnmarked}
+use Rattle.f77_differences.specs.Dummies.{IsDummyUnmarked}
 use Rattle.f77_differences.specs.Marks.{AgreeOutside, is_marked}
 use Rattle.f77_differences.proofs.Agreeing.{agree_refl}
 use Rattle.f77_differences.proofs.Holding.{same_table, spans_read}
@@ -42,19 +43,6 @@ pub moves_elsewhere : (statements changed : List Resolved) (i : ℕ) → AgreeBu
 moves_elsewhere statements changed i agree pass differences place facts differ alike cells others turns move inside same e =
     let made = alike cells others turns move inside same e in
     (made.0, moved_same statements changed i agree pass place others turns differ ∙ made.1, made.2)
-
--- one entry more
-pub one_entry_more : (statements changed : List Resolved) (differences : Differences) (entries : List Entry) (n : ℕ) (entry : Entry)
-    → slice_get entries n ≡ Some entry → MovesAlike statements changed differences entry.place entry.facts.items
-    → AllMoveAlike statements changed differences entries n → AllMoveAlike statements changed differences entries (n + 1)
-one_entry_more statements changed differences entries n entry is alike before k below = by (same_or_not k n)
-  where
-    by : (k ≡ n) ⊎ (k ≢ n) → (other : Entry) → slice_get entries k ≡ Some other → MovesAlike statements changed differences other.place other.facts.items
-    by (inl here) other e =
-        let there : slice_get entries n ≡ Some other = subst (λ j. slice_get entries j ≡ Some other) here e in
-        let one : entry ≡ other = cc (is, there) in
-        subst (λ (x : Entry). MovesAlike statements changed differences x.place x.facts.items) one alike
-    by (inr differ) other e = let less : k < n = omega (arith, below, differ) in before k less other e
 
 -- an end is led to alike
 ended : (differences : Differences) (finish : Finish) (cells : Cells) (other : Move) → IsEnding finish → Alike differences (Ends finish cells) other

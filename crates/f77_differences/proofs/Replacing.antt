@@ -12,15 +12,15 @@ use Rattle.f77_actions.specs.declared.resolved.Resolved.{Resolved}
 use Rattle.f77_facts.specs.declared.entries.Entry.{Entry}
 use Rattle.f77_facts.specs.Entries.{IsInductive}
 use Rattle.f77_facts.proofs.Slots.{got_same}
-use Rattle.f77_equivalence.specs.Alike.{AgreeBut, PassAlike}
+use Rattle.f77_equivalence.specs.Alike.{AgreeBut, GoOnAlike, PassAlike}
 use Rattle.f77_equivalence.specs.Equivalent.{IsEquivalent}
 use Rattle.f77_equivalence.specs.Start.{HoldsStart}
 use Rattle.f77_equivalence.proofs.Alike.{pass_same}
+use Rattle.f77_equivalence.proofs.Ending.{equivalent_where_ends_alike}
 use Rattle.f77_equivalence.proofs.InPlace.{agree_but, change_in_place}
 use Rattle.f77_differences.specs.declared.differences.Differences.{Differences}
-use Rattle.f77_differences.specs.Changing.{GoOnAlike}
-use Rattle.f77_differences.specs.Ends.{AllMoveAlike, IsDummyUnmarked}
-use Rattle.f77_differences.proofs.Ending.{equivalent_where_ends_alike}
+use Rattle.f77_differences.specs.Acting.{AllMoveAlike}
+use Rattle.f77_differences.specs.Dummies.{IsDummyUnmarked}
 use Rattle.f77_differences.proofs.Lockstep.{ends_from_start}
 
 -- what is told of the program with the statement in its place

@@ -1,6 +1,6 @@
 -- Values that are the same in both programs.
 use Rattle.std.proofs.Common.{◌≡◌, ℕ, List, Bool, Option, refl, ap, ◌∙◌}
-use Rattle.std.specs.Prelude.{Result, Ok, Err, IfOk}
+use Rattle.std.specs.Prelude.{Result, Ok, Err}
 use Rattle.f77_actions.specs.declared.expression.Element.{Element}
 use Rattle.f77_values.specs.declared.finish.Fault.{Fault}
 use Rattle.f77_values.specs.declared.value.Value.{Value}
@@ -29,7 +29,3 @@ pub value_alike : {A : Type 0} (facts : List Fact) (marks : List Bool) (e : Elem
 value_alike facts marks e reach f covers none one cells others inside agree =
     ap (λ r. given r (λ k. f (held_in others k))) (one cells others inside agree)
     ∙ found_alike marks cells others reach f (slot_in cells e) none agree (covers cells inside)
-
-pub ok_then : {A E : Type 0} (r : Result A E) {P Q : A → Type 0} → IfOk r P → ((x : A) → P x → Q x) → IfOk r Q
-ok_then (Ok x) p f = f x p
-ok_then (Err e) p f = tt

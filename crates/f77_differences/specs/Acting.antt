@@ -6,6 +6,7 @@ use Rattle.f77_actions.specs.declared.resolved.Resolved.{Resolved}
 use Rattle.f77_code.specs.declared.control.Place.{Place}
 use Rattle.f77_code.specs.declared.control.Turn.{Turn}
 use Rattle.f77_code.specs.Moves.{Cells, Turns, Move, state, go_on, jump_to, passing_at, acted, incremented, moved}
+use Rattle.f77_facts.specs.declared.entries.Entry.{Entry}
 use Rattle.f77_facts.specs.declared.facts.Fact.{Fact}
 use Rattle.f77_facts.specs.Facts.{AreIn}
 use Rattle.f77_differences.specs.declared.differences.Differences.{Differences}
@@ -54,3 +55,9 @@ MovesAlike statements changed differences place facts =
     (cells others : Cells) (turns : Turns) (move : Move) → AreIn facts cells → AgreeOutside (marks_at differences place) cells others
     → moved statements (state place cells turns) ≡ Some move
     → (other : Move) × (moved changed (state place others turns) ≡ Some other) × Alike differences move other
+
+-- so it does from each of the first n entries
+abbrev pub AllMoveAlike : List Resolved → List Resolved → Differences → List Entry → ℕ → Type 0
+AllMoveAlike statements changed differences entries n =
+    (k : ℕ) → k < n → (entry : Entry) → slice_get entries k ≡ Some entry
+    → MovesAlike statements changed differences entry.place entry.facts.items

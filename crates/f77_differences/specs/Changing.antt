@@ -52,7 +52,3 @@ abbrev pub SurelySetsMarked : List Fact → List Bool → List Bool → Action �
 SurelySetsMarked facts marks behind action =
     (statements : List Resolved) (i : ℕ) (r : Resolved) (cells others : Cells) (turns : Turns) → AreIn facts cells
     → AgreeOutside marks cells others → GoesOnBut behind r turns others (acted statements i r action others turns)
-
--- control goes on from the second statement as from the first
-abbrev pub GoOnAlike : Resolved → Resolved → Type 0
-GoOnAlike r s = (cells : Cells) (turns : Turns) → go_on s cells turns ≡ go_on r cells turns

@@ -3,4 +3,4 @@ pub mod Reading
 pub mod Differences
 pub mod Acting
 pub mod Changing
-pub mod Ends
+pub mod Dummies

@@ -2,27 +2,14 @@
 
 ghost use Rattle.std.specs.Prelude.{◌≡◌, true};
 ghost use Rattle.f77_code.specs.Moves as moves;
-ghost use Rattle.f77_differences.specs.Changing.{GoOnAlike, NamesMarked, SetsMarked, SurelySetsSlot, SurelyHasNumber, SurelyHasTruth, SurelySetsMarked};
+ghost use Rattle.f77_differences.specs.Changing.{NamesMarked, SetsMarked, SurelySetsSlot, SurelyHasNumber};
+ghost use Rattle.f77_differences.specs.Changing.{SurelyHasTruth, SurelySetsMarked};
 
 use crate::marks::{are_marked, are_marked_in};
 use crate::reading::{has_one_number, has_one_truth, names_one_slot};
-use f77_actions::{Action, Condition, Element, Number, Resolved};
+use f77_actions::{Action, Condition, Element, Number};
 use f77_facts::bounds::{known_of, reach_of, truths_of};
 use f77_facts::facts::Fact;
-
-/// Both lists have the same numbers in the same order.
-fn is_same_list(one: &Vec<usize>, other: &Vec<usize>) -> bool
-    ensures { result ≡ true → other.now.items ≡ one.now.items }
-{
-    one == other
-}
-
-/// Control goes on from both statements in one way.
-pub(crate) fn goes_on_alike(own: &Resolved, other: &Resolved) -> bool
-    ensures { result ≡ true → GoOnAlike own.now other.now }
-{
-    own.next == other.next && is_same_list(&own.ends, &other.ends)
-}
 
 /// The reference names a marked slot, or it faults.
 #[tactic(auto, using(crate::proofs::Changes::marked_named))]

@@ -2,36 +2,13 @@
 
 ghost use Rattle.std.specs.Prelude.{◌≡◌, ◌<◌, ℕ, true, length, slice_get, Some};
 ghost use Rattle.f77_run.specs.Spans.{size_of};
-ghost use Rattle.f77_differences.specs.Ends.{IsDummyUnmarked};
+ghost use Rattle.f77_differences.specs.Dummies.{IsDummyUnmarked};
 
 use crate::differences::{Differences, ending_of};
 use crate::marks::are_unmarked;
 use f77_check::{Checked, Shape, Start};
+use f77_equivalence::start::{first_at, shape_at, size};
 use f77_facts::reaching::Reach;
-
-/// How many elements a dummy argument of this shape has.
-fn size(shape: Shape) -> usize
-    ensures { result ≡ size_of shape }
-{
-    match shape.elements {
-        Some(count) => count as usize,
-        None => 1,
-    }
-}
-
-fn first_at(dummies: &[usize], n: usize) -> usize
-    requires { n < length dummies.now }
-    ensures { slice_get dummies.now n ≡ Some result }
-{
-    dummies[n]
-}
-
-fn shape_at(shapes: &[Shape], n: usize) -> Shape
-    requires { n < length shapes.now }
-    ensures { slice_get shapes.now n ≡ Some result }
-{
-    shapes[n]
-}
 
 /// No slot of the dummy argument `n` is marked.
 fn is_dummy_unmarked(marks: &[bool], dummies: &[usize], shapes: &[Shape], n: usize) -> bool

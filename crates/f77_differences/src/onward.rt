@@ -9,22 +9,8 @@ ghost use Rattle.f77_differences.specs.Marks.{AreMarkedIn};
 use crate::differences::{Differences, may_differ};
 use f77_actions::{Jump, Resolved};
 use f77_code::Place;
+use f77_equivalence::ways::{jump_at, number_at, statement_at};
 use f77_tree::Shared;
-
-/// The statement of this number. Statements are numbered from 0.
-pub(crate) fn statement_at(statements: &[Shared<Resolved>], i: usize) -> &Resolved
-    requires { i < length statements.now }
-    ensures { slice_get statements.now i ≡ Some result.now }
-{
-    &statements[i]
-}
-
-fn number_at(numbers: &[usize], k: usize) -> usize
-    requires { k < length numbers.now }
-    ensures { slice_get numbers.now k ≡ Some result }
-{
-    numbers[k]
-}
 
 /// What is marked may differ where one of these DOs is incremented.
 fn may_differ_at_ends(differences: &Differences, marks: &[bool], ends: &[usize]) -> bool
@@ -54,14 +40,6 @@ pub(crate) fn jumps(differences: &Differences, marks: &[bool], jump: &Jump) -> b
     ensures { result ≡ true → JumpsAlike differences.now marks.now jump.now }
 {
     may_differ(differences, marks, Place::Execute(jump.target))
-}
-
-/// The jump of this number. Jumps are numbered from 0 here.
-fn jump_at(jumps: &[Jump], k: usize) -> &Jump
-    requires { k < length jumps.now }
-    ensures { slice_get jumps.now k ≡ Some result.now }
-{
-    &jumps[k]
 }
 
 /// So do all these jumps.

@@ -7,11 +7,12 @@ ghost use Rattle.f77_facts.specs.declared.facts.Fact.{Fact};
 ghost use Rattle.f77_differences.specs.Acting.{AdvancesAlike, MovesAlike};
 
 use crate::acting::acts;
-use crate::changing::{goes_on_alike, sets_marked, surely_sets_marked};
+use crate::changing::{sets_marked, surely_sets_marked};
 use crate::differences::{Differences, executing_at, incrementing_at};
 use crate::marks::{are_marked_in, are_unmarked, marks_behind};
-use crate::onward::{goes_on, passes, statement_at};
+use crate::onward::{goes_on, passes};
 use f77_actions::{Action, Resolved};
+use f77_equivalence::ways::{goes_on_alike, statement_at};
 use f77_facts::facts::Fact;
 use f77_facts::reaching::one_slot;
 use f77_tree::Shared;

@@ -3,9 +3,9 @@
 
 use crate::differences::Differences;
 use crate::marking::{mark_all, mark_set};
-use crate::onward::statement_at;
 use f77_actions::{Action, Element, Jump, Resolved};
 use f77_check::{Checked, Shape};
+use f77_equivalence::ways::statement_at;
 use f77_tree::Shared;
 use std::alloc::{AllocError, Global};
 

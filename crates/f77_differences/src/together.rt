@@ -5,14 +5,13 @@ ghost use Rattle.f77_actions.specs.declared.resolved.Resolved.{Resolved};
 ghost use Rattle.f77_code.specs.declared.control.Place.TheVariants as places;
 ghost use Rattle.f77_facts.specs.declared.facts.Fact.{Fact};
 ghost use Rattle.f77_equivalence.specs.Alike.{AgreeBut, PassAlike};
-ghost use Rattle.f77_differences.specs.Acting.{MovesAlike};
-ghost use Rattle.f77_differences.specs.Ends.{AllMoveAlike};
+ghost use Rattle.f77_differences.specs.Acting.{MovesAlike, AllMoveAlike};
 
 use crate::differences::Differences;
-use crate::onward::statement_at;
 use crate::places::{changes_alike, executes_alike, increments_alike};
 use f77_actions::Resolved;
 use f77_code::Place;
+use f77_equivalence::ways::statement_at;
 use f77_facts::entries::{Entry, entry_at};
 use f77_facts::facts::Fact;
 use f77_tree::Shared;

@@ -10,21 +10,15 @@ ghost use Rattle.f77_tree.specs.Statement.{statement_of};
 ghost use Rattle.f77_equivalence.specs.Equivalent.{IsEquivalent};
 ghost use Rattle.f77_equivalence.specs.Start.{HoldsStart};
 
-use crate::changing::{goes_on_alike, is_quiet};
+use crate::changing::is_quiet;
 use crate::dummies::tells_the_same;
-use crate::onward::statement_at;
 use crate::spreading::differences_of;
 use crate::together::all_move_alike;
 use f77_check::{Checked, Resolved};
+use f77_equivalence::ways::{goes_on_alike, resolved_in, statement_at};
 use f77_facts::entries::Entry;
 use f77_tree::{Shared, Stmt};
 use std::alloc::{AllocError, Global};
-
-fn resolved_in(resolved: &Shared<Resolved>) -> &Resolved
-    ensures { result.now ≡ resolved.now }
-{
-    resolved
-}
 
 /// Whether the program with this statement in the place of the one of this number, from 1, differs in no more than what slots hold that
 /// are not read before they are set, and does not fault where the program does not. The entries are those of the program.

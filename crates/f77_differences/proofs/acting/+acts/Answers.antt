@@ -1,7 +1,7 @@
 use Rattle.std.proofs.Common.{sym, subst}
+use Rattle.f77_equivalence.proofs.Moving.{ok_then}
 use Rattle.f77_differences.specs.Acting.{ActsAlike}
 use Rattle.f77_differences.proofs.Actions.{guarded}
-use Rattle.f77_differences.proofs.Values.{ok_then}
 use Rattle.f77_differences.proofs.acting.+acts.Goals as goal
 
 pub returns-else-not-goes_on : goal.returns-else-not-goes_on

@@ -1,7 +1,7 @@
 use Rattle.std.proofs.Common.{sym, subst}
+use Rattle.f77_equivalence.proofs.Moving.{ok_then}
 use Rattle.f77_differences.specs.Acting.{ActsAnywhere}
 use Rattle.f77_differences.proofs.Actions.{returned, stopped}
-use Rattle.f77_differences.proofs.Values.{ok_then}
 use Rattle.f77_differences.proofs.acting.plainly_acts.Goals as goal
 
 pub returns-in-AssignNumber : goal.returns-in-AssignNumber

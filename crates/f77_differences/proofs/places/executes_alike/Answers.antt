@@ -1,7 +1,7 @@
 use Rattle.std.proofs.Common.{subst}
+use Rattle.f77_equivalence.proofs.Moving.{ok_then}
 use Rattle.f77_differences.specs.Marks.{AgreeOutside}
 use Rattle.f77_differences.proofs.Stepping.{executed}
-use Rattle.f77_differences.proofs.Values.{ok_then}
 use Rattle.f77_differences.proofs.places.executes_alike.Goals as goal
 
 pub returns : goal.returns

@@ -1,8 +1,8 @@
 use Rattle.std.proofs.Common.{sym, subst}
 use Rattle.f77_code.specs.declared.control.Place.TheVariants.{Execute}
+use Rattle.f77_equivalence.proofs.Moving.{ok_then}
 use Rattle.f77_differences.specs.Acting.{MovesAlike}
 use Rattle.f77_differences.proofs.Lockstep.{moves_elsewhere}
-use Rattle.f77_differences.proofs.Values.{ok_then}
 use Rattle.f77_differences.proofs.together.executes.Goals as goal
 
 pub returns-then-place-i : goal.returns-then-place-i

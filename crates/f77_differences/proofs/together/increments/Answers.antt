@@ -1,6 +1,6 @@
 use Rattle.f77_code.specs.declared.control.Place.TheVariants.{Increment}
+use Rattle.f77_equivalence.proofs.Moving.{ok_then}
 use Rattle.f77_differences.proofs.Lockstep.{moves_elsewhere}
-use Rattle.f77_differences.proofs.Values.{ok_then}
 use Rattle.f77_differences.proofs.together.increments.Goals as goal
 
 pub returns : goal.returns

@@ -1,7 +1,7 @@
 use Rattle.std.proofs.Common.{sym, subst}
 use Rattle.f77_code.specs.declared.control.Place.TheVariants.{Execute}
+use Rattle.f77_equivalence.proofs.Moving.{ok_then}
 use Rattle.f77_differences.specs.Acting.{MovesAlike}
-use Rattle.f77_differences.proofs.Values.{ok_then}
 use Rattle.f77_differences.proofs.together.moves_alike.Goals as goal
 
 pub returns-in-Execute : goal.returns-in-Execute
