@@ -1,6 +1,6 @@
 -- What statements do alike.
-use Rattle.std.proofs.Common.{◌≡◌, ℕ, zero, suc, Bool, true, false, List, Option, Some, None, length, refl, sym, ap, subst, ◌∙◌, ℤ, pos, negsuc}
-use Rattle.std.specs.Prelude.{Box, Vec, Result, Ok, Err, slice_get, slice_set, option_map, ◌+ℤ◌, ◌-◌, if◌then◌else◌}
+use Rattle.std.proofs.Common.{◌≡◌, ℕ, zero, suc, Bool, true, false, List, Option, Some, None, length, refl, sym, ap, subst, ℤ, pos, negsuc}
+use Rattle.std.specs.Prelude.{Box, Vec, Result, Ok, Err, slice_set, ◌+ℤ◌, ◌-◌}
 use Rattle.std.specs.Option.{option_map_or}
 use Rattle.std.specs.declared.alloc.Global.{Global}
 use Rattle.std.proofs.lemmas.Option.{slice_get_within}
@@ -15,15 +15,14 @@ use Rattle.f77_values.specs.declared.finish.Fault.{Fault}
 use Rattle.f77_values.specs.declared.value.Value.TheVariants as held
 use Rattle.f77_values.specs.Number.{in_range, trip_count}
 use Rattle.f77_values.specs.Value.{whole}
-use Rattle.f77_code.specs.declared.control.Place.TheVariants.{Execute, Increment}
+use Rattle.f77_code.specs.declared.control.Place.TheVariants.{Execute}
 use Rattle.f77_code.specs.declared.control.Turn.{Turn}
 use Rattle.f77_code.specs.Choice.{by_sign, numbered}
 use Rattle.f77_code.specs.Evaluation.{held_in, slot_in, number_in, truth_in}
-use Rattle.f77_code.specs.Moves.{Cells, Turns, Move, Goes, state, used, chosen, acted, begun, go_on, jump_to, passing_at, incremented, moved, is_executed, is_loop, turn_at}
+use Rattle.f77_code.specs.Moves.{Cells, Turns, Move, Goes, state, used, chosen, acted, begun, go_on, jump_to, passing_at, incremented}
 use Rattle.f77_facts.specs.declared.facts.Fact.{Fact}
 use Rattle.f77_facts.specs.declared.reaching.Reach.{Reach}
 use Rattle.f77_facts.specs.Bounds.{CoversSlot}
-use Rattle.f77_facts.specs.Facts.{AreIn}
 use Rattle.f77_facts.specs.Reaching.{SuitsSlot}
 use Rattle.f77_differences.specs.declared.differences.Differences.{Differences}
 use Rattle.f77_differences.specs.Acting.{GoesOnAlike, JumpsAlike, AllJumpAlike, PassesAlike, ActsAlike, ActsAnywhere, AdvancesAlike}

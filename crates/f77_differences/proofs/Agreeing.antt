@@ -1,6 +1,6 @@
 -- Slots that may differ.
-use Rattle.std.proofs.Common.{arith, ◌≡◌, ◌≢◌, ◌⊎◌, inl, inr, ℕ, ◌<◌, ◌≤◌, ◌+◌, Bool, true, false, List, Option, Some, None, length, refl, sym, ap, subst, ◌∙◌}
-use Rattle.std.specs.Prelude.{slice_get, slice_set}
+use Rattle.std.proofs.Common.{arith, ◌≡◌, ◌≢◌, ◌⊎◌, inl, inr, ℕ, ◌<◌, ◌≤◌, ◌+◌, Bool, true, false, List, Option, Some, length, refl, sym, ap, subst, ◌∙◌}
+use Rattle.std.specs.Prelude.{slice_set}
 use Rattle.std.specs.Option.{option_map_or, option_and_then}
 use Rattle.std.proofs.lemmas.Bool.{cases_lt}
 use Rattle.std.proofs.lemmas.List.{length-set}
@@ -9,9 +9,8 @@ use Rattle.f77_values.specs.declared.value.Value.{Value}
 use Rattle.f77_code.specs.Evaluation.{held_in}
 use Rattle.f77_code.specs.Moves.{Cells}
 use Rattle.f77_facts.specs.declared.reaching.Reach.{Reach}
-use Rattle.f77_facts.specs.Reaching.{IsReached}
 use Rattle.f77_facts.proofs.Slots.{got_other, got_same, set_past, none_held, same_or_not}
-use Rattle.f77_differences.specs.Marks.{is_marked, AgreeOutside, AreMarkedIn, AreUnmarked, AreMarked, IsSetAlike}
+use Rattle.f77_differences.specs.Marks.{is_marked, AgreeOutside, AreMarkedIn, AreUnmarked, IsSetAlike}
 
 -- a slot past the marks is not marked
 pub unmarked_past : (marks : List Bool) (k : ℕ) → length marks ≤ k → is_marked marks k ≡ false

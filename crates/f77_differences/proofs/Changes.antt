@@ -1,5 +1,5 @@
 -- A changed statement that sets marked slots alone.
-use Rattle.std.proofs.Common.{◌≡◌, ℕ, Bool, true, false, List, Some, refl, sym, ap, subst, ◌∙◌, ℤ}
+use Rattle.std.proofs.Common.{◌≡◌, ℕ, Bool, true, false, List, Some, refl, sym, subst, ◌∙◌, ℤ}
 use Rattle.std.specs.Prelude.{Box, Result, Ok, Err, slice_set}
 use Rattle.std.specs.declared.alloc.Global.{Global}
 use Rattle.f77_actions.specs.declared.action.Action as actions

@@ -1,15 +1,14 @@
 -- Where control goes on alike.
-use Rattle.std.proofs.Common.{◌≡◌, ◌≢◌, ◌⊎◌, inl, inr, ◌<◌, ◌+◌, ℕ, zero, suc, ℤ, Bool, true, false, List, [], ◌∷◌, Option, Some, None, length, refl, sym, subst, arith}
+use Rattle.std.proofs.Common.{◌≡◌, ◌+◌, ℕ, zero, suc, ℤ, Bool, List, Option, Some, None, refl, sym, subst}
 use Rattle.std.specs.Prelude.{slice_get, slice_set, is_some}
 use Rattle.std.specs.Option.{option_map_or}
 use Rattle.f77_actions.specs.declared.action.Jump.{Jump}
 use Rattle.f77_actions.specs.declared.resolved.Resolved.{Resolved}
 use Rattle.f77_code.specs.declared.control.Place.TheVariants.{Execute, Increment}
-use Rattle.f77_code.specs.Moves.{Cells, Turns, innermost, place_behind, turn_at, passing, passing_at}
-use Rattle.f77_facts.proofs.Slots.{same_or_not}
+use Rattle.f77_code.specs.Moves.{Cells, Turns, innermost, place_behind, turn_at, passing}
 use Rattle.f77_equivalence.proofs.Lists.{found_among}
 use Rattle.f77_differences.specs.declared.differences.Differences.{Differences}
-use Rattle.f77_differences.specs.Acting.{GoesOnAlike, JumpsAlike, AllJumpAlike, PassesAlike}
+use Rattle.f77_differences.specs.Acting.{GoesOnAlike, JumpsAlike, PassesAlike}
 use Rattle.f77_differences.specs.Differences.{Alike, marks_at}
 use Rattle.f77_differences.specs.Marks.{AgreeOutside, AreMarkedIn}
 use Rattle.f77_differences.proofs.Agreeing.{agree_within}

@@ -1,5 +1,5 @@
 -- Runs of two programs go together, in states that differ in marked slots alone.
-use Rattle.std.proofs.Common.{arith, ◌≡◌, ◌≢◌, ◌⊎◌, inl, inr, ◌<◌, ◌+◌, ℕ, zero, suc, Bool, false, List, [], ◌∷◌, map, Option, Some, None, length, refl, sym, ap, subst, ◌∙◌}
+use Rattle.std.proofs.Common.{arith, ◌≡◌, ◌≢◌, ◌<◌, ◌+◌, ℕ, zero, suc, Bool, false, List, [], ◌∷◌, map, Option, Some, None, length, refl, sym, ap, subst, ◌∙◌}
 use Rattle.std.specs.Prelude.{slice_get}
 use Rattle.std.specs.List.{zip}
 use Rattle.std.specs.Option.{option_and_then}
@@ -13,16 +13,14 @@ use Rattle.f77_values.specs.declared.finish.Finish.TheVariants.{Returned, Stoppe
 use Rattle.f77_code.specs.declared.control.Place.{Place}
 use Rattle.f77_code.specs.declared.control.Place.TheVariants.{Execute}
 use Rattle.f77_code.specs.Evaluation.{held_in}
-use Rattle.f77_code.specs.Moves.{Cells, Turns, State, state, Move, Goes, Ends, moved}
+use Rattle.f77_code.specs.Moves.{Cells, Turns, state, Move, Goes, Ends, moved}
 use Rattle.f77_code.specs.Sequences.{moved_by, then_moved}
 use Rattle.f77_facts.specs.declared.entries.Entry.{Entry}
 use Rattle.f77_facts.specs.declared.facts.Fact.{Fact}
 use Rattle.f77_facts.specs.Reaching.{IsReached}
 use Rattle.f77_facts.specs.Entries.{IsAmong, IsInductive}
-use Rattle.f77_facts.proofs.Slots.{same_or_not}
 use Rattle.std.proofs.lemmas.Option.{slice_get_within}
 use Rattle.f77_run.specs.declared.argument.Arg.{Arg}
-use Rattle.f77_run.specs.Interpreter.{AreFitting}
 use Rattle.f77_run.specs.Spans.{size_of, span}
 use Rattle.f77_equivalence.specs.Alike.{AgreeBut, PassAlike, site}
 use Rattle.f77_equivalence.specs.Changed.{IsEnding, HoldAlike, EndsAlike}

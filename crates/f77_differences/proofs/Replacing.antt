@@ -1,9 +1,9 @@
 -- A statement in the place of another that differs in slots that are not read.
-use Rattle.std.proofs.Common.{◌≡◌, ◌≢◌, ◌-◌, ◌<◌, ℕ, List, Some, length, map, sym, subst}
+use Rattle.std.proofs.Common.{◌≡◌, ◌-◌, ℕ, List, Some, length, map, subst}
 use Rattle.std.specs.Prelude.{slice_get, slice_set}
 use Rattle.std.proofs.lemmas.Option.{slice_get_within}
 use Rattle.f77_program.specs.Patching.{patched}
-use Rattle.f77_program.specs.Program.{LineFields, line_of}
+use Rattle.f77_program.specs.Program.{line_of}
 use Rattle.f77_tree.specs.Statement.{Statement}
 use Rattle.f77_legal.specs.Legal.{IsLegal}
 use Rattle.f77_check.specs.Checked.{CheckedFields, IsChecked}

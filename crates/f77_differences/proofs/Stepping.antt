@@ -1,5 +1,5 @@
 -- Steps of two programs from states that differ in marked slots alone.
-use Rattle.std.proofs.Common.{◌≡◌, ℕ, Bool, true, false, List, Option, Some, None, refl, sym, ap, subst, ◌∙◌}
+use Rattle.std.proofs.Common.{◌≡◌, ℕ, Bool, true, false, List, Option, Some, None, refl, subst}
 use Rattle.std.specs.Prelude.{slice_get, option_map, if◌then◌else◌}
 use Rattle.f77_actions.specs.declared.resolved.Resolved.{Resolved}
 use Rattle.f77_code.specs.declared.control.Place.TheVariants.{Execute, Increment}

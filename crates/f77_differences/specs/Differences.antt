@@ -5,7 +5,7 @@ use Rattle.std.specs.declared.alloc.Global.{Global}
 use Rattle.f77_values.specs.declared.finish.Finish.TheVariants.{Failed}
 use Rattle.f77_code.specs.declared.control.Place.{Place}
 use Rattle.f77_code.specs.declared.control.Place.TheVariants.{Execute, Increment}
-use Rattle.f77_code.specs.Moves.{Cells, Turns, Move, Goes, Ends, state}
+use Rattle.f77_code.specs.Moves.{Cells, Move, Goes, Ends, state}
 use Rattle.f77_differences.specs.declared.differences.Differences.{Differences}
 use Rattle.f77_differences.specs.Marks.{AgreeOutside}
 
