@@ -1,6 +1,6 @@
 -- IF statements that do alike where what is told is so.
-use Rattle.std.proofs.Common.{◌≡◌, ◌≢◌, ◌⊎◌, inl, inr, ℕ, ◌+◌, ◌<◌, Bool, true, false, List, Some, refl, sym, subst, arith}
-use Rattle.std.specs.Prelude.{Box, Result, Ok, Err, slice_get}
+use Rattle.std.proofs.Common.{◌≡◌, ℕ, Bool, true, false, List, refl, sym, subst}
+use Rattle.std.specs.Prelude.{Box, Result, Ok, Err}
 use Rattle.std.specs.declared.alloc.Global.{Global}
 use Rattle.f77_actions.specs.declared.action.Action as actions
 use Rattle.f77_actions.specs.declared.action.Action.{Action, Branch}
@@ -10,14 +10,12 @@ use Rattle.f77_values.specs.declared.finish.Fault.{Fault}
 use Rattle.f77_code.specs.declared.control.Place.TheVariants.{Execute}
 use Rattle.f77_code.specs.Evaluation.{truth_in}
 use Rattle.f77_code.specs.Moves.{Goes, state, chosen, acted, go_on}
-use Rattle.f77_facts.specs.declared.entries.Entry.{Entry}
 use Rattle.f77_facts.specs.declared.facts.Fact.{Fact}
-use Rattle.f77_facts.proofs.Slots.{same_or_not}
 use Rattle.f77_equivalence.specs.Alike.{ActsAlike, PassesAlike}
 use Rattle.f77_equivalence.specs.Same.{Agrees, Follows}
 use Rattle.f77_equivalence.proofs.Actions.{one_follows, used_follows}
 use Rattle.f77_conditions.specs.declared.told.Told.{Told}
-use Rattle.f77_conditions.specs.Same.{SameWhereTold, ActsWhereTold, AllActWhereTold}
+use Rattle.f77_conditions.specs.Same.{SameWhereTold, ActsWhereTold}
 
 agrees_where : (x y : Result Bool Fault) → ((b : Bool) → x ≡ Ok b → y ≡ Ok b) → Agrees x y
 agrees_where (Ok b) y each = each b refl

@@ -1,5 +1,5 @@
 -- Where control goes on.
-use Rattle.std.proofs.Common.{◌≡◌, ◌+◌, ℕ, zero, suc, ℤ, Bool, true, false, List, [], ◌∷◌, Option, Some, None, refl, sym, subst}
+use Rattle.std.proofs.Common.{◌≡◌, ◌+◌, ℕ, zero, suc, ℤ, List, Option, Some, None, refl, sym, subst}
 use Rattle.std.specs.Prelude.{Contains, Result, Ok, Err, IfOk, is_some, slice_get, slice_set}
 use Rattle.std.specs.Option.{option_map_or}
 use Rattle.f77_actions.specs.declared.resolved.Resolved.{Resolved}

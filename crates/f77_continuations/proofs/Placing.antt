@@ -1,5 +1,5 @@
 -- A statement in the place of another from which control continues as from that.
-use Rattle.std.proofs.Common.{◌≡◌, ◌-◌, ℕ, Bool, true, false, List, Some, None, length, map, refl, sym, subst}
+use Rattle.std.proofs.Common.{◌≡◌, ◌-◌, ℕ, true, List, Some, length, map, refl, sym, subst}
 use Rattle.std.specs.Prelude.{slice_get, slice_set}
 use Rattle.std.proofs.lemmas.Option.{slice_get_within}
 use Rattle.f77_program.specs.Patching.{patched}
@@ -10,7 +10,7 @@ use Rattle.f77_check.specs.Checked.{CheckedFields, IsChecked}
 use Rattle.f77_check.specs.Patching.{IsInPlace}
 use Rattle.f77_actions.specs.declared.resolved.Resolved.{Resolved}
 use Rattle.f77_code.specs.declared.control.Place.TheVariants.{Execute}
-use Rattle.f77_code.specs.Moves.{Move, acted, is_executed}
+use Rattle.f77_code.specs.Moves.{acted, is_executed}
 use Rattle.f77_facts.specs.declared.entries.Entry.{Entry}
 use Rattle.f77_facts.specs.Entries.{IsInductive}
 use Rattle.f77_facts.proofs.Slots.{got_same}
