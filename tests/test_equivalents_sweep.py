@@ -4,6 +4,7 @@ import os
 import re
 import tempfile
 import unittest
+from collections.abc import Sequence
 from itertools import islice
 from pathlib import Path
 from random import Random
@@ -13,9 +14,14 @@ import running
 from mutants import statuses
 from mutants.fortran.unit import read_unit
 from mutants.jobs.cells import GREATEST, LEAST
+from mutants.robustness import equivalence
 from mutants.robustness.edges import edges_of, rows_for
 from mutants.robustness.programs import program_of
+from mutants.suggestions.asking import Asker
+from mutants.suggestions.shapes import Row
 from mutants.texts.cards import action_at, cards_of, source_lines
+from mutants.texts.lines import Mutant
+from mutants.texts.proofs import Proof
 from running import LEAST as SOURCE
 from running import PROVER, STAND_IN, run
 
@@ -103,6 +109,32 @@ class Sweeps(unittest.TestCase):
         self.assertEqual(status, statuses.FAULT)
         self.assertRegex(out, r"2 proved \(SAME 1, UNREAD 1\), 40 tests, [12] killed\n")
         self.assertRegex(out, r"\nleast.f: SDL 2 2 UNREAD LINE 4 CONTINUE: killed by \[.*\] with --steps 10000\n")
+
+    def test_one_with_steps_to_spare_has_to_live_where_it_has_that_room(self) -> None:
+        status, out, _ = self.sweep("SDL 2=SPARE-1", "--programs", "0")
+        self.assertEqual(status, statuses.FAULT)
+        self.assertRegex(out, r"1 proved \(SPARE-1 1\), 40 tests, 1 killed\n")
+        self.assertRegex(out, r"\nleast.f: SDL 2 2 SPARE-1 LINE 4 CONTINUE: killed by \[.*\] with --steps 10000\n")
+
+    def test_where_it_has_not_that_room_it_may_be_killed(self) -> None:
+        limits: list[int] = []
+
+        def within(asker: Asker, rows: Sequence[Row], steps: int) -> set[Row]:
+            limits.append(steps)
+            return set()
+
+        with mock.patch.object(equivalence, "within", within):
+            status, out, _ = self.sweep("ROR 1=SAME,SDL 2=SPARE-2", "--programs", "0")
+        self.assertEqual((status, limits[0]), (statuses.SUCCESS, equivalence.STEPS - 2))
+        self.assertIn(limits[1] + 2, equivalence.SMALL)
+        self.assertRegex(out, r"2 proved \(SAME 1, SPARE-2 1\), 40 tests, 0 killed\n")
+
+    def test_within_no_step_no_program_ends(self) -> None:
+        proof = Proof(Mutant("SDL", 2, 2, 4, "CONTINUE"), "SPARE-2")
+        with running.without_processes():
+            asker = equivalence.asker_of(equivalence.Case("least.f", SOURCE), [], [proof], str(STAND_IN))
+            found = [equivalence.within(asker, [(1, 2, 3)], steps) for steps in (-1, 0, 1)]
+        self.assertEqual(found, [set(), set(), {(1, 2, 3)}])
 
     def test_a_made_program_that_is_refused_is_told_with_its_source(self) -> None:
         status, out, _ = self.sweep("", "--programs", "1")

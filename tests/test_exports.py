@@ -108,7 +108,7 @@ class Tables(Exports):
             rows = list(csv.DictReader(file))
         self.assertEqual(list(rows[0]), COLUMNS)
         self.assertEqual(len(rows), 13)
-        first = ["ROR 1", "ROR", "4", "Survived", "no", "IF (J.LT.I) K=J", "IF (J.LE.I) K=J", "", "1 2", ""]
+        first = ["ROR 1", "ROR", "4", "Survived", "no", "", "IF (J.LT.I) K=J", "IF (J.LE.I) K=J", "", "1 2", ""]
         self.assertEqual(list(rows[0].values()), first)
 
     def test_a_test_case_for_each_line(self) -> None:

@@ -14,13 +14,13 @@ from mutants import statuses
 from mutants.comparisons.comparing import compared
 from mutants.comparisons.reading import read_state
 from mutants.comparisons.summary import comparison_text
-from mutants.declarations.proofs import NO_PROOFS, Proofs, assert_listed, proofs_of
+from mutants.declarations.proofs import NO_PROOFS, Proofs, assert_listed, killed_later, proofs_of, wrongly_proved
 from mutants.declarations.proving import NO_PROVER, NOT_FOUND, Prover, asked_proofs
 from mutants.pages.declared import Said, proved_part
 from mutants.program import finding, unproved
-from mutants.texts.jobs import declared_text
+from mutants.texts.jobs import Job, declared_text
 from mutants.texts.lines import Mutant
-from mutants.texts.proofs import Proof, read_proofs
+from mutants.texts.proofs import Proof, meaning_of, read_proofs, spare_of
 from mutants.texts.reports import Row
 from room import DECLARED, Room
 from running import LEAST, PROVER, STAND_IN, has, refuses, run
@@ -33,6 +33,9 @@ EQUIVALENT SDL 1 1 SPARE-3 LINE 9 CONTINUE
 PROVED 2 OF 9
 """
 ONE = "ROR 1=SAME"
+# One of each promise, and what is said of the second.
+BOTH = "ROR 1=SAME,ROR 7=SPARE-2"
+STEPS_MORE = "the run ends as the program's does, by 2 steps more at most; each test leaves that room"
 NOT_ASKED = "Which mutants can be proved equivalent was not asked: "
 
 
@@ -49,10 +52,14 @@ class Reading(unittest.TestCase):
         self.assertEqual([proof.has_spare for proof in proofs], [False, True])
         self.assertEqual(read_proofs("PROVED 0 OF 0\n"), ([], 0))
 
-    def test_a_mutant_with_steps_to_spare_is_not_declared(self) -> None:
+    def test_a_mutant_with_steps_to_spare_is_told_apart(self) -> None:
         found = proofs_of(read_proofs(LINES)[0])
-        self.assertEqual((found.names, found.reason("SDL 1")), (["ABS 4"], ""))
+        self.assertEqual((found.names, list(map(found.has_spare, found.names))), (["ABS 4", "SDL 1"], [False, True]))
         self.assertEqual(found.reason("ABS 4"), "proved (UNREAD): what it changes is not read")
+        self.assertEqual(found.reason("SDL 1"), f"proved (SPARE-3): {STEPS_MORE.replace('2', '3')}")
+        self.assertEqual(meaning_of("SPARE-1"), STEPS_MORE.replace("2 steps", "1 step"))
+        self.assertEqual((found.for_all_tests().names, found.has_spare("ROR 1")), (["ABS 4"], False))
+        self.assertEqual(list(map(spare_of, ("SAME", "SPARE-1", "SPARE-12"))), [0, 1, 12])
 
     def test_a_number_that_no_job_declares_is_left_out(self) -> None:
         great = Proof(Mutant("GLR", 1, 1_048_576, 7, "GO TO 10"), "SAME")
@@ -63,6 +70,9 @@ class Reading(unittest.TestCase):
             ("", "cut short"), (LINES[:-1], "cut short"), (LINES.replace("2 OF", "3 OF"), "has not their number"),
             (LINES.replace("OF 9", "OF 1"), "has not their number"), (LINES.replace("UNREAD", "UNSEEN"), "is none"),
             (LINES.replace("SPARE-3", "SPARE-0"), "is none"), (LINES.replace("LINE 7", "LINE"), "is none"),
+            (LINES.replace("SPARE-3", "SPARE"), "is none"), (LINES.replace("SPARE-3", "SPARE-"), "is none"),
+            (LINES.replace("SPARE-3", "SPARE-03"), "is none"), (LINES.replace("SPARE-3", "SPARE-3A"), "is none"),
+            (LINES.replace("SPARE-3", "SAME-3"), "is none"), (LINES.replace("SPARE-3", "SPARE--3"), "is none"),
             (LINES.replace("ABS 2 4", "ABS 2"), "is none"), ("FAULT S2 1\n", "is a fault"),
             ("EQUIVALENT ABS 1 1 SAME LINE 1 K=I\n" * 2 + "PROVED 2 OF 2\n", "twice"), ("ABS 1\nTOTAL 1\n", "is none"),
         ):  # fmt: skip
@@ -79,7 +89,7 @@ class Reading(unittest.TestCase):
 
     def test_a_list_that_is_thinned(self) -> None:
         with proving("ROR 1=SAME,ROR 4=SAME,ROR 5=SAME"), running.without_processes():
-            found = asked_proofs(str(PROVER), ["--ops", "ROR", "--every", "3"], LEAST)
+            found = asked_proofs(str(PROVER), ["--ops", "ROR", "--every", "3"], Job(LEAST, []))
         self.assertEqual([proof.mutant[:3] for proof in found], [("ROR", 1, 1), ("ROR", 2, 4)])
         # A job names a mutant by its number in the whole list.
         self.assertEqual(proofs_of(found).names, ["ROR 1", "ROR 4"])
@@ -103,9 +113,9 @@ class Finding(unittest.TestCase):
             finding.find_equivalents("gone")
 
     def test_without_one_nothing_is_proved_and_why_is_told(self) -> None:
-        found = Prover(not_asked=NOT_FOUND).proofs([], LEAST, [], ["ROR 1"])
+        found = Prover(not_asked=NOT_FOUND).proofs([], Job(LEAST, [], ["ROR 1"]), [])
         self.assertEqual((found.names, found.told()), ([], f"{NOT_ASKED}the program equivalents is not found."))
-        self.assertEqual(NO_PROVER.proofs([], LEAST, []).told(), "")
+        self.assertEqual(NO_PROVER.proofs([], Job(LEAST, []), []).told(), "")
 
 
 class Checks(Room):
@@ -209,9 +219,152 @@ class Checks(Room):
         has(self, (self.folder / "least.html").read_text(), f"What is called proved here is of {said}.")
 
     def test_a_search_does_not_look_for_them(self) -> None:
-        with proving(ONE), running.without_processes():
-            out = run("suggest", "--mothra", STAND_IN, "--rounds", "1", self.program, self.tests)[1]
-        self.assertIn("No mutant survives", out)
+        for proved in (ONE, "ROR 1=SPARE-2"):
+            with proving(proved), running.without_processes():
+                out = run("suggest", "--mothra", STAND_IN, "--rounds", "1", self.program, self.tests)[1]
+            self.assertIn("No mutant survives", out)
+
+
+class StepsToSpare(Room):
+    """Proofs that hold for the tests as they are. The stand-in reads the steps of a test in its last value."""
+
+    def setUp(self) -> None:
+        super().setUp()
+        # A test for which ROR 7, .FALSE., is no other program.
+        self.put("tests.csv", "1,2,40\n")
+
+    def told(self, *words: object, proved: str = BOTH) -> str:
+        with proving(proved):
+            status, out, errors = self.check("--no-page", "--ops", "ROR", *words)
+        self.assertEqual((status, errors), (0, ""))
+        return out
+
+    def asked(self, tool: str, *words: object) -> list[list[str]]:
+        """The words of each call of equivalents."""
+        found: list[list[str]] = []
+
+        def answer(words: list[str], job: bytes) -> tuple[str, int]:
+            found.append(list(words))
+            return "FAULT O1\n", 1
+
+        with mock.patch.object(running.module_of(PROVER), "answer", answer), running.without_processes():
+            self.assertEqual(run(tool, "--mothra", STAND_IN, *words)[0], 0)
+        return found
+
+    def test_the_limit_on_steps_is_handed_over_where_there_is_one(self) -> None:
+        both, limit = [self.program, self.tests], ["--steps", "500"]
+        for tool, more in (("check", ["--no-page"]), ("page", []), ("suggest", ["--rounds", "1"])):
+            with self.subTest(tool):
+                self.assertEqual(self.asked(tool, *more, *both), [[]])
+                self.assertEqual(self.asked(tool, *more, *limit, *both), [limit])
+        self.assertEqual(self.asked("check", "--no-page", "--ops", "ROR", *limit, *both), [["--ops", "ROR", *limit]])
+        self.assertEqual(self.asked("page", "--ops", "ROR", *limit, *both), [["--ops", "ROR", *limit]])
+        self.put("mutants.ini", "[mutants]\nsteps = 300\n")
+        self.assertEqual(self.asked("check", "--no-page", *both), [["--steps", "300"]])
+        self.assertEqual(self.asked("declare", self.program, "ROR 1", "--reason", "why"), [[]])
+
+    def test_they_are_counted_apart(self) -> None:
+        out = self.told()
+        has(self, out, "not counting 2 proved equivalent", "\nWithout the proofs it is ")
+        has(self, out, "\n2 mutants proved equivalent, 1 of them with steps to spare (--show-proved tells each).\n")
+        out = self.told(proved="ROR 7=SPARE-2")
+        has(self, out, "\n1 mutant proved equivalent, with steps to spare (--show-proved tells it).\n")
+        self.assertNotIn("to spare", self.told(proved=ONE))
+
+    def test_each_is_told_with_the_number_of_steps(self) -> None:
+        out = self.told("--show-proved")
+        has(self, out, "\n2 mutants proved equivalent, 1 of them with steps to spare:\n")
+        has(self, out, f"proved (SPARE-2): {STEPS_MORE}\n", "proved (SAME): it does the same there\n")
+
+    def test_they_are_asked_of_these_tests_and_this_limit(self) -> None:
+        self.assertIn("2 proved equivalent", self.told("--steps", "42"))
+        self.assertIn("not counting 1 proved equivalent", self.told("--steps", "41"))
+        self.put("tests.csv", "1,2,40\n2,3,9999\n")
+        self.assertIn("not counting 1 proved equivalent", self.told())
+
+    def test_each_batch_of_a_long_suite_has_to_leave_the_room(self) -> None:
+        long = Job(LEAST, [[1, 2, 40]] * 300)
+        for suite, names in (
+            (long.suite, ["ROR 1", "ROR 7"]),
+            ([*long.suite, [1, 2, 9999]], ["ROR 1"]),
+            ([[1, 2, 9999], *long.suite], ["ROR 1"]),
+        ):
+            with proving(BOTH), running.without_processes():
+                found = asked_proofs(str(PROVER), ["--ops", "ROR"], long._replace(suite=suite))
+            self.assertEqual(proofs_of(found).names, names)
+
+    def test_other_batches_are_asked_only_where_it_matters(self) -> None:
+        calls, answer = [0], running.module_of(PROVER).answer
+
+        def counted(words: list[str], job: bytes) -> tuple[str, int]:
+            calls[0] += 1
+            told, status = answer(words, job)
+            return str(told), int(status)
+
+        with mock.patch.object(running.module_of(PROVER), "answer", counted), running.without_processes():
+            for proved, wanted in ((ONE, 1), (BOTH, 3)):
+                calls[0] = 0
+                with proving(proved):
+                    asked_proofs(str(PROVER), [], Job(LEAST, [[1, 2, 40]] * 600))
+                self.assertEqual(calls, [wanted])
+
+    def test_a_declared_one_is_not_called_needless(self) -> None:
+        names = self.put("names.csv", DECLARED)
+        self.assertNotIn("need not be declared", self.told("--equivalent", names, proved="ROR 1=SPARE-2"))
+
+    def test_the_page_says_what_is_promised_of_them(self) -> None:
+        with proving(BOTH):
+            self.check("--ops", "ROR")
+        page = (self.folder / "least.html").read_text()
+        tags = Tags(page)
+        self.assertEqual((tags.open, tags.wrong), ([], []))
+        has(self, page, "<summary>2 mutants proved equivalent, 1 of them with steps to spare</summary>")
+        has(self, page, "this is promised of the tests as they are", "proved (SPARE-2): the run ends as the program")
+        with proving(ONE):
+            self.check("--ops", "ROR")
+        self.assertNotIn("SPARE", (self.folder / "least.html").read_text())
+
+    def test_other_programs_are_told_the_number_too(self) -> None:
+        paths = [self.folder / name for name in ("m.json", "m.csv")]
+        self.told("--json", paths[0], "--csv", paths[1])
+        report = json.loads(paths[0].read_text())
+        self.assertEqual((report_faults(report), report["config"]["proved"]), ([], ["ROR 1", "ROR 7"]))
+        reasons = {each["id"]: each.get("statusReason") for each in report["files"][str(self.program)]["mutants"]}
+        self.assertEqual(reasons["ROR 7"], f"declared equivalent: proved (SPARE-2): {STEPS_MORE}")
+        with open(paths[1], newline="") as file:
+            rows = {row["mutant"]: (row["declared"], row["proof"]) for row in csv.DictReader(file)}
+        self.assertEqual((rows["ROR 1"], rows["ROR 7"]), (("proved", "SAME"), ("proved", "SPARE-2")))
+        self.assertEqual(rows["ROR 2"], ("no", ""))
+
+    def test_a_comparison_takes_them_as_proofs_of_their_state(self) -> None:
+        paths = [self.folder / name for name in ("old.json", "new.json")]
+        self.told("--json", paths[0], "--steps", "41", proved="ROR 7=SPARE-2")
+        self.told("--json", paths[1], proved="ROR 7=SPARE-2")
+        text = comparison_text(compared(*map(read_state, paths)), *paths)
+        has(self, text, "\nProved equivalent since then: 1 mutant.\n")
+        paths.reverse()
+        text = comparison_text(compared(*map(read_state, paths)), *paths)
+        has(self, text, "\nProved equivalent no more: 1 mutant.\n")
+
+    def test_one_that_a_later_row_kills_is_no_fault_of_the_programs(self) -> None:
+        proofs = Proofs({"ROR 1": "SAME", "ROR 7": "SPARE-2", "ROR 3": "SPARE-1"}, tests=2)
+        rows = [Row("ROR", 7, 7, "W", "001"), Row("ROR", 3, 3, "W", "011"), Row("ROR", 1, 1, "W", "001")]
+        self.assertEqual((killed_later(rows, proofs), wrongly_proved(rows, proofs)), (["ROR 7"], ["ROR 3", "ROR 1"]))
+        alive = [row._replace(status="E", bits="000") for row in rows]
+        self.assertEqual((killed_later(alive, proofs), wrongly_proved(alive, proofs)), ([], []))
+
+    def test_a_search_tells_which_of_them_a_row_kills(self) -> None:
+        with proving("ROR 7=SPARE-2"), running.without_processes():
+            status, out, errors = run("suggest", "--mothra", STAND_IN, "--rounds", "1", self.program, self.tests)
+        self.assertEqual((status, errors), (0, ""))
+        has(self, out, "\nROR 7 is proved equivalent for the tests as they are, with steps to spare. A row below kills")
+        self.assertNotIn("PROVED", out)
+
+    def test_a_class_has_the_same_mutants_declared_for_each_suite(self) -> None:
+        with proving(BOTH), running.without_processes():
+            self.assertEqual(run("course", "--mothra", STAND_IN, self.folder)[0], 0)
+        job = json.loads((self.folder / "out" / "jobs" / "tests.json").read_text())
+        self.assertEqual(job["equivalent"], ["ROR 1"])
 
 
 class Pages(Room):
@@ -285,6 +438,15 @@ class Declares(Room):
         self.assertEqual(self.names_in(file), ["ROR 2"])
         self.assertEqual(self.declare(ONE, "ROR 1", "--no-proofs")[1], f"{file}: 1 mutant declared, and 1 before\n")
         self.assertEqual(self.names_in(file), ["ROR 2", "ROR 1"])
+
+    def test_of_one_with_steps_to_spare_it_is_told_that_this_is_of_the_tests(self) -> None:
+        of_tests = "this holds for the tests as they are, where each leaves that room under the limit on steps\n"
+        status, out, _ = self.declare("ROR 7=SPARE-2", "ROR 7")
+        self.assertEqual((status, (self.folder / "least.equivalent.csv").exists()), (0, False))
+        has(self, out, "; ROR 7 (SPARE-2) is proved equivalent and need not", f" it all the same); of ROR 7 {of_tests}")
+        out = self.declare("ROR 1=SAME,ROR 3=SPARE-1,ROR 7=SPARE-2", "ROR 1 3 7")[1]
+        has(self, out, "ROR 3 (SPARE-1) and ROR 7 (SPARE-2) are proved", f"; of ROR 3 and ROR 7 {of_tests}")
+        self.assertNotIn("as they are", self.declare("ROR 1=SAME", "ROR 1")[1])
 
     def names_in(self, file: Path) -> list[str]:
         with open(file, newline="") as rows:

@@ -160,14 +160,15 @@ def named(path: Path, find: Callable[[], Found]) -> Found:
 
 
 def with_proofs(
-    asked: Asked, job: Job, said: Said, listed: Sequence[Mutant], prover: Prover, name: str
+    words: Sequence[str], job: Job, said: Said, listed: Sequence[Mutant], prover: Prover, name: str
 ) -> tuple[Job, Said]:
-    """The job with the mutants declared that are proved equivalent, and what is said of it."""
+    """The job with the mutants declared that are proved equivalent, asked for by these words; and what is said of
+    it."""
     progress = Progress(name)
     if prover.program and progress.is_terminal:
         progress.tell(f"asking which of {len(listed)} mutants are proved equivalent")
     try:
-        proofs = prover.proofs(words_of_ops(asked), job.source, listed, job.equivalent)
+        proofs = prover.proofs(words, job, listed)
     finally:
         progress.end()
     declared = [*job.equivalent, *proofs.names]
@@ -187,7 +188,7 @@ def check(
     choice = chosen(program, asked, job, printed, listed)
     outcomes = named(asked.tests, lambda: asked_outcomes(job, means, name))
     unexpected = named(expected.path, lambda: differences(expected.texts, outcomes, names))
-    job, said = with_proofs(asked, job, said, listed, prover, name)
+    job, said = with_proofs([*words_of_ops(asked), *means.step_words], job, said, listed, prover, name)
     is_whole = len(choice.listed) == len(listed)
     whole = ran(job, printed, totals if is_whole else totals_of(totals, choice.listed), means, name)
     report = whole if is_whole else restricted(whole, choice.listed)

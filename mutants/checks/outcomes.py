@@ -42,8 +42,7 @@ def asked_outcomes(job: Job, means: Means, name: str | None) -> list[str]:
 
     How far it is is told by the name of a command, where there is one.
     """
-    steps = ["--steps", means.steps] if means.steps is not None else []
-    words, plain = ["exec", "--test", "1", *steps], Job(job.source, job.suite)
+    words, plain = ["exec", "--test", "1", *means.step_words], Job(job.source, job.suite)
     calls: list[Call] = [(words, batch_text(plain, at, at + 1)) for at in range(len(job.suite))]
     found, progress = [""] * len(calls), Progress(name or "")
     estimate = Estimate(progress, f"the program itself on {len(calls)} tests", len(calls))

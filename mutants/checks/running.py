@@ -25,6 +25,11 @@ class Means(NamedTuple):
     logins: Sequence[str] = ()
     remote: str = ""
 
+    @property
+    def step_words(self) -> list[str]:
+        """The words for the limit on steps; none where the user gives none."""
+        return ["--steps", self.steps] if self.steps is not None else []
+
 
 def calls_at_once(means: Means) -> int:
     """How many calls are made at once here: so that their threads are as many as the processors."""
@@ -36,8 +41,7 @@ def calls_at_once(means: Means) -> int:
 
 def words_of(means: Means, ops: Sequence[str], threads: int) -> list[str]:
     """The words of the call of one part."""
-    steps = ["--steps", means.steps] if means.steps is not None else []
-    return ["run", "--ops", ",".join(ops), *steps, "--workers", means.workers or str(threads)]
+    return ["run", "--ops", ",".join(ops), *means.step_words, "--workers", means.workers or str(threads)]
 
 
 def part_calls(job: Job, means: Means, groups: Sequence[Sequence[str]], parts: Sequence[Part]) -> list[Call]:

@@ -13,7 +13,7 @@ from mutants.declarations.proofs import (
     wrongly_declared,
     wrongly_proved,
 )
-from mutants.pages.declared import NO_REASON, Group, groups_of_person, groups_of_proofs
+from mutants.pages.declared import NO_REASON, Group, groups_of_person, groups_of_proofs, proved_text
 from mutants.pages.frame import joined_words, plural
 from mutants.pages.report import DISAGREE, by_line, counts_by_line, no_survivor_text
 from mutants.pages.suite import NUMBERS, alone_of, needless_text, values_of
@@ -101,15 +101,16 @@ def declared_lines(checked: Checked) -> Iterator[str]:
 
 
 def proved_lines(checked: Checked, shows_proved: bool) -> Iterator[str]:
-    """The mutants that are proved equivalent: their number, or each; and how many of them a person declares too."""
-    said = checked.said
+    """The mutants that are proved equivalent: their number, or each; and how many of them a person declares too. A
+    person's word is of all tests, so a proof with steps to spare does not stand for it."""
+    said, proofs = checked.said, checked.said.proofs.for_all_tests()
     groups = groups_of_proofs(checked.listed, checked.report.rows, said)
-    count = sum(len(each.mutants) for each in groups)
-    if count:
-        end = ":" if shows_proved else f" (--show-proved tells {'it' if count == 1 else 'each'})."
-        yield f"{plural(count, 'mutant')} proved equivalent{end}"
+    if groups:
+        is_one = sum(len(each.mutants) for each in groups) == 1
+        end = ":" if shows_proved else f" (--show-proved tells {'it' if is_one else 'each'})."
+        yield f"{proved_text(groups, said.proofs)}{end}"
     yield from group_lines(checked, groups if shows_proved else [])
-    both = [name for name in map(name_of, checked.listed) if name in said.proofs.whys and name in said.proofs.declared]
+    both = [name for name in map(name_of, checked.listed) if name in proofs.whys and name in proofs.declared]
     if both:
         verb = "is" if len(both) == 1 else "are"
         yield f"Of the declared mutants {len(both)} {verb} proved too, and need not be declared."

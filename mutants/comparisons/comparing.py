@@ -75,7 +75,7 @@ def compared(old: State, new: State) -> Comparison:
     one, other = with_ops(old, ops), with_ops(new, ops)
     found = matched(one, other)
     killed = [(b, n) for b, n in found.pairs if n.is_killed and not b.is_killed]
-    # What is proved now no test can kill: the program has changed, and not what its tests say.
+    # What is proved now no test can kill: the program has changed, or its tests leave steps to spare.
     lost = [(b, n) for b, n in found.pairs if b.is_killed and not n.is_killed and not n.is_proved]
     # Survivors before and now.
     alive: list[tuple[Verdict, Verdict]] = [(b, n) for b, n in found.pairs if not b.is_killed and not n.is_killed]

@@ -5,7 +5,7 @@ from types import MappingProxyType
 from typing import NamedTuple
 
 from mutants.texts.lines import Mutant
-from mutants.texts.proofs import WHYS, Proof
+from mutants.texts.proofs import Proof, has_spare, meaning_of
 from mutants.texts.reports import Count, Row, score_of
 from mutants.texts.twins import name_of
 
@@ -17,12 +17,14 @@ NO_NAMES: Collection[str] = frozenset()
 
 class Proofs(NamedTuple):
     """What is proved of the mutants of a program: what each proof rests on, by the name of the mutant; or why nothing
-    was asked. `declared` are the names that a person declares, whether they are proved or not."""
+    was asked. `declared` are the names that a person declares, whether they are proved or not. Proofs with steps to
+    spare are of so many `tests`, the first of a suite."""
 
     whys: Mapping[str, str] = MappingProxyType({})
     declared: Collection[str] = NO_NAMES
     not_asked: str = ""
     remark: str = ""
+    tests: int = 0
 
     @property
     def names(self) -> list[str]:
@@ -33,10 +35,18 @@ class Proofs(NamedTuple):
         """Whether a mutant is declared by its proof alone."""
         return name in self.whys and name not in self.declared
 
+    def has_spare(self, name: str) -> bool:
+        """Whether a mutant is proved with steps to spare: for the tests as they are."""
+        return has_spare(self.whys.get(name, ""))
+
+    def for_all_tests(self) -> "Proofs":
+        """The proofs that hold for each test that anybody will ever write: those without steps to spare."""
+        return self._replace(whys={name: why for name, why in self.whys.items() if not has_spare(why)})
+
     def reason(self, name: str) -> str:
         """Why a mutant is equivalent that is proved so; no text for another one."""
         why = self.whys.get(name)
-        return f"{PROVED} ({why}): {WHYS[why]}" if why else ""
+        return f"{PROVED} ({why}): {meaning_of(why)}" if why else ""
 
     def told(self) -> str:
         """One sentence where nothing was asked. Else no text."""
@@ -46,11 +56,12 @@ class Proofs(NamedTuple):
 NO_PROOFS = Proofs()
 
 
-def proofs_of(found: Iterable[Proof], declared: Collection[str] = NO_NAMES, remark: str = "") -> Proofs:
-    """The proofs that hold for each limit on steps, of mutants that a job may declare."""
-    taken = [proof for proof in found if not proof.has_spare and proof.mutant.place <= MOST]
-    whys = {name_of(proof.mutant): proof.why for proof in taken}
-    return Proofs(whys, frozenset(declared), remark=remark)
+def proofs_of(
+    found: Iterable[Proof], declared: Collection[str] = NO_NAMES, remark: str = "", tests: int = 0
+) -> Proofs:
+    """The proofs of mutants that a job may declare."""
+    whys = {name_of(proof.mutant): proof.why for proof in found if proof.mutant.place <= MOST}
+    return Proofs(whys, frozenset(declared), remark=remark, tests=tests)
 
 
 def assert_listed(found: Iterable[Proof], listed: Iterable[Mutant]) -> None:
@@ -76,9 +87,20 @@ def score_without(count: Count, proved: int) -> str:
     return f"{score_of(other)} %: {other.killed} of {wanted} mutant{'s' * (wanted != 1)} killed"
 
 
-def wrongly_proved(rows: Sequence[Row], proofs: Proofs) -> list[str]:
+def is_killed_later(row: Row, proofs: Proofs) -> bool:
+    """Whether a mutant with steps to spare is killed by tests alone that came behind those of its proof."""
+    return proofs.has_spare(name_of(row)) and row.status in "WK" and "1" not in row.bits[: proofs.tests]
+
+
+def killed_later(rows: Iterable[Row], proofs: Proofs) -> list[str]:
+    """The mutants with steps to spare whose proofs the tests that came later do not serve."""
+    return [name_of(row) for row in rows if is_killed_later(row, proofs)]
+
+
+def wrongly_proved(rows: Iterable[Row], proofs: Proofs) -> list[str]:
     """The mutants that are proved equivalent and that a test kills, which never is where both programs are proved."""
-    return [name_of(row) for row in rows if row.status in "WK" and name_of(row) in proofs.whys]
+    killed = [row for row in rows if row.status in "WK" and name_of(row) in proofs.whys]
+    return [name_of(row) for row in killed if not is_killed_later(row, proofs)]
 
 
 def wrongly_declared(rows: Iterable[Row], proofs: Proofs) -> list[str]:

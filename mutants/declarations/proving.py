@@ -1,16 +1,17 @@
 """The program equivalents, asked which mutants of a program no test can kill."""
 
 import argparse
-import json
-from collections.abc import Collection, Iterable, Sequence
+from collections.abc import Iterable, Sequence
 from typing import NamedTuple
 
-from mutants.declarations.proofs import NO_NAMES, Proofs, assert_listed, proofs_of
+from mutants.checks.batches import batch_text, batches
+from mutants.declarations.proofs import Proofs, assert_listed, proofs_of
 from mutants.program.calling import Fault, plain_answer, read_as
 from mutants.program.finding import add_equivalents_option, find_equivalents
 from mutants.program.programs import EQUIVALENTS
 from mutants.program.unproved import remark_on_proofs
 from mutants.statuses import WORDS
+from mutants.texts.jobs import Job
 from mutants.texts.lines import Mutant
 from mutants.texts.proofs import Proof, read_proofs
 
@@ -29,10 +30,24 @@ def add_proof_options(parser: argparse.ArgumentParser) -> None:
     add_proofs_switch(parser)
 
 
-def asked_proofs(program: str, words: Sequence[str], source: str) -> list[Proof]:
-    """What the program says of a source; the words are its options, as those of `mothra list`."""
-    text = plain_answer(NAME, program, words, json.dumps({"source": source}).encode())
-    return read_as(NAME, read_proofs, text)[0]
+def asked_proofs(program: str, words: Sequence[str], job: Job) -> list[Proof]:
+    """What the program says of a source and its tests, of any number; the words are its options.
+
+    Proofs with steps to spare alone look at the tests. Where these are more than a job takes, each batch of them has to
+    leave the room.
+    """
+    plain = Job(job.source, job.suite)
+    texts = [batch_text(plain, *ends) for ends in batches(plain)]
+    found = asked_of_batch(program, words, texts[0])
+    for text in texts[1:]:
+        if any(proof.has_spare for proof in found):
+            others = set(asked_of_batch(program, words, text))
+            found = [proof for proof in found if proof in others]
+    return found
+
+
+def asked_of_batch(program: str, words: Sequence[str], text: bytes) -> list[Proof]:
+    return read_as(NAME, read_proofs, plain_answer(NAME, program, words, text))[0]
 
 
 class Prover(NamedTuple):
@@ -41,20 +56,20 @@ class Prover(NamedTuple):
     program: str = ""
     not_asked: str = ""
 
-    def proofs(
-        self, words: Sequence[str], source: str, listed: Iterable[Mutant], declared: Collection[str] = NO_NAMES
-    ) -> Proofs:
-        """What is proved of the mutants that mothra lists for the same words. A job that is refused has no proofs."""
+    def proofs(self, words: Sequence[str], job: Job, listed: Iterable[Mutant]) -> Proofs:
+        """What is proved of the mutants of a job, which are those that mothra lists for the same words, but for the
+        limit on steps. A job that is refused has no proofs."""
+        declared = frozenset(name for name in job.equivalent if isinstance(name, str))
         if not self.program:
-            return Proofs(declared=frozenset(declared), not_asked=self.not_asked)
+            return Proofs(declared=declared, not_asked=self.not_asked)
         try:
-            found = asked_proofs(self.program, words, source)
+            found = asked_proofs(self.program, words, job)
         except Fault as fault:
             if fault.status == WORDS:
                 raise
-            return Proofs(declared=frozenset(declared), not_asked=f"{NAME} answers {fault.line}")
+            return Proofs(declared=declared, not_asked=f"{NAME} answers {fault.line}")
         assert_listed(found, listed)
-        return proofs_of(found, declared, remark_on_proofs(self.program))
+        return proofs_of(found, declared, remark_on_proofs(self.program), len(job.suite))
 
 
 NO_PROVER = Prover()

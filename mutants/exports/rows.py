@@ -11,12 +11,12 @@ from mutants.texts.lines import Mutant
 from mutants.texts.reports import Row
 from mutants.texts.twins import name_of, names_text, others_by_name
 
-COLUMNS = "mutant operator line status declared before after killed_by covered_by twins".split()
+COLUMNS = "mutant operator line status declared proof before after killed_by covered_by twins".split()
 
 
 class Told(NamedTuple):
     """A mutant, its statement, its status, whether it is declared equivalent, the tests that kill it and come to it,
-    the names of those that are the same program, and whether it is declared by a proof alone."""
+    the names of those that are the same program, and the word of its proof where it is declared by that alone."""
 
     mutant: Mutant
     before: str
@@ -25,7 +25,7 @@ class Told(NamedTuple):
     killed_by: list[int]
     covered_by: list[int]
     twins: str = ""
-    is_proved: bool = False
+    proof: str = ""
 
     @property
     def name(self) -> str:
@@ -49,13 +49,13 @@ def status_of(row: Row, covered: str) -> str:
 def told_of(checked: Checked, covered: Mapping[int, str]) -> Iterator[Told]:
     """What is told of each mutant, in the order of the report;
     `covered` has for each line the tests that come to it."""
-    others = others_by_name(checked.listed)
+    others, proofs = others_by_name(checked.listed), checked.said.proofs
     for mutant, row in zip(checked.listed, checked.report.rows):
         bits, twins = covered[mutant.line], names_text(others.get(name_of(mutant), []))
         before, status = checked.statements[mutant.line], status_of(row, bits)
-        is_proved = checked.said.proofs.is_alone(name_of(mutant))
+        proof = proofs.whys[name_of(mutant)] if proofs.is_alone(name_of(mutant)) else ""
         numbers = tests_in(row.bits), tests_in(bits)
-        yield Told(mutant, before, status, row.status in "EW", *numbers, twins, is_proved)
+        yield Told(mutant, before, status, row.status in "EW", *numbers, twins, proof)
 
 
 def table_text(checked: Checked, covered: Mapping[int, str]) -> str:
@@ -65,7 +65,7 @@ def table_text(checked: Checked, covered: Mapping[int, str]) -> str:
     table.writerow(COLUMNS)
     for each in told_of(checked, covered):
         tests = [" ".join(map(str, numbers)) for numbers in (each.killed_by, each.covered_by)]
-        declared = PROVED if each.is_proved else "yes" if each.is_declared else "no"
-        row = [each.name, each.mutant.op, each.mutant.line, each.status, declared, each.before, each.mutant.text]
-        table.writerow([*row, *tests, each.twins])
+        declared = PROVED if each.proof else "yes" if each.is_declared else "no"
+        row = [each.name, each.mutant.op, each.mutant.line, each.status, declared, each.proof]
+        table.writerow([*row, each.before, each.mutant.text, *tests, each.twins])
     return kept.getvalue()

@@ -17,6 +17,15 @@ from mutants.texts.twins import name_of, names_text, twins_in
 # So many tests that kill a mutant are named.
 NAMED = 5
 NO_REASON = "no reason is given"
+# What proofs promise, and what those with steps to spare do.
+ALL_TESTS = (
+    "No test that a suite may have kills these, and nobody has to think about them: of each it is proved that it"
+    " does what the program does, on all arguments on which the program returns or stops."
+)
+STEPS_TO_SPARE = (
+    " Where the reason says SPARE, this is promised of the tests as they are: the mutant may take some steps more, and"
+    " each test leaves room for them under the limit on steps."
+)
 
 
 class Said(NamedTuple):
@@ -79,6 +88,14 @@ def groups_of_proofs(listed: Iterable[Mutant], rows: Iterable[Row], said: Said) 
     return declared_groups(listed, rows, said.all_reasons, said.proofs.is_alone)
 
 
+def proved_text(groups: Iterable[Group], proofs: Proofs) -> str:
+    """How many mutants are proved equivalent, and how many of them with steps to spare."""
+    names = [name_of(mutant) for group in groups for mutant in group.mutants]
+    spare = sum(map(proofs.has_spare, names))
+    some = "" if spare == len(names) else f"{spare} of them "
+    return f"{plural(len(names), 'mutant')} proved equivalent" + (f", {some}with steps to spare" if spare else "")
+
+
 def declared_row(group: Group, statement: str) -> list[Cell]:
     """The row of a declared mutant; where tests kill it this comes before the reason."""
     mutant, row = group.mutants[0], group.row
@@ -123,13 +140,10 @@ def proved_part(listed: Iterable[Mutant], rows: Sequence[Row], statements: Mappi
     groups = groups_of_proofs(listed, rows, said)
     if not groups:
         return ""
-    count = sum(len(group.mutants) for group in groups)
-    told = (
-        "No test that a suite may have kills these, and nobody has to think about them: of each it is proved that it"
-        " does what the program does, on all arguments on which the program returns or stops."
-    )
+    has_spare = any(said.proofs.has_spare(name_of(group.mutants[0])) for group in groups)
+    told = ALL_TESTS + (STEPS_TO_SPARE if has_spare else "")
     inner = groups_table(groups, statements, "Proved equivalent")
-    summary = f"<summary>{plural(count, 'mutant')} proved equivalent</summary>"
+    summary = f"<summary>{proved_text(groups, said.proofs)}</summary>"
     return f"<p>{told}</p>\n<details>{summary}\n{inner}</details>\n"
 
 

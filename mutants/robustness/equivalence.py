@@ -7,7 +7,8 @@ for the same seed. For each the program equivalents is asked which of all mutant
 which of these are killed by up to 256 tests: arguments at the ends of INTEGER, at 0, 1 and -1, at constants of the
 program and beside them, small ones, and any. Tests on which the program itself fails are left out, as no suite may have
 them. All tests are run with the limit of 10000 steps, and some again with small limits, on which the program ends too.
-Of the examples the same is asked with --every 3, and with --json.
+A mutant with steps to spare has to live on the tests alone that leave it that room. Of the examples the same is asked
+with --every 3, and with --json.
 
 There is a line for each program that is named, one for all that were made, and one for each mutant that is killed, with
 the source of a made program below it. The exit status is 1 where there is one.
@@ -43,7 +44,7 @@ from mutants.suggestions.clock import Clock
 from mutants.suggestions.shapes import Row, test_of
 from mutants.suggestions.values import constants_of
 from mutants.texts.jobs import Job
-from mutants.texts.proofs import Proof
+from mutants.texts.proofs import Proof, spare_of
 from mutants.texts.reports import Report
 from mutants.texts.twins import name_of
 from mutants.words import number_from_1, read_by, whole_path
@@ -53,6 +54,8 @@ PROGRAMS, TESTS, SEED = 500, 256, 1
 ROUNDS, FEW = 6, 48
 SMALL = (2, 4, 7, 12, 20, 40)
 EVERY = 3
+# The operator that is run where the program alone is asked about: few programs have a mutant of it.
+FEW_MUTANTS = "DSA"
 
 
 class Case(NamedTuple):
@@ -119,13 +122,21 @@ def fitting_rows(case: Case, asker: Asker, printed: Sequence[str], tests: int, c
     return list(found)[:tests]
 
 
+def within(asker: Asker, rows: Sequence[Row], steps: int) -> set[Row]:
+    """The rows on which the program ends within a limit."""
+    return set(asker.kills(rows, [FEW_MUTANTS], steps)) if steps > 0 else set()
+
+
 def killed_in(asker: Asker, proofs: Sequence[Proof], rows: Sequence[Row], steps: int) -> tuple[int, list[Killed]]:
-    """How many rows were run, and the mutants that one of them kills, each once."""
+    """How many rows were run, and the mutants that one of them kills, each once. A row that leaves a mutant not the
+    steps that its proof needs may kill it."""
     kills = asker.kills(rows, asker.ops_of(asker.whole), steps)
+    spares = {spare_of(proof.why) for proof in proofs} - {0}
+    fits = {0: set(kills), **{spare: within(asker, list(kills), steps - spare) for spare in spares}}
     found: dict[int, Killed] = {}
     for row, mask in kills.items():
         for number, proof in enumerate(proofs):
-            if mask >> number & 1:
+            if mask >> number & 1 and row in fits[spare_of(proof.why)]:
                 found.setdefault(number, Killed(proof, row, steps))
     return len(kills), list(found.values())
 
@@ -135,11 +146,10 @@ def tried(programs: Programs, case: Case) -> Tried:
     job = json.dumps({"source": case.source}).encode()
     try:
         listed = asked_list(programs.mothra, [], job)[1]
-        proofs = asked_proofs(programs.equivalents, [], case.source)
+        proofs = asked_proofs(programs.equivalents, [], Job(case.source, []))
     except Fault as fault:
         return Tried(case, 0, [], 0, refused=str(fault))
     assert_listed(proofs, listed)
-    proofs = [proof for proof in proofs if not proof.has_spare]
     if not proofs or not read_unit(case.source)[1]:
         return Tried(case, len(listed), proofs, 0)
     printed, chance = asked_print(programs.mothra, job), Random(f"{programs.seed} {case.name}")
@@ -160,9 +170,10 @@ def thinned(proofs: Iterable[Proof]) -> list[Proof]:
 def forms_told(programs: Programs, case: Case) -> Iterator[str]:
     """What is wrong with the answers to other words."""
     job = json.dumps({"source": case.source}).encode()
-    whole = asked_proofs(programs.equivalents, [], case.source)
+    plain = Job(case.source, [])
+    whole = asked_proofs(programs.equivalents, [], plain)
     every = ["--every", str(EVERY)]
-    if asked_proofs(programs.equivalents, every, case.source) != thinned(whole):
+    if asked_proofs(programs.equivalents, every, plain) != thinned(whole):
         yield f"{case.name}: with --every {EVERY} others are proved"
     for words, proofs in (([], whole), (every, thinned(whole))):
         if plain_answer(NAME, programs.equivalents, ["--json", *words], job) != json_of(proofs):

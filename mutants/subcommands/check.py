@@ -19,7 +19,8 @@ each test in place of it. An outcome that is not as expected is told, and the ex
 Where the program equivalents is there, it is asked which mutants are equivalent by a proof. These are declared by
 themselves, with the reason that they are proved: the score does not count them, and is told with and without them. They
 are folded, on the terminal to one line, which --show-proved unfolds. What a person declares stands apart. --no-proofs
-asks for no proofs.
+asks for no proofs. A proof with steps to spare, SPARE-n, is of these tests and this limit on steps: the mutant may take
+n steps more, and each test leaves room for them.
 
 Options that are always the same can stand in mutants.ini beside the program (or mutants.toml), in its section
 [mutants], by the same names: `fail-under = 80`. What the command line says comes first.

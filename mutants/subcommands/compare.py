@@ -16,7 +16,8 @@ since then, or no more; and tests that are new, gone, or kill others than before
 their mutants are left out. --markdown writes the same for a review.
 
 The exit status is 3 where a mutant that was killed survives, whether a person declares it equivalent or not. One that
-is proved equivalent now is counted apart: no test can kill it any more.
+is proved equivalent now is counted apart: no test can kill it any more, or none of its own tests where the proof is one
+with steps to spare.
 """
 
 import argparse

@@ -7,8 +7,9 @@ NAME.json or NAME.csv (or NAME.suite.json). With one program each table is a sui
 several a table is of the program whose name it has, or has before a hyphen (sort-anna.csv is of sort.f); a table named
 suite is of each program without a table of its own. NAME.equivalent.csv, or equivalent.csv with one program, has the
 mutants that are declared equivalent, as mutants declare writes them; a bare list in .json is read too. Those that the
-program equivalents proves equivalent are declared by themselves; it is asked here, once for each program. --unit,
---size and --expand-tabs are those of mutants job, for each program of the folder.
+program equivalents proves equivalent are declared by themselves; it is asked here, once for each program. Those with
+steps to spare are not: such a proof is of one suite alone. --unit, --size and --expand-tabs are those of mutants job,
+for each program of the folder.
 
 Each table becomes a job. The jobs are run side by side, N at once (else one for each processor), each as a process with
 one thread. With --sshlogin GNU parallel spreads them over machines, and MOTHRA is then the name of the program on all
@@ -53,7 +54,7 @@ from mutants.program.finding import add_mothra_option, find_program
 from mutants.program.unproved import remark_on
 from mutants.progress import Progress
 from mutants.statuses import FAULT, SUCCESS
-from mutants.texts.jobs import read_job
+from mutants.texts.jobs import Job, read_job
 from mutants.texts.lines import Mutant
 from mutants.texts.reports import read_report
 from mutants.words import add_mothra_options, asked_words, number_from_1, tell_remarks
@@ -148,8 +149,11 @@ def prove_with(given: argparse.Namespace, program: str) -> Prove:
 
     def prove(source: str, declared: Collection[str]) -> Proofs:
         known = known_of(program, json.dumps({"source": source}).encode(), words)
-        # Of a source that has a fault the run tells it.
-        return prover.proofs(words, source, known[1], declared) if known else NO_PROOFS
+        if not known:
+            # The run tells the fault of the source.
+            return NO_PROOFS
+        # The suites of a class are compared, so the same mutants are declared for each.
+        return prover.proofs(words, Job(source, [], list(declared)), known[1]).for_all_tests()
 
     return prove
 

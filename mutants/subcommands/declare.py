@@ -6,7 +6,7 @@
 A mutant is a code and a number, as pages and reports name it; further numbers are of the same operator:
 ABS 7 9 12 ROR 1. Where other mutants are the same program, they are declared with it. A mutant that the program
 equivalents proves equivalent need not be declared: it is left out, and this is told; with --no-proofs it is declared
-all the same.
+all the same. Of one that is proved with steps to spare alone it is told that this holds for the tests as they are.
 
 An entry is put behind those of PROGRAM.equivalent.csv beside the program (of a unit that is picked among several,
 PROGRAM.UNIT.equivalent.csv): the mutant, its line before and after the change as mothra writes them, and the reason.
@@ -34,10 +34,13 @@ from mutants.operators import NAMES
 from mutants.pages.frame import joined_words, plural
 from mutants.program.finding import add_mothra_option, find_program
 from mutants.statuses import SUCCESS
+from mutants.texts.jobs import Job
 from mutants.texts.lines import Mutant
 from mutants.texts.twins import name_of, others_by_name
 
 Name = tuple[str, int]
+# What is said of mutants that are proved with steps to spare alone.
+OF_THESE_TESTS = "this holds for the tests as they are, where each leaves that room under the limit on steps"
 
 
 def add_words(parser: argparse.ArgumentParser) -> None:
@@ -103,7 +106,9 @@ def told_of_proved(left: Sequence[Entry], proofs: Proofs) -> str:
     is_one = len(left) == 1
     told = joined_words(f"{entry.name} ({proofs.whys[entry.name]})" for entry in left)
     verb, them = ("is", "it") if is_one else ("are", "them")
-    return f"{told} {verb} proved equivalent and need not be declared (--no-proofs declares {them} all the same)"
+    said = f"{told} {verb} proved equivalent and need not be declared (--no-proofs declares {them} all the same)"
+    spare = [entry.name for entry in left if proofs.has_spare(entry.name)]
+    return f"{said}; of {joined_words(spare)} {OF_THESE_TESTS}" if spare else said
 
 
 def told_of_new(new: Sequence[Entry], names: Sequence[Name], found: Settled) -> str:
@@ -129,7 +134,7 @@ def run(given: argparse.Namespace, name: str) -> int:
         told = f"{len(found.moved)} of {len(entries)} entries with a new number"
     else:
         wanted = new_entries(given, names, found, present)
-        proofs = prover_of(given).proofs([], made.source.text, present.listed)
+        proofs = prover_of(given).proofs([], Job(made.source.text, []), present.listed)
         new = [entry for entry in wanted if entry.name not in proofs.whys]
         if new:
             text = decoded(path.read_bytes()) if path.exists() else ""

@@ -71,12 +71,11 @@ def outcomes_of(given: argparse.Namespace, program: str, job: Job, name: str) ->
     return Outcomes(lines)
 
 
-def proofs_of(given: argparse.Namespace, chosen: Sequence[str], job: Job, listed: Sequence[Mutant]) -> Proofs:
+def proofs_of(given: argparse.Namespace, job: Job, listed: Sequence[Mutant]) -> Proofs:
     """What is proved of the mutants of a job. A report that is given is of declarations that were made before."""
     if given.report:
         return NO_PROOFS
-    declared = [name for name in job.equivalent if isinstance(name, str)]
-    return prover_of(given).proofs(chosen, job.source, listed, declared)
+    return prover_of(given).proofs(asked_words(given, "ops", "every", "steps"), job, listed)
 
 
 def run(given: argparse.Namespace, name: str) -> int:
@@ -91,7 +90,7 @@ def run(given: argparse.Namespace, name: str) -> int:
     printed = read_as(name, read_print, told)
     name, told = text_from(given.list, program, ["list", *chosen], text)
     totals, listed = read_as(name, read_list, told)
-    proofs = proofs_of(given, chosen, job, listed)
+    proofs = proofs_of(given, job, listed)
     if given.report:
         report = read_as(given.report, read_report, text_of(given.report))
     else:

@@ -14,7 +14,7 @@ how many of the rows that were tried came to their lines. A column `expect` of t
 
 An array of numbers that is in order in all tests stays so in all rows, and this is told; --free lifts it. Nothing else
 is known of what the arguments have to be: --ranges says it. A mutant that the program equivalents proves equivalent is
-no survivor, and is not searched for.
+no survivor, and is not searched for. Where a row kills one that is proved with steps to spare, this is told.
 
 With --rounds the same seed gives the same text; with --seconds it depends on the machine. Ctrl-C ends the search, and
 what was found until then is told; the exit status is that of an interrupted command.

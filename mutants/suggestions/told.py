@@ -7,6 +7,7 @@ from textwrap import wrap
 
 from mutants.checks.checking import dummies_of
 from mutants.checks.summary import WIDTH, difference_lines, line_lines, ranges_text, score_line, wrong_lines
+from mutants.declarations.proofs import killed_later
 from mutants.pages.frame import joined_words, plural
 from mutants.pages.report import by_line
 from mutants.suggestions.aims import Aim, kept_lines
@@ -120,6 +121,15 @@ def needless_lines(found: Suggested) -> Iterator[str]:
     yield f"{told}{' of those that were asked for' if found.final.left_out else ''}."
 
 
+def spare_lines(found: Suggested) -> Iterator[str]:
+    """The mutants with steps to spare that a row kills. The next check does not call them proved."""
+    names = killed_later(found.final.report.rows, found.final.said.proofs)
+    if names:
+        verb, them = ("is", "it") if len(names) == 1 else ("are", "them")
+        told = f"{joined_words(names)} {verb} proved equivalent for the tests as they are, with steps to spare"
+        yield f"{told}. A row below kills {them}: it does not leave that room under the limit on steps."
+
+
 def head_lines(found: Suggested, program: Path) -> Iterator[str]:
     start = found.start
     yield f"{start.report.unit} of {program}: {plural(len(start.job.suite), 'test')}"
@@ -129,6 +139,7 @@ def head_lines(found: Suggested, program: Path) -> Iterator[str]:
     if found.rows:
         yield f"With the rows below: {score_line(found.final)}"
     yield from wrong_lines(found.final)
+    yield from spare_lines(found)
 
 
 def summary(found: Suggested, program: Path, tests: Path, layout: Layout, aim: Aim) -> str:

@@ -7,14 +7,34 @@ from mutants.texts.lines import NUMBER, Mutant, lines_of_text, mutant_of
 
 LINE = re.compile(rf"EQUIVALENT ([A-Z]{{3}} {NUMBER} {NUMBER}) ([A-Z]+|SPARE-[1-9]\d*) (LINE .+)")
 LAST = re.compile(rf"PROVED {NUMBER} OF {NUMBER}")
-# What a proof rests on. A mutant with steps to spare is of another promise, that holds under some limits alone.
+# What a proof rests on that holds for each test and each limit on steps.
 WHYS = {
     "SAME": "it does the same there",
     "UNREAD": "what it changes is not read",
     "CONTINUES": "the run comes to the same statement",
     "UNREACHED": "no run comes there",
 }
+# What is of another promise: behind it stands how many steps more the mutant may take.
 SPARE = "SPARE-"
+
+
+def has_spare(why: str) -> bool:
+    """Whether a proof is one with steps to spare: it holds for the tests and the limit that it was asked for."""
+    return why.startswith(SPARE)
+
+
+def spare_of(why: str) -> int:
+    """How many steps more a mutant may take than the program."""
+    return int(why.removeprefix(SPARE)) if has_spare(why) else 0
+
+
+def meaning_of(why: str) -> str:
+    """What a proof rests on, in words for people."""
+    steps = spare_of(why)
+    if not steps:
+        return WHYS[why]
+    more = f"{steps} step{'s' * (steps != 1)} more at most"
+    return f"the run ends as the program's does, by {more}; each test leaves that room"
 
 
 class Proof(NamedTuple):
@@ -25,15 +45,15 @@ class Proof(NamedTuple):
 
     @property
     def has_spare(self) -> bool:
-        """Whether the mutant takes some steps more, so that the proof is none for each limit on steps."""
-        return self.why.startswith(SPARE)
+        """Whether the mutant may take some steps more, so that the proof is none for each limit on steps."""
+        return has_spare(self.why)
 
 
 def proof_of(line: str) -> Proof:
     """The proof that a line tells."""
     found = LINE.fullmatch(line)
     mutant = mutant_of(f"{found[1]} {found[5]}") if found else None
-    if not found or not mutant or found[4] not in WHYS and not found[4].startswith(SPARE):
+    if not found or not mutant or found[4] not in WHYS and not has_spare(found[4]):
         raise ValueError(f"the proofs have a line that is none: {line[:60]}")
     return Proof(mutant, found[4])
 

@@ -1,6 +1,6 @@
 -- From what was read and answered to what is told.
 use Rattle.std.proofs.Common.{arith, ◌≡◌, ◌≢◌, ◌∙◌, ℕ, ◌<◌, ◌≤◌, ◌++◌, ◌⊎◌, Bool, true, false, sym, ap, refl, subst, inl, inr}
-use Rattle.std.proofs.Common.{List, [], ◌∷◌, Option, Some, None, Result, Ok, Err, IfOk, MatchResult, String, length, length-append, append-nil, nat_lt, string_bytes}
+use Rattle.std.proofs.Common.{List, [], Option, Some, None, Result, Ok, Err, IfOk, MatchResult, String, length, length-append, append-nil, nat_lt, string_bytes}
 use Rattle.std.specs.Prelude.{Contains}
 use Rattle.std.specs.declared.alloc.Global.{Global}
 use Rattle.std.proofs.lemmas.Bool.{ltb-true, ltb-false, lt-ltb}
@@ -20,7 +20,6 @@ use Rattle.mothra_app.specs.declared.fault.Fault.TheVariants.{Job}
 use Rattle.mothra_app.specs.declared.status.Status.{Status}
 use Rattle.mothra_app.specs.declared.status.Status.TheVariants as status
 use Rattle.mothra_cli.specs.Input.{limit, AreAll, IsRead, ReadsUpTo}
-use Rattle.mothra_codes.specs.declared.op.Op.{Op}
 use Rattle.mothra_job.specs.Job.{JobFields, JobRead, faults, job_of}
 use Rattle.mothra_job.specs.declared.job.JobFault.{JobFault}
 use Rattle.mothra_job.specs.declared.job.JobFault.TheVariants.{Memory}
@@ -73,26 +72,19 @@ Text = Result (String Global) Fault
 
 -- the job was read: what the inquiry comes to is what is found
 own_outcome : (i : Inquiry) (job : JobFields) (text : Text)
-    → MatchResult text (λ t. IsFound job.source i.operators i.every i.json (Ok (string_bytes t)))
-    (λ f. IsFound job.source i.operators i.every i.json (Err f) ⊎ Contains of_mutants f)
+    → MatchResult text (λ t. IsFound job i (Ok (string_bytes t))) (λ f. IsFound job i (Err f) ⊎ Contains of_mutants f)
     → MatchResult text (λ t. IsOutcome i (Ok job) (Ok (string_bytes t))) (λ f. IsOutcome i (Ok job) (Err f) ⊎ Contains memory_faults f)
 own_outcome i job (Ok t) found = found
 own_outcome i job (Err f) (inl found) = inl found
 own_outcome i job (Err f) (inr memory) = inr (later_in (Job Memory) of_mutants f memory)
 
-pub outcome_found : (i : Inquiry) (job : JobFields) (read : JobRead) (source : List ℕ) (named : List Op) (text : Text)
-    → (let own : JobRead = Ok job in (own ≡ read) ⊎ (own ≡ Err Memory)) → source ≡ job.source → named ≡ i.operators
-    → MatchResult text (λ t. IsFound source named i.every i.json (Ok (string_bytes t)))
-    (λ f. IsFound source named i.every i.json (Err f) ⊎ Contains of_mutants f)
+pub outcome_found : (i : Inquiry) (job : JobFields) (read : JobRead) (text : Text)
+    → (let own : JobRead = Ok job in (own ≡ read) ⊎ (own ≡ Err Memory))
+    → MatchResult text (λ t. IsFound job i (Ok (string_bytes t))) (λ f. IsFound job i (Err f) ⊎ Contains of_mutants f)
     → MatchResult text (λ t. IsOutcome i read (Ok (string_bytes t))) (λ f. IsOutcome i read (Err f) ⊎ Contains memory_faults f)
-outcome_found i job read source named text of_job own are found =
+outcome_found i job read text of_job found =
     subst (λ r. MatchResult text (λ t. IsOutcome i r (Ok (string_bytes t))) (λ f. IsOutcome i r (Err f) ⊎ Contains memory_faults f))
-    (read_so job read of_job)
-    (own_outcome i job text
-    (subst (λ s. MatchResult text (λ t. IsFound s i.operators i.every i.json (Ok (string_bytes t)))
-    (λ f. IsFound s i.operators i.every i.json (Err f) ⊎ Contains of_mutants f)) own
-    (subst (λ ops. MatchResult text (λ t. IsFound source ops i.every i.json (Ok (string_bytes t)))
-    (λ f. IsFound source ops i.every i.json (Err f) ⊎ Contains of_mutants f)) are found)))
+    (read_so job read of_job) (own_outcome i job text found)
 
 pub fault_answered : (i : Inquiry) (read : JobRead) (fault : Fault) (s : Status) (t : List ℕ) → s ≡ status.Fault → t ≡ line_of fault
     → IsOutcome i read (Err fault) ⊎ Contains memory_faults fault → IsAnswer i read s t

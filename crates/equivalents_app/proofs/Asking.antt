@@ -1,5 +1,5 @@
 -- Words that the command line takes ask for something.
-use Rattle.std.proofs.Common.{arith, ◌≡◌, ◌≤◌, ◌∙◌, ℕ, Bool, inl, inr, ap, sym, subst, true, false, true≢false, List, [], ◌∷◌, map, Option, Some, None, Ok, Err, codes, is_some, IsSome, refl}
+use Rattle.std.proofs.Common.{arith, ◌≡◌, ◌≤◌, ◌<◌, ◌^◌, ◌∙◌, ℕ, Bool, inl, ap, sym, subst, true, false, true≢false, List, [], ◌∷◌, map, Option, Some, None, Ok, Err, codes, is_some, IsSome, refl}
 use Rattle.std.specs.List.{list_any}
 use Rattle.clap.specs.Words.{Row, Shape, Text, fault_of, matches_of}
 use Rattle.clap.specs.Faults.{built_fault, entered_fault, level_fault}
@@ -38,22 +38,33 @@ no_subcommands = refl
 apart : {X : Type 0} → false ≡ true → X
 apart e = absurd (true≢false (sym e))
 
-serves : Each (Serves (codes "every") 1 1048575) (built equivalents).top.rules
+-- `--every` and `--steps` have defaults, and their numbers are in their bounds
+serves_every : Each (Serves (codes "every") 1 1048575) (built equivalents).top.rules
 unfolding clap_on_literals equivalents
-serves = (apart, (λ f. record { action = refl; parser = refl; range = omega arith }, (apart, (apart, tt))))
+serves_every = (apart, (λ f. record { action = refl; parser = refl; range = omega arith }, (apart, (apart, (apart, tt)))))
 
-given : list_any (has_default (codes "every")) (built equivalents).top.rules ≡ true
+serves_steps : Each (Serves (codes "steps") 1 1000000) (built equivalents).top.rules
 unfolding clap_on_literals equivalents
-given = refl
+serves_steps = (apart, (apart, (λ f. record { action = refl; parser = refl; range = omega arith }, (apart, (apart, tt)))))
 
--- words that are taken have a number for `--every`
-every_number : (words : List Text) → fault_of equivalents words ≡ [] → HasNumber (codes "every") 1 1048575 (matches_of equivalents words)
-every_number words taken =
+given_every : list_any (has_default (codes "every")) (built equivalents).top.rules ≡ true
+unfolding clap_on_literals equivalents
+given_every = refl
+
+given_steps : list_any (has_default (codes "steps")) (built equivalents).top.rules ≡ true
+unfolding clap_on_literals equivalents
+given_steps = refl
+
+-- words that are taken have a number for each option of that kind
+option_number : (id : Text) (low high : ℕ) → high < 2 ^ 32 → Each (Serves id low high) (built equivalents).top.rules
+    → list_any (has_default id) (built equivalents).top.rules ≡ true
+    → (words : List Text) → fault_of equivalents words ≡ [] → HasNumber id low high (matches_of equivalents words)
+option_number id low high small serves given words taken =
     let rest = argument_words equivalents words in
     let top = (built equivalents).top in
     let level = one_level top rest (built equivalents).subs no_subcommands taken in
-    subst (λ names. HasNumber (codes "every") 1 1048575 (rows_after top.rules names rest)) (sym (ap (map label_of) no_subcommands))
-    (default_number top rest (codes "every") 1 1048575 (omega arith) serves given level)
+    subst (λ names. HasNumber id low high (rows_after top.rules names rest)) (sym (ap (map label_of) no_subcommands))
+    (default_number top rest id low high small serves given level)
 
 -- ---- what the words are
 
@@ -63,15 +74,18 @@ IsAccepted refused = ⊥
 IsAccepted bad_operators = Unit {0}
 IsAccepted (inquiry i) = IsBounded i
 
-accepted : (o : Option (List Op)) (n : ℕ) (json : Bool) → 1 ≤ n → n ≤ 1048575 → IsAccepted (inquiry_meaning o (Some n) json)
-accepted None n json above below = tt
-accepted (Some ops) n json above below = (above, below)
+accepted : (o : Option (List Op)) (every steps : ℕ) (json : Bool) → (1 ≤ every) × (every ≤ 1048575) → (1 ≤ steps) × (steps ≤ 1000000)
+    → IsAccepted (inquiry_meaning o (Some every) (Some steps) json)
+accepted None every steps json few limit = tt
+accepted (Some ops) every steps json few limit = (few.0, few.1, limit.0, limit.1)
 
 own_asks : (words : List Text) → fault_of equivalents words ≡ [] → IsAccepted (options_meaning (matches_of equivalents words))
 own_asks words taken =
     let rows = matches_of equivalents words in
-    let every = every_number words taken in
-    rw every.1 (accepted (operators_at rows) every.0 (flag_at (codes "json") rows) every.2 every.3)
+    let every = option_number (codes "every") 1 1048575 (omega arith) serves_every given_every words taken in
+    let steps = option_number (codes "steps") 1 1000000 (omega arith) serves_steps given_steps words taken in
+    rw (every.1, steps.1)
+    (accepted (operators_at rows) every.0 steps.0 (flag_at (codes "json") rows) (every.2, every.3) (steps.2, steps.3))
 
 pub asks : (words : List Text) (rows : List Row) → fault_of equivalents words ≡ [] → rows ≡ matches_of equivalents words → IsAccepted (options_meaning rows)
 asks words rows taken is = subst (λ r. IsAccepted (options_meaning r)) (sym is) (own_asks words taken)

@@ -1,5 +1,5 @@
 -- The entries of the JSON list, from one of the mutants on.
-use Rattle.std.proofs.Common.{◌≡◌, ◌∙◌, ◌<◌, ◌+◌, ◌++◌, ℕ, suc, List, ◌∷◌, length, drop, get_or, drop-cons, add-one, append_assoc, ap, sym, refl, Some, None, codes}
+use Rattle.std.proofs.Common.{◌≡◌, ◌∙◌, ◌<◌, ◌+◌, ◌++◌, ℕ, List, ◌∷◌, length, drop, get_or, drop-cons, add-one, append_assoc, ap, sym, refl, Some, None, codes}
 use Rattle.f77_tree.specs.Joined.{separated}
 use Rattle.mothra_codes.specs.declared.ticket.Ticket.{Ticket}
 use Rattle.mothra_equivalents.specs.declared.equivalents.Equivalent.{Equivalent}

@@ -4,5 +4,7 @@ mod Totals
 mod Entries
 mod Parts
 mod Findings
+mod Longer
+mod Rooms
 mod Answered
 mod Tests

@@ -1,11 +1,12 @@
 -- The tests of a bench on a mutant that is equivalent.
-use Rattle.std.proofs.Common.{arith, ◌≡◌, ◌∙◌, ◌<◌, ◌+◌, ◌==◌, ℕ, suc, Bool, true, false, cond, inl, inr, not, ap, refl, sym, subst, List, [], ◌∷◌, length, nat_lt, Option, Some, None}
+use Rattle.std.proofs.Common.{arith, ◌≡◌, ◌∙◌, ◌+◌, ◌==◌, ℕ, suc, Bool, true, false, cond, inl, inr, not, ap, refl, sym, subst, List, [], ◌∷◌, length, nat_lt, Option, Some, None}
 use Rattle.std.specs.Prelude.{All, option_map, position}
-use Rattle.std.specs.List.{AllZip, position_or_len, zip}
+use Rattle.std.specs.List.{position_or_len, zip}
 use Rattle.std.proofs.lemmas.Bool.{cases_lt, eqb-true, le-ltb, lt-ltb}
 use Rattle.std.proofs.lemmas.List.Elements.{All-cons, All-head, All-nil, All-tail}
 use Rattle.f77_check.specs.Checked.{shapes}
 use Rattle.f77_check.specs.declared.checked.Shape.{Shape}
+use Rattle.f77_continuations.specs.Within.{IsEquivalentWithin, KeepsEndsWithin}
 use Rattle.f77_equivalence.specs.Equivalent as equivalence
 use Rattle.f77_equivalence.specs.Equivalent.{IsEquivalent, KeepsEnds}
 use Rattle.f77_equivalence.specs.Storable.{AreStorable}
@@ -16,12 +17,12 @@ use Rattle.f77_run.specs.declared.outcome.Outcome.{Outcome}
 use Rattle.f77_run.specs.declared.outcome.Outcome.TheVariants as outcome
 use Rattle.f77_run.specs.declared.outcome.RunFault.{RunFault}
 use Rattle.f77_run.specs.declared.outcome.RunFault.TheVariants as fault
-use Rattle.mothra_bench.specs.Bench.{AreOutcomes, BenchFields, Fits, IsBench, IsEnd}
-use Rattle.mothra_bench.specs.Verdict.{IsAlone, IsKill, IsVerdict, mutated}
-use Rattle.mothra_codes.specs.declared.ticket.Ticket.{Ticket}
-use Rattle.mothra_equivalents.specs.Equivalents.{IsEquivalentMutant}
+use Rattle.mothra_bench.specs.Bench.{AreOutcomes, Fits, IsEnd}
+use Rattle.mothra_bench.specs.Verdict.{IsAlone, IsKill, mutated}
 use Rattle.mothra_ops.specs.Mutants.{MutantFields, program_of}
-use Rattle.equivalents_app.specs.Law.{NoTestKills}
+use Rattle.equivalents_app.specs.Law.{NoTestKills, NoTestKillsSpared}
+use Rattle.equivalents_app.specs.Room.{LeavesRoom, LeavesRoomOn}
+use Rattle.equivalents_app.proofs.Longer.{longer}
 
 -- ---- arguments that are not refused fit
 
@@ -102,6 +103,27 @@ module _ (one : OneAnswer) (p q : List LineFields) (steps : ℕ) where
       (none_killed same tests outcomes kills (All-tail (Fits p) test tests fit) (All-tail AreStorable test tests storable) are.1
       (All-tail IsEnd own outcomes end) alone.1)
 
+  -- where the program ends as many steps before the limit as are to be spared
+  not_killed_spared : (spare : ℕ) (arguments : List Arg) (kill : Bool) → KeepsEndsWithin spare p q arguments
+      → LeavesRoomOn p steps spare arguments → IsKill p q arguments steps kill → kill ≡ false
+  not_killed_spared spare arguments kill keeps room (IsKill.survived first second) = refl
+  not_killed_spared spare arguments kill keeps (limit, own, within, is, end) (IsKill.killed {outcome = told} {other = other} first second apart) =
+      let whole : IsOutcomeOf p arguments steps own = longer p arguments limit steps own (omega (arith, within)) end is in
+      let kept : IsOutcomeOf q arguments steps own = longer q arguments (limit + spare) steps own within end (keeps limit own is end) in
+      absurd (apart (one p arguments steps told own first whole ∙ one q arguments steps own other kept second))
+
+  none_killed_spared : (spare : ℕ) → IsEquivalentWithin spare p q → (tests : List (List Arg)) (kills : List Bool) → All (Fits p) tests
+      → All AreStorable tests → LeavesRoom p tests steps spare → IsAlone p q steps tests kills → All (λ kill. kill ≡ false) kills
+  none_killed_spared spare same [] [] fit storable leave alone = All-nil (λ kill. kill ≡ false)
+  none_killed_spared spare same [] (kill ∷ kills) fit storable leave alone = absurd alone
+  none_killed_spared spare same (test ∷ tests) [] fit storable leave alone = absurd alone
+  none_killed_spared spare same (test ∷ tests) (kill ∷ kills) fit storable leave alone =
+      let keeps = same test (fitting (shapes p) test (All-head (Fits p) test tests fit)) (All-head AreStorable test tests storable) in
+      let room = All-head (LeavesRoomOn p steps spare) test tests leave in
+      All-cons (λ k. k ≡ false) kill kills (not_killed_spared spare test kill keeps room alone.0)
+      (none_killed_spared spare same tests kills (All-tail (Fits p) test tests fit) (All-tail AreStorable test tests storable)
+      (All-tail (LeavesRoomOn p steps spare) test tests leave) alone.1)
+
 -- ---- the bench
 
 same_mutant : (m n : MutantFields) (o : Option MutantFields) → o ≡ Some m → o ≡ Some n → m ≡ n
@@ -113,3 +135,10 @@ no_test_kills one bench ticket kills is storable equivalent verdict =
     let same = same_mutant equivalent.mutant verdict.mutant _ equivalent.is verdict.is in
     let kept : IsEquivalent p (mutated p verdict.mutant) = subst (λ m. IsEquivalent p (mutated p m)) same equivalent.equivalent in
     none_killed one p (mutated p verdict.mutant) bench.steps kept bench.tests bench.outcomes kills is.fit storable is.outcomes is.end verdict.alone
+
+pub no_test_kills_spared : OneAnswer → NoTestKillsSpared
+no_test_kills_spared one bench ticket spare kills is storable leave spared verdict =
+    let p = program_of bench.plan in
+    let same = same_mutant spared.mutant verdict.mutant _ spared.is verdict.is in
+    let kept : IsEquivalentWithin spare p (mutated p verdict.mutant) = subst (λ m. IsEquivalentWithin spare p (mutated p m)) same spared.spared in
+    none_killed_spared one p (mutated p verdict.mutant) bench.steps spare kept bench.tests kills is.fit storable leave verdict.alone

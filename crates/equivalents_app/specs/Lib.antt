@@ -1,5 +1,6 @@
 pub mod Words
 pub mod Telling
+pub mod Room
 pub mod Finding
 pub mod Serving
 pub mod Law

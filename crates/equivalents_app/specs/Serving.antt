@@ -26,7 +26,7 @@ use Rattle.equivalents_app.specs.declared.words.Inquiry.{Inquiry}
 -- what the inquiry comes to on a job, or on bytes that are none
 abbrev pub IsOutcome : Inquiry → JobRead → Outcome → Type 0
 IsOutcome i (Err fault) outcome = outcome ≡ Err (Job fault)
-IsOutcome i (Ok j) outcome = IsFound j.source i.operators i.every i.json outcome
+IsOutcome i (Ok j) outcome = IsFound j i outcome
 
 -- want of memory, which may come in place of any other answer
 abbrev pub memory_faults : List Fault
@@ -40,7 +40,7 @@ pub data IsAnswer (i : Inquiry) (read : JobRead) : Status → List ℕ → Type 
 
 -- ---- by the words
 
--- the command line takes the words, and they ask for this, with a number in the bounds of its option
+-- the command line takes the words, and they ask for this, with numbers in the bounds of their options
 pub record AsksFor (words : List Text) (i : Inquiry) : Type 0 where
   pub is : inquiry_of words ≡ Some i
   pub bounded : IsBounded i

@@ -19,6 +19,7 @@ abbrev pub why_text : Why → List ℕ
 why_text why.Same = codes "SAME"
 why_text why.Unread = codes "UNREAD"
 why_text why.Continues = codes "CONTINUES"
+why_text (why.Spare spare) = codes "SPARE-" ++ decimal spare
 why_text why.Unreached = codes "UNREACHED"
 
 -- the name of a mutant, and the rule of its proof

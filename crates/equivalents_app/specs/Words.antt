@@ -1,5 +1,5 @@
 -- The command line of the program, which has no subcommand, and what its words ask for.
-use Rattle.std.specs.Prelude.{◌≡◌, ◌≤◌, ℕ, Bool, true, false, [], ◌∷◌, List, Option, Some, None, Result, Ok, Err, codes, if◌then◌else◌}
+use Rattle.std.specs.Prelude.{◌≡◌, ◌≤◌, ℕ, Bool, false, [], ◌∷◌, List, Option, Some, None, Result, Ok, Err, codes, if◌then◌else◌}
 use Rattle.std.specs.Option.{option_map_or}
 use Rattle.std.specs.Str.{bytes_eq}
 use Rattle.clap.specs.Words.{App, HasKind, Row, Rule, Text, fault_of, kind_of, matches_of, new_rule, one_of}
@@ -9,7 +9,7 @@ use Rattle.clap.specs.declared.builder.action.ArgAction.TheVariants.{SetTrue}
 use Rattle.clap.specs.declared.error.Error.{Error}
 use Rattle.clap.specs.declared.error.kind.ErrorKind.TheVariants as kind
 use Rattle.mothra_codes.specs.declared.op.Op.{Op}
-use Rattle.mothra_cli.specs.Command.{every_rule, ops_rule}
+use Rattle.mothra_cli.specs.Command.{every_rule, ops_rule, steps_rule}
 use Rattle.mothra_cli.specs.Request.{number_at, operators_at}
 use Rattle.mothra_cli.specs.declared.request.WordsFault.{WordsFault}
 use Rattle.mothra_cli.specs.declared.request.WordsFault.TheVariants as fault
@@ -21,7 +21,7 @@ json_rule = record (new_rule (codes "json")) { long = Some (codes "json"); actio
 
 unfoldable pub equivalents : App
 equivalents = record {
-  top = record (new_shape (codes "equivalents")) { rules = ops_rule ∷ every_rule ∷ json_rule ∷ [] };
+  top = record (new_shape (codes "equivalents")) { rules = ops_rule ∷ every_rule ∷ steps_rule ∷ json_rule ∷ [] };
   subs = [];
 }
 
@@ -37,15 +37,17 @@ pub data Meaning : Type 0 where
 abbrev pub flag_at : Text → List Row → Bool
 flag_at name rows = option_map_or (λ text. bytes_eq text (codes "true")) (one_of name rows) false
 
--- these operators, this number, which the command line wants, and this manner
-abbrev pub inquiry_meaning : Option (List Op) → Option ℕ → Bool → Meaning
-inquiry_meaning None every json = bad_operators
-inquiry_meaning (Some operators) (Some every) json = inquiry (record { operators = operators; every = every; json = json })
-inquiry_meaning (Some operators) None json = refused
+-- these operators, these numbers, which the command line wants, and this manner
+abbrev pub inquiry_meaning : Option (List Op) → Option ℕ → Option ℕ → Bool → Meaning
+inquiry_meaning None every steps json = bad_operators
+inquiry_meaning (Some operators) (Some every) (Some steps) json =
+    inquiry (record { operators = operators; every = every; steps = steps; json = json })
+inquiry_meaning (Some operators) _ _ json = refused
 
 -- the values of the options
 abbrev pub options_meaning : List Row → Meaning
-options_meaning rows = inquiry_meaning (operators_at rows) (number_at (codes "every") rows) (flag_at (codes "json") rows)
+options_meaning rows =
+    inquiry_meaning (operators_at rows) (number_at (codes "every") rows) (number_at (codes "steps") rows) (flag_at (codes "json") rows)
 
 -- the command line takes the words
 abbrev pub IsTaken : List Text → Type 0
@@ -67,9 +69,9 @@ inquiry_of words = inquiry_in (meaning_of words)
 abbrev pub HasBadOperators : List Text → Type 0
 HasBadOperators words = meaning_of words ≡ bad_operators
 
--- the number is in the bounds of its option
+-- the numbers are in the bounds of their options
 abbrev pub IsBounded : Inquiry → Type 0
-IsBounded i = (1 ≤ i.every) × (i.every ≤ 1048575)
+IsBounded i = (1 ≤ i.every) × (i.every ≤ 1048575) × (1 ≤ i.steps) × (i.steps ≤ 1000000)
 
 -- memory ran out, or the command line refuses the words by such an error, or answers a call for help by it
 abbrev pub IsRefusalOf : List Text → Error → Type 0

@@ -3,6 +3,7 @@
 
 mod finding;
 pub mod law;
+mod room;
 mod serving;
 mod telling;
 mod words;

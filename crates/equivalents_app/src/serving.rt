@@ -27,8 +27,7 @@ fn text_for(alloc: Global, inquiry: &Inquiry, bytes: &[u8]) -> Result<String, Fa
         (λ fault. IsOutcome inquiry.now (job_of bytes.now) (Err fault) ⊎ Contains memory_faults fault) }
 {
     let job = read_job(alloc, bytes)?;
-    let ops = inquiry.operators.as_slice();
-    find(alloc, job.source(), ops, inquiry.every, inquiry.json)
+    find(alloc, &job, inquiry)
 }
 
 /// The answer to the inquiry on the job that the bytes are.
@@ -99,7 +98,7 @@ pub fn tell<S: AsStr, R: Read, W: Write>(
     requires writer_works { has_failed writer.old ≡ false }
 
     // What is written: it is told by the words, the bytes, and which mutants are named. Each that is named is an equivalent mutant of the
-    // plan.
+    // plan, as its rule says, and where it takes more steps than the program, each test leaves room for them.
     ensures written { IfOk result (WritesWhole (map S.text words.now)
         (R.remaining (inside reader.old)) (R.remaining (inside reader.new))
         (W.contents (inside writer.old)) (W.contents (inside writer.new))) }

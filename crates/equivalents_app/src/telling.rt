@@ -16,14 +16,16 @@ use std::alloc::{AllocError, Global};
 /// The greatest number that the key `equivalent` of a job takes.
 const MOST: u64 = 1_048_575;
 
-fn why_text(why: Why) -> &'static str
-    ensures { result.now ≡ definition.why_text why }
+/// Adds the word of a rule.
+fn push_why(text: &mut String, why: Why) -> Result<(), AllocError>
+    ensures { OnOk result (string_bytes text.new ≡ string_bytes text.old ++ definition.why_text why) }
 {
     match why {
-        Why::Same => "SAME",
-        Why::Unread => "UNREAD",
-        Why::Continues => "CONTINUES",
-        Why::Unreached => "UNREACHED",
+        Why::Same => text.push_str("SAME"),
+        Why::Unread => text.push_str("UNREAD"),
+        Why::Continues => text.push_str("CONTINUES"),
+        Why::Spare(spare) => write!(text, "SPARE-{spare}"),
+        Why::Unreached => text.push_str("UNREACHED"),
     }
 }
 
@@ -33,8 +35,9 @@ fn push_reason(text: &mut String, every: u32, equivalent: Equivalent) -> Result<
 {
     text.push_str("EQUIVALENT ")?;
     push_name(text, every, equivalent.ticket.op, equivalent.ticket.number)?;
-    let why = why_text(equivalent.why);
-    write!(text, " {why} ")
+    text.push_str(" ")?;
+    push_why(text, equivalent.why)?;
+    text.push_str(" ")
 }
 
 /// Adds the line of a mutant, which is this one.

@@ -1,11 +1,14 @@
 //! The command line that the program takes, and what its words ask for.
 
-ghost use Rattle.std.specs.Prelude.{◌≡◌, IfErr, IfOk, OnOk, Some, false, map};
+ghost use Rattle.std.specs.Prelude.{◌≡◌, IfErr, IfOk, Ok, OnOk, Some, false, map};
 ghost use Rattle.clap.specs.Words.{FailsBy, app_of, fault_of, found_of, matches_of, rows_of, rule_of};
 ghost use Rattle.clap.specs.declared.builder.command.Command.TheViews.{out-Command};
-ghost use Rattle.equivalents_app.specs.Words.{equivalents, flag_at, json_rule, options_meaning, IsBounded, IsFaultOf, IsTaken, Reads};
+ghost use Rattle.mothra_cli.specs.Command.{steps_rule};
+ghost use Rattle.equivalents_app.specs.Words.{equivalents, flag_at, json_rule, IsBounded, IsTaken};
+ghost use Rattle.equivalents_app.specs.Words.{inquiry_meaning, options_meaning, IsFaultOf, Reads};
 ghost use Rattle.equivalents_app.specs.Words as asked;
 
+use clap::builder::ValueParser;
 use clap::{Arg, ArgAction, ArgMatches, Command, Error};
 use mothra_cli::{Operators, WordsFault, every_option, number_at, operators_at, ops_option};
 use std::alloc::{AllocError, Global};
@@ -18,8 +21,24 @@ pub struct Inquiry {
     pub operators: Operators,
     /// The step from one mutant of an operator to the next, 1 to 1,048,575.
     pub every: u32,
+    /// The limit on steps of a run, 1 to 1,000,000.
+    pub steps: u32,
     /// Whether a JSON list is asked for in place of lines.
     pub json: bool,
+}
+
+/// The option `--steps` of `mothra run`.
+fn steps_option<'a>(alloc: Global) -> Arg<'a>
+    ensures rule { rule_of result ≡ steps_rule }
+    ensures global { result.global ≡ false }
+{
+    Arg::new(alloc, "steps")
+        .long("steps")
+        .help(
+            "The limit on steps of a run: a mutant is named by SPARE-n where each test leaves n of them",
+        )
+        .value_parser(ValueParser::unsigned(1, 1_000_000))
+        .default_value("10000")
 }
 
 fn json_option<'a>(alloc: Global) -> Arg<'a>
@@ -38,13 +57,17 @@ fn command<'a>(alloc: Global) -> Result<Command<'a>, AllocError>
 {
     let command = Command::new(alloc, "equivalents")
         .about(
-            "Names mutants of a FORTRAN 77 subroutine that no test can kill, each by a proof: whatever the arguments, where the \
-             subroutine returns or stops, the mutant does so too, with the same values. Of arguments on which the subroutine \
-             itself fails, or does not end within the limit on steps, nothing is said: no suite may have them. A mutant that is \
-             not named may be equivalent too. The job is read from standard input",
+            "Names mutants of a FORTRAN 77 subroutine that no test can kill, each by a proof: whatever the arguments, \
+             where the subroutine returns or stops, the mutant does so too, with the same values. A mutant with the \
+             word SPARE-n does so in up to n steps more: it is named only where on each test of the job the \
+             subroutine returns or stops n steps before the limit on steps, and only a test on which that is not so \
+             can kill it. Of arguments on which the subroutine itself fails, or does not end within the limit on \
+             steps, nothing is said: no suite may have them. A mutant that is not named may be equivalent too. The \
+             job is read from standard input",
         )
         .arg(ops_option(alloc))?
         .arg(every_option(alloc))?
+        .arg(steps_option(alloc))?
         .arg(json_option(alloc))?;
     Ok(command)
 }
@@ -64,21 +87,35 @@ fn has_flag(matches: &ArgMatches<'_>, name: &str) -> bool
     matches.get_one(name).unwrap_or(false)
 }
 
+/// What these operators and numbers, and this manner, ask for.
+fn inquiry_with(
+    operators: Operators,
+    every: Option<u32>,
+    steps: Option<u32>,
+    json: bool,
+) -> Option<Inquiry>
+    ensures { Reads (inquiry_meaning (Some operators) every steps json) (Ok result) }
+{
+    Some(Inquiry {
+        operators,
+        every: every?,
+        steps: steps?,
+        json,
+    })
+}
+
 /// What these values of the options ask for.
 fn inquiry_in(alloc: Global, matches: &ArgMatches<'_>) -> Result<Option<Inquiry>, WordsFault>
     ensures { Reads (options_meaning (rows_of (found_of matches.now))) result }
 {
-    let Some(operators) = operators_at(alloc, matches)? else {
-        return Err(WordsFault::BadOperatorList);
-    };
-    let json = has_flag(matches, "json");
-    match number_at(matches, "every") {
-        Some(every) => Ok(Some(Inquiry {
+    match operators_at(alloc, matches)? {
+        Some(operators) => Ok(inquiry_with(
             operators,
-            every,
-            json,
-        })),
-        None => Ok(None),
+            number_at(matches, "every"),
+            number_at(matches, "steps"),
+            has_flag(matches, "json"),
+        )),
+        None => Err(WordsFault::BadOperatorList),
     }
 }
 

@@ -42,6 +42,7 @@ fn tells_each_rule(rt: HostRuntime) -> Result<(), Fail> {
     let list = [
         named(1, Why::Same),
         named(3, Why::Unread),
+        named(4, Why::Spare(12)),
         named(8, Why::Continues),
         named(9, Why::Unreached),
     ];
@@ -50,16 +51,17 @@ fn tells_each_rule(rt: HostRuntime) -> Result<(), Fail> {
         1,
         &list,
         RULES,
-        "[\"ABS 1\",\"ABS 3\",\"ABS 8\",\"ABS 9\"]\n",
+        "[\"ABS 1\",\"ABS 3\",\"ABS 4\",\"ABS 8\",\"ABS 9\"]\n",
     )
 }
 
 const RULES: &str = "\
 EQUIVALENT ABS 1 1 SAME LINE 2 K=IABS(I+J)
 EQUIVALENT ABS 3 3 UNREAD LINE 2 K=ZPUSH(I+J)
+EQUIVALENT ABS 4 4 SPARE-12 LINE 2 K=IABS(I)+J
 EQUIVALENT ABS 8 8 CONTINUES LINE 2 K=I+(-IABS(J))
 EQUIVALENT ABS 9 9 UNREACHED LINE 2 K=I+ZPUSH(J)
-PROVED 4 OF 15
+PROVED 5 OF 15
 ";
 
 #[test]

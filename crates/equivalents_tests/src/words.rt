@@ -25,7 +25,10 @@ equivalents list
 equivalents help
 equivalents 1
 equivalents --test 1
-equivalents --steps 1
+equivalents --steps
+equivalents --steps 0
+equivalents --steps 1000001
+equivalents --steps 1 --steps 1
 equivalents --workers 1
 equivalents --ops
 equivalents --ops ABS --ops ABS
@@ -72,13 +75,20 @@ fn gives_help(rt: HostRuntime) -> Result<(), Fail> {
 }
 
 const HELP: &str = "\
-Names mutants of a FORTRAN 77 subroutine that no test can kill, each by a proof: whatever the arguments, where the subroutine returns or stops, the mutant does so too, with the same values. Of arguments on which the subroutine itself fails, or does not end within the limit on steps, nothing is said: no suite may have them. A mutant that is not named may be equivalent too. The job is read from standard input
+Names mutants of a FORTRAN 77 subroutine that no test can kill, each by a proof: whatever the arguments, where the \
+subroutine returns or stops, the mutant does so too, with the same values. A mutant with the word SPARE-n does so in \
+up to n steps more: it is named only where on each test of the job the subroutine returns or stops n steps before \
+the limit on steps, and only a test on which that is not so can kill it. Of arguments on which the subroutine itself \
+fails, or does not end within the limit on steps, nothing is said: no suite may have them. A mutant that is not \
+named may be equivalent too. The job is read from standard input
 
 Usage: equivalents [OPTIONS]
 
 Options:
       --ops <ops>      The codes of the operators, joined by commas: all if not given
       --every <every>  The step from one mutant of an operator to the next, from its first [default: 1]
+      --steps <steps>  The limit on steps of a run: a mutant is named by SPARE-n where each test leaves n \
+of them [default: 10000]
       --json           Prints the JSON list that the key `equivalent` of a job takes
   -h, --help           Print help
 ";

@@ -1,6 +1,5 @@
 -- Mutants that are added behind those of a list.
-use Rattle.std.proofs.Common.{arith, ◌≡◌, ◌<◌, ◌+◌, ◌++◌, ℕ, inl, inr, refl, sym, List, [], ◌∷◌, length, get_or, subst}
-use Rattle.std.specs.Prelude.{All, AllPairs}
+use Rattle.std.proofs.Common.{arith, ◌≡◌, ◌<◌, ◌+◌, ◌++◌, ℕ, inl, inr, refl, sym, List, [], ◌∷◌, get_or, subst}
 use Rattle.std.proofs.lemmas.List.Elements.{All-push, All-weaker}
 use Rattle.std.proofs.lemmas.List.Quantifiers.{all_pairs_push}
 use Rattle.mothra_codes.specs.Op.{index}
@@ -8,7 +7,7 @@ use Rattle.mothra_codes.specs.declared.op.Op.{Op}
 use Rattle.mothra_codes.specs.Ticket.{Before, ticket}
 use Rattle.mothra_codes.specs.declared.ticket.Ticket.{Ticket}
 use Rattle.mothra_ops.specs.Plan.{PlanFields}
-use Rattle.mothra_equivalents.specs.Equivalents.{AreEquivalents, AreOf, IsEquivalentMutant, IsFront}
+use Rattle.mothra_equivalents.specs.Equivalents.{AreOf, IsFront, IsNamed}
 use Rattle.mothra_equivalents.specs.declared.equivalents.Equivalent.{Equivalent}
 
 -- what is before a number of an operator is before the next one
@@ -25,12 +24,12 @@ front_stays plan op number list front = record {
 }
 
 pub front_grows : (plan : PlanFields) (op : Op) (number : ℕ) (list : List Equivalent) (new : Equivalent) → new.ticket ≡ ticket op number
-    → IsEquivalentMutant plan new.ticket → IsFront plan op number list → IsFront plan op (number + 1) (list ++ new ∷ [])
+    → IsNamed plan new → IsFront plan op number list → IsFront plan op (number + 1) (list ++ new ∷ [])
 front_grows plan op number list new is equivalent front = record {
   are = record {
     ordered = all_pairs_push (λ (one other : Equivalent). Before one.ticket other.ticket) list new front.are.ordered
         (λ k d within. subst (Before (get_or list k d).ticket) (sym is) (front.before k d within));
-    each = All-push (λ (e : Equivalent). IsEquivalentMutant plan e.ticket) list new front.are.each equivalent;
+    each = All-push (IsNamed plan) list new front.are.each equivalent;
   };
   before = All-push (λ (e : Equivalent). Before e.ticket (ticket op (number + 1))) list new (front_stays plan op number list front).before
       (subst (λ t. Before t (ticket op (number + 1))) (sym is) (inr (refl, omega arith)));

@@ -11,7 +11,8 @@ use mothra_codes::{Op, Ticket};
 use mothra_ops::{OpsFault, Plan};
 use std::alloc::Global;
 
-/// A mutant that is proved equivalent: no test can kill it on which the program returns or stops.
+/// A mutant that is proved equivalent: no test can kill it on which the program returns or stops, by SPARE within as many steps fewer as the
+/// rule names.
 #[derive(Clone, Copy, PartialEq, Eq, Debug, Drop)]
 pub struct Equivalent {
     /// The mutant, by its number in the plan's list of the operator.

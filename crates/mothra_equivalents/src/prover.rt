@@ -3,10 +3,9 @@
 ghost use Rattle.std.specs.Prelude.{◌≡◌, IfErr, IfOk, IfSome};
 ghost use Rattle.f77_program.specs.Patching.{patched};
 ghost use Rattle.f77_tree.specs.Statement.{statement_of};
-ghost use Rattle.f77_equivalence.specs.Equivalent.{IsEquivalent};
 ghost use Rattle.mothra_ops.specs.Edits.{IsMutant};
 ghost use Rattle.mothra_ops.specs.Mutants.{program_of};
-ghost use Rattle.mothra_equivalents.specs.Equivalents.{IsEquivalentMutant};
+ghost use Rattle.mothra_equivalents.specs.Equivalents.{IsEquivalentBy, IsMutantBy};
 ghost use Rattle.mothra_ops.specs.declared.fault.OpsFault.TheVariants.{Memory};
 
 use crate::rules::rule_of;
@@ -86,7 +85,7 @@ impl<'a> Prover<'a> {
     fn judge(&mut self, alloc: Global, mutant: Mutant) -> Result<Option<Why>, OpsFault>
         requires { IsMutant (program_of self.old) mutant.number (statement_of mutant.stmt) }
         ensures plan { self.new ≡ self.old }
-        ensures equivalent { IfOk result (λ found. IfSome found (λ _. IsEquivalent (program_of self.old)
+        ensures equivalent { IfOk result (λ found. IfSome found (λ why. IsEquivalentBy why (program_of self.old)
             (patched (program_of self.old) mutant.number (statement_of mutant.stmt)))) }
         ensures memory { IfErr result (λ fault. fault ≡ Memory) }
     {
@@ -97,7 +96,7 @@ impl<'a> Prover<'a> {
     /// The rule by which the ticket's mutant is equivalent, if one says so. There is none once all work is done.
     pub(crate) fn why(&mut self, alloc: Global, ticket: Ticket) -> Result<Option<Why>, OpsFault>
         ensures plan { self.new ≡ self.old }
-        ensures equivalent { IfOk result (λ found. IfSome found (λ _. IsEquivalentMutant self.old ticket)) }
+        ensures equivalent { IfOk result (λ found. IfSome found (λ why. IsMutantBy why self.old ticket)) }
         ensures memory { IfErr result (λ fault. fault ≡ Memory) }
     {
         if self.work.is_done() {

@@ -1,6 +1,6 @@
 //! The rules, tried on one mutant.
 
-ghost use Rattle.std.specs.Prelude.{◌≡◌, map, true, IfErr, IfOk, IfSome};
+ghost use Rattle.std.specs.Prelude.{◌≡◌, ℕ, map, true, IfErr, IfOk, IfSome, Some};
 ghost use Rattle.f77_check.specs.Patching.{IsInPlace};
 ghost use Rattle.f77_program.specs.Patching.{patched};
 ghost use Rattle.f77_program.specs.Program.{line_of};
@@ -8,12 +8,14 @@ ghost use Rattle.f77_tree.specs.Statement.{statement_of};
 ghost use Rattle.f77_equivalence.specs.Equivalent.{IsEquivalent};
 ghost use Rattle.mothra_ops.specs.Edits.{IsMutant};
 ghost use Rattle.mothra_ops.specs.declared.fault.OpsFault.TheVariants.{Memory};
+ghost use Rattle.mothra_equivalents.specs.Equivalents.{IsEquivalentBy};
+ghost use Rattle.mothra_equivalents.specs.declared.why.Why.TheVariants.{Spare};
 
 use crate::why::Why;
 use f77_check::Resolved;
 use f77_conditions::conditions::Conditions;
 use f77_conditions::equivalent::is_equivalent_where_told;
-use f77_continuations::spare::continues;
+use f77_continuations::spare::steps_to_spare;
 use f77_differences::unread::is_unread;
 use f77_equivalence::equivalent::is_equivalent;
 use f77_equivalence::invariant::{Invariant, is_unreached};
@@ -72,7 +74,17 @@ fn is_told_throughout(
     }
 }
 
-/// The first rule by which the mutant is equivalent, whose statement is resolved so.
+/// The rule of a mutant for which so many steps are to be spared, where 32 bits hold their number.
+fn rule_with_spare(spare: Option<usize>) -> Option<Why>
+    ensures { IfSome result (λ why. (steps : ℕ) × (spare ≡ Some steps) × (why ≡ Spare steps)) }
+{
+    match u32::try_from(spare?) {
+        Ok(steps) => Some(Why::Spare(steps)),
+        Err(_) => None,
+    }
+}
+
+/// The first rule by which the mutant is equivalent, whose statement is resolved so. SPARE, which says less than the others, comes last.
 fn rule_in_place(
     alloc: Global,
     invariant: &Invariant<'_>,
@@ -83,7 +95,7 @@ fn rule_in_place(
     requires one { IfSome conditions.now (λ told. told.checked ≡ invariant.now.checked) }
     requires mutant { IsMutant (map line_of invariant.now.checked.program) mutant.now.number (statement_of mutant.now.stmt) }
     requires in_place { IsInPlace invariant.now.checked mutant.now.number (statement_of mutant.now.stmt) resolved.now }
-    ensures { IfOk result (λ found. IfSome found (λ _. IsEquivalent (map line_of invariant.now.checked.program)
+    ensures { IfOk result (λ found. IfSome found (λ why. IsEquivalentBy why (map line_of invariant.now.checked.program)
         (patched (map line_of invariant.now.checked.program) mutant.now.number (statement_of mutant.now.stmt)))) }
 {
     let number = mutant.number;
@@ -96,13 +108,14 @@ fn rule_in_place(
     if is_told_throughout(alloc, invariant, conditions, mutant, resolved)? {
         return Ok(Some(Why::Same));
     }
-    if continues(alloc, invariant, number, &mutant.stmt, resolved)? {
+    let spare = steps_to_spare(alloc, invariant, number, &mutant.stmt, resolved)?;
+    if spare == Some(0) {
         return Ok(Some(Why::Continues));
     }
     if is_unread_throughout(alloc, invariant, mutant, resolved)? {
         return Ok(Some(Why::Unread));
     }
-    Ok(None)
+    Ok(rule_with_spare(spare))
 }
 
 /// The first rule by which the mutant is equivalent. None is tried where the changed statement does not stand alone: in a
@@ -115,7 +128,7 @@ fn rule_for(
 ) -> Result<Option<Why>, OpsFault>
     requires one { IfSome conditions.now (λ told. told.checked ≡ invariant.now.checked) }
     requires mutant { IsMutant (map line_of invariant.now.checked.program) mutant.now.number (statement_of mutant.now.stmt) }
-    ensures equivalent { IfOk result (λ found. IfSome found (λ _. IsEquivalent (map line_of invariant.now.checked.program)
+    ensures equivalent { IfOk result (λ found. IfSome found (λ why. IsEquivalentBy why (map line_of invariant.now.checked.program)
         (patched (map line_of invariant.now.checked.program) mutant.now.number (statement_of mutant.now.stmt)))) }
     ensures memory { IfErr result (λ fault. fault ≡ Memory) }
 {
@@ -139,7 +152,7 @@ pub(crate) fn rule_of(
 ) -> Result<Option<Why>, OpsFault>
     requires one { IfSome conditions.now (λ told. told.checked ≡ invariant.now.checked) }
     requires mutant { IsMutant (map line_of invariant.now.checked.program) mutant.number (statement_of mutant.stmt) }
-    ensures equivalent { IfOk result (λ found. IfSome found (λ _. IsEquivalent (map line_of invariant.now.checked.program)
+    ensures equivalent { IfOk result (λ found. IfSome found (λ why. IsEquivalentBy why (map line_of invariant.now.checked.program)
         (patched (map line_of invariant.now.checked.program) mutant.number (statement_of mutant.stmt)))) }
     ensures memory { IfErr result (λ fault. fault ≡ Memory) }
 {

@@ -9,6 +9,9 @@ pub enum Why {
     Unread,
     /// Control comes from the changed statement to where it comes in the program, by as many steps or fewer.
     Continues,
+    /// Control comes from the changed statement to where it comes in the program, by so many steps more at most: no test kills the
+    /// mutant on which the program ends as many steps before the limit.
+    Spare(u32),
     /// Control does not come to the statement.
     Unreached,
 }

@@ -12,5 +12,4 @@ returns-in_err-job c =
 
 pub returns : goal.returns
 returns c =
-    outcome_found c.args.inquiry.now c.in_ok-job.job (job_of c.args.bytes.now) c.source.result.now c.as_slice-ops.result.now c.find.result
-    c.in_ok-job.ensures.job c.source.ensures c.as_slice-ops.ensures c.find.ensures
+    outcome_found c.args.inquiry.now c.in_ok-job.job (job_of c.args.bytes.now) c.find.result c.in_ok-job.ensures.job c.find.ensures

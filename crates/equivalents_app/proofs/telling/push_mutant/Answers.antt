@@ -1,4 +1,4 @@
-use Rattle.std.proofs.Common.{rules, ◌≡◌, ◌∙◌, ◌++◌, ℕ, ap, codes, string_bytes}
+use Rattle.std.proofs.Common.{rules, ◌∙◌, ◌++◌, ℕ, ap, codes, string_bytes}
 use Rattle.mothra_ops.specs.Mutants.{change_text, mutant_fields, program_of}
 use Rattle.mothra_ops.specs.Plan.{PlanFields}
 use Rattle.equivalents_app.specs.Telling.{reason_text}

@@ -9,4 +9,5 @@ returns-clause-app c =
     let bare : app_of c.about.result ≡ new_app (codes "equivalents") = search rules in
     let choosing = c.in_ok-arg.ensures.shape c.ops_option.ensures.global ∙ ap₂ with_rule bare c.ops_option.ensures.rule in
     let thinning = c.in_ok-arg-2.ensures.shape c.every_option.ensures.global ∙ ap₂ with_rule choosing c.every_option.ensures.rule in
-    c.in_ok-command.ensures.shape c.json_option.ensures.global ∙ ap₂ with_rule thinning c.json_option.ensures.rule
+    let limiting = c.in_ok-arg-3.ensures.shape c.steps_option.ensures.global ∙ ap₂ with_rule thinning c.steps_option.ensures.rule in
+    c.in_ok-command.ensures.shape c.json_option.ensures.global ∙ ap₂ with_rule limiting c.json_option.ensures.rule

@@ -1,0 +1,43 @@
+-- A run that ends within a limit on steps ends so within each larger one.
+use Rattle.std.proofs.Common.{arith, ◌≡◌, ◌≤◌, ◌+◌, ◌-◌, ℕ, zero, suc, inl, inr, List, subst}
+use Rattle.f77_equivalence.specs.Equivalent.{IsEnd}
+use Rattle.f77_program.specs.Program.{LineFields}
+use Rattle.f77_run.specs.Interpreter.{IsOutcomeOf, Tells}
+use Rattle.f77_run.specs.Outcome.{IsOutcome}
+use Rattle.f77_run.specs.Step.{Config}
+use Rattle.f77_run.specs.Value.{Store}
+use Rattle.f77_run.specs.declared.argument.Arg.{Arg}
+use Rattle.f77_run.specs.declared.outcome.Outcome.{Outcome}
+use Rattle.f77_values.specs.declared.finish.Finish.{Finish}
+use Rattle.f77_values.specs.declared.finish.Finish.TheVariants.{StepLimit}
+
+-- what is told as an end is not the limit
+not_the_limit : (p : List LineFields) (finish : Finish) (values : Store) (outcome : Outcome) → Tells p finish values outcome → IsEnd outcome
+    → finish ≡ StepLimit → ⊥
+not_the_limit p finish values outcome tells end is = subst IsEnd (subst (λ f. Tells p f values outcome) is tells) end
+
+with_more : (p : List LineFields) (n more : ℕ) (c : Config) (finish : Finish) (values : Store) → (finish ≡ StepLimit → ⊥)
+    → IsOutcome p n c finish values → IsOutcome p (n + more) c finish values
+with_more p zero more c finish values ends is = absurd (ends is.0)
+with_more p (suc n) more c finish values ends is =
+    let count : suc (n + more) ≡ suc n + more = omega arith in
+    subst (λ m. IsOutcome p m c finish values) count (go (λ b on. with_more p n more b finish values ends on) is)
+  where
+    go : ((b : Config) → IsOutcome p n b finish values → IsOutcome p (n + more) b finish values)
+        → IsOutcome p (suc n) c finish values → IsOutcome p (suc (n + more)) c finish values
+    go later (inl end) = inl end
+    go later (inr on) = inr (on.0, on.1, later on.0 on.2)
+
+pub longer : (p : List LineFields) (arguments : List Arg) (limit steps : ℕ) (outcome : Outcome) → limit ≤ steps → IsEnd outcome
+    → IsOutcomeOf p arguments limit outcome → IsOutcomeOf p arguments steps outcome
+longer p arguments limit steps outcome below end is =
+    let sum : limit + (steps - limit) ≡ steps = omega (arith, below) in
+    record {
+      start = is.start;
+      starts = is.starts;
+      finish = is.finish;
+      values = is.values;
+      ends = subst (λ n. IsOutcome p n is.start is.finish is.values) sum
+          (with_more p limit (steps - limit) is.start is.finish is.values (not_the_limit p is.finish is.values outcome is.tells end) is.ends);
+      tells = is.tells;
+    }

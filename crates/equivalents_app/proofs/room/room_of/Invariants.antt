@@ -1,0 +1,7 @@
+use Rattle.std.proofs.Common.{map, take}
+use Rattle.f77_program.specs.Program.{line_of}
+use Rattle.equivalents_app.specs.Room.{LeavesRoom}
+use Rattle.equivalents_app.proofs.room.room_of.Given as goal
+
+abbrev pub invariant-loop-test : goal.invariant-loop-test
+invariant-loop-test l = LeavesRoom (map line_of l.checked.program) (take l.test-index l.tests) l.steps l.room

@@ -1,0 +1,113 @@
+//! The room that the tests of a job leave under the limit on steps.
+
+ghost use Rattle.std.specs.Prelude.{◌≡◌, ◌≤◌, ◌+◌, IfErr, IfOk, IfSome, filter, map};
+ghost use Rattle.f77_equivalence.specs.Equivalent.{IsEnd};
+ghost use Rattle.f77_program.specs.Program.{line_of};
+ghost use Rattle.mothra_ops.specs.declared.fault.OpsFault.TheVariants.{Memory};
+ghost use Rattle.equivalents_app.specs.Room.{LeavesRoom, LeavesRoomOn};
+ghost use Rattle.equivalents_app.specs.Room as definition;
+
+use f77_check::Checked;
+use f77_run::{Arg, Outcome, RunFault, Values, counted_run};
+use mothra_equivalents::{Equivalent, Why};
+use mothra_ops::OpsFault;
+use std::alloc::Global;
+
+/// How many steps are left of so many behind those that were made, where the program returned or stopped.
+fn room_behind(outcome: &Outcome, made: u32, steps: u32) -> Option<u32>
+    requires { made ≤ steps }
+    ensures { IfSome result (λ room. (made + room ≡ steps) × IsEnd outcome.now) }
+{
+    match outcome {
+        Outcome::Returned(_) | Outcome::Stopped(_) => Some(steps - made),
+        Outcome::Overflow
+        | Outcome::DivideByZero
+        | Outcome::ZeroPower
+        | Outcome::BadSubscript
+        | Outcome::ZeroStep
+        | Outcome::Undefined
+        | Outcome::Trapped
+        | Outcome::StepLimit => None,
+    }
+}
+
+/// The room that a test leaves; none where it does not fit, or the program neither returns nor stops on it.
+fn room_on(
+    alloc: Global,
+    checked: &Checked,
+    test: &[Arg],
+    steps: u32,
+) -> Result<Option<u32>, OpsFault>
+    ensures room { IfOk result (λ found. IfSome found (λ room. LeavesRoomOn (map line_of checked.now.program) steps room test.now)) }
+    ensures memory { IfErr result (λ fault. fault ≡ Memory) }
+{
+    match counted_run(alloc, checked, test, steps) {
+        Ok((outcome, made)) => Ok(room_behind(&outcome, made, steps)),
+        Err(RunFault::Memory) => Err(OpsFault::Memory),
+        Err(RunFault::ArgumentCount | RunFault::ArgumentShape(_)) => Ok(None),
+    }
+}
+
+/// The room that each of the tests leaves; none where one of them leaves none.
+fn room_of(
+    alloc: Global,
+    checked: &Checked,
+    tests: &[Values<Arg>],
+    steps: u32,
+) -> Result<Option<u32>, OpsFault>
+    ensures room { IfOk result (λ found. IfSome found (λ room. LeavesRoom (map line_of checked.now.program) tests.now steps room)) }
+    ensures memory { IfErr result (λ fault. fault ≡ Memory) }
+{
+    let mut room = u32::MAX;
+    for test in tests {
+        match room_on(alloc, checked, test.as_slice(), steps)? {
+            Some(left) => room = room.min(left),
+            None => return Ok(None),
+        }
+    }
+    Ok(Some(room))
+}
+
+/// Whether one of the mutants takes more steps than the program.
+fn ask_for_room(list: &[Equivalent]) -> bool {
+    list.iter()
+        .any(|equivalent| matches!(equivalent.why, Why::Spare(_)))
+}
+
+/// The room that each of the tests leaves for the mutants. The program is run only where one of them asks for room.
+pub(crate) fn room_for(
+    alloc: Global,
+    list: &[Equivalent],
+    checked: &Checked,
+    tests: &[Values<Arg>],
+    steps: u32,
+) -> Result<Option<u32>, OpsFault>
+    ensures room { IfOk result (λ found. IfSome found (λ room. LeavesRoom (map line_of checked.now.program) tests.now steps room)) }
+    ensures memory { IfErr result (λ fault. fault ≡ Memory) }
+{
+    if ask_for_room(list) {
+        room_of(alloc, checked, tests, steps)
+    } else {
+        Ok(None)
+    }
+}
+
+/// Whether a mutant that is proved by this rule takes no more room than that.
+fn is_within(room: Option<u32>, why: Why) -> bool
+    ensures { result ≡ definition.is_within room why }
+{
+    match why {
+        Why::Spare(spare) => match room {
+            Some(room) => spare <= room,
+            None => false,
+        },
+        Why::Same | Why::Unread | Why::Continues | Why::Unreached => true,
+    }
+}
+
+/// Keeps the mutants that take no more room than that.
+pub(crate) fn keep_within(list: &mut Vec<Equivalent>, room: Option<u32>)
+    ensures { list.new.items ≡ filter (λ equivalent. definition.is_within room equivalent.why) list.old.items }
+{
+    list.retain(|equivalent| is_within(room, equivalent.why));
+}
