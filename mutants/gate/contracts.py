@@ -7,6 +7,7 @@ its contract, and a definition what a file of specs/ has at the beginning of a l
 import re
 from collections.abc import Iterator, Sequence
 from pathlib import Path
+from typing import NamedTuple
 
 # The text of each clause by its name.
 Clauses = dict[str, str]
@@ -19,6 +20,16 @@ FACT = re.compile(r"^ *ghost (\w+)(?::| =) \{", re.M)
 DEFINITION = r"^(?: *(?:(?:abbrev|unfoldable) pub|pub (?:record|data)) |pub ){}(?![\w'-])"
 # The name of a clause that has none, since its call has no other.
 ALONE = {"ensures": "its clause", "requires": "its condition"}
+
+
+class Part(NamedTuple):
+    """Of a file a type or a block of methods, which has no name here, or a call, with the head of its block."""
+
+    line: int
+    head: str
+    name: str
+    is_marked: bool
+    text: str
 
 
 def crates_of(root: Path) -> set[str]:
@@ -76,23 +87,35 @@ def type_at(lines: Sequence[str], number: int) -> str:
     return "\n".join(lines[number : last + 1])
 
 
-def calls_in(text: str, module: str) -> Iterator[tuple[str, bool, Clauses]]:
-    """The calls and types of a file: each one's name, `f`, `law::f` or `Type::f`; whether it is public; its clauses."""
+def parts_in(text: str) -> Iterator[Part]:
+    """The types, the blocks of methods and the calls of a file; of a call the text is its contract."""
     lines, head = text.split("\n"), ""
     for number, line in enumerate(lines):
         if OWNER.match(line):
             head = line
-            yield owner_of(head), True, clauses_of(type_at(lines, number), FACT)
+            yield Part(number, head, "", line.startswith("pub "), type_at(lines, number))
         elif line.startswith("}"):
             head = ""
         call = CALL.match(line)
         if call:
-            clauses = clauses_of(contract_at(lines, number, call[1]))
-            is_method = bool(call[1] and head)
-            # The calls of a trait are as public as the trait.
-            is_public = bool(call[2]) or is_method and re.search(r"\btrait\b|\bfor\b", head) is not None
-            owner = owner_of(head) if is_method else "law" if module == "law" else ""
-            yield f"{owner}::{call[3]}" if owner else call[3], is_public, clauses
+            contract = contract_at(lines, number, call[1])
+            yield Part(number, head if call[1] else "", call[3], bool(call[2]), contract)
+
+
+def is_of_trait(head: str) -> bool:
+    """Whether the calls of a block are as public as a trait: those of the trait itself, and those of an impl of it."""
+    return re.search(r"\btrait\b|\bfor\b", head) is not None
+
+
+def calls_in(text: str, module: str) -> Iterator[tuple[str, bool, Clauses]]:
+    """The calls and types of a file: each one's name, `f`, `law::f` or `Type::f`; whether it is public; its clauses."""
+    for part in parts_in(text):
+        if not part.name:
+            yield owner_of(part.head), True, clauses_of(part.text, FACT)
+            continue
+        owner = owner_of(part.head) if part.head else "law" if module == "law" else ""
+        name = f"{owner}::{part.name}" if owner else part.name
+        yield name, part.is_marked or is_of_trait(part.head), clauses_of(part.text)
 
 
 def contracts_of(folder: Path) -> dict[str, Clauses]:

@@ -1,0 +1,1 @@
+"""Where definitions stand: which of them public contracts reach, which private code, which proofs."""
