@@ -14,10 +14,11 @@ from mutants.gate.definitions import command
 from mutants.gate.definitions.citing import cites_of
 from mutants.gate.definitions.placing import faults_of, placed_in
 from mutants.gate.definitions.reaching import Reached, reach
-from mutants.gate.definitions.telling import files_of, modules_of, names_of, table_of, totals_of, wide_of
+from mutants.gate.definitions.telling import files_of, modules_of, names_of, table_of, totals_of
 from mutants.gate.definitions.terms import cited_in
 from mutants.gate.definitions.units import units_in
 from mutants.gate.definitions.uses import uses_in
+from mutants.gate.definitions.widths import unquoted, wide_of
 
 CRATES = "sums: thiserror\nmothra_app: sums\nmothra may_wait=1: mothra_app\nsums_tests: sums\n"
 LIB = """\
@@ -227,6 +228,18 @@ class Texts(unittest.TestCase):
         block = "module _ {T : Type 0} (t : A) where\n  f : B T\n  f = t\n"
         self.assertEqual(cited_by(block), ["0", "A", "B"])
         self.assertEqual(cited_by("f : A\nunfolding g\nf = h\n"), ["A", "g", "h"])
+        self.assertEqual(cited_by("f : A\nf x = g (record {\n  low = h x;\n}) k\n"), ["A", "g", "h", "k"])
+
+    def test_texts_in_quotation_marks_have_no_width(self) -> None:
+        rows = {
+            'f("one", 2)': ['f("", 2)'],
+            'f("one\n  two\n", 3)\n': ['f(""', "", ", 3)", ""],
+            'let x = r#"{"a":"b"}"#; // the "': ['let x = ""; // the "'],
+            "let x = ('\"', b'\"', \"c\\\"\")": ["let x = ('\"', b'\"', \"\")"],
+            "f<'a, T>(x: &'a str)": ["f<'a, T>(x: &'a str)"],
+        }
+        for text, want in rows.items():
+            self.assertEqual(unquoted(text), want, text)
 
 
 class Crates(unittest.TestCase):
@@ -324,9 +337,22 @@ class Crates(unittest.TestCase):
         self.assertIn("code         2 crates/sums/specs/Hidden.antt", told)
         self.assertIn("    code: is_small, Place", told)
         self.assertEqual(list(names_of(reached)), ["Place: sums.specs.Lemma, sums.specs.Sum"])
-        self.assertEqual(list(wide_of(reached)), ["program   101 crates/sums/specs/Digits.antt:3 value"])
+        wide = ["crates/sums/specs/Digits.antt:4: 101 columns, and 100 at most are wanted"]
+        self.assertEqual(list(wide_of(reached)), wide)
         self.assertEqual(list(modules_of(reached)), [
             "sums: file Digits, cited by none", "sums: file Lemma, cited by none", "sums: module law, cites Sum",
+        ])  # fmt: skip
+
+    def test_tells_wide_lines_of_each_folder(self) -> None:
+        self.put("sums/src/hidden.rt", f"{HIDDEN}// {'x' * 118}\n#[tactic({'x' * 118})]\nlet x = \"{'x' * 200}\";\n")
+        self.put("sums/specs/Hidden.antt", HIDDEN_SPEC.replace("n = ℕ", f"n = {'ℕ' * 108}"))
+        self.put("sums/proofs/Placed.antt", PROOF.replace("= 0", f"= {'0' * 192}"))
+        told = [line.removeprefix("crates/sums/") for line in wide_of(reach(self.root))]
+        self.assertEqual(told, [
+            "proofs/Placed.antt:4: 201 columns, and 200 at most are wanted",
+            "specs/Digits.antt:4: 101 columns, and 100 at most are wanted",
+            "specs/Hidden.antt:4: 121 columns, and 120 at most are wanted",
+            "src/hidden.rt:6: 121 columns, and 120 at most are wanted",
         ])  # fmt: skip
 
     def ended(self, **given: bool) -> tuple[int, list[str]]:
@@ -337,13 +363,17 @@ class Crates(unittest.TestCase):
     def test_fails_only_when_it_is_asked_to_check(self) -> None:
         self.assertEqual(self.ended()[0], 0)
         status, told = self.ended(check=True, names=True)
-        self.assertEqual((status, told[0].split(":")[0], len(told)), (1, "Place", 5))
+        self.assertEqual((status, told[0].split(":")[0], len(told)), (1, "Place", 7))
+        self.assertEqual(told[5], "two modules define Place: sums.specs.Lemma, sums.specs.Sum")
+        self.assertIn("Digits.antt:4: 101 columns", told[6])
         for file in ("Hidden", "Lemma"):
             (self.root / f"crates/sums/specs/{file}.antt").unlink()
         front, _, back = SPEC.partition("abbrev pub is_small")
         back = back[back.index("abbrev pub Adding") :].partition("abbrev pub unused")[0]
         self.put("sums/specs/Sum.antt", front + back)
-        self.assertEqual(self.ended(check=True, names=True), (0, ["", "each file of specs/ stands where it belongs"]))
+        self.put("sums/specs/Digits.antt", DIGITS.replace(" + 1000000000000000000000", "", 1))
+        right = "each file of specs/ stands where it belongs, each name stands for one definition"
+        self.assertEqual(self.ended(check=True, names=True), (0, ["", right]))
 
 
 class Tool(unittest.TestCase):

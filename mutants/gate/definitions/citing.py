@@ -3,7 +3,7 @@
 import re
 from collections.abc import Collection, Iterator, Sequence
 
-from mutants.gate.definitions.terms import IsConstructor, cited_in, cited_in_case
+from mutants.gate.definitions.terms import CLOSING, IsConstructor, cited_in, cited_in_case
 from mutants.gate.definitions.units import BLOCK, FAMILY, FIXITY, SIGNATURE, dedented, is_comment, units_of
 
 PART = re.compile(r"  (?:pub )?([^\s(][^():]*?) :(?= |$)")
@@ -11,10 +11,13 @@ WHERE = re.compile(r"(?:^|.*\s)where$")
 
 
 def pieces_of(lines: Sequence[str], indent: str) -> Iterator[list[str]]:
-    """The lines in pieces, each of which begins with a line of this indent and has those of a deeper one."""
+    """The lines in pieces, each of which begins with a line of this indent and has those of a deeper one.
+
+    A line that begins with a closing bracket ends what began before.
+    """
     piece: list[str] = []
     for line in lines:
-        if piece and line.startswith(indent) and not line[len(indent) :].startswith(" "):
+        if piece and line.startswith(indent) and not line[len(indent) :].startswith((" ", *CLOSING)):
             yield piece
             piece = []
         piece.append(line)

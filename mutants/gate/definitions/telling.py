@@ -10,8 +10,8 @@ from mutants.gate.definitions.reaching import CLASSES, NOTHING, Reached
 from mutants.gate.definitions.repository import Definition, File
 from mutants.gate.definitions.visible import ROOTS, sources_of
 
-# The most lines that the calls of the programs may reach, that all public contracts may reach, and the widest line.
-MOST_CALLED, MOST_PUBLIC, WIDEST = 3000, 4500, 100
+# The most lines that the calls of the programs may reach, and that all public contracts may reach.
+MOST_CALLED, MOST_PUBLIC = 3000, 4500
 WORDS = re.compile(r"(?<!^)(?=[A-Z])")
 
 
@@ -40,11 +40,9 @@ def totals_of(reached: Reached) -> Iterator[str]:
     """What is reached in all, beside what is wanted."""
     by_class = {kind: [each for each in reached.definitions() if reached.class_of(each) == kind] for kind in CLASSES}
     called, public = lines_of(by_class[CALLED]), lines_of(by_class[CALLED] + by_class[PUBLIC])
-    wide = [each for each in by_class[CALLED] + by_class[PUBLIC] if each.unit.width() > WIDEST]
     yield f"{called} lines are reached from the calls of the programs (wanted: under {MOST_CALLED})"
     yield f"{public} lines are reached from all public contracts (wanted: under {MOST_PUBLIC})"
     yield f"{lines_of(by_class[LAWS])} lines more are proofs that public impls give, or serve these"
-    yield f"{len(wide)} definitions of these have a line of more than {WIDEST} columns (wanted: none)"
 
 
 def files_of(reached: Reached) -> Iterator[str]:
@@ -64,15 +62,6 @@ def names_of(reached: Reached) -> Iterator[str]:
             modules.setdefault(name, []).append(definition.node.module.partition(".")[2])
     for name in sorted(name for name in modules if len(modules[name]) > 1):
         yield f"{name}: {', '.join(modules[name])}"
-
-
-def wide_of(reached: Reached) -> Iterator[str]:
-    """The definitions that have a line of more columns than is wanted."""
-    found = [each for each in reached.definitions() if each.unit.width() > WIDEST]
-    for each in sorted(found, key=lambda each: CLASSES.index(reached.class_of(each))):
-        kind = reached.class_of(each)
-        if kind != NOTHING:
-            yield f"{kind:8} {each.unit.width():4} {each.file}:{each.unit.start + 1} {each.node.name}"
 
 
 def citing(reached: Reached, crate: str) -> dict[str, set[str]]:

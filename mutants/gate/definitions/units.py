@@ -32,9 +32,6 @@ class Unit(NamedTuple):
         """Its lines without the empty ones."""
         return sum(1 for line in self.lines if line.strip())
 
-    def width(self) -> int:
-        return max(map(len, self.lines))
-
 
 def is_comment(line: str) -> bool:
     return line.startswith("--")
