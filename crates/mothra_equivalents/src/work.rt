@@ -5,7 +5,7 @@ use f77_check::Checked;
 use f77_code::Place;
 use f77_facts::entries::Entry;
 use f77_nodes::nodes;
-use f77_tree::Stmt;
+use f77_tree::{Form, Stmt};
 use std::alloc::{AllocError, Global};
 
 /// How much work is done for all mutants of a plan, in facts of slots that are looked at.
@@ -13,6 +13,9 @@ const MOST: u64 = 2_000_000_000;
 
 /// How much work a mutant is taken for at least.
 const LEAST: u64 = 20_000;
+
+/// For how many facts of slots an inequality of a case is taken, about.
+const FACTS_OF_A_CASE: u64 = 4;
 
 /// How much work may still be done, and how much a mutant of each statement is taken for.
 #[derive(Drop)]
@@ -61,6 +64,21 @@ fn comparing(checked: &Checked, nodes: usize) -> u64 {
         .saturating_mul(nodes as u64)
 }
 
+/// How much work it is to compare a condition with another by linear arithmetic, in a statement of so many nodes: each two of its
+/// relations may make a case, in which as many inequalities are put together.
+fn deciding(stmt: &Stmt, nodes: usize) -> u64 {
+    match stmt.form() {
+        Form::LogicalIf | Form::BlockIf | Form::ElseIf => {
+            let count = nodes as u64;
+            count
+                .saturating_mul(count)
+                .saturating_mul(count)
+                .saturating_mul(FACTS_OF_A_CASE)
+        }
+        _ => 0,
+    }
+}
+
 /// How much work a mutant of the statement is taken for, of which so many entries tell, where others have so many each.
 fn work_at(
     alloc: Global,
@@ -70,7 +88,9 @@ fn work_at(
     each: u64,
 ) -> Result<u64, AllocError> {
     let count = nodes(alloc, stmt)?.len();
-    let here = comparing(checked, count).saturating_mul(own);
+    let here = comparing(checked, count)
+        .saturating_add(deciding(stmt, count))
+        .saturating_mul(own);
     let onward = following(checked).saturating_mul(each);
     Ok(here.saturating_add(onward).max(LEAST))
 }
