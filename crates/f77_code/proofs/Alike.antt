@@ -6,7 +6,7 @@ use Rattle.f77_actions.specs.declared.resolved.Resolved.{Resolved}
 use Rattle.f77_values.specs.declared.finish.Fault.{Fault}
 use Rattle.f77_values.specs.declared.finish.Finish.TheVariants.{Failed}
 use Rattle.f77_code.specs.declared.control.Turn.{Turn}
-use Rattle.f77_code.specs.Code.{onward}
+use Rattle.f77_code.specs.Instructions.{onward}
 use Rattle.f77_code.specs.Holds.{Plan, Holds, Counts}
 use Rattle.f77_code.specs.Moves as moves
 use Rattle.f77_code.specs.Moves.{Cells, Turns, Move, Ends, chosen, go_on, jump_to}

@@ -8,7 +8,7 @@ use Rattle.f77_actions.specs.declared.resolved.Resolved.{Resolved}
 use Rattle.f77_code.specs.declared.constants.Constants.{Constants}
 use Rattle.f77_code.specs.declared.instruction.Instruction.{Instruction}
 use Rattle.f77_code.specs.declared.instruction.Operation.{Operation}
-use Rattle.f77_code.specs.Code.{Increments, AreCode}
+use Rattle.f77_code.specs.Instructions.{Increments, AreCode}
 use Rattle.f77_code.specs.Compiled.{IsInstruction, IsIncrement, AreExecuted, AreFollowed, AreCompiled, HaveActions}
 use Rattle.f77_code.specs.Constants.{Grows, Begins}
 use Rattle.f77_code.specs.Holds.{Plan, loop_count, rank, is_loop_at}

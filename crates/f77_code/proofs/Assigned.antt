@@ -14,7 +14,7 @@ use Rattle.f77_values.specs.declared.value.Value.TheVariants as held
 use Rattle.f77_code.specs.declared.control.Turn.{Turn}
 use Rattle.f77_code.specs.declared.instruction.Operation.{Operation, SetMatrix}
 use Rattle.f77_code.specs.declared.term.Term.{Term}
-use Rattle.f77_code.specs.Code.{Giving, giving, Storing, storing, Assigns, onward}
+use Rattle.f77_code.specs.Instructions.{Giving, giving, Storing, storing, Assigns, onward}
 use Rattle.f77_code.specs.Evaluation.{slot_in, number_in, truth_in}
 use Rattle.f77_code.specs.Holds.{Plan, Holds, Counts, IsSlot, AreSlots}
 use Rattle.f77_code.specs.Moves as moves

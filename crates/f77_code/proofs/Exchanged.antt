@@ -10,7 +10,7 @@ use Rattle.f77_code.specs.declared.constants.Constants.{Constants}
 use Rattle.f77_code.specs.declared.instruction.Instruction.{Instruction}
 use Rattle.f77_code.specs.declared.instruction.Operation.{Operation, Do, Next}
 use Rattle.f77_code.specs.declared.places.Places.{Places}
-use Rattle.f77_code.specs.Code.{onward, round, IsLeft, Tests, Stands, Increments}
+use Rattle.f77_code.specs.Instructions.{onward, round, IsLeft, Tests, Stands, Increments}
 use Rattle.f77_code.specs.Compiled.{IsInstruction, IsIncrement, AreCompiled, HasOneFrame, IsExchanged, IsIncrementExchanged}
 use Rattle.f77_code.specs.Constants.{Grows}
 use Rattle.f77_code.specs.Holds.{Plan, loop_count, rank, is_loop_at}

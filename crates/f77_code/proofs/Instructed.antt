@@ -12,7 +12,7 @@ use Rattle.f77_code.specs.declared.instruction.Instruction.{Instruction}
 use Rattle.f77_code.specs.declared.instruction.Operation.{Operation, Do, Next}
 use Rattle.f77_code.specs.declared.instruction.Parameters.{Parameters}
 use Rattle.f77_code.specs.declared.term.Term.{Term}
-use Rattle.f77_code.specs.Code.{onward, IsLeft, IsOperation, Stands, Increments}
+use Rattle.f77_code.specs.Instructions.{onward, IsLeft, IsOperation, Stands, Increments}
 use Rattle.f77_code.specs.Compile.{IsTestTerm}
 use Rattle.f77_code.specs.Compiled.{is_ready, HaveParameters, Advances, IsNext, IsInstruction, IsIncrement}
 use Rattle.f77_code.specs.Compiling.{can_compile, IsTesting, IsCompiled}

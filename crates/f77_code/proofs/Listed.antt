@@ -8,7 +8,7 @@ use Rattle.std.proofs.lemmas.List.Sums.{count_by-le-length, count_by_more_yes, c
 use Rattle.std.proofs.lemmas.Option.{same_Some, slice_get_within, get_or_from_slice_get}
 use Rattle.std.proofs.Math.ListN.{set}
 use Rattle.f77_actions.specs.declared.resolved.Resolved.{Resolved}
-use Rattle.f77_code.specs.Code.{round, onward}
+use Rattle.f77_code.specs.Instructions.{round, onward}
 use Rattle.f77_code.specs.Holds.{loop_count, rank, is_loop_at}
 use Rattle.f77_code.specs.Moves.{is_loop, are_below}
 

@@ -5,7 +5,7 @@ use Rattle.std.specs.Option.{option_map_or}
 use Rattle.std.proofs.lemmas.Bool.{and_parts, eqb-true}
 use Rattle.f77_actions.specs.declared.resolved.Resolved.{Resolved}
 use Rattle.f77_code.specs.declared.control.Place.TheVariants.{Execute, Increment}
-use Rattle.f77_code.specs.Code.{place_at, onward, round}
+use Rattle.f77_code.specs.Instructions.{place_at, onward, round}
 use Rattle.f77_code.specs.Moves.{Turns, turn_at, innermost}
 use Rattle.f77_code.specs.Simulation.{are_active, only_round}
 

@@ -21,7 +21,7 @@ use Rattle.f77_code.specs.declared.instruction.Operation as form
 use Rattle.f77_code.specs.declared.instruction.Operation.TheViews as operations
 use Rattle.f77_code.specs.declared.term.Pair.{Pair}
 use Rattle.f77_code.specs.declared.term.Term.{Term, Register, Compared, Related'}
-use Rattle.f77_code.specs.Code.{Comparing, giving, storing, comparing, Assigns, Tests, IsOperation}
+use Rattle.f77_code.specs.Instructions.{Comparing, giving, storing, comparing, Assigns, Tests, IsOperation}
 use Rattle.f77_code.specs.Compile.{IsNumberTerm, IsTestTerm, ArePair, IsRelationOf}
 use Rattle.f77_code.specs.Compiling.{IsGiving, IsStoring, IsTesting, IsAssigning, IsConditional, IsCompiled, IsLogicalIf}
 use Rattle.f77_code.specs.Constants.{Grows}

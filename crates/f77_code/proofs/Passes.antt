@@ -12,7 +12,7 @@ use Rattle.f77_values.specs.declared.value.Value.TheVariants as held
 use Rattle.f77_code.specs.declared.control.Place.TheVariants.{Execute}
 use Rattle.f77_code.specs.declared.control.Turn.{Turn}
 use Rattle.f77_code.specs.declared.instruction.Operation.{Next}
-use Rattle.f77_code.specs.Code.{IsLeft}
+use Rattle.f77_code.specs.Instructions.{IsLeft}
 use Rattle.f77_code.specs.Evaluation.{held_in}
 use Rattle.f77_code.specs.Holds.{Plan, Holds, Counts, IsSlot, rank, is_loop_at, read_as}
 use Rattle.f77_code.specs.Moves as moves

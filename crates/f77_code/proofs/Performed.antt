@@ -13,7 +13,7 @@ use Rattle.f77_values.specs.declared.finish.Fault.{Fault}
 use Rattle.f77_code.specs.declared.control.Turn.{Turn}
 use Rattle.f77_code.specs.declared.instruction.Operation.{Operation, IfTrue, Sign, Select, When', Continue, Goto, Return, Stop, Trap}
 use Rattle.f77_code.specs.Choice.{by_sign, numbered}
-use Rattle.f77_code.specs.Code.{Comparing, comparing, Tests, IsOperation, onward}
+use Rattle.f77_code.specs.Instructions.{Comparing, comparing, Tests, IsOperation, onward}
 use Rattle.f77_code.specs.Evaluation.{number_in, truth_in, compared}
 use Rattle.f77_code.specs.Holds.{Plan, Holds, Counts}
 use Rattle.f77_code.specs.Moves as moves

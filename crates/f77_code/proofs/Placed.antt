@@ -4,7 +4,7 @@ use Rattle.std.specs.Prelude.{slice_get, if◌then◌else◌}
 use Rattle.std.proofs.lemmas.Bool.{and_parts}
 use Rattle.std.proofs.lemmas.Option.{same_Some, slice_get_read}
 use Rattle.f77_actions.specs.declared.resolved.Resolved.{Resolved}
-use Rattle.f77_code.specs.Code.{round, onward}
+use Rattle.f77_code.specs.Instructions.{round, onward}
 use Rattle.f77_code.specs.Compiling.{is_small}
 use Rattle.f77_code.specs.Holds.{rank}
 use Rattle.f77_code.specs.Moves.{is_loop, are_below}

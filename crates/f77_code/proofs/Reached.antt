@@ -25,7 +25,7 @@ use Rattle.f77_code.specs.declared.term.Term.{Term, Register, Element, ElementAt
 use Rattle.f77_code.specs.declared.term.Term.{Sum, Difference, Product, Compared, TooLarge, Vector', Matrix'}
 use Rattle.f77_code.specs.declared.term.Term.{Add', Subtract', Multiply', Calculated', Negated', Absolute', ZeroPush', Related', Connected', Not'}
 use Rattle.f77_code.specs.Block.{code_within}
-use Rattle.f77_code.specs.Code.{Giving, Storing, Comparing, giving, storing, comparing, Assigns, Tests, IsOperation, Stands, Increments, AreCode, onward}
+use Rattle.f77_code.specs.Instructions.{Giving, Storing, Comparing, giving, storing, comparing, Assigns, Tests, IsOperation, Stands, Increments, AreCode, onward}
 use Rattle.f77_code.specs.Compiled.{is_ready, are_ready}
 use Rattle.f77_code.specs.Compiling.{can_compile}
 use Rattle.f77_code.specs.Evaluation.{element_within, number_within, condition_within}

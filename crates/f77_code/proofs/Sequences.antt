@@ -9,7 +9,7 @@ use Rattle.f77_values.specs.declared.finish.Finish.{Finish}
 use Rattle.f77_values.specs.declared.finish.Finish.TheVariants.{Returned, Stopped, Failed, StepLimit}
 use Rattle.f77_code.specs.declared.instruction.Instruction.{Instruction}
 use Rattle.f77_code.specs.Block.{one, after, code_within}
-use Rattle.f77_code.specs.Code.{AreCode}
+use Rattle.f77_code.specs.Instructions.{AreCode}
 use Rattle.f77_code.specs.Holds.{Plan}
 use Rattle.f77_code.specs.Moves.{State, Move, Goes, Ends, moved}
 use Rattle.f77_code.specs.Operation.{Point, ended, ran, operation_within}

@@ -5,7 +5,7 @@ use Rattle.f77_code.specs.declared.instruction.Operation.{Operation, Set, SetEle
 use Rattle.f77_code.specs.declared.instruction.Operation.{Move, Add, Subtract, Multiply, Load}
 use Rattle.f77_code.specs.declared.instruction.Operation.{Store, StoreSum, StoreDifference}
 use Rattle.f77_code.specs.declared.instruction.Operation.{IfLess, IfLessOrEqual, IfEqual, IfNotEqual, IfGreaterOrEqual, IfGreater}
-use Rattle.f77_code.specs.Code.{Giving, giving, Storing, storing, Comparing, comparing}
+use Rattle.f77_code.specs.Instructions.{Giving, giving, Storing, storing, Comparing, comparing}
 use Rattle.f77_code.specs.Operation.{Point, ran, put, put_at, branch}
 use Rattle.f77_code.specs.Registers.{vector_place}
 use Rattle.f77_code.specs.Term.{related, term_value}

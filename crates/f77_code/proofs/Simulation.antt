@@ -11,7 +11,7 @@ use Rattle.f77_code.specs.declared.control.Turn.{Turn}
 use Rattle.f77_code.specs.declared.instruction.Instruction.{Instruction}
 use Rattle.f77_code.specs.declared.instruction.Operation.{Operation, Do, Next}
 use Rattle.f77_code.specs.Block.{one}
-use Rattle.f77_code.specs.Code.{place_at, onward, Stands, Increments, AreCode}
+use Rattle.f77_code.specs.Instructions.{place_at, onward, Stands, Increments, AreCode}
 use Rattle.f77_code.specs.Evaluation.{number_in}
 use Rattle.f77_code.specs.Holds.{Plan, Holds, Counts, rank, is_loop_at}
 use Rattle.f77_code.specs.Moves as moves

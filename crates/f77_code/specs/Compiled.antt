@@ -8,7 +8,7 @@ use Rattle.f77_code.specs.declared.constants.Constants.{Constants}
 use Rattle.f77_code.specs.declared.instruction.Instruction.{Instruction}
 use Rattle.f77_code.specs.declared.instruction.Operation.{Operation, Next}
 use Rattle.f77_code.specs.declared.instruction.Parameters.{Parameters}
-use Rattle.f77_code.specs.Code.{IsLeft, Stands, Increments}
+use Rattle.f77_code.specs.Instructions.{IsLeft, Stands, Increments}
 use Rattle.f77_code.specs.Compile.{IsNumberTerm}
 use Rattle.f77_code.specs.Compiling.{is_small, can_compile}
 use Rattle.f77_code.specs.Constants.{Begins}

@@ -8,7 +8,7 @@ use Rattle.f77_actions.specs.declared.expression.Element.{Element}
 use Rattle.f77_code.specs.declared.constants.Constants.{Constants}
 use Rattle.f77_code.specs.declared.instruction.Operation.{Operation, IfTrue}
 use Rattle.f77_code.specs.declared.term.Term.{Term}
-use Rattle.f77_code.specs.Code.{giving, storing, comparing, Assigns, IsOperation}
+use Rattle.f77_code.specs.Instructions.{giving, storing, comparing, Assigns, IsOperation}
 use Rattle.f77_code.specs.Compile.{IsRelationOf}
 use Rattle.f77_code.specs.Constants.{Begins}
 use Rattle.f77_code.specs.Evaluation.{element_within, number_within, condition_within}

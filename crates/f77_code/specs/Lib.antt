@@ -1,12 +1,12 @@
 pub mod Block
 pub mod Choice
-pub mod Code
 pub mod Compile
 pub mod Compiled
 pub mod Compiling
 pub mod Constants
 pub mod Evaluation
 pub mod Holds
+pub mod Instructions
 pub mod Moves
 pub mod Operation
 pub mod Places

@@ -5,7 +5,7 @@ use Rattle.f77_actions.specs.declared.resolved.Resolved.{Resolved}
 use Rattle.f77_values.specs.declared.finish.Finish.{Finish}
 use Rattle.f77_code.specs.declared.instruction.Instruction.{Instruction}
 use Rattle.f77_code.specs.Block.{after}
-use Rattle.f77_code.specs.Code.{AreCode}
+use Rattle.f77_code.specs.Instructions.{AreCode}
 use Rattle.f77_code.specs.Holds.{Plan}
 use Rattle.f77_code.specs.Moves.{Cells, State, Move, Goes, Ends, moved}
 use Rattle.f77_code.specs.Operation.{Point}

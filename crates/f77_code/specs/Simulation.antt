@@ -7,7 +7,7 @@ use Rattle.f77_code.specs.declared.control.Place.{Place}
 use Rattle.f77_code.specs.declared.control.Place.TheVariants.{Execute, Increment}
 use Rattle.f77_code.specs.declared.instruction.Instruction.{Instruction}
 use Rattle.f77_code.specs.Block.{one}
-use Rattle.f77_code.specs.Code.{place_at, AreCode}
+use Rattle.f77_code.specs.Instructions.{place_at, AreCode}
 use Rattle.f77_code.specs.Holds.{Plan, Holds, Counts}
 use Rattle.f77_code.specs.Moves.{Turns, State, Move, Goes, Ends, turn_at, moved}
 use Rattle.f77_code.specs.Operation.{Point, ended}

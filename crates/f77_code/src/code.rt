@@ -6,7 +6,7 @@ ghost use Rattle.f77_code.specs.declared.constants.Constants.{Constants};
 ghost use Rattle.f77_actions.specs.declared.resolved.Resolved.{Resolved};
 ghost use Rattle.f77_code.specs.Constants.{Grows};
 ghost use Rattle.f77_code.specs.Holds.{loop_count};
-ghost use Rattle.f77_code.specs.Code.{place_at};
+ghost use Rattle.f77_code.specs.Instructions.{place_at};
 ghost use Rattle.f77_code.specs.Places.{ArePlaces, have_places, is_among};
 ghost use Rattle.f77_code.specs.Program.{IsCode};
 

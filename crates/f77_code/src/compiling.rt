@@ -2,7 +2,7 @@
 
 ghost use Rattle.std.specs.Prelude.{◌≡◌, ◌<◌, ◌^◌, true, IfOk, map};
 ghost use Rattle.std.specs.List.{list_all};
-ghost use Rattle.f77_code.specs.Code.{comparing, registers_compared};
+ghost use Rattle.f77_code.specs.Instructions.{comparing, registers_compared};
 ghost use Rattle.f77_code.specs.Compiling.{is_small, can_compile, IsGiving, IsStoring, IsTesting, IsAssigning, IsConditional, IsCompiled};
 ghost use Rattle.f77_code.specs.Constants.{Grows};
 ghost use Rattle.f77_code.specs.Evaluation.{element_within, condition_within};

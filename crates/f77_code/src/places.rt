@@ -2,8 +2,8 @@
 
 ghost use Rattle.std.specs.Prelude.{◌≡◌, ◌<◌, ◌≤◌, ◌+◌, if◌then◌else◌, List, length, true, IfOk};
 ghost use Rattle.f77_actions.specs.declared.resolved.Resolved.{Resolved};
-ghost use Rattle.f77_code.specs.Code as meaning;
-ghost use Rattle.f77_code.specs.Code.{IsLeft};
+ghost use Rattle.f77_code.specs.Instructions as meaning;
+ghost use Rattle.f77_code.specs.Instructions.{IsLeft};
 ghost use Rattle.f77_code.specs.Compiling.{is_small};
 ghost use Rattle.f77_code.specs.Holds as counts;
 ghost use Rattle.f77_code.specs.Moves as moves;

@@ -17,7 +17,7 @@ use Rattle.f77_code.specs.declared.control.Place.{Place}
 use Rattle.f77_code.specs.declared.control.Place.TheVariants.{Execute, Increment}
 use Rattle.f77_code.specs.declared.control.Turn.{Turn}
 use Rattle.f77_code.specs.Block.{after, code_within}
-use Rattle.f77_code.specs.Code.{place_at, AreCode}
+use Rattle.f77_code.specs.Instructions.{place_at, AreCode}
 use Rattle.f77_code.specs.Compiled.{are_ready, HaveActions}
 use Rattle.f77_code.specs.Constants.{Begins}
 use Rattle.f77_code.specs.Holds.{Plan, Holds, Counts, loop_count}

@@ -25,7 +25,7 @@ use Rattle.f77_code.specs.declared.control.Place.{Place}
 use Rattle.f77_code.specs.declared.control.Place.TheVariants.{Execute, Increment}
 use Rattle.f77_code.specs.declared.control.Turn.{Turn}
 use Rattle.f77_code.specs.Choice.{by_sign, numbered}
-use Rattle.f77_code.specs.Code.{place_at}
+use Rattle.f77_code.specs.Instructions.{place_at}
 use Rattle.f77_code.specs.Evaluation.{held_in, slot_in, number_in, truth_in}
 use Rattle.f77_code.specs.Holds.{loop_count, rank}
 use Rattle.f77_code.specs.Moves.{Cells, Turns, State, state, Move, Goes, Ends, used, turn_at, go_on, without, jump_to, passing, passing_at}

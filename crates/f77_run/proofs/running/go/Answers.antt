@@ -2,7 +2,7 @@ use Rattle.std.proofs.Common.{rules, ◌≡◌, ◌≤◌, ◌<◌, ◌⊎◌, �
 use Rattle.std.specs.List.{list_all}
 use Rattle.f77_values.specs.Number.{fits}
 use Rattle.f77_code.specs.Block.{after, code_within}
-use Rattle.f77_code.specs.Code.{place_at}
+use Rattle.f77_code.specs.Instructions.{place_at}
 use Rattle.f77_code.specs.Operation.{point}
 use Rattle.f77_run.specs.Registers.{loaded, shown}
 use Rattle.f77_run.specs.Running.{CameBack}

@@ -1,5 +1,5 @@
 use Rattle.std.proofs.Common.{◌≡◌, ◌∙◌, ap}
-use Rattle.f77_code.specs.Code.{onward}
+use Rattle.f77_code.specs.Instructions.{onward}
 use Rattle.f77_code.proofs.Instructed.{branch_stands, other_stands}
 use Rattle.f77_code.proofs.constants.Constants.instruction.Goals as goal
 
