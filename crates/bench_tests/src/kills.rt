@@ -1,5 +1,5 @@
-//! Which tests kill which mutants. A row is statements, an operator, tests and the limit on steps, with ` | ` between them, ` => ` and for each
-//! mutant of the operator a digit for each test, 1 where it kills.
+//! Which tests kill which mutants. A row is statements, an operator, tests and the limit on steps, with
+//! ` | ` between them, ` => ` and for each mutant of the operator a digit for each test, 1 where it kills.
 
 use mothra_bench::Row;
 use sample_benches::{Job, bench, rows};
@@ -17,7 +17,8 @@ const ROWS: &[&str] = &[
     "SUBROUTINE T(K); IF (K.GT.5) STOP; END | SAN | 1;6; | 9 => 11 01",
     // Runs without an end.
     "SUBROUTINE C(K); 10 K=K-1; IF (K.GT.0) GO TO 10; END | ROR | 1; | 99 => 0 1 1 0 1 1 0",
-    // Statements that control does not come to, of each form; a label, and a DO that ends elsewhere, which may be known elsewhere.
+    // Statements that control does not come to, of each form; a label,
+    // and a DO that ends elsewhere, which may be known elsewhere.
     "SUBROUTINE N(K); IF (K.EQ.0) GO TO 10; K=7; 10 K=K+1; END | SDL | 0;1; | 9 => 10 10 01 11",
     "SUBROUTINE N(K); IF (K.EQ.0) RETURN; IF (K.EQ.1) STOP; K=MOD(K,3); END | SAN | 0;1;5; | 9 => 111 100 011 010 001",
     "SUBROUTINE N(K); GO TO 20; 10 K=1; 20 CONTINUE; 30 K=K; END | GLR | 0; | 9 => 1 0",

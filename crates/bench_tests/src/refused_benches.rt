@@ -1,5 +1,6 @@
-//! What keeps a bench from being made, and which fault is told first. A row is tests that each end with `;`, declared mutants with commas between
-//! them, and which of the list of ABS is kept, with ` | ` between them, ` => ` and the fault.
+//! What keeps a bench from being made, and which fault is told first. A row is
+//! tests that each end with `;`, declared mutants with commas between them, and
+//! which of the list of ABS is kept, with ` | ` between them, ` => ` and the fault.
 
 use sample_benches::{Job, SUM, report};
 use sample_programs::{LOOP, parts};

@@ -19,7 +19,8 @@ fn score(rt: &impl AllocGlobal, job: &Job<'_>) -> Result<Option<u32>, Fail> {
     score_of(rt, &bench, rows(rt, &bench)?)
 }
 
-/// A row is codes of operators, tests, which of each list is kept, and declared mutants, with ` | ` between them, ` => ` and the score.
+/// A row is codes of operators, tests, which of each list is kept, and
+/// declared mutants, with ` | ` between them, ` => ` and the score.
 const ROWS: &[&str] = &[
     " | 2 3 0; | 1 |  => Some(8181)",
     "AOR | 2 2 0; | 1 |  => Some(6666)",

@@ -1,4 +1,5 @@
-//! The program `equivalents`: reads a job from standard input, and names on standard output mutants that no test can kill.
+//! The program `equivalents`: reads a job from standard input,
+//! and names on standard output mutants that no test can kill.
 #![tactic(auto)]
 
 ghost use Rattle.std.specs.Prelude.{◌≡◌, ◌≢◌, Ok, Err, OnErr};

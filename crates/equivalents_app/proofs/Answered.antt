@@ -13,19 +13,20 @@ use Rattle.clap.specs.declared.error.Error.{Error}
 use Rattle.clap.specs.declared.error.kind.ErrorKind.TheVariants as kind
 use Rattle.mothra_app.specs.Answer.{IsRefusal}
 use Rattle.mothra_app.specs.Fault.{of_mutants}
-use Rattle.mothra_app.specs.Line.{line_of}
+use Rattle.mothra_app.specs.Line.{fault_line}
 use Rattle.mothra_app.specs.Serving.{IsReadFor, bad_operators}
 use Rattle.mothra_app.specs.declared.fault.Fault.{Fault}
 use Rattle.mothra_app.specs.declared.fault.Fault.TheVariants.{Job}
 use Rattle.mothra_app.specs.declared.status.Status.{Status}
 use Rattle.mothra_app.specs.declared.status.Status.TheVariants as status
 use Rattle.mothra_cli.specs.Input.{limit, AreAll, IsRead, ReadsUpTo}
-use Rattle.mothra_job.specs.Job.{JobFields, JobRead, faults, job_of}
+use Rattle.mothra_job.specs.Job.{JobFields, JobRead, job_faults, job_of}
 use Rattle.mothra_job.specs.declared.job.JobFault.{JobFault}
 use Rattle.mothra_job.specs.declared.job.JobFault.TheVariants.{Memory}
 use Rattle.equivalents_app.specs.Finding.{IsFound}
-use Rattle.equivalents_app.specs.Serving.{AsksFor, IsAnswer, IsAnswerBy, IsAnswered, IsOutcome, MayBeWritten, memory_faults}
-use Rattle.equivalents_app.specs.Words.{HasBadOperators, equivalents}
+use Rattle.equivalents_app.specs.Serving.{AsksForInquiry, IsInquiryAnswer, IsInquiryAnswered, IsInquiryOutcome, MayBeWrittenByInquiry, memory_faults}
+use Rattle.equivalents_app.specs.code.Serving.{IsAnswerBy}
+use Rattle.equivalents_app.specs.Words.{HasBadInquiryOperators, equivalents}
 use Rattle.equivalents_app.specs.declared.words.Inquiry.{Inquiry}
 use Rattle.equivalents_app.proofs.Findings.{later_in}
 
@@ -33,7 +34,7 @@ use Rattle.equivalents_app.proofs.Findings.{later_in}
 
 job_at : (xs v : List ℕ) (b : Bool) → nat_lt 1048576 (length v) ≡ b → length v ≤ length xs
     → (length v < 1048577 → xs ≡ v) → job_of xs ≡ job_of v
-unfolding job_of faults
+unfolding job_of job_faults
 job_at xs v true is longer same = rw (is, lt-ltb 1048576 (length xs) (let more : 1048576 < length v = ltb-true _ _ is in omega arith)) refl
 job_at xs v false is longer same = ap job_of (same (let few : length v ≤ 1048576 = ltb-false _ _ is in omega arith))
 
@@ -44,21 +45,21 @@ job_same xs v rest split end = job_at xs v (nat_lt 1048576 (length v)) refl
 
 -- the answer for what was read is that for all the bytes
 pub answer_by : (old new : Option (List ℕ)) (v : List ℕ) (i : Inquiry) (s : Status) (t : List ℕ) → ReadsUpTo limit old new v
-    → IsAnswer i (job_of v) s t → IsAnswerBy i old s t
+    → IsInquiryAnswer i (job_of v) s t → IsAnswerBy i old s t
 answer_by None new v i s t reads is = record { bytes = v; all = tt; is = is }
 answer_by (Some xs) None v i s t reads is = absurd reads.0
 answer_by (Some xs) (Some rest) v i s t reads is = record {
   bytes = xs;
   all = refl;
-  is = subst (λ read. IsAnswer i read s t) (sym (job_same xs v rest reads.0 reads.2)) is;
+  is = subst (λ read. IsInquiryAnswer i read s t) (sym (job_same xs v rest reads.0 reads.2)) is;
 }
 
 -- ---- what the inquiry comes to
 
 pub job_refused : (i : Inquiry) (read answer : JobRead) (fault : JobFault) → answer ≡ Err fault → (answer ≡ read) ⊎ (answer ≡ Err Memory)
-    → IsOutcome i read (Err (Job fault)) ⊎ Contains memory_faults (Job fault)
+    → IsInquiryOutcome i read (Err (Job fault)) ⊎ Contains memory_faults (Job fault)
 job_refused i read answer fault gives (inl is) =
-    inl (subst (λ r. IsOutcome i r (Err (Job fault))) is (subst (λ r. IsOutcome i r (Err (Job fault))) (sym gives) refl))
+    inl (subst (λ r. IsInquiryOutcome i r (Err (Job fault))) is (subst (λ r. IsInquiryOutcome i r (Err (Job fault))) (sym gives) refl))
 job_refused i read answer fault gives (inr is) =
     let memory : Memory ≡ fault = cc in
     inr (subst (λ f. Contains memory_faults (Job f)) memory (0, omega arith, refl))
@@ -73,7 +74,7 @@ Text = Result (String Global) Fault
 -- the job was read: what the inquiry comes to is what is found
 own_outcome : (i : Inquiry) (job : JobFields) (text : Text)
     → MatchResult text (λ t. IsFound job i (Ok (string_bytes t))) (λ f. IsFound job i (Err f) ⊎ Contains of_mutants f)
-    → MatchResult text (λ t. IsOutcome i (Ok job) (Ok (string_bytes t))) (λ f. IsOutcome i (Ok job) (Err f) ⊎ Contains memory_faults f)
+    → MatchResult text (λ t. IsInquiryOutcome i (Ok job) (Ok (string_bytes t))) (λ f. IsInquiryOutcome i (Ok job) (Err f) ⊎ Contains memory_faults f)
 own_outcome i job (Ok t) found = found
 own_outcome i job (Err f) (inl found) = inl found
 own_outcome i job (Err f) (inr memory) = inr (later_in (Job Memory) of_mutants f memory)
@@ -81,34 +82,34 @@ own_outcome i job (Err f) (inr memory) = inr (later_in (Job Memory) of_mutants f
 pub outcome_found : (i : Inquiry) (job : JobFields) (read : JobRead) (text : Text)
     → (let own : JobRead = Ok job in (own ≡ read) ⊎ (own ≡ Err Memory))
     → MatchResult text (λ t. IsFound job i (Ok (string_bytes t))) (λ f. IsFound job i (Err f) ⊎ Contains of_mutants f)
-    → MatchResult text (λ t. IsOutcome i read (Ok (string_bytes t))) (λ f. IsOutcome i read (Err f) ⊎ Contains memory_faults f)
+    → MatchResult text (λ t. IsInquiryOutcome i read (Ok (string_bytes t))) (λ f. IsInquiryOutcome i read (Err f) ⊎ Contains memory_faults f)
 outcome_found i job read text of_job found =
-    subst (λ r. MatchResult text (λ t. IsOutcome i r (Ok (string_bytes t))) (λ f. IsOutcome i r (Err f) ⊎ Contains memory_faults f))
+    subst (λ r. MatchResult text (λ t. IsInquiryOutcome i r (Ok (string_bytes t))) (λ f. IsInquiryOutcome i r (Err f) ⊎ Contains memory_faults f))
     (read_so job read of_job) (own_outcome i job text found)
 
-pub fault_answered : (i : Inquiry) (read : JobRead) (fault : Fault) (s : Status) (t : List ℕ) → s ≡ status.Fault → t ≡ line_of fault
-    → IsOutcome i read (Err fault) ⊎ Contains memory_faults fault → IsAnswer i read s t
-fault_answered i read fault s t is line outcome = subst (λ v. IsAnswer i read v t) (sym is) (subst (IsAnswer i read status.Fault) (sym line) (go outcome))
+pub fault_answered : (i : Inquiry) (read : JobRead) (fault : Fault) (s : Status) (t : List ℕ) → s ≡ status.Fault → t ≡ fault_line fault
+    → IsInquiryOutcome i read (Err fault) ⊎ Contains memory_faults fault → IsInquiryAnswer i read s t
+fault_answered i read fault s t is line outcome = subst (λ v. IsInquiryAnswer i read v t) (sym is) (subst (IsInquiryAnswer i read status.Fault) (sym line) (go outcome))
   where
-    go : IsOutcome i read (Err fault) ⊎ Contains memory_faults fault → IsAnswer i read status.Fault (line_of fault)
-    go (inl own) = IsAnswer.fault fault own
-    go (inr memory) = IsAnswer.broken_off fault memory
+    go : IsInquiryOutcome i read (Err fault) ⊎ Contains memory_faults fault → IsInquiryAnswer i read status.Fault (fault_line fault)
+    go (inl own) = IsInquiryAnswer.fault fault own
+    go (inr memory) = IsInquiryAnswer.broken_off fault memory
 
 -- ---- what may be written
 
 -- a text that answers an inquiry is a report or a fault
-read_for : (i : Inquiry) (read : JobRead) (left now : Option (List ℕ)) (s : Status) (t : List ℕ) → IsAnswer i read s t → IsRead limit left now
+read_for : (i : Inquiry) (read : JobRead) (left now : Option (List ℕ)) (s : Status) (t : List ℕ) → IsInquiryAnswer i read s t → IsRead limit left now
     → IsReadFor s left now
-read_for i read left now s t (IsAnswer.report is) reads = reads
-read_for i read left now s t (IsAnswer.fault f is) reads = reads
-read_for i read left now s t (IsAnswer.broken_off f is) reads = reads
+read_for i read left now s t (IsInquiryAnswer.report is) reads = reads
+read_for i read left now s t (IsInquiryAnswer.fault f is) reads = reads
+read_for i read left now s t (IsInquiryAnswer.broken_off f is) reads = reads
 
-pub answered : (words : List clap.Text) (left now : Option (List ℕ)) (i : Inquiry) (s : Status) (t : List ℕ) → AsksFor words i → IsAnswerBy i left s t
-    → IsRead limit left now → IsAnswered words left now s t
+pub answered : (words : List clap.Text) (left now : Option (List ℕ)) (i : Inquiry) (s : Status) (t : List ℕ) → AsksForInquiry words i → IsAnswerBy i left s t
+    → IsRead limit left now → IsInquiryAnswered words left now s t
 answered words left now i s t asks by read = record {
   bytes = by.bytes;
   all = by.all;
-  may = MayBeWritten.answer asks by.is;
+  may = MayBeWrittenByInquiry.answer asks by.is;
   read = read_for i (job_of by.bytes) left now s t by.is read;
 }
 
@@ -117,21 +118,21 @@ pub answer_never : {A : Type 0} (i : Inquiry) (left : Option (List ℕ)) (s othe
     → other ≢ status.Report → other ≢ status.Fault → A
 answer_never {A} i left s other t by e no_report no_fault = go s t by.is e
   where
-    go : (own : Status) (text : List ℕ) → IsAnswer i (job_of by.bytes) own text → own ≡ other → A
-    go own text (IsAnswer.report is) same = absurd (no_report (sym same))
-    go own text (IsAnswer.fault f is) same = absurd (no_fault (sym same))
-    go own text (IsAnswer.broken_off f is) same = absurd (no_fault (sym same))
+    go : (own : Status) (text : List ℕ) → IsInquiryAnswer i (job_of by.bytes) own text → own ≡ other → A
+    go own text (IsInquiryAnswer.report is) same = absurd (no_report (sym same))
+    go own text (IsInquiryAnswer.fault f is) same = absurd (no_fault (sym same))
+    go own text (IsInquiryAnswer.broken_off f is) same = absurd (no_fault (sym same))
 
 -- ---- words that are refused or ask for help
 
 refused_so : (words : List clap.Text) (bytes : List ℕ) (e : Error) (s : Status) (t : List ℕ) → HasKind (fault_of equivalents words) e
-    → IsRefusal (kind_of e) s → MayBeWritten words bytes s t
+    → IsRefusal (kind_of e) s → MayBeWrittenByInquiry words bytes s t
 refused_so words bytes e status.Report t kinds refusal = absurd refusal
 refused_so words bytes e status.Fault t kinds refusal = absurd refusal
 refused_so words bytes e status.Words t (inl full) refusal = absurd (refusal.1 full)
-refused_so words bytes e status.Words t (inr among) refusal = MayBeWritten.refusal (kind_of e, refusal.1, refusal.0, among)
+refused_so words bytes e status.Words t (inr among) refusal = MayBeWrittenByInquiry.refusal (kind_of e, refusal.1, refusal.0, among)
 refused_so words bytes e status.Help t (inl full) refusal = let no : kind.OutOfMemory ≡ kind.DisplayHelp = sym full ∙ refusal in absurd (cc)
-refused_so words bytes e status.Help t (inr among) refusal = MayBeWritten.help (subst (λ k. IsAmong k (fault_of equivalents words)) refusal among)
+refused_so words bytes e status.Help t (inr among) refusal = MayBeWrittenByInquiry.help (subst (λ k. IsAmong k (fault_of equivalents words)) refusal among)
 
 unread_for : (e : Error) (left : Option (List ℕ)) (s : Status) → IsRefusal (kind_of e) s → IsReadFor s left left
 unread_for e left status.Report refusal = absurd refusal
@@ -144,7 +145,7 @@ any_bytes None = ([], tt)
 any_bytes (Some xs) = (xs, refl)
 
 pub refused : (words : List clap.Text) (left : Option (List ℕ)) (e : Error) (s : Status) (t : List ℕ) → HasKind (fault_of equivalents words) e
-    → IsRefusal (kind_of e) s → IsAnswered words left left s t
+    → IsRefusal (kind_of e) s → IsInquiryAnswered words left left s t
 refused words left e s t kinds refusal =
     let some = any_bytes left in
     record {
@@ -154,14 +155,14 @@ refused words left e s t kinds refusal =
       read = unread_for e left s refusal;
     }
 
-pub bad_list : (words : List clap.Text) (left : Option (List ℕ)) (s : Status) (t : List ℕ) → HasBadOperators words → s ≡ status.Words → t ≡ bad_operators
-    → IsAnswered words left left s t
+pub bad_list : (words : List clap.Text) (left : Option (List ℕ)) (s : Status) (t : List ℕ) → HasBadInquiryOperators words → s ≡ status.Words → t ≡ bad_operators
+    → IsInquiryAnswered words left left s t
 bad_list words left s t bad is text =
     let some = any_bytes left in
     record {
       bytes = some.0;
       all = some.1;
-      may = subst (λ v. MayBeWritten words some.0 v t) (sym is) (subst (MayBeWritten words some.0 status.Words) (sym text) (MayBeWritten.bad_list bad));
+      may = subst (λ v. MayBeWrittenByInquiry words some.0 v t) (sym is) (subst (MayBeWrittenByInquiry words some.0 status.Words) (sym text) (MayBeWrittenByInquiry.bad_list bad));
       read = subst (λ v. IsReadFor v left left) (sym is) (Keeps-refl left);
     }
 

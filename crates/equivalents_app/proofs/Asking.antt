@@ -12,7 +12,9 @@ use Rattle.mothra_cli.specs.declared.request.WordsFault.{WordsFault}
 use Rattle.mothra_cli.specs.declared.request.WordsFault.TheVariants.{Refused, BadOperatorList}
 use Rattle.mothra_cli.proofs.Accepted.{default_number}
 use Rattle.mothra_cli.proofs.OptionRows.{Each, HasNumber, Serves, has_default}
-use Rattle.equivalents_app.specs.Words.{Meaning, IsBounded, IsFaultOf, Reads, bad_operators, equivalents, flag_at, inquiry, inquiry_in, inquiry_meaning, inquiry_of, meaning_of, options_meaning, refused}
+use Rattle.equivalents_app.specs.Words.{InquiryMeaning, IsInquiryBounded, IsInquiryFault, bad_operators, equivalents, flag_at, inquiry}
+use Rattle.equivalents_app.specs.Words.{inquiry_in, inquiry_meaning, inquiry_of, meaning_of_inquiry, options_meaning, refused}
+use Rattle.equivalents_app.specs.code.Words.{ReadsInquiry}
 use Rattle.equivalents_app.specs.declared.words.Inquiry.{Inquiry}
 
 -- ---- the only level
@@ -69,10 +71,10 @@ option_number id low high small serves given words taken =
 -- ---- what the words are
 
 -- what the command line takes: an inquiry in its bounds, or operators that are none
-abbrev IsAccepted : Meaning → Type 0
+abbrev IsAccepted : InquiryMeaning → Type 0
 IsAccepted refused = ⊥
 IsAccepted bad_operators = Unit {0}
-IsAccepted (inquiry i) = IsBounded i
+IsAccepted (inquiry i) = IsInquiryBounded i
 
 accepted : (o : Option (List Op)) (every steps : ℕ) (json : Bool) → (1 ≤ every) × (every ≤ 1048575) → (1 ≤ steps) × (steps ≤ 1000000)
     → IsAccepted (inquiry_meaning o (Some every) (Some steps) json)
@@ -91,21 +93,21 @@ pub asks : (words : List Text) (rows : List Row) → fault_of equivalents words 
 asks words rows taken is = subst (λ r. IsAccepted (options_meaning r)) (sym is) (own_asks words taken)
 
 pub meaning_taken : (words : List Text) (rows : List Row) → fault_of equivalents words ≡ [] → rows ≡ matches_of equivalents words
-    → meaning_of words ≡ options_meaning rows
-unfolding meaning_of
+    → meaning_of_inquiry words ≡ options_meaning rows
+unfolding meaning_of_inquiry
 meaning_taken words rows taken is = rw (taken, is) refl
 
-pub some_inquiry : (meaning : Meaning) (o : Option Inquiry) → IsAccepted meaning → Reads meaning (Ok o) → IsSome o
+pub some_inquiry : (meaning : InquiryMeaning) (o : Option Inquiry) → IsAccepted meaning → ReadsInquiry meaning (Ok o) → IsSome o
 some_inquiry meaning (Some i) some reads = refl
 some_inquiry meaning None some reads = absurd (subst IsAccepted reads some)
 
-module _ (words : List Text) (meaning : Meaning) (is : meaning_of words ≡ meaning) where
-  pub is_inquiry : (i : Inquiry) (o : Option Inquiry) → o ≡ Some i → Reads meaning (Ok o) → inquiry_of words ≡ Some i
-  is_inquiry i o some reads = ap inquiry_in (is ∙ subst (λ x. Reads meaning (Ok x)) some reads)
+module _ (words : List Text) (meaning : InquiryMeaning) (is : meaning_of_inquiry words ≡ meaning) where
+  pub is_inquiry : (i : Inquiry) (o : Option Inquiry) → o ≡ Some i → ReadsInquiry meaning (Ok o) → inquiry_of words ≡ Some i
+  is_inquiry i o some reads = ap inquiry_in (is ∙ subst (λ x. ReadsInquiry meaning (Ok x)) some reads)
 
-  pub is_fault : (fault : WordsFault) → Reads meaning (Err fault) → IsFaultOf words fault
+  pub is_fault : (fault : WordsFault) → ReadsInquiry meaning (Err fault) → IsInquiryFault words fault
   is_fault (Refused error) reads = inl reads
   is_fault BadOperatorList reads = is ∙ reads
 
-pub is_bounded : (meaning : Meaning) (i : Inquiry) (o : Option Inquiry) → IsAccepted meaning → o ≡ Some i → Reads meaning (Ok o) → IsBounded i
-is_bounded meaning i o asks some reads = subst IsAccepted (subst (λ x. Reads meaning (Ok x)) some reads) asks
+pub is_bounded : (meaning : InquiryMeaning) (i : Inquiry) (o : Option Inquiry) → IsAccepted meaning → o ≡ Some i → ReadsInquiry meaning (Ok o) → IsInquiryBounded i
+is_bounded meaning i o asks some reads = subst IsAccepted (subst (λ x. ReadsInquiry meaning (Ok x)) some reads) asks

@@ -16,7 +16,8 @@ use Rattle.mothra_equivalents.specs.declared.why.Why.{Why}
 use Rattle.mothra_equivalents.specs.declared.why.Why.TheVariants as why
 use Rattle.mothra_ops.specs.Mutants.{program_of}
 use Rattle.mothra_ops.specs.Plan.{PlanFields}
-use Rattle.equivalents_app.specs.Room.{AreNamed, HasRoom, LeavesRoom, LeavesRoomOn, is_within}
+use Rattle.equivalents_app.specs.Room.{AreNamedMutants, HasRoom, LeavesRoom, LeavesRoomOn}
+use Rattle.equivalents_app.specs.code.Room.{is_within}
 
 -- ---- one test
 
@@ -63,10 +64,10 @@ module _ (plan : PlanFields) (tests : List (List Arg)) (steps : ℕ) where
   has_room room why.Unreached leave is = tt
 
   pub named : (room : Option ℕ) (all kept : List Equivalent) → AreEquivalents plan all → IfSome room (LeavesRoom (program_of plan) tests steps)
-      → kept ≡ filter (λ e. is_within room e.why) all → AreNamed plan tests steps kept
+      → kept ≡ filter (λ e. is_within room e.why) all → AreNamedMutants plan tests steps kept
   named room all kept are leave is =
       let within : Equivalent → _ = λ e. is_within room e.why in
-      subst (AreNamed plan tests steps) (sym is)
+      subst (AreNamedMutants plan tests steps) (sym is)
       record {
         are = record {
           ordered = AllPairs-filter (λ (one other : Equivalent). Before one.ticket other.ticket) within all are.ordered;

@@ -17,7 +17,7 @@ use Rattle.f77_run.specs.declared.outcome.Outcome.{Outcome}
 use Rattle.f77_run.specs.declared.outcome.Outcome.TheVariants as outcome
 use Rattle.f77_run.specs.declared.outcome.RunFault.{RunFault}
 use Rattle.f77_run.specs.declared.outcome.RunFault.TheVariants as fault
-use Rattle.mothra_bench.specs.Bench.{AreOutcomes, Fits, IsEnd}
+use Rattle.mothra_bench.specs.Bench.{AreOutcomes, FitsProgram, IsProgramEnd}
 use Rattle.mothra_bench.specs.Verdict.{IsAlone, IsKill, mutated}
 use Rattle.mothra_ops.specs.Mutants.{MutantFields, program_of}
 use Rattle.equivalents_app.specs.Law.{NoTestKills, NoTestKillsSpared}
@@ -70,7 +70,7 @@ fitting list arguments e = go (length arguments == length list) refl e
 
 -- ---- one test
 
-ended : (o : Outcome) → IsEnd o → equivalence.IsEnd o
+ended : (o : Outcome) → IsProgramEnd o → equivalence.IsEnd o
 ended (outcome.Returned arguments) end = tt
 ended (outcome.Stopped arguments) end = tt
 ended outcome.Overflow end = absurd end
@@ -83,25 +83,25 @@ ended outcome.Trapped end = absurd end
 ended outcome.StepLimit end = absurd end
 
 module _ (one : OneAnswer) (p q : List LineFields) (steps : ℕ) where
-  not_killed : (arguments : List Arg) (own : Outcome) (kill : Bool) → KeepsEnds p q arguments → IsOutcomeOf p arguments steps own → IsEnd own
+  not_killed : (arguments : List Arg) (own : Outcome) (kill : Bool) → KeepsEnds p q arguments → IsOutcomeOf p arguments steps own → IsProgramEnd own
       → IsKill p q arguments steps kill → kill ≡ false
   not_killed arguments own kill keeps is end (IsKill.survived first second) = refl
   not_killed arguments own kill keeps is end (IsKill.killed {outcome = told} {other = other} first second apart) =
       let kept : IsOutcomeOf q arguments steps own = keeps steps own is (ended own end) in
       absurd (apart (one p arguments steps told own first is ∙ one q arguments steps own other kept second))
 
-  none_killed : IsEquivalent p q → (tests : List (List Arg)) (outcomes : List Outcome) (kills : List Bool) → All (Fits p) tests → All AreStorable tests
-      → AreOutcomes p steps tests outcomes → All IsEnd outcomes → IsAlone p q steps tests kills → All (λ kill. kill ≡ false) kills
+  none_killed : IsEquivalent p q → (tests : List (List Arg)) (outcomes : List Outcome) (kills : List Bool) → All (FitsProgram p) tests → All AreStorable tests
+      → AreOutcomes p steps tests outcomes → All IsProgramEnd outcomes → IsAlone p q steps tests kills → All (λ kill. kill ≡ false) kills
   none_killed same [] [] [] fit storable are end alone = All-nil (λ kill. kill ≡ false)
   none_killed same [] [] (kill ∷ kills) fit storable are end alone = absurd alone
   none_killed same [] (own ∷ outcomes) kills fit storable are end alone = absurd are
   none_killed same (test ∷ tests) [] kills fit storable are end alone = absurd are
   none_killed same (test ∷ tests) (own ∷ outcomes) [] fit storable are end alone = absurd alone
   none_killed same (test ∷ tests) (own ∷ outcomes) (kill ∷ kills) fit storable are end alone =
-      let keeps = same test (fitting (shapes p) test (All-head (Fits p) test tests fit)) (All-head AreStorable test tests storable) in
-      All-cons (λ k. k ≡ false) kill kills (not_killed test own kill keeps are.0 (All-head IsEnd own outcomes end) alone.0)
-      (none_killed same tests outcomes kills (All-tail (Fits p) test tests fit) (All-tail AreStorable test tests storable) are.1
-      (All-tail IsEnd own outcomes end) alone.1)
+      let keeps = same test (fitting (shapes p) test (All-head (FitsProgram p) test tests fit)) (All-head AreStorable test tests storable) in
+      All-cons (λ k. k ≡ false) kill kills (not_killed test own kill keeps are.0 (All-head IsProgramEnd own outcomes end) alone.0)
+      (none_killed same tests outcomes kills (All-tail (FitsProgram p) test tests fit) (All-tail AreStorable test tests storable) are.1
+      (All-tail IsProgramEnd own outcomes end) alone.1)
 
   -- where the program ends as many steps before the limit as are to be spared
   not_killed_spared : (spare : ℕ) (arguments : List Arg) (kill : Bool) → KeepsEndsWithin spare p q arguments
@@ -112,16 +112,16 @@ module _ (one : OneAnswer) (p q : List LineFields) (steps : ℕ) where
       let kept : IsOutcomeOf q arguments steps own = longer q arguments (limit + spare) steps own within end (keeps limit own is end) in
       absurd (apart (one p arguments steps told own first whole ∙ one q arguments steps own other kept second))
 
-  none_killed_spared : (spare : ℕ) → IsEquivalentWithin spare p q → (tests : List (List Arg)) (kills : List Bool) → All (Fits p) tests
+  none_killed_spared : (spare : ℕ) → IsEquivalentWithin spare p q → (tests : List (List Arg)) (kills : List Bool) → All (FitsProgram p) tests
       → All AreStorable tests → LeavesRoom p tests steps spare → IsAlone p q steps tests kills → All (λ kill. kill ≡ false) kills
   none_killed_spared spare same [] [] fit storable leave alone = All-nil (λ kill. kill ≡ false)
   none_killed_spared spare same [] (kill ∷ kills) fit storable leave alone = absurd alone
   none_killed_spared spare same (test ∷ tests) [] fit storable leave alone = absurd alone
   none_killed_spared spare same (test ∷ tests) (kill ∷ kills) fit storable leave alone =
-      let keeps = same test (fitting (shapes p) test (All-head (Fits p) test tests fit)) (All-head AreStorable test tests storable) in
+      let keeps = same test (fitting (shapes p) test (All-head (FitsProgram p) test tests fit)) (All-head AreStorable test tests storable) in
       let room = All-head (LeavesRoomOn p steps spare) test tests leave in
       All-cons (λ k. k ≡ false) kill kills (not_killed_spared spare test kill keeps room alone.0)
-      (none_killed_spared spare same tests kills (All-tail (Fits p) test tests fit) (All-tail AreStorable test tests storable)
+      (none_killed_spared spare same tests kills (All-tail (FitsProgram p) test tests fit) (All-tail AreStorable test tests storable)
       (All-tail (LeavesRoomOn p steps spare) test tests leave) alone.1)
 
 -- ---- the bench

@@ -2,7 +2,8 @@
 use Rattle.std.proofs.Common.{◌≡◌, ◌∙◌, ◌<◌, ◌+◌, ℕ, true, false, cond, List, ◌∷◌, length, drop, map, drop-cons, add-one, sym, ap, refl}
 use Rattle.std.specs.Prelude.{filter, sum}
 use Rattle.std.proofs.lemmas.List.Sums.{sum_by-cons, sum-map}
-use Rattle.mothra_codes.specs.Op.{all_ops, op_at}
+use Rattle.mothra_codes.specs.Op.{all_ops}
+use Rattle.mothra_codes.specs.code.Op.{op_at}
 use Rattle.mothra_codes.specs.declared.op.Op.{Op}
 use Rattle.mothra_ops.specs.Plan.{PlanFields, asked, edits_of}
 

@@ -10,16 +10,18 @@ use Rattle.mothra_equivalents.specs.declared.equivalents.Equivalent.{Equivalent}
 use Rattle.mothra_job.specs.Job.{JobFields}
 use Rattle.mothra_ops.specs.Plan.{IsFirstTooLong, PlanFields}
 use Rattle.mothra_ops.specs.declared.fault.OpsFault.TheVariants.{TooMany}
-use Rattle.equivalents_app.specs.Room.{AreNamed}
+use Rattle.equivalents_app.specs.Room.{AreNamedMutants}
 use Rattle.equivalents_app.specs.Telling.{told_text}
 use Rattle.equivalents_app.specs.declared.words.Inquiry.{Inquiry}
 
--- What is told of the job: equivalent mutants of the plan, for each of which the tests leave room under the limit on steps, or the first
--- fault. Which of the equivalent mutants are named is left open; each that is named is one.
+-- What is told of the job: equivalent mutants of the plan, for each of which
+-- the tests leave room under the limit on steps, or the first fault. Which of
+-- the equivalent mutants are named is left open; each that is named is one.
 pub data IsFound (job : JobFields) (i : Inquiry) : Result (List ℕ) Fault → Type 0 where
   no_program : {fault : Fault} → IsLegalProgramOf job.source (Err fault) → IsFound job i (Err fault)
   too_many : {program : List LineFields} {op : Op} → IsLegalProgramOf job.source (Ok program)
       → IsFirstTooLong i.operators program i.every op → IsFound job i (Err (Ops (TooMany op)))
-  text : {program : List LineFields} {plan : PlanFields} {list : List Equivalent} → IsLegalProgramOf job.source (Ok program)
-      → IsPlanOf program i.operators i.every plan → AreNamed plan job.suite i.steps list
+  text : {program : List LineFields} {plan : PlanFields} {list : List Equivalent}
+      → IsLegalProgramOf job.source (Ok program)
+      → IsPlanOf program i.operators i.every plan → AreNamedMutants plan job.suite i.steps list
       → IsFound job i (Ok (told_text plan list i.json))

@@ -8,13 +8,19 @@ use Rattle.mothra_equivalents.specs.Equivalents.{IsEquivalentMutant, IsSparedMut
 use Rattle.mothra_ops.specs.Mutants.{program_of}
 use Rattle.equivalents_app.specs.Room.{LeavesRoom}
 
--- no test of a bench kills a mutant that is equivalent, where INTEGER holds the numbers of the tests
+-- no test of a bench kills a mutant that is equivalent,
+-- where INTEGER holds the numbers of the tests
 abbrev pub NoTestKills : Type 0
-NoTestKills = (bench : BenchFields) (ticket : Ticket) (kills : List Bool) → IsBench bench → All AreStorable bench.tests
-    → IsEquivalentMutant bench.plan ticket → IsVerdict bench ticket kills → All (λ kill. kill ≡ false) kills
+NoTestKills = (bench : BenchFields) (ticket : Ticket) (kills : List Bool)
+    → IsBench bench → All AreStorable bench.tests
+    → IsEquivalentMutant bench.plan ticket
+    → IsVerdict bench ticket kills → All (λ kill. kill ≡ false) kills
 
--- nor one that is so with steps to spare, where the tests leave room for these under the limit of the bench
+-- nor one that is so with steps to spare, where the tests
+-- leave room for these under the limit of the bench
 abbrev pub NoTestKillsSpared : Type 0
-NoTestKillsSpared = (bench : BenchFields) (ticket : Ticket) (spare : ℕ) (kills : List Bool) → IsBench bench → All AreStorable bench.tests
-    → LeavesRoom (program_of bench.plan) bench.tests bench.steps spare → IsSparedMutant bench.plan ticket spare
+NoTestKillsSpared = (bench : BenchFields) (ticket : Ticket) (spare : ℕ) (kills : List Bool)
+    → IsBench bench → All AreStorable bench.tests
+    → LeavesRoom (program_of bench.plan) bench.tests bench.steps spare
+    → IsSparedMutant bench.plan ticket spare
     → IsVerdict bench ticket kills → All (λ kill. kill ≡ false) kills

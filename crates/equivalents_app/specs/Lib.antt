@@ -4,3 +4,4 @@ pub mod Room
 pub mod Finding
 pub mod Serving
 pub mod Law
+pub mod code

@@ -1,5 +1,5 @@
 -- Whether the tests leave room for mutants that take more steps than the program.
-use Rattle.std.specs.Prelude.{◌≤◌, ◌+◌, ⊤, ℕ, Bool, true, false, nat_le, All, List, Option, Some, None}
+use Rattle.std.specs.Prelude.{◌≤◌, ◌+◌, ⊤, ℕ, All, List}
 use Rattle.f77_equivalence.specs.Equivalent.{IsEnd}
 use Rattle.f77_program.specs.Program.{LineFields}
 use Rattle.f77_run.specs.Interpreter.{IsOutcomeOf}
@@ -15,7 +15,8 @@ use Rattle.mothra_ops.specs.Plan.{PlanFields}
 -- on the test the program returns or stops, as many steps before the limit
 abbrev pub LeavesRoomOn : List LineFields → ℕ → ℕ → List Arg → Type 0
 LeavesRoomOn program steps room test =
-    (limit : ℕ) × (outcome : Outcome) × (limit + room ≤ steps) × IsOutcomeOf program test limit outcome × IsEnd outcome
+    (limit : ℕ) × (outcome : Outcome)
+    × (limit + room ≤ steps) × IsOutcomeOf program test limit outcome × IsEnd outcome
 
 -- so it does on each of the tests
 abbrev pub LeavesRoom : List LineFields → List (List Arg) → ℕ → ℕ → Type 0
@@ -29,16 +30,8 @@ HasRoom program tests steps why.Continues = ⊤
 HasRoom program tests steps (why.Spare spare) = LeavesRoom program tests steps spare
 HasRoom program tests steps why.Unreached = ⊤
 
--- a mutant that is proved by this rule takes no more room than that, or none where there is none
-abbrev pub is_within : Option ℕ → Why → Bool
-is_within room why.Same = true
-is_within room why.Unread = true
-is_within room why.Continues = true
-is_within None (why.Spare spare) = false
-is_within (Some room) (why.Spare spare) = nat_le spare room
-is_within room why.Unreached = true
-
 -- mutants that are equivalent, for each of which the tests leave room
-pub record AreNamed (plan : PlanFields) (tests : List (List Arg)) (steps : ℕ) (list : List Equivalent) : Type 0 where
+pub record AreNamedMutants (plan : PlanFields) (tests : List (List Arg)) (steps : ℕ)
+    (list : List Equivalent) : Type 0 where
   pub are : AreEquivalents plan list
   pub room : All (λ equivalent. HasRoom (program_of plan) tests steps equivalent.why) list

@@ -7,7 +7,7 @@ use Rattle.clap.specs.declared.error.kind.ErrorKind.{ErrorKind}
 use Rattle.clap.specs.declared.error.kind.ErrorKind.TheVariants as kind
 use Rattle.mothra_app.specs.Answer.{Outcome}
 use Rattle.mothra_app.specs.Fault.{of_mutants}
-use Rattle.mothra_app.specs.Line.{line_of}
+use Rattle.mothra_app.specs.Line.{fault_line}
 use Rattle.mothra_app.specs.Serving.{IsReadFor, bad_operators}
 use Rattle.mothra_app.specs.declared.fault.Fault.{Fault}
 use Rattle.mothra_app.specs.declared.fault.Fault.TheVariants.{Job}
@@ -18,71 +18,80 @@ use Rattle.mothra_cli.specs.Output.{AppendsFront}
 use Rattle.mothra_job.specs.Job.{JobRead, job_of}
 use Rattle.mothra_job.specs.declared.job.JobFault.TheVariants as job
 use Rattle.equivalents_app.specs.Finding.{IsFound}
-use Rattle.equivalents_app.specs.Words.{HasBadOperators, IsBounded, equivalents, inquiry_of}
+use Rattle.equivalents_app.specs.Words.{HasBadInquiryOperators, IsInquiryBounded, equivalents, inquiry_of}
 use Rattle.equivalents_app.specs.declared.words.Inquiry.{Inquiry}
 
 -- ---- the answer to an inquiry
 
 -- what the inquiry comes to on a job, or on bytes that are none
-abbrev pub IsOutcome : Inquiry → JobRead → Outcome → Type 0
-IsOutcome i (Err fault) outcome = outcome ≡ Err (Job fault)
-IsOutcome i (Ok j) outcome = IsFound j i outcome
+abbrev pub IsInquiryOutcome : Inquiry → JobRead → Outcome → Type 0
+IsInquiryOutcome i (Err fault) outcome = outcome ≡ Err (Job fault)
+IsInquiryOutcome i (Ok j) outcome = IsFound j i outcome
 
 -- want of memory, which may come in place of any other answer
 abbrev pub memory_faults : List Fault
 memory_faults = Job job.Memory ∷ of_mutants
 
 -- The answer to an inquiry: what it comes to, or the line of a fault that may come in its place.
-pub data IsAnswer (i : Inquiry) (read : JobRead) : Status → List ℕ → Type 0 where
-  report : {text : List ℕ} → IsOutcome i read (Ok text) → IsAnswer i read status.Report text
-  fault : (fault : Fault) → IsOutcome i read (Err fault) → IsAnswer i read status.Fault (line_of fault)
-  broken_off : (fault : Fault) → Contains memory_faults fault → IsAnswer i read status.Fault (line_of fault)
+pub data IsInquiryAnswer (i : Inquiry) (read : JobRead) : Status → List ℕ → Type 0 where
+  report : {text : List ℕ}
+      → IsInquiryOutcome i read (Ok text) → IsInquiryAnswer i read status.Report text
+  fault : (fault : Fault)
+      → IsInquiryOutcome i read (Err fault) → IsInquiryAnswer i read status.Fault (fault_line fault)
+  broken_off : (fault : Fault)
+      → Contains memory_faults fault → IsInquiryAnswer i read status.Fault (fault_line fault)
 
 -- ---- by the words
 
--- the command line takes the words, and they ask for this, with numbers in the bounds of their options
-pub record AsksFor (words : List Text) (i : Inquiry) : Type 0 where
+-- the command line takes the words, and they ask for
+-- this, with numbers in the bounds of their options
+pub record AsksForInquiry (words : List Text) (i : Inquiry) : Type 0 where
   pub is : inquiry_of words ≡ Some i
-  pub bounded : IsBounded i
+  pub bounded : IsInquiryBounded i
 
 -- the command line refuses the words, for another cause than memory, and is not asked for help
-abbrev pub IsRefused : List Text → Type 0
-IsRefused words = (cause : ErrorKind) × (cause ≢ kind.OutOfMemory) × (cause ≢ kind.DisplayHelp) × IsAmong cause (fault_of equivalents words)
+abbrev pub RefusesWords : List Text → Type 0
+RefusesWords words = (cause : ErrorKind) × (cause ≢ kind.OutOfMemory)
+    × (cause ≢ kind.DisplayHelp) × IsAmong cause (fault_of equivalents words)
 
 -- the command line is asked for help
-abbrev pub AsksHelp : List Text → Type 0
-AsksHelp words = IsAmong kind.DisplayHelp (fault_of equivalents words)
+abbrev pub AsksInquiryHelp : List Text → Type 0
+AsksInquiryHelp words = IsAmong kind.DisplayHelp (fault_of equivalents words)
 
--- What may be written for the words and the bytes: the answer to what the words ask for, or what is told of words that ask for nothing.
-pub data MayBeWritten (words : List Text) (bytes : List ℕ) : Status → List ℕ → Type 0 where
-  answer : {i : Inquiry} {status : Status} {text : List ℕ} → AsksFor words i → IsAnswer i (job_of bytes) status text
-      → MayBeWritten words bytes status text
-  bad_list : HasBadOperators words → MayBeWritten words bytes status.Words bad_operators
-  refusal : {text : List ℕ} → IsRefused words → MayBeWritten words bytes status.Words text
-  help : {text : List ℕ} → AsksHelp words → MayBeWritten words bytes status.Help text
+-- What may be written for the words and the bytes: the answer to what
+-- the words ask for, or what is told of words that ask for nothing.
+pub data MayBeWrittenByInquiry (words : List Text) (bytes : List ℕ) : Status → List ℕ → Type 0 where
+  answer : {i : Inquiry} {status : Status} {text : List ℕ}
+      → AsksForInquiry words i → IsInquiryAnswer i (job_of bytes) status text
+      → MayBeWrittenByInquiry words bytes status text
+  bad_list : HasBadInquiryOperators words
+      → MayBeWrittenByInquiry words bytes status.Words bad_operators
+  refusal : {text : List ℕ}
+      → RefusesWords words → MayBeWrittenByInquiry words bytes status.Words text
+  help : {text : List ℕ}
+      → AsksInquiryHelp words → MayBeWrittenByInquiry words bytes status.Help text
 
--- the text with this status may be written for the words, where the reader had the bytes `left` and now has `now`
-pub record IsAnswered (words : List Text) (left now : Option (List ℕ)) (status : Status) (text : List ℕ) : Type 0 where
+-- the text with this status may be written for the words,
+-- where the reader had the bytes `left` and now has `now`
+pub record IsInquiryAnswered (words : List Text) (left now : Option (List ℕ)) (status : Status)
+    (text : List ℕ) : Type 0 where
   pub bytes : List ℕ
   pub all : AreAll left bytes
-  pub may : MayBeWritten words bytes status text
+  pub may : MayBeWrittenByInquiry words bytes status text
   pub read : IsReadFor status left now
 
--- the answer to the inquiry, where the reader had these bytes left
-pub record IsAnswerBy (i : Inquiry) (left : Option (List ℕ)) (status : Status) (text : List ℕ) : Type 0 where
-  pub bytes : List ℕ
-  pub all : AreAll left bytes
-  pub is : IsAnswer i (job_of bytes) status text
-
--- the whole of such a text was written to the writer that held the bytes `old` and now holds `new`, and nothing else
-pub record WritesWhole (words : List Text) (left now old new : Option (List ℕ)) (status : Status) : Type 0 where
+-- the whole of such a text was written to the writer that
+-- held the bytes `old` and now holds `new`, and nothing else
+pub record WritesInquiryWhole (words : List Text) (left now old new : Option (List ℕ))
+    (status : Status) : Type 0 where
   pub text : List ℕ
-  pub answered : IsAnswered words left now status text
+  pub answered : IsInquiryAnswered words left now status text
   pub written : Appends old new text
 
 -- a front of such a text was written, and nothing else
-pub record WritesFront (words : List Text) (left now old new : Option (List ℕ)) : Type 0 where
+pub record WritesInquiryFront (words : List Text)
+    (left now old new : Option (List ℕ)) : Type 0 where
   pub status : Status
   pub text : List ℕ
-  pub answered : IsAnswered words left now status text
+  pub answered : IsInquiryAnswered words left now status text
   pub written : AppendsFront old new text

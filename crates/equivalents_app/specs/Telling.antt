@@ -1,5 +1,6 @@
 -- How mutants of a plan that are proved equivalent are told.
-use Rattle.std.specs.Prelude.{ℕ, Bool, List, [], ◌++◌, Option, Some, None, codes, filter_map, flat_map, if◌then◌else◌, length, nat_le}
+use Rattle.std.specs.Prelude.{ℕ, Bool, List, [], ◌++◌, Option, Some, None, codes}
+use Rattle.std.specs.Prelude.{filter_map, flat_map, if◌then◌else◌, length, nat_le}
 use Rattle.std.specs.Fmt.{decimal}
 use Rattle.std.specs.Option.{option_map_or}
 use Rattle.f77_tree.specs.Joined.{separated}
@@ -25,21 +26,26 @@ why_text why.Unreached = codes "UNREACHED"
 -- the name of a mutant, and the rule of its proof
 abbrev pub reason_text : ℕ → Equivalent → List ℕ
 reason_text every e =
-    codes "EQUIVALENT " ++ (mutant_name every e.ticket.op e.ticket.number ++ (codes " " ++ (why_text e.why ++ codes " ")))
+    codes "EQUIVALENT " ++ (mutant_name every e.ticket.op e.ticket.number
+    ++ (codes " " ++ (why_text e.why ++ codes " ")))
 
 -- and then where it is changed
-abbrev pub mutant_line : PlanFields → Equivalent → MutantFields → List ℕ
-mutant_line plan e mutant = reason_text plan.every e ++ (change_text (program_of plan) mutant ++ codes "\n")
+abbrev pub rule_line : PlanFields → Equivalent → MutantFields → List ℕ
+rule_line plan e mutant =
+    reason_text plan.every e ++ (change_text (program_of plan) mutant ++ codes "\n")
 
 abbrev pub equivalent_line : PlanFields → Equivalent → List ℕ
-equivalent_line plan e = option_map_or (mutant_line plan e) (mutant_of plan e.ticket.op e.ticket.number) []
+equivalent_line plan e =
+    option_map_or (rule_line plan e) (mutant_of plan e.ticket.op e.ticket.number) []
 
 -- how many of the plan's mutants are proved equivalent, and how many it has
 abbrev pub proved_line : ℕ → ℕ → List ℕ
-proved_line count total = codes "PROVED " ++ (decimal count ++ (codes " OF " ++ (decimal total ++ codes "\n")))
+proved_line count total =
+    codes "PROVED " ++ (decimal count ++ (codes " OF " ++ (decimal total ++ codes "\n")))
 
 abbrev pub lines_text : PlanFields → List Equivalent → List ℕ
-lines_text plan list = flat_map (equivalent_line plan) list ++ proved_line (length list) (asked_total plan)
+lines_text plan list =
+    flat_map (equivalent_line plan) list ++ proved_line (length list) (asked_total plan)
 
 -- ---- as the list that the key `equivalent` of a job takes
 

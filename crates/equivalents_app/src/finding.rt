@@ -4,8 +4,8 @@ ghost use Rattle.std.specs.Prelude.{◌≡◌, ◌⊎◌, Ok, Err, Contains, IfE
 ghost use Rattle.mothra_app.specs.Fault.{of_mutants};
 ghost use Rattle.mothra_ops.specs.declared.fault.OpsFault.TheVariants.{Memory};
 ghost use Rattle.equivalents_app.specs.Finding.{IsFound};
-ghost use Rattle.equivalents_app.specs.Room.{AreNamed};
-ghost use Rattle.equivalents_app.specs.Words.{IsBounded};
+ghost use Rattle.equivalents_app.specs.Room.{AreNamedMutants};
+ghost use Rattle.equivalents_app.specs.Words.{IsInquiryBounded};
 
 use crate::room::{keep_within, room_for};
 use crate::telling::text_of;
@@ -18,14 +18,15 @@ use mothra_job::Job;
 use mothra_ops::{OpsFault, Plan};
 use std::alloc::Global;
 
-/// The mutants of the plan that are named: those that are proved equivalent, without those for which the tests leave no room.
+/// The mutants of the plan that are named: those that are proved
+/// equivalent, without those for which the tests leave no room.
 fn named_of(
     alloc: Global,
     plan: &Plan,
     tests: &[Values<Arg>],
     steps: u32,
 ) -> Result<Vec<Equivalent>, OpsFault>
-    ensures named { IfOk result (λ list. AreNamed plan.now tests.now steps list.items) }
+    ensures named { IfOk result (λ list. AreNamedMutants plan.now tests.now steps list.items) }
     ensures memory { IfErr result (λ fault. fault ≡ Memory) }
 {
     let mut list = equivalents_of(alloc, plan)?;
@@ -36,7 +37,7 @@ fn named_of(
 
 /// The text that names equivalent mutants of the program of a job, as the inquiry asks.
 pub(crate) fn find(alloc: Global, job: &Job, inquiry: &Inquiry) -> Result<String, Fault>
-    requires { IsBounded inquiry.now }
+    requires { IsInquiryBounded inquiry.now }
     ensures { MatchResult result
         (λ text. IsFound job.now inquiry.now (Ok (string_bytes text)))
         (λ fault. IsFound job.now inquiry.now (Err fault) ⊎ Contains of_mutants fault) }

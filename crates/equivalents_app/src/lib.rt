@@ -1,4 +1,5 @@
-//! Which mutants of the program of a job no test can kill: from words and the bytes of the job to the bytes that are written.
+//! Which mutants of the program of a job no test can kill: from
+//! words and the bytes of the job to the bytes that are written.
 #![tactic(auto)]
 
 mod finding;

@@ -5,7 +5,7 @@ ghost use Rattle.f77_equivalence.specs.Equivalent.{IsEnd};
 ghost use Rattle.f77_program.specs.Program.{line_of};
 ghost use Rattle.mothra_ops.specs.declared.fault.OpsFault.TheVariants.{Memory};
 ghost use Rattle.equivalents_app.specs.Room.{LeavesRoom, LeavesRoomOn};
-ghost use Rattle.equivalents_app.specs.Room as definition;
+ghost use Rattle.equivalents_app.specs.code.Room as definition;
 
 use f77_check::Checked;
 use f77_run::{Arg, Outcome, RunFault, Values, counted_run};
@@ -38,7 +38,8 @@ fn room_on(
     test: &[Arg],
     steps: u32,
 ) -> Result<Option<u32>, OpsFault>
-    ensures room { IfOk result (λ found. IfSome found (λ room. LeavesRoomOn (map line_of checked.now.program) steps room test.now)) }
+    ensures room { IfOk result
+        (λ found. IfSome found (λ room. LeavesRoomOn (map line_of checked.now.program) steps room test.now)) }
     ensures memory { IfErr result (λ fault. fault ≡ Memory) }
 {
     match counted_run(alloc, checked, test, steps) {
@@ -55,7 +56,8 @@ fn room_of(
     tests: &[Values<Arg>],
     steps: u32,
 ) -> Result<Option<u32>, OpsFault>
-    ensures room { IfOk result (λ found. IfSome found (λ room. LeavesRoom (map line_of checked.now.program) tests.now steps room)) }
+    ensures room { IfOk result
+        (λ found. IfSome found (λ room. LeavesRoom (map line_of checked.now.program) tests.now steps room)) }
     ensures memory { IfErr result (λ fault. fault ≡ Memory) }
 {
     let mut room = u32::MAX;
@@ -82,7 +84,8 @@ pub(crate) fn room_for(
     tests: &[Values<Arg>],
     steps: u32,
 ) -> Result<Option<u32>, OpsFault>
-    ensures room { IfOk result (λ found. IfSome found (λ room. LeavesRoom (map line_of checked.now.program) tests.now steps room)) }
+    ensures room { IfOk result
+        (λ found. IfSome found (λ room. LeavesRoom (map line_of checked.now.program) tests.now steps room)) }
     ensures memory { IfErr result (λ fault. fault ≡ Memory) }
 {
     if ask_for_room(list) {

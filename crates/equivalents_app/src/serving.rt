@@ -5,8 +5,10 @@ ghost use Rattle.mothra_app.specs.Status.{is_read_fault, is_write_fault};
 ghost use Rattle.mothra_cli.specs.Input.{limit, IsRead, TakesAtMost};
 ghost use Rattle.mothra_cli.specs.Watched.{inside, has_failed};
 ghost use Rattle.mothra_job.specs.Job.{job_of};
-ghost use Rattle.equivalents_app.specs.Serving.{IsAnswer, IsAnswerBy, IsAnswered, IsOutcome, WritesFront, WritesWhole, memory_faults};
-ghost use Rattle.equivalents_app.specs.Words.{IsBounded};
+ghost use Rattle.equivalents_app.specs.Serving.{IsInquiryAnswer, IsInquiryAnswered, IsInquiryOutcome};
+ghost use Rattle.equivalents_app.specs.Serving.{WritesInquiryFront, WritesInquiryWhole, memory_faults};
+ghost use Rattle.equivalents_app.specs.code.Serving.{IsAnswerBy};
+ghost use Rattle.equivalents_app.specs.Words.{IsInquiryBounded};
 
 use crate::finding::find;
 use crate::words::{Inquiry, inquiry_of};
@@ -21,10 +23,10 @@ use std::io::{Read, Write};
 
 /// The text that the inquiry comes to on the job that the bytes are.
 fn text_for(alloc: Global, inquiry: &Inquiry, bytes: &[u8]) -> Result<String, Fault>
-    requires { IsBounded inquiry.now }
+    requires { IsInquiryBounded inquiry.now }
     ensures { MatchResult result
-        (λ text. IsOutcome inquiry.now (job_of bytes.now) (Ok (string_bytes text)))
-        (λ fault. IsOutcome inquiry.now (job_of bytes.now) (Err fault) ⊎ Contains memory_faults fault) }
+        (λ text. IsInquiryOutcome inquiry.now (job_of bytes.now) (Ok (string_bytes text)))
+        (λ fault. IsInquiryOutcome inquiry.now (job_of bytes.now) (Err fault) ⊎ Contains memory_faults fault) }
 {
     let job = read_job(alloc, bytes)?;
     find(alloc, &job, inquiry)
@@ -32,8 +34,8 @@ fn text_for(alloc: Global, inquiry: &Inquiry, bytes: &[u8]) -> Result<String, Fa
 
 /// The answer to the inquiry on the job that the bytes are.
 fn answer_to(alloc: Global, inquiry: &Inquiry, bytes: &[u8]) -> Result<Answer, AllocError>
-    requires { IsBounded inquiry.now }
-    ensures { IfOk result (λ a. IsAnswer inquiry.now (job_of bytes.now) a.status (string_bytes a.text)) }
+    requires { IsInquiryBounded inquiry.now }
+    ensures { IfOk result (λ a. IsInquiryAnswer inquiry.now (job_of bytes.now) a.status (string_bytes a.text)) }
 {
     match text_for(alloc, inquiry, bytes) {
         Ok(text) => Ok(Answer {
@@ -50,9 +52,10 @@ fn read_and_answer<R: Read>(
     inquiry: &Inquiry,
     reader: &mut Watched<R>,
 ) -> Result<Answer, AppFault>
-    requires bounded { IsBounded inquiry.now }
+    requires bounded { IsInquiryBounded inquiry.now }
     requires works { has_failed reader.old ≡ false }
-    ensures answer { IfOk result (λ a. IsAnswerBy inquiry.now (R.remaining (inside reader.old)) a.status (string_bytes a.text)) }
+    ensures answer { IfOk result
+        (λ a. IsAnswerBy inquiry.now (R.remaining (inside reader.old)) a.status (string_bytes a.text)) }
     ensures read { IfOk result (λ a. IsRead limit (R.remaining (inside reader.old)) (R.remaining (inside reader.new))) }
     ensures taken { TakesAtMost limit (R.remaining (inside reader.old)) (R.remaining (inside reader.new)) }
     ensures failed { has_failed reader.new ≡ is_read_fault result }
@@ -69,7 +72,7 @@ fn answer_for<S: AsStr, R: Read>(
     reader: &mut Watched<R>,
 ) -> Result<Answer, AppFault>
     requires { has_failed reader.old ≡ false }
-    ensures answered { IfOk result (λ a. IsAnswered (map S.text words.now)
+    ensures answered { IfOk result (λ a. IsInquiryAnswered (map S.text words.now)
         (R.remaining (inside reader.old)) (R.remaining (inside reader.new)) a.status (string_bytes a.text)) }
     ensures words { IfOk result (λ a. a.status ≡ Status.Words → reader.new ≡ reader.old) }
     ensures help { IfOk result (λ a. a.status ≡ Status.Help → reader.new ≡ reader.old) }
@@ -97,12 +100,13 @@ pub fn tell<S: AsStr, R: Read, W: Write>(
     requires reader_works { has_failed reader.old ≡ false }
     requires writer_works { has_failed writer.old ≡ false }
 
-    // What is written: it is told by the words, the bytes, and which mutants are named. Each that is named is an equivalent mutant of the
-    // plan, as its rule says, and where it takes more steps than the program, each test leaves room for them.
-    ensures written { IfOk result (WritesWhole (map S.text words.now)
+    // What is written: it is told by the words, the bytes, and which mutants are
+    // named. Each that is named is an equivalent mutant of the plan, as its rule says,
+    // and where it takes more steps than the program, each test leaves room for them.
+    ensures written { IfOk result (WritesInquiryWhole (map S.text words.now)
         (R.remaining (inside reader.old)) (R.remaining (inside reader.new))
         (W.contents (inside writer.old)) (W.contents (inside writer.new))) }
-    ensures front { result ≡ Err AppFault.Write → WritesFront (map S.text words.now)
+    ensures front { result ≡ Err AppFault.Write → WritesInquiryFront (map S.text words.now)
         (R.remaining (inside reader.old)) (R.remaining (inside reader.new))
         (W.contents (inside writer.old)) (W.contents (inside writer.new)) }
     ensures no_memory { result ≡ Err AppFault.Memory → writer.new ≡ writer.old }

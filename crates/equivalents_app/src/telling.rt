@@ -5,7 +5,8 @@ ghost use Rattle.f77_tree.specs.Joined.{separated};
 ghost use Rattle.mothra_app.specs.Listing.{asked_total};
 ghost use Rattle.mothra_ops.specs.Mutants.{mutant_fields, original_number};
 ghost use Rattle.mothra_ops.specs.declared.fault.OpsFault.TheVariants.{Memory};
-ghost use Rattle.equivalents_app.specs.Telling.{declarable, entry_text, equivalent_line, json_line, lines_text, mutant_line};
+ghost use Rattle.equivalents_app.specs.Telling.{declarable, entry_text, equivalent_line};
+ghost use Rattle.equivalents_app.specs.Telling.{json_line, lines_text, rule_line};
 ghost use Rattle.equivalents_app.specs.Telling as definition;
 
 use mothra_codes::Ticket;
@@ -49,7 +50,8 @@ fn push_mutant(
     mutant: &Mutant,
 ) -> Result<(), OpsFault>
     requires { mutants.now ≡ plan.now }
-    ensures line { OnOk result (string_bytes text.new ≡ string_bytes text.old ++ mutant_line plan.now equivalent (mutant_fields mutant.now)) }
+    ensures line { OnOk result
+        (string_bytes text.new ≡ string_bytes text.old ++ rule_line plan.now equivalent (mutant_fields mutant.now)) }
     ensures memory { IfErr result (λ fault. fault ≡ Memory) }
 {
     push_reason(text, plan.every(), equivalent)?;
@@ -85,7 +87,8 @@ fn push_equivalents(
     list: &[Equivalent],
 ) -> Result<(), OpsFault>
     requires { mutants.old ≡ plan.now }
-    ensures lines { OnOk result (string_bytes text.new ≡ string_bytes text.old ++ flat_map (equivalent_line plan.now) list.now) }
+    ensures lines { OnOk result
+        (string_bytes text.new ≡ string_bytes text.old ++ flat_map (equivalent_line plan.now) list.now) }
     ensures memory { IfErr result (λ fault. fault ≡ Memory) }
 {
     for equivalent in list {
@@ -153,7 +156,8 @@ fn push_entry(text: &mut String, before: &str, ticket: Ticket) -> Result<(), All
 
 /// Adds the entries of the JSON list.
 fn push_entries(text: &mut String, every: u32, list: &[Equivalent]) -> Result<(), AllocError>
-    ensures { OnOk result (string_bytes text.new ≡ string_bytes text.old ++ separated entry_text [] (declarable every list.now)) }
+    ensures { OnOk result
+        (string_bytes text.new ≡ string_bytes text.old ++ separated entry_text [] (declarable every list.now)) }
 {
     let mut before = "";
     for equivalent in list {

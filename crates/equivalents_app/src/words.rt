@@ -4,8 +4,9 @@ ghost use Rattle.std.specs.Prelude.{◌≡◌, IfErr, IfOk, Ok, OnOk, Some, fals
 ghost use Rattle.clap.specs.Words.{FailsBy, app_of, fault_of, found_of, matches_of, rows_of, rule_of};
 ghost use Rattle.clap.specs.declared.builder.command.Command.TheViews.{out-Command};
 ghost use Rattle.mothra_cli.specs.Command.{steps_rule};
-ghost use Rattle.equivalents_app.specs.Words.{equivalents, flag_at, json_rule, IsBounded, IsTaken};
-ghost use Rattle.equivalents_app.specs.Words.{inquiry_meaning, options_meaning, IsFaultOf, Reads};
+ghost use Rattle.equivalents_app.specs.Words.{equivalents, flag_at, json_rule, IsInquiryBounded, IsInquiryTaken};
+ghost use Rattle.equivalents_app.specs.Words.{inquiry_meaning, options_meaning, IsInquiryFault};
+ghost use Rattle.equivalents_app.specs.code.Words.{ReadsInquiry};
 ghost use Rattle.equivalents_app.specs.Words as asked;
 
 use clap::builder::ValueParser;
@@ -94,7 +95,7 @@ fn inquiry_with(
     steps: Option<u32>,
     json: bool,
 ) -> Option<Inquiry>
-    ensures { Reads (inquiry_meaning (Some operators) every steps json) (Ok result) }
+    ensures { ReadsInquiry (inquiry_meaning (Some operators) every steps json) (Ok result) }
 {
     Some(Inquiry {
         operators,
@@ -106,7 +107,7 @@ fn inquiry_with(
 
 /// What these values of the options ask for.
 fn inquiry_in(alloc: Global, matches: &ArgMatches<'_>) -> Result<Option<Inquiry>, WordsFault>
-    ensures { Reads (options_meaning (rows_of (found_of matches.now))) result }
+    ensures { ReadsInquiry (options_meaning (rows_of (found_of matches.now))) result }
 {
     match operators_at(alloc, matches)? {
         Some(operators) => Ok(inquiry_with(
@@ -122,9 +123,9 @@ fn inquiry_in(alloc: Global, matches: &ArgMatches<'_>) -> Result<Option<Inquiry>
 /// What the words ask for, or why they ask for nothing. The first word is the program's name.
 pub fn inquiry_of<S: AsStr>(alloc: Global, words: &[S]) -> Result<Inquiry, WordsFault>
     ensures inquiry { IfOk result (λ i. asked.inquiry_of (map S.text words.now) ≡ Some i) }
-    ensures bounds { IfOk result IsBounded }
-    ensures taken { OnOk result (IsTaken (map S.text words.now)) }
-    ensures fault { IfErr result (IsFaultOf (map S.text words.now)) }
+    ensures bounds { IfOk result IsInquiryBounded }
+    ensures taken { OnOk result (IsInquiryTaken (map S.text words.now)) }
+    ensures fault { IfErr result (IsInquiryFault (map S.text words.now)) }
 {
     let matches = matches_in(alloc, words)?;
     let inquiry = inquiry_in(alloc, &matches)?;

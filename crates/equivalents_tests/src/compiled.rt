@@ -87,7 +87,8 @@ const EDGES: [Case; 11] = [
     (Op::Uoi, 3, "SUBROUTINE SELF(I,P); LOGICAL P; P=I.GE.I; END"),
 ];
 
-/// Each is killed by a zero divisor, a power of zero, a subscript, a variable without a value, or by the limit on steps.
+/// Each is killed by a zero divisor, a power of zero, a subscript,
+/// a variable without a value, or by the limit on steps.
 const FAULTS: [Case; 8] = [
     // K=0/N
     (Op::Aor, 3, "SUBROUTINE NONE(N,K); K=0*N; END"),

@@ -14,7 +14,7 @@ use Rattle.f77_tree.specs.declared.data.Constant.{Constant}
 use Rattle.f77_tree.specs.declared.tree.Kind.{Kind}
 use Rattle.f77_legal.specs.Blocks.{first_numbers}
 use Rattle.f77_legal.specs.Frames.{framed, framed_line, frame, HaveOneFrame}
-use Rattle.f77_legal.specs.Labels.{statement_at}
+use Rattle.f77_legal.specs.Labels.{nth_statement}
 use Rattle.f77_legal.specs.Legal.{IsLegal}
 use Rattle.f77_legal.specs.Names.{Symbol, kind_of, bounds_of}
 use Rattle.f77_legal.specs.Patches.{IsStock}
@@ -28,23 +28,23 @@ use Rattle.f77_check.specs.Checked.{shapes}
 use Rattle.f77_check.specs.Ready.{CanResolve}
 use Rattle.f77_check.specs.Resolved.{IsResolved, AreResolved}
 use Rattle.f77_check.specs.Slots.{first_slot, slot_kinds}
-use Rattle.f77_check.specs.Start.{Cell, cells, is_cell, presets, preset_at, is_executable, IsStartOf}
+use Rattle.f77_check.specs.Start.{Cell, cells, is_cell, presets, preset_value, is_executable_statement, IsStartOf}
 use Rattle.f77_actions.specs.declared.action.Action.{Action, Goto, ComputedGoto, ArithmeticIf, LogicalIf', Branch, Loop}
 use Rattle.f77_actions.specs.declared.action.Jump.{Jump}
 use Rattle.f77_check.specs.declared.resolve.Resolver.{Resolver}
 use Rattle.f77_actions.specs.declared.resolved.Resolved.{Resolved}
 use Rattle.f77_check.specs.declared.start.Start.{Start}
 
-is_executable-framed : (s : Statement) → is_executable (framed s) ≡ is_executable s
+is_executable-framed : (s : Statement) → is_executable_statement (framed s) ≡ is_executable_statement s
 is_executable-framed (Statement.BlockIf tree) = refl
 is_executable-framed _ = refl
 
 -- the first executable statement is that of the frame
-before-frame : (p : List LineFields) → prefix_len (λ line. not (is_executable line.stmt)) (frame p) ≡ prefix_len (λ line. not (is_executable line.stmt)) p
+before-frame : (p : List LineFields) → prefix_len (λ line. not (is_executable_statement line.stmt)) (frame p) ≡ prefix_len (λ line. not (is_executable_statement line.stmt)) p
 before-frame [] = refl
 before-frame (line ∷ lines) = λ k. cond (not (is_executable-framed line.stmt k)) (1 + before-frame lines k) 0
 
-entry-frame : (p : List LineFields) → position (λ line. is_executable line.stmt) (frame p) ≡ position (λ line. is_executable line.stmt) p
+entry-frame : (p : List LineFields) → position (λ line. is_executable_statement line.stmt) (frame p) ≡ position (λ line. is_executable_statement line.stmt) p
 entry-frame p = λ k. cond (nat_lt (before-frame p k) (length-map p framed_line k)) (Some (before-frame p k)) None
 
 -- the groups of DATA are those of the frame
@@ -138,11 +138,11 @@ module _ (p q : List LineFields) (same : HaveOneFrame p q) where
       cells_same : (names : List Symbol) → cells p names ≡ cells q names
       cells_same names = λ k. flat_map (λ name. map (λ n. (name, n)) (first_numbers (elements_same p q same name k))) names
 
-  pub preset_at_same : (name : Symbol) (n : ℕ) → preset_at p name n ≡ preset_at q name n
+  pub preset_at_same : (name : Symbol) (n : ℕ) → preset_value p name n ≡ preset_value q name n
   preset_at_same name n = ap (λ all. option_and_then (λ given. Some given.1) (find (λ given. is_cell (name, n) given.0) all)) presets_same
 
-  pub entry_same : position (λ line. is_executable line.stmt) p ≡ position (λ line. is_executable line.stmt) q
-  entry_same = by_frame (position (λ line. is_executable line.stmt)) entry-frame p q same
+  pub entry_same : position (λ line. is_executable_statement line.stmt) p ≡ position (λ line. is_executable_statement line.stmt) q
+  entry_same = by_frame (position (λ line. is_executable_statement line.stmt)) entry-frame p q same
 
   pub start_same : (names : List Symbol) (start : Start) → IsStartOf p names start → IsStartOf q names start
   start_same names start is = record {
@@ -163,20 +163,20 @@ module _ (p q : List LineFields) (same : HaveOneFrame p q) where
 
   -- one statement is changed, and its resolved form
   pub all_resolved_same : (names : List Symbol) (i : ℕ) (list : List Resolved) (new : Resolved)
-      → ((j : ℕ) → i ≢ j → statement_at q j ≡ statement_at p j) → AreResolved p names list
-      → ((s : Statement) → statement_at q i ≡ Some s → IsResolved q names i s new) → AreResolved q names (set list i new)
+      → ((j : ℕ) → i ≢ j → nth_statement q j ≡ nth_statement p j) → AreResolved p names list
+      → ((s : Statement) → nth_statement q i ≡ Some s → IsResolved q names i s new) → AreResolved q names (set list i new)
   all_resolved_same names i list new others are is = record {
     count = length-set list i new ∙ are.count ∙ length_same p q same;
     each = λ j s r at told. by j s r at told (i == j) refl;
   }
     where
-      by : (j : ℕ) (s : Statement) (r : Resolved) → statement_at q j ≡ Some s → slice_get (set list i new) j ≡ Some r → (b : Bool) → (i == j) ≡ b
+      by : (j : ℕ) (s : Statement) (r : Resolved) → nth_statement q j ≡ Some s → slice_get (set list i new) j ≡ Some r → (b : Bool) → (i == j) ≡ b
           → IsResolved q names j s r
       by j s r at told true e =
           let here : i ≡ j = grind (arith, nat_tests) in
           let written : new ≡ r = set_here list i new r (ap (slice_get (set list i new)) here ∙ told) in
           subst (λ r. IsResolved q names j s r) written
-          (subst (λ k. IsResolved q names k s new) here (is s (ap (statement_at q) here ∙ at)))
+          (subst (λ k. IsResolved q names k s new) here (is s (ap (nth_statement q) here ∙ at)))
       by j s r at told false e =
           let apart : i ≢ j = λ here. absurd (true≢false (sym (same_number j) ∙ ap (λ k. k == j) (sym here) ∙ e)) in
           resolved_same names j s r (are.each j s r (sym (others j apart) ∙ at) (sym (set_there list i j new apart) ∙ told))

@@ -1,5 +1,6 @@
 -- When a changed statement stands alone, and what is told of it.
-use Rattle.std.proofs.Common.{arith, ◌≡◌, ◌≢◌, ◌<◌, ◌==◌, ◌∙◌, inl, inr, ℕ, Bool, true, false, true≢false, cond, List, [], ◌∷◌, length, get_or, set, map, filter, reverse, Option, Some, None, refl, sym, ap, subst}
+use Rattle.std.proofs.Common.{arith, ◌≡◌, ◌≢◌, ◌<◌, ◌==◌, ◌∙◌, inl, inr, ℕ, Bool, true, false, true≢false, cond, List, []}
+use Rattle.std.proofs.Common.{◌∷◌, length, get_or, set, map, filter, reverse, Option, Some, None, refl, sym, ap, subst}
 use Rattle.std.specs.Prelude.{is_some, option_map, IsNone}
 use Rattle.std.specs.List.{AllZip, find, slice_get}
 use Rattle.std.specs.Option.{option_and_then, option_map_or}
@@ -14,8 +15,8 @@ use Rattle.f77_tree.specs.StatementGrammar.{IsFormed}
 use Rattle.f77_tree.specs.Statement.{Statement}
 use Rattle.f77_program.specs.declared.program.Line.{Line}
 use Rattle.f77_check.specs.Checked.{CheckedFields, IsChecked, shapes}
-use Rattle.f77_check.specs.CheckedView.{fields_of}
-use Rattle.f77_check.specs.Patching.{IsChangedAlone}
+use Rattle.f77_check.specs.CheckedView.{checked_fields}
+use Rattle.f77_check.specs.code.Patching.{IsChangedAlone}
 use Rattle.f77_check.specs.Ready.{CanResolve}
 use Rattle.f77_check.specs.Resolved.{IsResolved, AreResolved}
 use Rattle.f77_check.specs.Start.{IsStartOf}
@@ -23,14 +24,15 @@ use Rattle.f77_check.specs.declared.checked.Shape.{Shape}
 use Rattle.f77_check.specs.declared.resolve.Resolver.{Resolver}
 use Rattle.f77_check.specs.declared.start.Start.{Start}
 use Rattle.f77_actions.specs.declared.resolved.Resolved.{Resolved}
-use Rattle.f77_legal.specs.Blocks.{numbers, behind}
+use Rattle.f77_legal.specs.Blocks.{statement_numbers, statement_behind}
 use Rattle.f77_legal.specs.Frames.{framed, HaveOneFrame}
-use Rattle.f77_legal.specs.Labels.{place_of, statement_at, terminal_label}
+use Rattle.f77_legal.specs.Labels.{label_place, nth_statement, terminal_label}
 use Rattle.f77_legal.specs.Legal.{IsLegal, faults, first_fault}
 use Rattle.f77_legal.specs.Loops.{terminal, ends_at, loops_ending}
 use Rattle.f77_legal.specs.NameTable.{has_name}
 use Rattle.f77_legal.specs.Names.{Symbol, name_in}
-use Rattle.f77_legal.specs.Patches.{is_among, names_pass, IsStock, MayStandAt, NamesAmong, StandsAlone}
+use Rattle.f77_legal.specs.Patches.{is_name_among, names_pass, IsStock}
+use Rattle.f77_legal.specs.code.Patches.{MayStandAt, NamesAmong, StandsAlone}
 use Rattle.f77_legal.specs.declared.fault.CheckFault.{CheckFault}
 use Rattle.f77_legal.specs.declared.names.Names.{Names}
 use Rattle.f77_legal.proofs.Alone.{alone_frame, alone_stock}
@@ -59,7 +61,7 @@ loop_within : (p : List LineFields) (d i : ℕ) → terminal p d ≡ Some i → 
 loop_within p d i ends = elim (cases_lt d (length p)) [
   | inl lt ↦ lt
   | inr le ↦
-      let none = ap (λ (o : Option LineFields). option_and_then (place_of p) (option_and_then terminal_label (option_map (λ line. line.stmt) o))) (slice_get_past p d le) in
+      let none = ap (λ (o : Option LineFields). option_and_then (label_place p) (option_and_then terminal_label (option_map (λ line. line.stmt) o))) (slice_get_past p d le) in
       absurd (cc (none, ends))
 ]
 
@@ -72,7 +74,7 @@ ends_there p d i ends = ap (λ o. option_map_or (λ e. e == i) o false) ends ∙
 may_stand_anywhere : (p : List LineFields) (i : ℕ) (s : Statement) → loops_ending p i ≡ [] → MayStandAt p i s
 may_stand_anywhere p i s none = λ d ends.
     let found = found_some (ends_at p i) (length p) d (ends_there p d i ends) (loop_within p d i ends) in
-    let lost = none_filtered (ends_at p i) (numbers p) (none_reversed (filter (ends_at p i) (numbers p)) none) in
+    let lost = none_filtered (ends_at p i) (statement_numbers p) (none_reversed (filter (ends_at p i) (statement_numbers p)) none) in
     absurd (true≢false (sym found ∙ ap is_some lost))
 
 no_items : (xs : List ℕ) → (length xs == 0) ≡ true → xs ≡ []
@@ -88,7 +90,7 @@ pub may_stand_by : (checked : CheckedFields) → IsChecked checked → (i : ℕ)
 may_stand_by checked is i s within r read none =
     may_stand_anywhere p i s (elim (slice_get_cases p i).1 [
       | inl found ↦
-          let at : statement_at p i ≡ Some found.0.stmt = ap (option_map (λ (line : LineFields). line.stmt)) found.2 in
+          let at : nth_statement p i ≡ Some found.0.stmt = ap (option_map (λ (line : LineFields). line.stmt)) found.2 in
           sym (is.statements.each i found.0.stmt r at told).ends ∙ no_items r.ends.items none
       | inr past ↦ let none = past.0 in absurd (omega (arith, below, none))
     ])
@@ -132,9 +134,9 @@ unframed (Statement.Dimension declarations) s e same = same
 unframed (Statement.Preset groups) s e same = same
 unframed _ s e same = absurd (true≢false (ap is_executed (sym same) ∙ e))
 
-module _ (names : Names) (p : List LineFields) (stock : IsStock (keys names.facts) p) (i : ℕ) (t : Statement) (at : statement_at p i ≡ Some t) where
+module _ (names : Names) (p : List LineFields) (stock : IsStock (keys names.facts) p) (i : ℕ) (t : Statement) (at : nth_statement p i ≡ Some t) where
   there_among : NamesAmong (keys names.facts) t
-  there_among = mentions_at (λ mention. is_among (keys names.facts) (name_in mention)) p (symbols_pass (keys names.facts) p stock.covers) i t at
+  there_among = mentions_at (λ mention. is_name_among (keys names.facts) (name_in mention)) p (symbols_pass (keys names.facts) p stock.covers) i t at
 
   same_among : (s : Statement) → s ≡ t → NamesAmong (keys names.facts) s
   same_among s same = subst (NamesAmong (keys names.facts)) (sym same) there_among
@@ -174,12 +176,12 @@ module _ (r : Resolver) (p q : List LineFields) (i : ℕ) (can : CanResolve r p)
       let long = length_same p q changed_frame in
       omega (arith, within, long)
 
-  others : (j : ℕ) → i ≢ j → statement_at q j ≡ statement_at p j
+  others : (j : ℕ) → i ≢ j → nth_statement q j ≡ nth_statement p j
   others j apart =
-      ap (λ q. statement_at q j) change.changed ∙ ap (option_map (λ (line : LineFields). line.stmt)) (other_line p i j change.statement apart)
+      ap (λ q. nth_statement q j) change.changed ∙ ap (option_map (λ (line : LineFields). line.stmt)) (other_line p i j change.statement apart)
 
   pub changed_statements : (list : List Resolved) (new : Resolved) → AreResolved p (keys r.tables.names.facts) list
-      → ((s : Statement) → statement_at q i ≡ Some s → IsResolved q (keys r.tables.names.facts) i s new)
+      → ((s : Statement) → nth_statement q i ≡ Some s → IsResolved q (keys r.tables.names.facts) i s new)
       → AreResolved q (keys r.tables.names.facts) (set list i new)
   changed_statements list new are is = all_resolved_same p q changed_frame (keys r.tables.names.facts) i list new others are is
 
@@ -191,10 +193,10 @@ module _ (r : Resolver) (p q : List LineFields) (i : ℕ) (can : CanResolve r p)
 
 -- with the changed statement resolved in its place, the statements resolved are those of the changed program
 module _ (names : List Symbol) (p : List LineFields) (i : ℕ) (s : Statement) (alone : StandsAlone names p i s) where
-  pub changed_here : statement_at (replaced p i s) i ≡ Some s
+  pub changed_here : nth_statement (replaced p i s) i ≡ Some s
   changed_here = ap (option_map (λ (line : LineFields). line.stmt)) (changed_line p i alone.line s alone.at)
 
-  pub changed_behind : (next : ℕ) → behind p i ≡ Some next → behind (replaced p i s) i ≡ Some next
+  pub changed_behind : (next : ℕ) → statement_behind p i ≡ Some next → statement_behind (replaced p i s) i ≡ Some next
   changed_behind next is = behind_same (replaced p i s) p (alone_frame names p i s alone) i ∙ is
 
   pub in_its_place : (list : List Resolved) (new : Resolved) → AreResolved p names list → IsResolved (replaced p i s) names i s new
@@ -209,7 +211,7 @@ pub changed_parts : (checked : CheckedFields) → IsChecked checked → (r : Res
     → (program : List Line) (i : ℕ) → IsChangedAlone checked.names (map line_of checked.program) i (map line_of program) → IsProgram None (map line_of program)
     → (arguments : List Shape) → arguments ≡ checked.arguments → (statements : List Resolved) → AreResolved (map line_of program) checked.names statements
     → (start : Start) → start ≡ checked.start
-    → IsChecked (fields_of program arguments r statements start) × CanResolve r (map line_of program)
+    → IsChecked (checked_fields program arguments r statements start) × CanResolve r (map line_of program)
 changed_parts checked is r can named program i change formed arguments same_arguments statements resolved start same_start =
     let p = map line_of checked.program in
     let q = map line_of program in

@@ -5,7 +5,7 @@ use Rattle.indexmap.specs.IndexMap.{keys}
 use Rattle.f77_program.specs.Program.{LineFields, IsProgram, line_of}
 use Rattle.f77_program.specs.declared.program.Line.{Line}
 use Rattle.f77_check.specs.Checked.{CheckedFields, IsChecked, shapes}
-use Rattle.f77_check.specs.CheckedView.{fields_of}
+use Rattle.f77_check.specs.CheckedView.{checked_fields}
 use Rattle.f77_check.specs.Ready.{CanResolve}
 use Rattle.f77_check.specs.Resolved.{AreResolved}
 use Rattle.f77_check.specs.Slots.{slot_count, most_slots}
@@ -34,7 +34,7 @@ own_tables_resolve r p formed legal tables slots = record {
 -- what is so of the lines of a program is so of the program
 pub checked_of : (program : List Line) (p : List LineFields) (arguments : List Shape) (r : Resolver) (statements : List Resolved) (start : Start)
     → map line_of program ≡ p → CanResolve r p → arguments ≡ shapes p → AreResolved p (keys r.tables.names.facts) statements
-    → IsStartOf p (keys r.tables.names.facts) start → IsChecked (fields_of program arguments r statements start) × CanResolve r (map line_of program)
+    → IsStartOf p (keys r.tables.names.facts) start → IsChecked (checked_fields program arguments r statements start) × CanResolve r (map line_of program)
 checked_of program p arguments r statements start same can is_shapes resolved starts =
     let there : CanResolve r (map line_of program) = subst (CanResolve r) (sym same) can in (
       record {

@@ -6,14 +6,14 @@ use Rattle.std.proofs.Math.Seq.{drop-cons}
 use Rattle.f77_tree.specs.Tree.{Tree, Trees}
 use Rattle.f77_tree.specs.View.{tree_of, trees}
 use Rattle.f77_tree.specs.declared.tree.Expr.{Expr}
-use Rattle.f77_legal.specs.Dimensions.{count}
+use Rattle.f77_legal.specs.Dimensions.{tree_count}
 use Rattle.f77_check.specs.Expression.{IsNumber, IsChosen}
 use Rattle.f77_legal.specs.Names.{Symbol}
 use Rattle.f77_actions.specs.declared.expression.Arithmetic.{Arithmetic}
 use Rattle.f77_actions.specs.declared.expression.Number.{Number, Binary'}
 
 pub chosen_first : (bounds : Symbol → List ℕ) (names : List Symbol) (op : Arithmetic) (t : Tree) (ts : Trees) (p : _) (x : Number) (q : _) (y : Number)
-    → 1 ≤ count ts → IsNumber bounds names t x → IsChosen bounds names op ts y → IsChosen bounds names op (Trees.Then t ts) (Binary' op p x q y)
+    → 1 ≤ tree_count ts → IsNumber bounds names t x → IsChosen bounds names op ts y → IsChosen bounds names op (Trees.Then t ts) (Binary' op p x q y)
 chosen_first bounds names op t Trees.None p x q y some h k = absurd k
 chosen_first bounds names op t (Trees.Then u us) p x q y some h k = (refl, h, k)
 

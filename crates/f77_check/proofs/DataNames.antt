@@ -15,11 +15,11 @@ use Rattle.f77_tree.specs.declared.data.DataGroup.{DataGroup}
 use Rattle.f77_tree.specs.declared.data.Value.{Value}
 use Rattle.f77_legal.specs.declared.names.Names.{Names}
 use Rattle.f77_check.specs.declared.resolve.Resolver.{Resolver}
-use Rattle.f77_check.specs.Initial.{HasSlots, groups_kept}
-use Rattle.f77_check.specs.Kept.{is_kept}
-use Rattle.f77_legal.specs.Labels.{statement_at}
+use Rattle.f77_check.specs.code.Initial.{HasFewSlots, groups_kept}
+use Rattle.f77_check.specs.code.Kept.{is_kept}
+use Rattle.f77_legal.specs.Labels.{nth_statement}
 use Rattle.f77_legal.specs.Names.{Symbol, name_in, mentions_of, symbols}
-use Rattle.f77_legal.specs.Patches.{is_among}
+use Rattle.f77_legal.specs.Patches.{is_name_among}
 use Rattle.f77_legal.specs.Presets.{groups_of}
 use Rattle.f77_check.specs.Ready.{CanResolve}
 use Rattle.f77_legal.specs.Heading.{dummies}
@@ -29,7 +29,7 @@ use Rattle.f77_check.proofs.SlotTables.{stock_few}
 use Rattle.f77_legal.proofs.Among.{among_holds}
 use Rattle.f77_legal.proofs.PatchNames.{among_keys}
 
-pub has_slots : (r : Resolver) (program : List LineFields) → CanResolve r program → HasSlots r
+pub has_slots : (r : Resolver) (program : List LineFields) → CanResolve r program → HasFewSlots r
 has_slots r program can = record { table = can.slots; few = stock_few r.tables.names program can.tables.bounds can.names }
 
 module _ (names : Names) where
@@ -54,12 +54,12 @@ module _ (names : Names) where
   groups_are [] = refl
   groups_are (g ∷ gs) = kept_append names (group_nodes g) (flat_map group_nodes gs) ∙ (λ i. group_is g i && groups_are gs i)
 
-module _ (names : Names) (program : List LineFields) (covers : All (λ name. is_among (keys names.facts) name ≡ true) (symbols program)) where
+module _ (names : Names) (program : List LineFields) (covers : All (λ name. is_name_among (keys names.facts) name ≡ true) (symbols program)) where
   own_groups : (s : Statement) → list_all (λ m. is_kept names (name_in m)) (mentions_of s) ≡ true → groups_kept names (groups_of s) ≡ true
   own_groups (Statement.Preset gs) h = sym (groups_are names gs) ∙ (sym (plain_kept names (names_of (Statement.Preset gs))) ∙ h)
   own_groups _ h = refl
 
-  pub groups_at : (i : ℕ) (s : Statement) → statement_at program i ≡ Some s → groups_kept names (groups_of s) ≡ true
+  pub groups_at : (i : ℕ) (s : Statement) → nth_statement program i ≡ Some s → groups_kept names (groups_of s) ≡ true
   groups_at i s at = own_groups s (mentions_at (λ m. is_kept names (name_in m)) program (mentioned_kept names program covers) i s at)
 
   pub dummies_kept : list_all (is_kept names) (dummies program) ≡ true
@@ -67,7 +67,7 @@ module _ (names : Names) (program : List LineFields) (covers : All (λ name. is_
       all_among (is_kept names) (dummies program)
       (λ name among.
       sym (among_keys names name)
-      ∙ among_holds (λ name. is_among (keys names.facts) name ≡ true) (symbols program) covers name (dummy_known program name among))
+      ∙ among_holds (λ name. is_name_among (keys names.facts) name ≡ true) (symbols program) covers name (dummy_known program name among))
 
 -- each of a list passes
 all_at : {X : Type 0} (test : X → Bool) (xs : List X) (i : ℕ) (x : X) → list_all test xs ≡ true → i < length xs → x ≡ get_or xs i x → test x ≡ true

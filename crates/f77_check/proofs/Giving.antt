@@ -1,5 +1,6 @@
 -- DATA gives each slot what its element is preset to: the first constant that a group gives it.
-use Rattle.std.proofs.Common.{arith, ◌≡◌, ℕ, zero, suc, ◌+◌, ◌<◌, ◌≤◌, ◌==◌, Bool, true, false, cond, List, [], ◌∷◌, ◌++◌, map, take, drop, replicate, append_assoc, append-nil, Option, Some, None, refl, sym, ap, subst, ◌∙◌}
+use Rattle.std.proofs.Common.{arith, ◌≡◌, ℕ, zero, suc, ◌+◌, ◌<◌, ◌≤◌, ◌==◌, Bool, true, false, cond, List, [], ◌∷◌, ◌++◌, map}
+use Rattle.std.proofs.Common.{take, drop, replicate, append_assoc, append-nil, Option, Some, None, refl, sym, ap, subst, ◌∙◌}
 use Rattle.std.specs.Prelude.{fold, is_some, not, slice_set, if◌then◌else◌}
 use Rattle.std.specs.List.{find, flat_map, list_all, list_any, zip}
 use Rattle.std.specs.Option.{option_and_then, option_map_or, option_or}
@@ -13,7 +14,7 @@ use Rattle.f77_tree.specs.declared.data.Value.{Value}
 use Rattle.f77_program.specs.Program.{LineFields}
 use Rattle.f77_tree.specs.Tree.{GroupFields}
 use Rattle.f77_legal.specs.Blocks.{first_numbers}
-use Rattle.f77_check.specs.Initial.{slots_of, is_free, give, give_run, give_values, give_group, give_groups}
+use Rattle.f77_check.specs.code.Initial.{slots_of, is_free, give, give_run, give_values, give_group, give_groups}
 use Rattle.f77_legal.specs.Names.{Symbol, bounds_of}
 use Rattle.f77_legal.specs.Presets.{product, groups_of}
 use Rattle.f77_check.specs.Start.{Cell, cells, presets_of, is_cell}

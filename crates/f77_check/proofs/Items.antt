@@ -9,11 +9,11 @@ use Rattle.f77_tree.specs.View.{tree_of, trees}
 use Rattle.f77_tree.specs.declared.intrinsic.Intrinsic.{Intrinsic}
 use Rattle.f77_tree.specs.declared.tree.Expr.{Expr}
 use Rattle.f77_tree.specs.declared.tree.Kind.TheVariants.{Integer}
-use Rattle.f77_legal.specs.Dimensions.{count, takes, fits, all_fit}
-use Rattle.f77_check.specs.Kept.{tree_kept, items_kept}
-use Rattle.f77_legal.specs.Kinds.{is_of, are_integer}
-use Rattle.f77_check.specs.Lookup.{ServesNames, IsReadyTree}
-use Rattle.f77_legal.specs.NameTable.{kind_at, bounds_at}
+use Rattle.f77_legal.specs.Dimensions.{tree_count, takes, fits_bounds, all_fit}
+use Rattle.f77_check.specs.code.Kept.{tree_kept, items_kept}
+use Rattle.f77_legal.specs.Kinds.{is_of_kind, are_integer}
+use Rattle.f77_check.specs.code.Lookup.{ServesNames, IsReadyTree}
+use Rattle.f77_legal.specs.NameTable.{kind_at, array_bounds}
 use Rattle.f77_check.specs.declared.resolve.Resolver.{Resolver}
 
 -- a list of one item, and of two
@@ -37,12 +37,12 @@ two_items xs x y some few e f = only_two x y xs some few ∙ (λ i. sym e i ∷ 
 -- the arguments of a call that can be looked up
 module _ (r : Resolver) (names : ServesNames r) where
   each_ready : (xs : List Expr) → are_integer (kind_at r.tables.names) (trees (map tree_of xs)) ≡ true
-      → all_fit (bounds_at r.tables.names) (trees (map tree_of xs)) ≡ true → items_kept r.tables.names (trees (map tree_of xs)) ≡ true
+      → all_fit (array_bounds r.tables.names) (trees (map tree_of xs)) ≡ true → items_kept r.tables.names (trees (map tree_of xs)) ≡ true
       → All (λ x. IsReadyTree r Integer (tree_of x)) xs
   each_ready [] kinds bounds kept = All-nil (λ x. IsReadyTree r Integer (tree_of x))
   each_ready (x ∷ xs) kinds bounds kept =
-      let kind = and_parts (is_of (kind_at r.tables.names) Integer (tree_of x)) (are_integer (kind_at r.tables.names) (trees (map tree_of xs))) kinds in
-      let fit = and_parts (fits (bounds_at r.tables.names) (tree_of x)) (all_fit (bounds_at r.tables.names) (trees (map tree_of xs))) bounds in
+      let kind = and_parts (is_of_kind (kind_at r.tables.names) Integer (tree_of x)) (are_integer (kind_at r.tables.names) (trees (map tree_of xs))) kinds in
+      let fit = and_parts (fits_bounds (array_bounds r.tables.names) (tree_of x)) (all_fit (array_bounds r.tables.names) (trees (map tree_of xs))) bounds in
       let have = and_parts (tree_kept r.tables.names (tree_of x)) (items_kept r.tables.names (trees (map tree_of xs))) kept in
       All-cons (λ x. IsReadyTree r Integer (tree_of x)) x xs (record { names = names; kinds = kind.0; bounds = fit.0; kept = have.0 })
       (each_ready xs kind.1 fit.1 have.1)
@@ -50,14 +50,14 @@ module _ (r : Resolver) (names : ServesNames r) where
 pub some_items : (r : Resolver) (f : Intrinsic) (xs : List Expr) → takes f 0 ≡ false → IsReadyTree r Integer (Tree.Call f (trees (map tree_of xs)))
     → 0 < length xs
 some_items r f [] none h =
-    let some = and_parts (takes f 0) (all_fit (bounds_at r.tables.names) Trees.None) h.bounds in
+    let some = and_parts (takes f 0) (all_fit (array_bounds r.tables.names) Trees.None) h.bounds in
     absurd (cc (none, some.0))
 some_items r f (x ∷ xs) none h = omega arith
 
 pub items_ready : (r : Resolver) (f : Intrinsic) (xs : List Expr) → IsReadyTree r Integer (Tree.Call f (trees (map tree_of xs)))
     → All (λ x. IsReadyTree r Integer (tree_of x)) xs
 items_ready r f xs h =
-    each_ready r h.names xs h.kinds (and_parts (takes f (count (trees (map tree_of xs)))) (all_fit (bounds_at r.tables.names) (trees (map tree_of xs))) h.bounds).1
+    each_ready r h.names xs h.kinds (and_parts (takes f (tree_count (trees (map tree_of xs)))) (all_fit (array_bounds r.tables.names) (trees (map tree_of xs))) h.bounds).1
     h.kept
 
 pub item_ready : (r : Resolver) (xs : List Expr) (i : ℕ) (x : Expr) → i < length xs → x ≡ get_or xs i x

@@ -4,9 +4,9 @@ use Rattle.std.specs.Prelude.{IsSome}
 use Rattle.std.proofs.lemmas.List.{take_more}
 use Rattle.indexmap.proofs.SetLemmas.{AllZip-push}
 use Rattle.f77_program.specs.Program.{LineFields}
-use Rattle.f77_legal.specs.Labels.{place_of}
+use Rattle.f77_legal.specs.Labels.{label_place}
 use Rattle.f77_check.specs.Action.{IsJump, AreJumps}
-use Rattle.f77_check.specs.Ready.{AreFound}
+use Rattle.f77_check.specs.code.Ready.{AreFound}
 use Rattle.f77_actions.specs.declared.action.Jump.{Jump}
 
 pub jumps_more : (p : List LineFields) (i : ℕ) (labels : List ℕ) (jumps : List Jump) (k otherwise : ℕ) (jump : Jump) → k < length labels
@@ -17,7 +17,7 @@ jumps_more p i labels jumps k otherwise jump here are is =
 
 -- each of the labels stands on a statement
 pub found_label : (p : List LineFields) (labels : List ℕ) (k otherwise : ℕ) → AreFound p labels
-    → k < length labels → IsSome (place_of p (get_or labels k otherwise))
+    → k < length labels → IsSome (label_place p (get_or labels k otherwise))
 found_label p [] k otherwise found here = absurd (omega (arith, here))
 found_label p (label ∷ labels) zero otherwise found here = found.0
 found_label p (label ∷ labels) (suc k) otherwise found here =

@@ -9,19 +9,19 @@ use Rattle.std.proofs.lemmas.List.Concat.{flat_map-cons}
 use Rattle.std.proofs.lemmas.List.Elements.{filter_map-append}
 use Rattle.std.proofs.lemmas.List.Folds.{list_all-append, list_all-map}
 use Rattle.indexmap.specs.IndexMap.{keys}
-use Rattle.f77_nodes.specs.Node.{NodeOf, parts, all_parts, tree_nodes, step_parts, nodes_of, name_of, names_of}
+use Rattle.f77_nodes.specs.Node.{NodeOf, parts, all_parts, tree_nodes, step_parts, nodes_of, node_name, names_of}
 use Rattle.f77_program.specs.Program.{LineFields}
 use Rattle.f77_tree.specs.Tree.{Tree, Trees, DeclFields}
 use Rattle.f77_tree.specs.Statement.{Statement}
 use Rattle.f77_legal.specs.declared.names.Names.{Names}
 use Rattle.f77_legal.specs.Dimensions.{is_shape, dimensions_fit}
-use Rattle.f77_check.specs.Kept.{is_kept, tree_kept, items_kept, step_kept, names_kept}
-use Rattle.f77_legal.specs.Labels.{statement_at}
+use Rattle.f77_check.specs.code.Kept.{is_kept, tree_kept, items_kept, step_kept, names_kept}
+use Rattle.f77_legal.specs.Labels.{nth_statement}
 use Rattle.f77_legal.specs.Legal.{IsLegal}
-use Rattle.f77_check.specs.Lookup.{AreFlat}
-use Rattle.f77_legal.specs.Names.{Symbol, Mention, name_in, mentions_of, mentions, symbols, bounds_given, bounds_in, some_items, first_or, bounds_of}
-use Rattle.f77_legal.specs.NameTable.{bounds_at}
-use Rattle.f77_legal.specs.Patches.{is_among}
+use Rattle.f77_check.specs.code.Lookup.{AreFlat}
+use Rattle.f77_legal.specs.Names.{Symbol, Mention, name_in, mentions_of, mentions, symbols, bounds_given, bounds_in, some_items, first_item_or, bounds_of}
+use Rattle.f77_legal.specs.NameTable.{array_bounds}
+use Rattle.f77_legal.specs.Patches.{is_name_among}
 use Rattle.f77_legal.proofs.NoFaults.{dimensions_kept}
 use Rattle.f77_legal.proofs.PatchNames.{among_keys, symbols_pass}
 use Rattle.f77_legal.proofs.Symbols.{symbol_refl}
@@ -41,10 +41,10 @@ or_end false = refl
 -- The names that nodes bear: those of an expression are kept where the expression is.
 module _ (names : Names) where
   abbrev pub nodes_kept : List NodeOf → Bool
-  nodes_kept nodes = list_all (is_kept names) (filter_map name_of nodes)
+  nodes_kept nodes = list_all (is_kept names) (filter_map node_name nodes)
 
   pub kept_append : (xs ys : List NodeOf) → nodes_kept (xs ++ ys) ≡ (nodes_kept xs && nodes_kept ys)
-  kept_append xs ys = ap (list_all (is_kept names)) (filter_map-append name_of xs ys) ∙ list_all-append (is_kept names) (filter_map name_of xs) (filter_map name_of ys)
+  kept_append xs ys = ap (list_all (is_kept names)) (filter_map-append node_name xs ys) ∙ list_all-append (is_kept names) (filter_map node_name xs) (filter_map node_name ys)
 
   parts_append : (xs ys : List Tree) → nodes_kept (map NodeOf.Part (xs ++ ys)) ≡ (nodes_kept (map NodeOf.Part xs) && nodes_kept (map NodeOf.Part ys))
   parts_append xs ys = ap nodes_kept (map-append NodeOf.Part xs ys) ∙ kept_append (map NodeOf.Part xs) (map NodeOf.Part ys)
@@ -106,7 +106,7 @@ module _ (test : Mention → Bool) where
       ∙ list_all-append test (mentions_of line.stmt) (mentions program)
 
   -- what holds of each mention of a program holds of those of a statement
-  pub mentions_at : (program : List LineFields) → list_all test (mentions program) ≡ true → (i : ℕ) (s : Statement) → statement_at program i ≡ Some s → list_all test (mentions_of s) ≡ true
+  pub mentions_at : (program : List LineFields) → list_all test (mentions program) ≡ true → (i : ℕ) (s : Statement) → nth_statement program i ≡ Some s → list_all test (mentions_of s) ≡ true
   mentions_at [] all i s at = absurd (cc (at))
   mentions_at (line ∷ program) all zero s at =
       let same : line.stmt ≡ s = cc (at) in
@@ -137,11 +137,11 @@ module _ (names : Names) where
   mentions_kept s h = statement_kept names s (sym (plain_kept (names_of s)) ∙ h)
 
   -- where the names of the program are among those of the table
-  module _ (program : List LineFields) (covers : All (λ name. is_among (keys names.facts) name ≡ true) (symbols program)) where
+  module _ (program : List LineFields) (covers : All (λ name. is_name_among (keys names.facts) name ≡ true) (symbols program)) where
     pub mentioned_kept : list_all (λ m. is_kept names (name_in m)) (mentions program) ≡ true
     mentioned_kept = (λ i. list_all (λ m. sym (among_keys names (name_in m)) i) (mentions program)) ∙ symbols_pass (keys names.facts) program covers
 
-    pub all_kept : (i : ℕ) (s : Statement) → statement_at program i ≡ Some s → names_kept names s ≡ true
+    pub all_kept : (i : ℕ) (s : Statement) → nth_statement program i ≡ Some s → names_kept names s ≡ true
     all_kept i s at = mentions_kept s (mentions_at (λ m. is_kept names (name_in m)) program mentioned_kept i s at)
 
 -- the bounds that a mention gives are at most two
@@ -169,25 +169,25 @@ shape_short : (d : DeclFields) → is_shape d ≡ true → length d.bounds ≤ 2
 shape_short d h = let short = (and_true (nat_le (length d.bounds) 2) (list_all (nat_le 1) d.bounds) h).0 in grind (arith, nat_tests)
 
 -- where the first bounds of a list are
-first_short : (xs : List ℕ) (rest : List (List ℕ)) → length xs ≤ 2 → length (first_or [] rest) ≤ 2 → length (first_or [] (cons_option (some_items xs) rest)) ≤ 2
+first_short : (xs : List ℕ) (rest : List (List ℕ)) → length xs ≤ 2 → length (first_item_or [] rest) ≤ 2 → length (first_item_or [] (cons_option (some_items xs) rest)) ≤ 2
 first_short [] rest short later = later
 first_short (x ∷ xs) rest short later = short
 
-given_short : (m : Mention) (rest : List (List ℕ)) → is_flat m ≡ true → length (first_or [] rest) ≤ 2 → length (first_or [] (cons_option (bounds_in m) rest)) ≤ 2
+given_short : (m : Mention) (rest : List (List ℕ)) → is_flat m ≡ true → length (first_item_or [] rest) ≤ 2 → length (first_item_or [] (cons_option (bounds_in m) rest)) ≤ 2
 given_short (Mention.Dummy name) rest flat later = later
 given_short (Mention.Typed kind d) rest flat later = first_short d.bounds rest (shape_short d flat) later
 given_short (Mention.Dimensioned d) rest flat later = first_short d.bounds rest (shape_short d flat) later
 given_short (Mention.Plain name) rest flat later = later
 
-bounds_short : (ms : List Mention) (name : Symbol) → list_all is_flat ms ≡ true → length (first_or [] (bounds_given ms name)) ≤ 2
+bounds_short : (ms : List Mention) (name : Symbol) → list_all is_flat ms ≡ true → length (first_item_or [] (bounds_given ms name)) ≤ 2
 bounds_short [] name all = omega arith
 bounds_short (m ∷ ms) name all = let both = and_true (is_flat m) (list_all is_flat ms) all in by (bytes_eq name (name_in m)) refl both.0 (bounds_short ms name both.1)
   where
-    by : (b : Bool) → bytes_eq name (name_in m) ≡ b → is_flat m ≡ true → length (first_or [] (bounds_given ms name)) ≤ 2 → length (first_or [] (bounds_given (m ∷ ms) name)) ≤ 2
+    by : (b : Bool) → bytes_eq name (name_in m) ≡ b → is_flat m ≡ true → length (first_item_or [] (bounds_given ms name)) ≤ 2 → length (first_item_or [] (bounds_given (m ∷ ms) name)) ≤ 2
     by true e flat later = rw e (given_short m (bounds_given ms name) flat later)
     by false e flat later = rw e later
 
-pub dimensions_two : (names : Names) (program : List LineFields) → bounds_at names ≡ bounds_of program → IsLegal program → AreFlat names
+pub dimensions_two : (names : Names) (program : List LineFields) → array_bounds names ≡ bounds_of program → IsLegal program → AreFlat names
 dimensions_two names program same legal name =
     subst (λ (bounds : Symbol → List ℕ). length (bounds name) ≤ 2) (sym same)
     (bounds_short (mentions program) name

@@ -11,10 +11,10 @@ use Rattle.f77_program.specs.declared.program.Line.{Line}
 use Rattle.f77_program.specs.Program.{LineFields, line_of}
 use Rattle.f77_tree.specs.Statement.{statement_of}
 use Rattle.f77_check.specs.declared.resolve.Resolver.{Resolver}
-use Rattle.f77_check.specs.Initial.{give_groups, groups_kept}
-use Rattle.f77_legal.specs.Labels.{statement_at}
+use Rattle.f77_check.specs.code.Initial.{give_groups, groups_kept}
+use Rattle.f77_legal.specs.Labels.{nth_statement}
 use Rattle.f77_legal.specs.Names.{bounds_of}
-use Rattle.f77_legal.specs.NameTable.{bounds_at}
+use Rattle.f77_legal.specs.NameTable.{array_bounds}
 use Rattle.f77_legal.specs.Presets.{groups_of}
 use Rattle.f77_check.specs.Ready.{CanResolve}
 use Rattle.f77_check.specs.Slots.{slot_count}
@@ -27,7 +27,7 @@ use Rattle.f77_check.proofs.SlotTables.{stock_apart}
 use Rattle.f77_legal.proofs.Symbols.{Apart}
 
 module _ (lines : List Line) (i : ℕ) (line : Line) (below : i < length lines) (is : line ≡ get_or lines i line) where
-  line_at : statement_at (map line_of lines) i ≡ Some (statement_of line.stmt)
+  line_at : nth_statement (map line_of lines) i ≡ Some (statement_of line.stmt)
   line_at =
       ap (λ o. option_map (λ (l : LineFields). l.stmt) o)
       (slice_get-map line_of lines i ∙ ap (option_map line_of) (slice_get_read lines (length lines) i line refl below is))
@@ -64,7 +64,7 @@ module _ (r : Resolver) (lines : List Line) (can : CanResolve r (map line_of lin
 
     -- one line more
     pub line_given : (held given : List (Option Constant)) → held ≡ preset_by r (map line_of lines) (map line_of (take i lines))
-        → given ≡ give_groups (bounds_at r.tables.names) (keys r.tables.names.facts) held (groups_of (statement_of line.stmt))
+        → given ≡ give_groups (array_bounds r.tables.names) (keys r.tables.names.facts) held (groups_of (statement_of line.stmt))
         → given ≡ preset_by r (map line_of lines) (map line_of (take (i + 1) lines))
     line_given held given before e =
         e

@@ -14,18 +14,18 @@ use Rattle.f77_tree.specs.declared.statement.Stmt.TheVariants as forms
 use Rattle.f77_tree.specs.declared.statement.Stmt.TheViews as boxed
 use Rattle.f77_tree.proofs.Views.{computed_view, logical_view}
 use Rattle.f77_actions.specs.Operators.{relation_of}
-use Rattle.f77_legal.specs.Dimensions.{count, fits, all_fit}
-use Rattle.f77_check.specs.Kept.{is_kept, tree_kept, items_kept}
-use Rattle.f77_legal.specs.Kinds.{same_kind, result_kind, is_of, are_integer}
-use Rattle.f77_check.specs.Lookup.{IsReadyTree}
-use Rattle.f77_legal.specs.NameTable.{kind_at, bounds_at}
+use Rattle.f77_legal.specs.Dimensions.{tree_count, fits_bounds, all_fit}
+use Rattle.f77_check.specs.code.Kept.{is_kept, tree_kept, items_kept}
+use Rattle.f77_legal.specs.Kinds.{same_kind, result_kind, is_of_kind, are_integer}
+use Rattle.f77_check.specs.code.Lookup.{IsReadyTree}
+use Rattle.f77_legal.specs.NameTable.{kind_at, array_bounds}
 use Rattle.f77_tree.specs.declared.operator.Operator.{Operator}
 use Rattle.f77_tree.specs.declared.tree.Kind.{Kind}
 use Rattle.f77_tree.specs.declared.tree.Kind.TheVariants.{Integer, Logical}
 use Rattle.f77_actions.specs.declared.expression.Relation.{Relation}
 use Rattle.f77_check.proofs.Operands.{relation_takes}
 use Rattle.f77_legal.specs.Names.{Symbol}
-use Rattle.f77_check.specs.Ready.{IsReady, AreFound, HasEnd}
+use Rattle.f77_check.specs.code.Ready.{CanBeResolved, AreFound, HasEnd}
 use Rattle.f77_check.specs.declared.resolve.Resolver.{Resolver}
 
 kind_itself : (kind : Kind) → same_kind kind kind ≡ true
@@ -43,12 +43,12 @@ related_ready r op o a b relation h =
     let kinds = and_parts _ _ (and_parts (same_kind (result_kind op) Logical) _ h.kinds).1 in
     let bounds = and_parts _ _ h.bounds in
     let kept = and_parts _ _ h.kept in (
-      record { names = h.names; kinds = subst (λ k. is_of (kind_at r.tables.names) k a ≡ true) takes kinds.0; bounds = bounds.0; kept = kept.0 },
-      record { names = h.names; kinds = subst (λ k. is_of (kind_at r.tables.names) k b ≡ true) takes kinds.1; bounds = bounds.1; kept = kept.1 },
+      record { names = h.names; kinds = subst (λ k. is_of_kind (kind_at r.tables.names) k a ≡ true) takes kinds.0; bounds = bounds.0; kept = kept.0 },
+      record { names = h.names; kinds = subst (λ k. is_of_kind (kind_at r.tables.names) k b ≡ true) takes kinds.1; bounds = bounds.1; kept = kept.1 },
     )
 
 -- the statement in a logical IF
-pub inner_ready : (r : Resolver) (t : Tree) (s : Statement) → IsReady r (Statement.LogicalIf t s) → IsReady r s
+pub inner_ready : (r : Resolver) (t : Tree) (s : Statement) → CanBeResolved r (Statement.LogicalIf t s) → CanBeResolved r s
 inner_ready r t s h = record {
   names = h.names;
   kinds = (and_parts _ _ h.kinds).1;
@@ -57,7 +57,7 @@ inner_ready r t s h = record {
 }
 
 -- the parameters of a DO
-module _ (r : Resolver) (label : ℕ) (name : Symbol) (a b : Tree) (c : Option Tree) (h : IsReady r (Statement.Loop label name a b c)) where
+module _ (r : Resolver) (label : ℕ) (name : Symbol) (a b : Tree) (c : Option Tree) (h : CanBeResolved r (Statement.Loop label name a b c)) where
   pub first_ready : IsReadyTree r Integer a
   first_ready = record {
     names = h.names;
@@ -74,7 +74,7 @@ module _ (r : Resolver) (label : ℕ) (name : Symbol) (a b : Tree) (c : Option T
     kept = search (rules, h.kept);
   }
 
-pub step_ready : (r : Resolver) (label : ℕ) (name : Symbol) (a b : Tree) (c : Option Expr) → IsReady r (Statement.Loop label name a b (option_map tree_of c))
+pub step_ready : (r : Resolver) (label : ℕ) (name : Symbol) (a b : Tree) (c : Option Expr) → CanBeResolved r (Statement.Loop label name a b (option_map tree_of c))
     → IfSome c (λ e. IsReadyTree r Integer (tree_of e))
 step_ready r label name a b None h = tt
 step_ready r label name a b (Some e) h = record {
@@ -85,36 +85,36 @@ step_ready r label name a b (Some e) h = record {
 }
 
 -- what is assigned to, by its kind
-pub target_ready : (r : Resolver) (name : Symbol) (items : Trees) (t : Tree) → IsReady r (Statement.Assign name items t)
+pub target_ready : (r : Resolver) (name : Symbol) (items : Trees) (t : Tree) → CanBeResolved r (Statement.Assign name items t)
     → (kind : Kind) × IsReadyTree r kind (Tree.Reference name items)
 target_ready r name items t h =
     let kinds = kind_at r.tables.names in
-    let bounds = bounds_at r.tables.names in
-    let sized = and_parts (count items == length (bounds name)) (all_fit bounds items && fits bounds t) h.bounds in
+    let bounds = array_bounds r.tables.names in
+    let sized = and_parts (tree_count items == length (bounds name)) (all_fit bounds items && fits_bounds bounds t) h.bounds in
     let have = and_parts (is_kept r.tables.names name) (items_kept r.tables.names items && tree_kept r.tables.names t) h.kept in (
       kinds name,
       record {
         names = h.names;
-        kinds = both (kind_itself (kinds name)) (and_parts (are_integer kinds items) (is_of kinds (kinds name) t) h.kinds).0;
-        bounds = both sized.0 (and_parts (all_fit bounds items) (fits bounds t) sized.1).0;
+        kinds = both (kind_itself (kinds name)) (and_parts (are_integer kinds items) (is_of_kind kinds (kinds name) t) h.kinds).0;
+        bounds = both sized.0 (and_parts (all_fit bounds items) (fits_bounds bounds t) sized.1).0;
         kept = both have.0 (and_parts (items_kept r.tables.names items) (tree_kept r.tables.names t) have.1).0;
       },
     )
 
 -- what is known of a statement of the program, of its form
-module _ (r : Resolver) (p : List LineFields) (x : Stmt) (ready : IsReady r (statement_of x)) (found : AreFound p (jumps_of (statement_of x))) where
+module _ (r : Resolver) (p : List LineFields) (x : Stmt) (ready : CanBeResolved r (statement_of x)) (found : AreFound p (jumps_of (statement_of x))) where
   pub computed_ready : (labels : Vec ℕ Global) (value : Expr) (list : List ℕ) → x ≡ forms.ComputedGoto labels value → list ≡ labels.items
-      → IsReady r (Statement.ComputedGoto list (tree_of value)) × AreFound p list
+      → CanBeResolved r (Statement.ComputedGoto list (tree_of value)) × AreFound p list
   computed_ready labels value list is items =
       let same : statement_of x ≡ Statement.ComputedGoto list (tree_of value) =
       ap statement_of is ∙ computed_view labels value ∙ ap (λ z. Statement.ComputedGoto z (tree_of value)) (sym items) in
-      (subst (IsReady r) same ready, subst (λ s. AreFound p (jumps_of s)) same found)
+      (subst (CanBeResolved r) same ready, subst (λ s. AreFound p (jumps_of s)) same found)
 
   pub logical_ready : (i : ℕ) (condition : Expr) (a : Box Stmt Global) (inner : Stmt)
       → x ≡ boxed.LogicalIf condition a → inner ≡ a.value → HasEnd p i (statement_of x)
-      → IsReady r (Statement.LogicalIf (tree_of condition) (statement_of inner))
+      → CanBeResolved r (Statement.LogicalIf (tree_of condition) (statement_of inner))
       × (AreFound p (jumps_of (statement_of inner)) × (is_action (statement_of inner) ≡ true))
   logical_ready i condition a inner is value ends =
       let same : statement_of x ≡ Statement.LogicalIf (tree_of condition) (statement_of inner) =
       ap statement_of is ∙ logical_view condition a ∙ ap (λ z. Statement.LogicalIf (tree_of condition) (statement_of z)) (sym value) in
-      (subst (IsReady r) same ready, (subst (λ s. AreFound p (jumps_of s)) same found, subst (HasEnd p i) same ends))
+      (subst (CanBeResolved r) same ready, (subst (λ s. AreFound p (jumps_of s)) same found, subst (HasEnd p i) same ends))

@@ -13,7 +13,7 @@ use Rattle.f77_tree.specs.declared.tree.Expr.TheOpen.{Expr-F}
 use Rattle.f77_tree.specs.declared.tree.Expr.TheFolds.{fold-roll-Expr}
 use Rattle.f77_tree.specs.Tree.{Tree}
 use Rattle.f77_tree.specs.View.{tree_of, expr_step, ref_step}
-use Rattle.f77_check.specs.Boxed.{HoldsNumber, HoldsCondition}
+use Rattle.f77_check.specs.code.Boxed.{HoldsNumber, HoldsCondition}
 use Rattle.f77_check.specs.Expression.{IsNumber, IsCondition}
 use Rattle.f77_actions.specs.Operators.{arithmetic_of, connective_of}
 use Rattle.f77_legal.specs.Names.{Symbol}

@@ -10,15 +10,16 @@ use Rattle.indexmap.specs.IndexMap.{keys}
 use Rattle.f77_program.specs.Program.{LineFields}
 use Rattle.f77_tree.specs.Statement.{Statement, jumps_of}
 use Rattle.f77_check.specs.Action.{IsAction}
-use Rattle.f77_legal.specs.Blocks.{behind}
+use Rattle.f77_legal.specs.Blocks.{statement_behind}
 use Rattle.f77_legal.specs.Dimensions.{dimensions_fit}
 use Rattle.f77_legal.specs.declared.clause.Clause.TheVariants.{Kinds, Bounds}
 use Rattle.f77_legal.specs.Kinds.{kinds_agree}
-use Rattle.f77_legal.specs.Labels.{place_of, statement_at}
+use Rattle.f77_legal.specs.Labels.{label_place, nth_statement}
 use Rattle.f77_legal.specs.Loops.{loops_ending}
 use Rattle.f77_legal.specs.Names.{Symbol, kind_of, bounds_of}
-use Rattle.f77_legal.specs.NameTable.{bounds_at}
-use Rattle.f77_check.specs.Ready.{CanResolve, IsReady, AreFound, HasEnd, Does}
+use Rattle.f77_legal.specs.NameTable.{array_bounds}
+use Rattle.f77_check.specs.Ready.{CanResolve}
+use Rattle.f77_check.specs.code.Ready.{CanBeResolved, AreFound, HasEnd, Does}
 use Rattle.f77_check.specs.Resolved.{IsResolved, AreResolved}
 use Rattle.f77_check.specs.declared.resolve.Resolver.{Resolver}
 use Rattle.f77_actions.specs.declared.resolved.Resolved.{Resolved}
@@ -28,7 +29,7 @@ use Rattle.f77_check.proofs.KeptNames.{all_kept, dimensions_two}
 use Rattle.f77_legal.proofs.LegalGives.{kept_by, clause_kept, not_false}
 
 module _ (r : Resolver) (p : List LineFields) (can : CanResolve r p) (i : ℕ) where
-  pub ready_at : (s : Statement) → statement_at p i ≡ Some s → IsReady r s
+  pub ready_at : (s : Statement) → nth_statement p i ≡ Some s → CanBeResolved r s
   ready_at s at = record {
     names = record { table = can.slots; flat = dimensions_two r.tables.names p can.tables.bounds can.legal };
     kinds = subst (λ kinds. kinds_agree kinds s ≡ true) (sym can.tables.kinds)
@@ -38,7 +39,7 @@ module _ (r : Resolver) (p : List LineFields) (can : CanResolve r p) (i : ℕ) w
     kept = all_kept r.tables.names p can.names.covers i s at;
   }
 
-  pub ends_at : (s : Statement) → statement_at p i ≡ Some s → HasEnd p i s
+  pub ends_at : (s : Statement) → nth_statement p i ≡ Some s → HasEnd p i s
   ends_at (Statement.LogicalIf t s) at = inner_acts p can.formed i t s at
   ends_at (Statement.BlockIf t) at = let end = some_branch p can.legal i t (inl at) in record { place = end.0; told = end.1; ends = end.2 }
   ends_at (Statement.ElseIf t) at = let end = some_branch p can.legal i t (inr at) in record { place = end.0; told = end.1; ends = end.2 }
@@ -46,20 +47,20 @@ module _ (r : Resolver) (p : List LineFields) (can : CanResolve r p) (i : ℕ) w
   ends_at _ at = tt
 
 -- labels that stand on statements, each by itself
-all_found : (p : List LineFields) (labels : List ℕ) → ((label : ℕ) → list_any (λ l. l == label) labels ≡ true → IsSome (place_of p label)) → AreFound p labels
+all_found : (p : List LineFields) (labels : List ℕ) → ((label : ℕ) → list_any (λ l. l == label) labels ≡ true → IsSome (label_place p label)) → AreFound p labels
 all_found p [] found = tt
 all_found p (label ∷ labels) found = (found label (grind (arith, nat_tests)), all_found p labels (λ l among. found l (or_right (label == l) _ among)))
 
-pub found_at : (r : Resolver) (p : List LineFields) → CanResolve r p → (i : ℕ) (s : Statement) → statement_at p i ≡ Some s → AreFound p (jumps_of s)
+pub found_at : (r : Resolver) (p : List LineFields) → CanResolve r p → (i : ℕ) (s : Statement) → nth_statement p i ≡ Some s → AreFound p (jumps_of s)
 found_at r p can i s at = all_found p (jumps_of s) (λ label among. some_place p can.legal i s label at among)
 
 -- what the functions of a statement found is its resolved form
-pub resolved_at : (r : Resolver) (p : List LineFields) → CanResolve r p → (i : ℕ) (s t : Statement) → statement_at p i ≡ Some s → (x : Resolved)
-    → Does r p i s x.action → behind p i ≡ Some x.next → x.ends.items ≡ loops_ending p i → statement_at p i ≡ Some t → IsResolved p (keys r.tables.names.facts) i t x
+pub resolved_at : (r : Resolver) (p : List LineFields) → CanResolve r p → (i : ℕ) (s t : Statement) → nth_statement p i ≡ Some s → (x : Resolved)
+    → Does r p i s x.action → statement_behind p i ≡ Some x.next → x.ends.items ≡ loops_ending p i → nth_statement p i ≡ Some t → IsResolved p (keys r.tables.names.facts) i t x
 resolved_at r p can i s t at x does next ends also =
     let same : s ≡ t = same_Some _ _ (sym at ∙ also) in
-    let kinds : IsAction (kind_of p) (bounds_at r.tables.names) (keys r.tables.names.facts) p i s x.action
-    = subst (λ kinds. IsAction kinds (bounds_at r.tables.names) (keys r.tables.names.facts) p i s x.action) can.tables.kinds does in
+    let kinds : IsAction (kind_of p) (array_bounds r.tables.names) (keys r.tables.names.facts) p i s x.action
+    = subst (λ kinds. IsAction kinds (array_bounds r.tables.names) (keys r.tables.names.facts) p i s x.action) can.tables.kinds does in
     let bounds : IsAction (kind_of p) (bounds_of p) (keys r.tables.names.facts) p i s x.action
     = subst (λ bounds. IsAction (kind_of p) bounds (keys r.tables.names.facts) p i s x.action) can.tables.bounds kinds in
     record {
@@ -69,15 +70,15 @@ resolved_at r p can i s t at x does next ends also =
     }
 
 -- a statement that is resolved, where it is known which one it is
-pub resolved_here : {E : Type 0} (p : List LineFields) (names : List Symbol) (i : ℕ) (s : Statement) → statement_at p i ≡ Some s → (found : Result Resolved E)
-    → IfOk found (λ x. IsResolved p names i s x) → IfOk found (λ x. (t : Statement) → statement_at p i ≡ Some t → IsResolved p names i t x)
+pub resolved_here : {E : Type 0} (p : List LineFields) (names : List Symbol) (i : ℕ) (s : Statement) → nth_statement p i ≡ Some s → (found : Result Resolved E)
+    → IfOk found (λ x. IsResolved p names i s x) → IfOk found (λ x. (t : Statement) → nth_statement p i ≡ Some t → IsResolved p names i t x)
 resolved_here p names i s at (Ok x) is = λ t also. subst (λ t. IsResolved p names i t x) (same_Some _ _ (sym at ∙ also)) is
 resolved_here p names i s at (Err e) is = is
 
 -- the first so many statements resolved
 pub record AreFirst (p : List LineFields) (names : List Symbol) (n : ℕ) (list : List Resolved) : Type 0 where
   pub count : length list ≡ n
-  pub each : (i : ℕ) (s : Statement) (r : Resolved) → statement_at p i ≡ Some s → slice_get list i ≡ Some r → IsResolved p names i s r
+  pub each : (i : ℕ) (s : Statement) (r : Resolved) → nth_statement p i ≡ Some s → slice_get list i ≡ Some r → IsResolved p names i s r
 
 -- what is so of the members of a list, by their numbers, and of one more is so of all
 pushed : (Q : ℕ → Resolved → Type 0) (xs : List Resolved) (x : Resolved) → ((i : ℕ) (r : Resolved) → slice_get xs i ≡ Some r → Q i r) → Q (length xs) x
@@ -88,12 +89,12 @@ pushed Q (y ∷ xs) x each last zero r is = each zero r is
 pushed Q (y ∷ xs) x each last (suc i) r is = pushed (λ i. Q (suc i)) xs x (λ i r is. each (suc i) r is) last i r is
 
 pub one_more : (p : List LineFields) (names : List Symbol) (n : ℕ) (list : List Resolved) (x : Resolved) → AreFirst p names n list
-    → ((s : Statement) → statement_at p n ≡ Some s → IsResolved p names n s x) → AreFirst p names (n + 1) (list ++ (x ∷ []))
+    → ((s : Statement) → nth_statement p n ≡ Some s → IsResolved p names n s x) → AreFirst p names (n + 1) (list ++ (x ∷ []))
 one_more p names n list x first next = record {
   count = length-append list (x ∷ []) ∙ ap (λ k. k + 1) first.count;
   each = λ i s r at is.
-      pushed (λ i r. (s : Statement) → statement_at p i ≡ Some s → IsResolved p names i s r) list x (λ i r is s at. first.each i s r at is)
-      (subst (λ k. (s : Statement) → statement_at p k ≡ Some s → IsResolved p names k s x) (sym first.count) next) i r is s at;
+      pushed (λ i r. (s : Statement) → nth_statement p i ≡ Some s → IsResolved p names i s r) list x (λ i r is s at. first.each i s r at is)
+      (subst (λ k. (s : Statement) → nth_statement p k ≡ Some s → IsResolved p names k s x) (sym first.count) next) i r is s at;
 }
 
 pub none_yet : (p : List LineFields) (names : List Symbol) → AreFirst p names 0 []

@@ -6,16 +6,16 @@ use Rattle.indexmap.specs.IndexMap.{keys}
 use Rattle.f77_tree.specs.declared.tree.Kind.{Kind}
 use Rattle.f77_legal.specs.declared.names.Names.{Names}
 use Rattle.f77_legal.specs.Names.{Symbol}
-use Rattle.f77_legal.specs.NameTable.{kind_at, bounds_at}
+use Rattle.f77_legal.specs.NameTable.{kind_at, array_bounds}
 use Rattle.f77_legal.specs.Presets.{product}
-use Rattle.f77_check.specs.Kept.{is_kept}
+use Rattle.f77_check.specs.code.Kept.{is_kept}
 use Rattle.f77_check.specs.Slots.{slot_kinds}
 use Rattle.f77_check.proofs.DataNames.{kept_among}
 use Rattle.f77_check.proofs.KeptNames.{all_among}
 
 -- the kinds of the slots of these names, by the table
 abbrev pub kinds_by : Names → List Symbol → List Kind
-kinds_by names = slot_kinds (kind_at names) (bounds_at names)
+kinds_by names = slot_kinds (kind_at names) (array_bounds names)
 
 -- What a list of kinds has of the names before those that are left: with the kinds of these, each of which the table has, it is that of all names.
 pub record AreListed (names : Names) (listed : List Kind) (rest : List Symbol) : Type 0 where
@@ -38,12 +38,12 @@ module _ (names : Names) where
     pub next_kept : is_kept names name ≡ true
     next_kept = both.0
 
-    pub next_listed : (more : List Kind) → more ≡ listed ++ replicate (product (bounds_at names name)) (kind_at names name) → AreListed names more left
+    pub next_listed : (more : List Kind) → more ≡ listed ++ replicate (product (array_bounds names name)) (kind_at names name) → AreListed names more left
     next_listed more added = record {
       kept = both.1;
       whole =
           ap (λ kinds. kinds ++ kinds_by names left) added
-          ∙ append_assoc listed (replicate (product (bounds_at names name)) (kind_at names name)) (kinds_by names left)
+          ∙ append_assoc listed (replicate (product (array_bounds names name)) (kind_at names name)) (kinds_by names left)
           ∙ ap (λ list. listed ++ kinds_by names list) (sym next)
           ∙ are.whole;
     }

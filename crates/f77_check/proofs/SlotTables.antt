@@ -10,7 +10,7 @@ use Rattle.f77_program.specs.Program.{LineFields}
 use Rattle.f77_legal.specs.declared.names.Names.{Names}
 use Rattle.f77_legal.specs.Legal.{IsLegal}
 use Rattle.f77_legal.specs.Names.{Symbol, mentions, symbols, bounds_of}
-use Rattle.f77_legal.specs.NameTable.{FactsFields, IsNameTable, fields_of, facts_of, bounds_at}
+use Rattle.f77_legal.specs.NameTable.{FactsFields, IsNameTable, facts_fields, facts_of, array_bounds}
 use Rattle.f77_legal.specs.Patches.{IsStock}
 use Rattle.f77_check.specs.Slots.{slot_count}
 use Rattle.f77_legal.proofs.Lookups.{same_bounds}
@@ -25,19 +25,19 @@ keys_rows f (name ∷ names) = ap (λ z. name ∷ z) (keys_rows f names)
 
 pub keys_are : (names : Names) (program : List LineFields) → IsNameTable names program → keys names.facts ≡ symbols program
 keys_are names program is =
-    sym (keys_of-map_values fields_of names.facts.entries) ∙ ap keys_of is ∙ keys_rows (facts_of (mentions program)) (symbols program)
+    sym (keys_of-map_values facts_fields names.facts.entries) ∙ ap keys_of is ∙ keys_rows (facts_of (mentions program)) (symbols program)
 
 pub keys_stock : (names : Names) (program : List LineFields) → IsNameTable names program → IsLegal program → IsStock (keys names.facts) program
 keys_stock names program is legal = subst (λ list. IsStock list program) (sym (keys_are names program is)) (stock_of_legal program legal)
 
-pub stock_few : (names : Names) (program : List LineFields) → bounds_at names ≡ bounds_of program → IsStock (keys names.facts) program
-    → slot_count (bounds_at names) (keys names.facts) < 2 ^ 32
+pub stock_few : (names : Names) (program : List LineFields) → array_bounds names ≡ bounds_of program → IsStock (keys names.facts) program
+    → slot_count (array_bounds names) (keys names.facts) < 2 ^ 32
 stock_few names program bounds stock =
     let same = ap (λ bounds. slot_count bounds (keys names.facts)) bounds in
     let few = stock_slots (keys names.facts) program stock in
     omega (arith, same, few)
 
-pub slots_few : (names : Names) (program : List LineFields) → IsNameTable names program → IsLegal program → slot_count (bounds_at names) (keys names.facts) < 2 ^ 32
+pub slots_few : (names : Names) (program : List LineFields) → IsNameTable names program → IsLegal program → slot_count (array_bounds names) (keys names.facts) < 2 ^ 32
 slots_few names program is legal = stock_few names program (same_bounds names program is) (keys_stock names program is legal)
 
 -- no name stands twice in a list where each is counted once

@@ -7,7 +7,7 @@ use Rattle.std.proofs.lemmas.List.{append-nil, map-append}
 use Rattle.std.proofs.lemmas.List.Concat.{flat_map-cons}
 use Rattle.std.proofs.lemmas.List.Elements.{filter_map-append}
 use Rattle.std.proofs.lemmas.List.Folds.{list_any-append}
-use Rattle.f77_nodes.specs.Node.{NodeOf, group_nodes, name_of, names_of}
+use Rattle.f77_nodes.specs.Node.{NodeOf, group_nodes, node_name, names_of}
 use Rattle.f77_program.specs.Program.{LineFields}
 use Rattle.f77_tree.specs.Tree.{GroupFields}
 use Rattle.f77_tree.specs.Statement.{Statement}
@@ -15,30 +15,30 @@ use Rattle.f77_tree.specs.declared.data.Constant.{Constant}
 use Rattle.f77_tree.specs.declared.data.Value.{Value}
 use Rattle.f77_legal.specs.Blocks.{first_numbers}
 use Rattle.f77_legal.specs.Names.{Symbol, Mention, name_in, mentions_of, mentions, symbols}
-use Rattle.f77_legal.specs.Presets.{elements, groups_of}
-use Rattle.f77_check.specs.Start.{Cell, cells, presets_of, presets, is_cell, preset_at}
+use Rattle.f77_legal.specs.Presets.{preset_elements, groups_of}
+use Rattle.f77_check.specs.Start.{Cell, cells, presets_of, presets, is_cell, preset_value}
 use Rattle.f77_legal.proofs.Symbols.{or_false, any_once}
 
 -- The names of the nodes of DATA are the names of its groups.
-named_are : (names : List Symbol) → filter_map name_of (map NodeOf.Named names) ≡ names
+named_are : (names : List Symbol) → filter_map node_name (map NodeOf.Named names) ≡ names
 named_are [] = refl
 named_are (name ∷ names) = ap (λ rest. name ∷ rest) (named_are names)
 
-values_none : (values : List Value) → filter_map name_of (map NodeOf.Initial values) ≡ []
+values_none : (values : List Value) → filter_map node_name (map NodeOf.Initial values) ≡ []
 values_none [] = refl
 values_none (v ∷ values) = values_none values
 
-group_names : (g : GroupFields) → filter_map name_of (group_nodes g) ≡ g.names
+group_names : (g : GroupFields) → filter_map node_name (group_nodes g) ≡ g.names
 group_names g =
-    filter_map-append name_of (map NodeOf.Named g.names) (map NodeOf.Initial g.values)
+    filter_map-append node_name (map NodeOf.Named g.names) (map NodeOf.Initial g.values)
     ∙ (λ i. named_are g.names i ++ values_none g.values i)
     ∙ append-nil g.names
 
-groups_names : (gs : List GroupFields) → filter_map name_of (flat_map group_nodes gs) ≡ flat_map (λ (g : GroupFields). g.names) gs
+groups_names : (gs : List GroupFields) → filter_map node_name (flat_map group_nodes gs) ≡ flat_map (λ (g : GroupFields). g.names) gs
 groups_names [] = refl
 groups_names (g ∷ gs) =
-    ap (filter_map name_of) (flat_map-cons group_nodes g gs)
-    ∙ filter_map-append name_of (group_nodes g) (flat_map group_nodes gs)
+    ap (filter_map node_name) (flat_map-cons group_nodes g gs)
+    ∙ filter_map-append node_name (group_nodes g) (flat_map group_nodes gs)
     ∙ (λ i. group_names g i ++ groups_names gs i)
     ∙ sym (flat_map-cons (λ (g : GroupFields). g.names) g gs)
 
@@ -89,10 +89,10 @@ module _ (program : List LineFields) (name : Symbol) (k : ℕ) where
   no_cell [] none = refl
   no_cell (other ∷ names) none =
       let parts = or_false (bytes_eq name other) (bears names) none in
-      let own : Symbol → List Cell = λ name. map (λ k. (name, k)) (first_numbers (elements program name)) in
+      let own : Symbol → List Cell = λ name. map (λ k. (name, k)) (first_numbers (preset_elements program name)) in
       ap (list_any (is_cell (name, k))) (flat_map-cons own other names)
       ∙ none_append (is_cell (name, k)) (own other) (cells program names)
-      (other_cells other (first_numbers (elements program other)) parts.0) (no_cell names parts.1)
+      (other_cells other (first_numbers (preset_elements program other)) parts.0) (no_cell names parts.1)
 
   no_pair : (cs : List Cell) (constants : List Constant) → list_any (is_cell (name, k)) cs ≡ false → list_any gives (zip cs constants) ≡ false
   no_pair [] constants none = refl
@@ -115,7 +115,7 @@ module _ (program : List LineFields) (name : Symbol) (k : ℕ) where
       none_given (λ (line : LineFields). map name_in (mentions_of line.stmt)) (λ (line : LineFields). flat_map (presets_of program) (groups_of line.stmt))
       (λ line. statement_none line.stmt) program (sym (ap bears (mentioned program)) ∙ none)
 
-pub unpreset : (program : List LineFields) (name : Symbol) → list_any (bytes_eq name) (symbols program) ≡ false → (k : ℕ) → preset_at program name k ≡ None
+pub unpreset : (program : List LineFields) (name : Symbol) → list_any (bytes_eq name) (symbols program) ≡ false → (k : ℕ) → preset_value program name k ≡ None
 unpreset program name none k =
     ap (option_and_then (λ (given : Cell × Constant). Some given.1))
     (none_found (λ (given : Cell × Constant). is_cell (name, k) given.0) (presets program)

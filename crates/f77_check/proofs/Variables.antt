@@ -11,7 +11,8 @@ use Rattle.f77_legal.specs.Labels.{labels}
 use Rattle.f77_legal.specs.Names.{symbols}
 use Rattle.f77_legal.specs.NameTable.{IsNameTable}
 use Rattle.f77_legal.specs.declared.names.Names.{Names}
-use Rattle.f77_check.specs.Symbols.{variable_in, variable_at}
+use Rattle.f77_check.specs.Symbols.{variable_in}
+use Rattle.f77_check.specs.code.Symbols.{variable_at}
 use Rattle.f77_legal.proofs.Listing.{one_more}
 use Rattle.f77_legal.proofs.Lookups.{same_kinds, same_bounds}
 use Rattle.f77_check.proofs.SlotTables.{keys_are}

@@ -1,4 +1,5 @@
--- What a checked program is: a legal one, with the shapes of its dummy arguments and what a run of it starts with.
+-- What a checked program is: a legal one, with the shapes
+-- of its dummy arguments and what a run of it starts with.
 use Rattle.std.specs.Prelude.{◌≡◌, ℕ, List, map, Some, None, if◌then◌else◌}
 use Rattle.f77_program.specs.Program.{LineFields, IsProgram, line_of}
 use Rattle.f77_program.specs.declared.program.Line.{Line}
@@ -6,7 +7,7 @@ use Rattle.f77_check.specs.declared.checked.Shape.{Shape}
 use Rattle.f77_legal.specs.Legal.{is_array, IsLegal}
 use Rattle.f77_legal.specs.Names.{Symbol, kind_of, bounds_of}
 use Rattle.f77_legal.specs.Patches.{IsStock}
-use Rattle.f77_legal.specs.Presets.{elements}
+use Rattle.f77_legal.specs.Presets.{preset_elements}
 use Rattle.f77_check.specs.Resolved.{AreResolved}
 use Rattle.f77_check.specs.Slots.{slot_count}
 use Rattle.f77_legal.specs.Heading.{dummies}
@@ -17,13 +18,17 @@ use Rattle.f77_check.specs.declared.start.Start.{Start}
 -- the kind of a name, and the number of its elements where it is an array
 abbrev pub shape_of : List LineFields → Symbol → Shape
 shape_of program name =
-    record { kind = kind_of program name; elements = if is_array program name then Some (elements program name) else None }
+    record {
+      kind = kind_of program name;
+      elements = if is_array program name
+          then Some (preset_elements program name) else None;
+    }
 
 abbrev pub shapes : List LineFields → List Shape
 shapes program = map (shape_of program) (dummies program)
 
--- The program, the shapes of its dummy arguments, names that have slots, in their order, how many slots these have, its statements resolved,
--- and what a run starts with.
+-- The program, the shapes of its dummy arguments, names that have slots, in their order,
+-- how many slots these have, its statements resolved, and what a run starts with.
 pub record CheckedFields : Type 0 where
   pub program : List Line
   pub arguments : List Shape

@@ -8,8 +8,9 @@ use Rattle.f77_check.specs.declared.resolve.Resolver.{Resolver}
 use Rattle.f77_actions.specs.declared.resolved.Resolved.{Resolved}
 use Rattle.f77_check.specs.declared.start.Start.{Start}
 
-abbrev pub fields_of : List Line → List Shape → Resolver → List Resolved → Start → CheckedFields
-fields_of program arguments resolver statements start = record {
+abbrev pub checked_fields : List Line
+    → List Shape → Resolver → List Resolved → Start → CheckedFields
+checked_fields program arguments resolver statements start = record {
   program = program;
   arguments = arguments;
   names = keys resolver.tables.names.facts;

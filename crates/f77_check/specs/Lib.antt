@@ -1,16 +1,12 @@
 pub mod Slots
 pub mod SlotTable
-pub mod Kept
 pub mod Expression
-pub mod Boxed
 pub mod Action
-pub mod Lookup
 pub mod Ready
 pub mod Resolved
 pub mod Start
 pub mod Symbols
-pub mod Initial
 pub mod Checked
 pub mod CheckedView
-pub mod Shapes
 pub mod Patching
+pub mod code

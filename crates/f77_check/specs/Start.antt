@@ -1,5 +1,5 @@
--- Where a run of a program starts: its first executable statement, its dummy arguments, and what DATA gives each element of a name
--- (ANSI X3.9-1978, section 9 and 15.9).
+-- Where a run of a program starts: its first executable statement, its dummy arguments,
+-- and what DATA gives each element of a name (ANSI X3.9-1978, section 9 and 15.9).
 use Rattle.std.specs.Prelude.{◌≡◌, ℕ, ◌&&◌, ◌==◌, Bool, false, true, List, map, Option, Some, replicate, position}
 use Rattle.std.specs.List.{find, flat_map, zip}
 use Rattle.std.specs.Option.{option_and_then}
@@ -12,7 +12,7 @@ use Rattle.f77_check.specs.declared.start.Start.{Start}
 use Rattle.f77_legal.specs.Blocks.{first_numbers}
 use Rattle.f77_legal.specs.Heading.{dummies}
 use Rattle.f77_legal.specs.Names.{Symbol, kind_of, bounds_of}
-use Rattle.f77_legal.specs.Presets.{elements, groups_of}
+use Rattle.f77_legal.specs.Presets.{preset_elements, groups_of}
 use Rattle.f77_check.specs.Slots.{first_slot, slot_kinds}
 
 -- an element of a name
@@ -20,11 +20,13 @@ abbrev pub Cell : Type 0
 Cell = Symbol × ℕ
 
 abbrev pub cells : List LineFields → List Symbol → List Cell
-cells program names = flat_map (λ name. map (λ k. (name, k)) (first_numbers (elements program name))) names
+cells program names =
+    flat_map (λ name. map (λ k. (name, k)) (first_numbers (preset_elements program name))) names
 
 -- the elements that a group of DATA gives a constant, each with it
 abbrev pub presets_of : List LineFields → GroupFields → List (Cell × Constant)
-presets_of program group = zip (cells program group.names) (flat_map (λ value. replicate value.times value.constant) group.values)
+presets_of program group = zip (cells program group.names)
+    (flat_map (λ value. replicate value.times value.constant) group.values)
 
 abbrev pub presets : List LineFields → List (Cell × Constant)
 presets program = flat_map (λ line. flat_map (presets_of program) (groups_of line.stmt)) program
@@ -32,20 +34,25 @@ presets program = flat_map (λ line. flat_map (presets_of program) (groups_of li
 abbrev pub is_cell : Cell → Cell → Bool
 is_cell one other = bytes_eq one.0 other.0 && one.1 == other.1
 
-abbrev pub preset_at : List LineFields → Symbol → ℕ → Option Constant
-preset_at program name k = option_and_then (λ given. Some given.1) (find (λ given. is_cell (name, k) given.0) (presets program))
+abbrev pub preset_value : List LineFields → Symbol → ℕ → Option Constant
+preset_value program name k = option_and_then (λ given. Some given.1)
+    (find (λ given. is_cell (name, k) given.0) (presets program))
 
-abbrev pub is_executable : Statement → Bool
-is_executable (Statement.Subroutine name names) = false
-is_executable (Statement.Declare kind declarations) = false
-is_executable (Statement.Dimension declarations) = false
-is_executable (Statement.Preset groups) = false
-is_executable _ = true
+abbrev pub is_executable_statement : Statement → Bool
+is_executable_statement (Statement.Subroutine name names) = false
+is_executable_statement (Statement.Declare kind declarations) = false
+is_executable_statement (Statement.Dimension declarations) = false
+is_executable_statement (Statement.Preset groups) = false
+is_executable_statement _ = true
 
--- What a run of a program starts with: its first executable statement, the first slot of each dummy argument, what DATA gives each slot, and
--- the kind of each slot.
-pub record IsStartOf (program : List LineFields) (names : List Symbol) (start : Start) : Type 0 where
-  pub entry : position (λ line. is_executable line.stmt) program ≡ Some start.entry
-  pub dummies : map (first_slot (bounds_of program) names) (dummies program) ≡ map (λ slot. Some slot) start.dummies.items
-  pub initial : start.initial.items ≡ flat_map (λ name. map (preset_at program name) (first_numbers (elements program name))) names
+-- What a run of a program starts with: its first executable statement, the first
+-- slot of each dummy argument, what DATA gives each slot, and the kind of each slot.
+pub record IsStartOf (program : List LineFields) (names : List Symbol)
+    (start : Start) : Type 0 where
+  pub entry : position (λ line. is_executable_statement line.stmt) program ≡ Some start.entry
+  pub dummies : map (first_slot (bounds_of program) names) (dummies program)
+      ≡ map (λ slot. Some slot) start.dummies.items
+  pub initial : start.initial.items
+      ≡ flat_map
+      (λ name. map (preset_value program name) (first_numbers (preset_elements program name))) names
   pub kinds : start.kinds.items ≡ slot_kinds (kind_of program) (bounds_of program) names

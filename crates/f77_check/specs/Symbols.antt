@@ -3,9 +3,7 @@ use Rattle.std.specs.Prelude.{ℕ, List}
 use Rattle.f77_program.specs.Program.{LineFields}
 use Rattle.f77_tree.specs.declared.tree.Kind.{Kind}
 use Rattle.f77_check.specs.declared.symbols.Variable.{Variable}
-use Rattle.f77_legal.specs.declared.names.Names.{Names}
 use Rattle.f77_legal.specs.Names.{Symbol, kind_of, bounds_of}
-use Rattle.f77_legal.specs.NameTable.{kind_at, bounds_at}
 
 -- a variable, which has no bounds, or an array
 pub record VariableFields : Type 0 where
@@ -13,13 +11,11 @@ pub record VariableFields : Type 0 where
   pub kind : Kind
   pub bounds : List ℕ
 
-abbrev pub variable_of : Variable → VariableFields
-variable_of variable = record { name = variable.name; kind = variable.kind; bounds = variable.bounds.items }
+abbrev pub symbol_variable : Variable → VariableFields
+symbol_variable variable =
+    record { name = variable.name; kind = variable.kind; bounds = variable.bounds.items }
 
 -- what a program says of a name
 abbrev pub variable_in : List LineFields → Symbol → VariableFields
-variable_in program name = record { name = name; kind = kind_of program name; bounds = bounds_of program name }
-
--- what a table of names says of it
-abbrev pub variable_at : Names → Symbol → VariableFields
-variable_at names name = record { name = name; kind = kind_at names name; bounds = bounds_at names name }
+variable_in program name =
+    record { name = name; kind = kind_of program name; bounds = bounds_of program name }

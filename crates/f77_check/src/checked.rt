@@ -12,7 +12,7 @@ ghost use Rattle.f77_actions.specs.contracts.expression.Condition as condition;
 ghost use Rattle.f77_actions.specs.contracts.expression.Element as element;
 ghost use Rattle.f77_actions.specs.contracts.expression.Number as number;
 ghost use Rattle.f77_check.specs.Checked.{CheckedFields, IsChecked};
-ghost use Rattle.f77_check.specs.CheckedView.{fields_of};
+ghost use Rattle.f77_check.specs.CheckedView.{checked_fields};
 ghost use Rattle.f77_check.specs.Ready.{CanResolve};
 ghost use Rattle.f77_check.specs.Slots.{most_slots};
 
@@ -54,9 +54,10 @@ impl Model for Checked {
       action.the_row.coded,
     ) };
 
-    ghost view = { λ c. fields_of c.program c.arguments.items c.resolver c.statements.items c.start };
+    ghost view = { λ c. checked_fields c.program c.arguments.items c.resolver c.statements.items c.start };
 
-    ghost invariant = { λ c. IsChecked (fields_of c.program c.arguments.items c.resolver c.statements.items c.start)
+    ghost invariant = { λ c. IsChecked
+        (checked_fields c.program c.arguments.items c.resolver c.statements.items c.start)
         × CanResolve c.resolver (map line_of c.program) };
 }
 
@@ -68,9 +69,9 @@ impl Checked {
         statements: Vec<Shared<Resolved>>,
         start: Shared<Start>,
     ) -> Checked
-        requires checked { IsChecked (fields_of program arguments.items resolver statements.items start) }
+        requires checked { IsChecked (checked_fields program arguments.items resolver statements.items start) }
         requires tables { CanResolve resolver (map line_of program) }
-        ensures { result ≡ fields_of program arguments.items resolver statements.items start }
+        ensures { result ≡ checked_fields program arguments.items resolver statements.items start }
     {
         Checked {
             program,
@@ -119,7 +120,8 @@ impl Checked {
         self.program.lines().len()
     }
 
-    /// How many slots the variables and arrays have: one for each variable and each element of an array, 0 to 10100. It takes no memory.
+    /// How many slots the variables and arrays have: one for each variable
+    /// and each element of an array, 0 to 10100. It takes no memory.
     pub fn slots(&self) -> usize
         ensures slots { result ≡ self.now.slots }
         ensures few { result ≤ most_slots }

@@ -28,7 +28,8 @@ pub(crate) fn judged(alloc: Global, lines: &[Shared<Line>]) -> Result<Tables, Ch
     Ok(tables)
 }
 
-/// Whether the program is legal: it and the shapes of its dummy arguments, or its first fault, clause by clause, in the order of test.
+/// Whether the program is legal: it and the shapes of its dummy
+/// arguments, or its first fault, clause by clause, in the order of test.
 ///
 /// Want of memory is told in place of any answer.
 #[tactic(auto, using(crate::proofs::SlotTables::slots_few))]

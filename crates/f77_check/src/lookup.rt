@@ -7,12 +7,12 @@ ghost use Rattle.f77_tree.specs.View.{tree_of, trees};
 ghost use Rattle.f77_tree.specs.declared.intrinsic.Intrinsic.TheVariants.{Mod, Iabs};
 ghost use Rattle.f77_tree.specs.declared.tree.Kind.{Kind};
 ghost use Rattle.f77_tree.specs.declared.tree.Kind.TheVariants.{Integer, Logical};
-ghost use Rattle.f77_check.specs.Action.{IsStep};
-ghost use Rattle.f77_check.specs.Boxed.{HoldsNumber, HoldsCondition};
+ghost use Rattle.f77_check.specs.Action.{IsIncrementation};
+ghost use Rattle.f77_check.specs.code.Boxed.{HoldsNumber, HoldsCondition};
 ghost use Rattle.f77_check.specs.Expression.{IsElement, IsNumber, IsChosen, IsCondition};
 ghost use Rattle.f77_actions.specs.Operators.{arithmetic_of, relation_of, connective_of};
 ghost use Rattle.f77_legal.specs.Kinds.{same_kind, result_kind};
-ghost use Rattle.f77_check.specs.Lookup.{IsReadyTree, by_tables};
+ghost use Rattle.f77_check.specs.code.Lookup.{IsReadyTree, by_tables};
 ghost use Rattle.f77_legal.specs.Names.{Symbol};
 ghost use Rattle.f77_legal.specs.declared.fault.CheckFault.TheVariants.{Memory};
 
@@ -65,7 +65,8 @@ impl Resolver {
         name: &Name,
         subscripts: &[Expr],
     ) -> Result<Element, CheckFault>
-        requires { (kind : Kind) × IsReadyTree self.now kind (Tree.Reference name.now (trees (map tree_of subscripts.now))) }
+        requires { (kind : Kind)
+            × IsReadyTree self.now kind (Tree.Reference name.now (trees (map tree_of subscripts.now))) }
         ensures element { IfOk result (by_tables self.now IsElement name.now (trees (map tree_of subscripts.now))) }
         ensures memory { IfErr result (λ fault. fault ≡ Memory) }
     {
@@ -119,7 +120,7 @@ impl Resolver {
 
     /// The same on the heap.
     #[cycle(numbers)]
-    #[tactic(auto, unfolding(crate::specs::Boxed::HoldsNumber))]
+    #[tactic(auto, unfolding(crate::specs::code::Boxed::HoldsNumber))]
     fn boxed(&self, alloc: Global, expr: &Expr) -> Result<Box<Number>, CheckFault>
         requires { IsReadyTree self.now Integer (tree_of expr.now) }
         ensures number { IfOk result (by_tables self.now HoldsNumber (tree_of expr.now)) }
@@ -137,7 +138,8 @@ impl Resolver {
         arguments: &[Expr],
     ) -> Result<Number, CheckFault>
         requires { IsReadyTree self.now Integer (Tree.Call function (trees (map tree_of arguments.now))) }
-        ensures number { IfOk result (by_tables self.now IsNumber (Tree.Call function (trees (map tree_of arguments.now)))) }
+        ensures number { IfOk result
+            (by_tables self.now IsNumber (Tree.Call function (trees (map tree_of arguments.now)))) }
         ensures memory { IfErr result (λ fault. fault ≡ Memory) }
     {
         match function {
@@ -171,7 +173,8 @@ impl Resolver {
     #[tactic(auto, using(f77_legal::proofs::Counts::count_trees, crate::proofs::Items::one_item))]
     fn absolute(&self, alloc: Global, arguments: &[Expr]) -> Result<Number, CheckFault>
         requires { IsReadyTree self.now Integer (Tree.Call Iabs (trees (map tree_of arguments.now))) }
-        ensures number { IfOk result (by_tables self.now IsNumber (Tree.Call Iabs (trees (map tree_of arguments.now)))) }
+        ensures number { IfOk result
+            (by_tables self.now IsNumber (Tree.Call Iabs (trees (map tree_of arguments.now)))) }
         ensures memory { IfErr result (λ fault. fault ≡ Memory) }
     {
         match arguments {
@@ -213,7 +216,8 @@ impl Resolver {
     ) -> Result<Condition, CheckFault>
         requires ready { IsReadyTree self.now Logical (Tree.Binary operator (tree_of left.now) (tree_of right.now)) }
         requires relation { relation_of operator ≡ Some relation }
-        ensures condition { IfOk result (by_tables self.now IsCondition (Tree.Binary operator (tree_of left.now) (tree_of right.now))) }
+        ensures condition { IfOk result
+            (by_tables self.now IsCondition (Tree.Binary operator (tree_of left.now) (tree_of right.now))) }
         ensures memory { IfErr result (λ fault. fault ≡ Memory) }
     {
         Ok(Condition::Related(
@@ -253,7 +257,7 @@ impl Resolver {
 
     /// The same on the heap.
     #[cycle(conditions)]
-    #[tactic(auto, unfolding(crate::specs::Boxed::HoldsCondition))]
+    #[tactic(auto, unfolding(crate::specs::code::Boxed::HoldsCondition))]
     fn boxed_condition(&self, alloc: Global, expr: &Expr) -> Result<Box<Condition>, CheckFault>
         requires { IsReadyTree self.now Logical (tree_of expr.now) }
         ensures condition { IfOk result (by_tables self.now HoldsCondition (tree_of expr.now)) }
@@ -265,7 +269,7 @@ impl Resolver {
     /// The incrementation parameter of a DO, 1 where none is written (11.10).
     pub(crate) fn step(&self, alloc: Global, step: &Option<Expr>) -> Result<Number, CheckFault>
         requires { IfSome step.now (λ step. IsReadyTree self.now Integer (tree_of step)) }
-        ensures step { IfOk result (by_tables self.now IsStep (option_map tree_of step.now)) }
+        ensures step { IfOk result (by_tables self.now IsIncrementation (option_map tree_of step.now)) }
         ensures memory { IfErr result (λ fault. fault ≡ Memory) }
     {
         match step {

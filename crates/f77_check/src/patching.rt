@@ -1,14 +1,16 @@
 //! Checked programs with one statement changed.
 
-ghost use Rattle.std.specs.Prelude.{◌≡◌, ◌<◌, ◌⊎◌, ◌-◌, true, false, List, length, map, IfOk, IfErr, IfSome, IsNone, None, Some};
+ghost use Rattle.std.specs.Prelude.{◌≡◌, ◌<◌, ◌⊎◌, ◌-◌, true, false, List, length};
+ghost use Rattle.std.specs.Prelude.{map, IfOk, IfErr, IfSome, IsNone, None, Some};
 ghost use Rattle.f77_program.specs.Program.{LineFields, IsProgram, line_of};
 ghost use Rattle.f77_program.specs.Patching.{Fits, replaced, patched};
 ghost use Rattle.f77_tree.specs.Statement.{statement_of};
 ghost use Rattle.f77_check.specs.Checked.{shapes};
-ghost use Rattle.f77_check.specs.Patching.{IsChangedAlone, IsInPlace};
+ghost use Rattle.f77_check.specs.code.Patching.{IsChangedAlone};
+ghost use Rattle.f77_check.specs.Patching.{IsInPlace};
 ghost use Rattle.f77_check.specs.Resolved.{IsResolved, AreResolved};
-ghost use Rattle.f77_legal.specs.Legal.{IsLegal, Tells, faults, first_fault};
-ghost use Rattle.f77_legal.specs.Patches.{MayStandAt, StandsAlone};
+ghost use Rattle.f77_legal.specs.Legal.{IsLegal, TellsFirstFault, faults, first_fault};
+ghost use Rattle.f77_legal.specs.code.Patches.{MayStandAt, StandsAlone};
 ghost use Rattle.f77_legal.specs.declared.fault.CheckFault.TheVariants.{Memory};
 
 use crate::checked::Checked;
@@ -20,8 +22,8 @@ use f77_tree::{Shared, Stmt};
 use std::alloc::Global;
 
 impl Checked {
-    /// Whether the statement may stand in the place of the one of this number, which is 1 for SUBROUTINE: it is of the same
-    /// group, and some text spells it. It takes no memory.
+    /// Whether the statement may stand in the place of the one of this number, which is 1
+    /// for SUBROUTINE: it is of the same group, and some text spells it. It takes no memory.
     pub fn fits(&self, number: usize, stmt: &Stmt) -> bool
         ensures yes { result ≡ true → Fits (map line_of self.now.program) number (statement_of stmt.now) }
         ensures no { result ≡ false → ¬ (Fits (map line_of self.now.program) number (statement_of stmt.now)) }
@@ -40,7 +42,8 @@ impl Checked {
     /// Whether the change is judged by the changed statement alone. It takes no memory.
     fn stands_alone(&self, number: usize, stmt: &Stmt) -> bool
         requires { Fits (map line_of self.now.program) number (statement_of stmt.now) }
-        ensures { result ≡ true → StandsAlone self.now.names (map line_of self.now.program) (number - 1) (statement_of stmt.now) }
+        ensures { result ≡ true
+            → StandsAlone self.now.names (map line_of self.now.program) (number - 1) (statement_of stmt.now) }
     {
         let i = number - 1;
         if !keeps_frame(&self.program().lines()[i].stmt, stmt) {
@@ -49,8 +52,8 @@ impl Checked {
         self.may_stand_at(i, stmt) && self.resolver().tables.names.have(stmt)
     }
 
-    /// The first fault of the program with this statement in the place of the statement `i`, where it has it if any has. It
-    /// takes no memory.
+    /// The first fault of the program with this statement in the place of
+    /// the statement `i`, where it has it if any has. It takes no memory.
     fn own_fault(&self, i: usize, stmt: &Stmt) -> Option<CheckFault>
         requires { StandsAlone self.now.names (map line_of self.now.program) i (statement_of stmt.now) }
         ensures { result ≡ first_fault (replaced (map line_of self.now.program) i (statement_of stmt.now)) }
@@ -61,7 +64,8 @@ impl Checked {
             .own_fault(lines, i, lines[i].line, stmt)
     }
 
-    /// The statements of the changed program resolved, in order: the statement `i`, which is changed, is resolved by itself.
+    /// The statements of the changed program resolved, in order:
+    /// the statement `i`, which is changed, is resolved by itself.
     fn statements_with(
         &self,
         alloc: Global,
@@ -96,8 +100,9 @@ impl Checked {
         ))
     }
 
-    /// The statement resolved that stands in the place of the one of this number, where the change is judged by the changed statement
-    /// alone; None where it is not. With it in the place of the old one, the statements resolved are those of the changed program.
+    /// The statement resolved that stands in the place of the one of this number, where the
+    /// change is judged by the changed statement alone; None where it is not. With it in
+    /// the place of the old one, the statements resolved are those of the changed program.
     ///
     /// Want of memory is told in place of any answer.
     pub fn resolved_in_place(
@@ -127,7 +132,8 @@ impl Checked {
         requires alone { StandsAlone self.now.names (map line_of self.now.program) i (statement_of stmt.now) }
         requires formed { IsProgram None program }
         requires legal { IsLegal program }
-        ensures resolved { IfOk result (λ resolved. IsResolved program self.now.names i (statement_of stmt.now) resolved) }
+        ensures resolved { IfOk result
+            (λ resolved. IsResolved program self.now.names i (statement_of stmt.now) resolved) }
         ensures memory { IfErr result (λ fault. fault ≡ Memory) }
     {
         let next = self.statements()[i].next;
@@ -163,13 +169,14 @@ impl Checked {
         }
     }
 
-    /// What `patched` refuses the change with, None where it refuses none: no program is made where the changed statement
-    /// alone can tell.
+    /// What `patched` refuses the change with, None where it refuses none:
+    /// no program is made where the changed statement alone can tell.
     ///
     /// Want of memory is told in place of any answer.
     pub fn patch_fault(&self, number: usize, stmt: &Stmt) -> Option<CheckFault>
         requires { Fits (map line_of self.now.program) number (statement_of stmt.now) }
-        ensures legal { IsNone result → IsLegal (patched (map line_of self.now.program) number (statement_of stmt.now)) }
+        ensures legal { IsNone result
+            → IsLegal (patched (map line_of self.now.program) number (statement_of stmt.now)) }
         ensures fault { let program = patched (map line_of self.now.program) number (statement_of stmt.now) in
             IfSome result (λ fault. (fault ≡ Memory) ⊎ (first_fault program ≡ Some fault)) }
     {
@@ -182,7 +189,8 @@ impl Checked {
     /// The faults of the whole changed program.
     fn whole_fault(&self, number: usize, stmt: &Stmt) -> Result<(), CheckFault>
         requires { Fits (map line_of self.now.program) number (statement_of stmt.now) }
-        ensures { Tells result (faults (patched (map line_of self.now.program) number (statement_of stmt.now))) }
+        ensures { TellsFirstFault result
+            (faults (patched (map line_of self.now.program) number (statement_of stmt.now))) }
     {
         let program = self.program().with_statement(number, stmt)?;
         judged(program.allocator(), program.lines())?;

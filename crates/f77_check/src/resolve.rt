@@ -5,13 +5,14 @@ ghost use Rattle.indexmap.specs.IndexMap.{keys};
 ghost use Rattle.f77_program.specs.Formed.{is_action};
 ghost use Rattle.f77_program.specs.Program.{LineFields, line_of};
 ghost use Rattle.f77_tree.specs.Statement.{statement_of, Statement, jumps_of};
-ghost use Rattle.f77_tree.specs.View.{place_of, tree_of, trees};
+ghost use Rattle.f77_tree.specs.View.{reference_fields, tree_of, trees};
 ghost use Rattle.f77_check.specs.Action.{IsJump, AreJumps};
-ghost use Rattle.f77_legal.specs.Blocks.{behind};
+ghost use Rattle.f77_legal.specs.Blocks.{statement_behind};
 ghost use Rattle.f77_legal.specs.Labels as labels;
-ghost use Rattle.f77_legal.specs.Labels.{statement_at};
+ghost use Rattle.f77_legal.specs.Labels.{nth_statement};
 ghost use Rattle.f77_legal.specs.Loops.{terminal};
-ghost use Rattle.f77_check.specs.Ready.{CanResolve, IsReady, AreFound, HasBranch, HasEnd, Does, Assigns};
+ghost use Rattle.f77_check.specs.Ready.{CanResolve};
+ghost use Rattle.f77_check.specs.code.Ready.{CanBeResolved, AreFound, HasBranch, HasEnd, Does, ResolvesAssignment};
 ghost use Rattle.f77_check.specs.Resolved.{IsResolved, AreResolved};
 ghost use Rattle.f77_legal.specs.Tables.{Serve};
 ghost use Rattle.f77_legal.specs.declared.fault.CheckFault.TheVariants.{Memory};
@@ -36,7 +37,7 @@ impl Resolver {
     fn jump(&self, alloc: Global, i: usize, label: u32) -> Result<Jump, CheckFault>
         ghost program: { List LineFields }
         requires tables { Serve self.now.tables program }
-        requires found { IsSome (labels.place_of program label) }
+        requires found { IsSome (labels.label_place program label) }
         ensures jump { IfOk result (λ jump. IsJump program i label jump) }
         ensures memory { IfErr result (λ fault. fault ≡ Memory) }
     {
@@ -64,8 +65,10 @@ impl Resolver {
 
     /// An assignment, by the kind of what is assigned to (10.1, 10.2).
     fn assignment(&self, alloc: Global, target: &Ref, value: &Expr) -> Result<Action, CheckFault>
-        requires { IsReady self.now (Statement.Assign (place_of target.now).0 (trees (place_of target.now).1) (tree_of value.now)) }
-        ensures action { IfOk result (λ action. Assigns self.now (place_of target.now).0 (trees (place_of target.now).1) (tree_of value.now) action) }
+        requires { CanBeResolved self.now (Statement.Assign (reference_fields target.now).0
+            (trees (reference_fields target.now).1) (tree_of value.now)) }
+        ensures action { IfOk result (λ action. ResolvesAssignment self.now (reference_fields target.now).0
+            (trees (reference_fields target.now).1) (tree_of value.now) action) }
         ensures memory { IfErr result (λ fault. fault ≡ Memory) }
     {
         let name = &target.name;
@@ -86,9 +89,10 @@ impl Resolver {
     ) -> Result<Action, CheckFault>
         ghost program: { List LineFields }
         requires tables { Serve self.now.tables program }
-        requires ready { IsReady self.now (Statement.ComputedGoto labels.now (tree_of value.now)) }
+        requires ready { CanBeResolved self.now (Statement.ComputedGoto labels.now (tree_of value.now)) }
         requires found { AreFound program labels.now }
-        ensures action { IfOk result (λ action. Does self.now program i (Statement.ComputedGoto labels.now (tree_of value.now)) action) }
+        ensures action { IfOk result
+            (λ action. Does self.now program i (Statement.ComputedGoto labels.now (tree_of value.now)) action) }
         ensures memory { IfErr result (λ fault. fault ≡ Memory) }
     {
         Ok(Action::ComputedGoto {
@@ -109,11 +113,12 @@ impl Resolver {
     ) -> Result<Action, CheckFault>
         ghost program: { List LineFields }
         requires tables { Serve self.now.tables program }
-        requires ready { IsReady self.now (Statement.ArithIf (tree_of value.now) negative zero positive) }
-        requires found { IsSome (labels.place_of program negative)
-            × IsSome (labels.place_of program zero)
-            × IsSome (labels.place_of program positive) }
-        ensures action { IfOk result (λ action. Does self.now program i (Statement.ArithIf (tree_of value.now) negative zero positive) action) }
+        requires ready { CanBeResolved self.now (Statement.ArithIf (tree_of value.now) negative zero positive) }
+        requires found { IsSome (labels.label_place program negative)
+            × IsSome (labels.label_place program zero)
+            × IsSome (labels.label_place program positive) }
+        ensures action { IfOk result
+            (λ action. Does self.now program i (Statement.ArithIf (tree_of value.now) negative zero positive) action) }
         ensures memory { IfErr result (λ fault. fault ≡ Memory) }
     {
         Ok(Action::ArithmeticIf {
@@ -128,7 +133,7 @@ impl Resolver {
     fn inner_action(&self, alloc: Global, i: usize, stmt: &Stmt) -> Result<Action, CheckFault>
         ghost program: { List LineFields }
         requires tables { Serve self.now.tables program }
-        requires ready { IsReady self.now (statement_of stmt.now) }
+        requires ready { CanBeResolved self.now (statement_of stmt.now) }
         requires found { AreFound program (jumps_of (statement_of stmt.now)) }
         requires acts { is_action (statement_of stmt.now) ≡ true }
         ensures action { IfOk result (λ action. Does self.now program i (statement_of stmt.now) action) }
@@ -173,11 +178,12 @@ impl Resolver {
     ) -> Result<Action, CheckFault>
         ghost program: { List LineFields }
         requires tables { Serve self.now.tables program }
-        requires ready { IsReady self.now (Statement.LogicalIf (tree_of test.now) (statement_of statement.now)) }
+        requires ready { CanBeResolved self.now (Statement.LogicalIf (tree_of test.now) (statement_of statement.now)) }
         requires found { AreFound program (jumps_of (statement_of statement.now)) }
         requires acts { is_action (statement_of statement.now) ≡ true }
         ensures action { IfOk result
-            (λ action. Does self.now program i (Statement.LogicalIf (tree_of test.now) (statement_of statement.now)) action) }
+            (λ action. Does self.now program i
+            (Statement.LogicalIf (tree_of test.now) (statement_of statement.now)) action) }
         ensures memory { IfErr result (λ fault. fault ≡ Memory) }
     {
         let condition = self.condition(alloc, test)?;
@@ -189,7 +195,7 @@ impl Resolver {
     fn branch(&self, alloc: Global, i: usize, test: &Expr) -> Result<Action, CheckFault>
         ghost program: { List LineFields }
         requires tables { Serve self.now.tables program }
-        requires ready { IsReady self.now (Statement.BlockIf (tree_of test.now)) }
+        requires ready { CanBeResolved self.now (Statement.BlockIf (tree_of test.now)) }
         requires ends { HasBranch program i }
         ensures first { IfOk result (λ action. Does self.now program i (Statement.BlockIf (tree_of test.now)) action) }
         ensures further { IfOk result (λ action. Does self.now program i (Statement.ElseIf (tree_of test.now)) action) }
@@ -218,12 +224,14 @@ impl Resolver {
     ) -> Result<Action, CheckFault>
         ghost program: { List LineFields }
         requires tables { Serve self.now.tables program }
-        requires ready { IsReady self.now
-            (Statement.Loop label variable.now (tree_of first.now) (tree_of last.now) (option_map tree_of increment.now)) }
+        requires ready { CanBeResolved self.now
+            (Statement.Loop label variable.now (tree_of first.now) (tree_of last.now)
+            (option_map tree_of increment.now)) }
         requires ends { IsSome (terminal program i) }
         ensures action { IfOk result
             (λ action. Does self.now program i
-            (Statement.Loop label variable.now (tree_of first.now) (tree_of last.now) (option_map tree_of increment.now)) action) }
+            (Statement.Loop label variable.now (tree_of first.now) (tree_of last.now)
+            (option_map tree_of increment.now)) action) }
         ensures memory { IfErr result (λ fault. fault ≡ Memory) }
     {
         let Some(terminal) = self.tables.ranges.terminal(i) else {
@@ -242,7 +250,7 @@ impl Resolver {
     fn action(&self, alloc: Global, i: usize, stmt: &Stmt) -> Result<Action, CheckFault>
         ghost program: { List LineFields }
         requires tables { Serve self.now.tables program }
-        requires ready { IsReady self.now (statement_of stmt.now) }
+        requires ready { CanBeResolved self.now (statement_of stmt.now) }
         requires found { AreFound program (jumps_of (statement_of stmt.now)) }
         requires ends { HasEnd program i (statement_of stmt.now) }
         ensures action { IfOk result (λ action. Does self.now program i (statement_of stmt.now) action) }
@@ -289,10 +297,11 @@ impl Resolver {
         next: usize,
     ) -> Result<Resolved, CheckFault>
         ghost program: { List LineFields }
-        requires at { statement_at program i ≡ Some (statement_of stmt.now) }
-        requires next { behind program i ≡ Some next }
+        requires at { nth_statement program i ≡ Some (statement_of stmt.now) }
+        requires next { statement_behind program i ≡ Some next }
         requires can { CanResolve self.now program }
-        ensures resolved { IfOk result (λ resolved. IsResolved program (keys self.now.tables.names.facts) i (statement_of stmt.now) resolved) }
+        ensures resolved { IfOk result
+            (λ resolved. IsResolved program (keys self.now.tables.names.facts) i (statement_of stmt.now) resolved) }
         ensures memory { IfErr result (λ fault. fault ≡ Memory) }
     {
         let action = self.action(alloc, i, stmt)?;
@@ -311,7 +320,7 @@ impl Resolver {
         requires lines { map line_of lines.now ≡ program }
         requires within { i < length lines.now }
         requires can { CanResolve self.now program }
-        ensures resolved { IfOk result (λ resolved. (s : Statement) → statement_at program i ≡ Some s
+        ensures resolved { IfOk result (λ resolved. (s : Statement) → nth_statement program i ≡ Some s
             → IsResolved program (keys self.now.tables.names.facts) i s resolved) }
         ensures memory { IfErr result (λ fault. fault ≡ Memory) }
     {
@@ -329,7 +338,8 @@ impl Resolver {
         lines: &[Shared<Line>],
     ) -> Result<Vec<Shared<Resolved>>, CheckFault>
         requires { CanResolve self.now (map line_of lines.now) }
-        ensures resolved { IfOk result (λ list. AreResolved (map line_of lines.now) (keys self.now.tables.names.facts) list.items) }
+        ensures resolved { IfOk result
+            (λ list. AreResolved (map line_of lines.now) (keys self.now.tables.names.facts) list.items) }
         ensures memory { IfErr result (λ fault. fault ≡ Memory) }
     {
         let mut list = Vec::with_capacity(alloc, lines.len())?;

@@ -1,7 +1,7 @@
 //! The shapes of the dummy arguments.
 
 ghost use Rattle.std.specs.Prelude.{◌≡◌, map, min, IfOk, IfErr};
-ghost use Rattle.f77_check.specs.Shapes.{elements_in, shape_at};
+ghost use Rattle.f77_check.specs.code.Shapes.{elements_in, shape_at};
 ghost use Rattle.f77_legal.specs.declared.fault.CheckFault.TheVariants.{Memory};
 
 use crate::checked::Shape;

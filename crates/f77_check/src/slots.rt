@@ -2,8 +2,8 @@
 
 ghost use Rattle.std.specs.Prelude.{◌≡◌, ◌<◌, ◌^◌, true, Some, IfOk, IfErr};
 ghost use Rattle.indexmap.specs.IndexMap.{keys};
-ghost use Rattle.f77_check.specs.Kept.{is_kept};
-ghost use Rattle.f77_legal.specs.NameTable.{bounds_at};
+ghost use Rattle.f77_check.specs.code.Kept.{is_kept};
+ghost use Rattle.f77_legal.specs.NameTable.{array_bounds};
 ghost use Rattle.f77_check.specs.Slots.{slot_count, first_slot};
 ghost use Rattle.f77_check.specs.SlotTable.{IsSlotTable};
 ghost use Rattle.f77_legal.specs.declared.fault.CheckFault.TheVariants.{Memory};
@@ -23,7 +23,7 @@ pub(crate) struct Slots {
 impl Slots {
     /// The slots of these names.
     pub(crate) fn of(alloc: Global, names: &Names) -> Result<Slots, CheckFault>
-        requires { slot_count (bounds_at names.now) (keys names.now.facts) < 2 ^ 32 }
+        requires { slot_count (array_bounds names.now) (keys names.now.facts) < 2 ^ 32 }
         ensures table { IfOk result (λ slots. IsSlotTable slots names.now) }
         ensures memory { IfErr result (λ fault. fault ≡ Memory) }
     {
@@ -40,7 +40,7 @@ impl Slots {
     pub(crate) fn first(&self, names: &Names, name: &Name) -> usize
         requires table { IsSlotTable self.now names.now }
         requires kept { is_kept names.now name.now ≡ true }
-        ensures { first_slot (bounds_at names.now) (keys names.now.facts) name.now ≡ Some result }
+        ensures { first_slot (array_bounds names.now) (keys names.now.facts) name.now ≡ Some result }
     {
         match names.facts.get_index_of(name) {
             Some(n) => self.first[n],

@@ -7,17 +7,17 @@ ghost use Rattle.f77_tree.specs.Data.{data_group_of};
 ghost use Rattle.f77_program.specs.Program.{line_of};
 ghost use Rattle.f77_tree.specs.Statement.{statement_of};
 ghost use Rattle.f77_legal.specs.Blocks.{first_numbers};
-ghost use Rattle.f77_check.specs.Initial as given;
-ghost use Rattle.f77_check.specs.Initial.{HasSlots, slots_of, groups_kept};
-ghost use Rattle.f77_check.specs.Kept.{is_kept};
-ghost use Rattle.f77_check.specs.Lookup.{by_tables};
-ghost use Rattle.f77_legal.specs.NameTable.{bounds_at, kind_at};
+ghost use Rattle.f77_check.specs.code.Initial as given;
+ghost use Rattle.f77_check.specs.code.Initial.{HasFewSlots, slots_of, groups_kept};
+ghost use Rattle.f77_check.specs.code.Kept.{is_kept};
+ghost use Rattle.f77_check.specs.code.Lookup.{by_tables};
+ghost use Rattle.f77_legal.specs.NameTable.{array_bounds, kind_at};
 ghost use Rattle.f77_legal.specs.Presets as presets;
-ghost use Rattle.f77_legal.specs.Presets.{elements};
+ghost use Rattle.f77_legal.specs.Presets.{preset_elements};
 ghost use Rattle.f77_check.specs.Ready.{CanResolve};
 ghost use Rattle.f77_check.specs.Slots.{first_slot, slot_kinds};
 ghost use Rattle.f77_check.specs.Start as start;
-ghost use Rattle.f77_check.specs.Start.{IsStartOf, preset_at};
+ghost use Rattle.f77_check.specs.Start.{IsStartOf, preset_value};
 ghost use Rattle.f77_legal.specs.declared.fault.CheckFault.TheVariants.{Memory};
 
 use crate::resolve::Resolver;
@@ -42,7 +42,7 @@ pub struct Start {
 }
 
 fn is_executable(stmt: &Stmt) -> bool
-    ensures { result ≡ start.is_executable (statement_of stmt.now) }
+    ensures { result ≡ start.is_executable_statement (statement_of stmt.now) }
 {
     !matches!(
         stmt.form(),
@@ -52,7 +52,7 @@ fn is_executable(stmt: &Stmt) -> bool
 
 /// The first executable statement.
 fn entry(lines: &[Shared<Line>]) -> Option<usize>
-    ensures { result ≡ position (λ line. start.is_executable (statement_of line.stmt)) lines.now }
+    ensures { result ≡ position (λ line. start.is_executable_statement (statement_of line.stmt)) lines.now }
 {
     lines.iter().position(|line| is_executable(&line.stmt))
 }
@@ -101,7 +101,7 @@ fn give_values(held: &mut [Option<Constant>], slots: &[usize], values: &[Value])
 impl Resolver {
     /// Adds the slots of a name.
     fn add_slots(&self, slots: &mut Vec<usize>, name: &Name) -> Result<(), CheckFault>
-        requires slots { HasSlots self.now }
+        requires slots { HasFewSlots self.now }
         requires kept { is_kept self.now.tables.names name.now ≡ true }
         ensures slots { OnOk result (slots.new.items ≡ slots.old.items ++ by_tables self.now slots_of name.now) }
         ensures memory { IfErr result (λ fault. fault ≡ Memory) }
@@ -116,7 +116,7 @@ impl Resolver {
 
     /// The slots of names, name by name.
     fn slots_of(&self, alloc: Global, list: &[Name]) -> Result<Vec<usize>, CheckFault>
-        requires slots { HasSlots self.now }
+        requires slots { HasFewSlots self.now }
         requires kept { list_all (is_kept self.now.tables.names) list.now ≡ true }
         ensures slots { IfOk result (λ slots. slots.items ≡ flat_map (by_tables self.now slots_of) list.now) }
         ensures memory { IfErr result (λ fault. fault ≡ Memory) }
@@ -130,9 +130,10 @@ impl Resolver {
 
     /// The first slot of each name.
     fn first_slots(&self, alloc: Global, list: &[Name]) -> Result<Vec<usize>, CheckFault>
-        requires slots { HasSlots self.now }
+        requires slots { HasFewSlots self.now }
         requires kept { list_all (is_kept self.now.tables.names) list.now ≡ true }
-        ensures slots { IfOk result (λ slots. map (by_tables self.now first_slot) list.now ≡ map (λ slot. Some slot) slots.items) }
+        ensures slots { IfOk result
+            (λ slots. map (by_tables self.now first_slot) list.now ≡ map (λ slot. Some slot) slots.items) }
         ensures memory { IfErr result (λ fault. fault ≡ Memory) }
     {
         let mut slots = Vec::new(alloc);
@@ -148,9 +149,10 @@ impl Resolver {
         held: &mut [Option<Constant>],
         groups: &[DataGroup],
     ) -> Result<(), CheckFault>
-        requires slots { HasSlots self.now }
+        requires slots { HasFewSlots self.now }
         requires kept { groups_kept self.now.tables.names (map data_group_of groups.now) ≡ true }
-        ensures given { OnOk result (held.new ≡ by_tables self.now given.give_groups held.old (map data_group_of groups.now)) }
+        ensures given { OnOk result
+            (held.new ≡ by_tables self.now given.give_groups held.old (map data_group_of groups.now)) }
         ensures memory { IfErr result (λ fault. fault ≡ Memory) }
     {
         for group in groups {
@@ -168,7 +170,8 @@ impl Resolver {
     ) -> Result<Vec<Option<Constant>>, CheckFault>
         requires { CanResolve self.now (map line_of lines.now) }
         ensures initial { IfOk result (λ initial. initial.items ≡ flat_map
-            (λ name. map (preset_at (map line_of lines.now) name) (first_numbers (elements (map line_of lines.now) name)))
+            (λ name. map (preset_value (map line_of lines.now) name)
+            (first_numbers (preset_elements (map line_of lines.now) name)))
             (keys self.now.tables.names.facts)) }
         ensures memory { IfErr result (λ fault. fault ≡ Memory) }
     {
@@ -181,10 +184,11 @@ impl Resolver {
 
     /// Adds the kind of a name for each of its slots.
     fn add_kinds(&self, kinds: &mut Vec<Kind>, name: &Name) -> Result<(), CheckFault>
-        requires slots { HasSlots self.now }
+        requires slots { HasFewSlots self.now }
         requires kept { is_kept self.now.tables.names name.now ≡ true }
         ensures kinds { OnOk result (kinds.new.items ≡ kinds.old.items
-            ++ replicate (presets.product (bounds_at self.now.tables.names name.now)) (kind_at self.now.tables.names name.now)) }
+            ++ replicate (presets.product (array_bounds self.now.tables.names name.now))
+            (kind_at self.now.tables.names name.now)) }
         ensures memory { IfErr result (λ fault. fault ≡ Memory) }
     {
         let names = &self.tables.names;
@@ -197,8 +201,9 @@ impl Resolver {
 
     /// The kind of each slot.
     fn kinds(&self, alloc: Global) -> Result<Vec<Kind>, CheckFault>
-        requires { HasSlots self.now }
-        ensures kinds { IfOk result (λ kinds. kinds.items ≡ by_tables self.now (slot_kinds (kind_at self.now.tables.names))) }
+        requires { HasFewSlots self.now }
+        ensures kinds { IfOk result
+            (λ kinds. kinds.items ≡ by_tables self.now (slot_kinds (kind_at self.now.tables.names))) }
         ensures memory { IfErr result (λ fault. fault ≡ Memory) }
     {
         let names = &self.tables.names;
@@ -212,7 +217,8 @@ impl Resolver {
     /// What a run of a legal program starts with.
     pub(crate) fn start(&self, alloc: Global, lines: &[Shared<Line>]) -> Result<Start, CheckFault>
         requires { CanResolve self.now (map line_of lines.now) }
-        ensures start { IfOk result (λ start. IsStartOf (map line_of lines.now) (keys self.now.tables.names.facts) start) }
+        ensures start { IfOk result
+            (λ start. IsStartOf (map line_of lines.now) (keys self.now.tables.names.facts) start) }
         ensures memory { IfErr result (λ fault. fault ≡ Memory) }
     {
         let Some(entry) = entry(lines) else {

@@ -3,7 +3,8 @@
 ghost use Rattle.std.specs.Prelude.{◌≡◌, map, IfOk, IfErr};
 ghost use Rattle.indexmap.specs.IndexMap.{keys};
 ghost use Rattle.f77_program.specs.Program.{line_of};
-ghost use Rattle.f77_check.specs.Symbols.{variable_of, variable_in, variable_at};
+ghost use Rattle.f77_check.specs.Symbols.{symbol_variable, variable_in};
+ghost use Rattle.f77_check.specs.code.Symbols.{variable_at};
 ghost use Rattle.f77_legal.specs.Labels as labelled;
 ghost use Rattle.f77_legal.specs.Names.{symbols};
 ghost use Rattle.f77_legal.specs.declared.fault.CheckFault.TheVariants.{Memory};
@@ -24,7 +25,7 @@ pub struct Variable {
 
 impl Variable {
     fn of(alloc: Global, names: &Names, name: &Name) -> Result<Variable, CheckFault>
-        ensures variable { IfOk result (λ variable. variable_of variable ≡ variable_at names.now name.now) }
+        ensures variable { IfOk result (λ variable. symbol_variable variable ≡ variable_at names.now name.now) }
         ensures memory { IfErr result (λ fault. fault ≡ Memory) }
     {
         Ok(Variable {
@@ -37,7 +38,8 @@ impl Variable {
 
 /// The variables and arrays of a table of names, in its order.
 fn listed(alloc: Global, names: &Names) -> Result<Vec<Variable>, CheckFault>
-    ensures variables { IfOk result (λ list. map variable_of list.items ≡ map (variable_at names.now) (keys names.now.facts)) }
+    ensures variables { IfOk result
+        (λ list. map symbol_variable list.items ≡ map (variable_at names.now) (keys names.now.facts)) }
     ensures memory { IfErr result (λ fault. fault ≡ Memory) }
 {
     let mut list = Vec::new(alloc);
@@ -51,7 +53,7 @@ impl Checked {
     /// The variables and arrays, in order of first appearance.
     pub fn variables(&self) -> Result<Vec<Variable>, CheckFault>
         ensures variables { let program = map line_of self.now.program in
-            IfOk result (λ list. map variable_of list.items ≡ map (variable_in program) (symbols program)) }
+            IfOk result (λ list. map symbol_variable list.items ≡ map (variable_in program) (symbols program)) }
         ensures memory { IfErr result (λ fault. fault ≡ Memory) }
     {
         let program = self.program();

@@ -7,14 +7,14 @@ use Rattle.f77_values.specs.declared.finish.Fault.{Fault}
 use Rattle.f77_values.specs.declared.finish.Finish.TheVariants.{Failed}
 use Rattle.f77_code.specs.declared.control.Turn.{Turn}
 use Rattle.f77_code.specs.Instructions.{onward}
-use Rattle.f77_code.specs.Holds.{Plan, Holds, Counts}
+use Rattle.f77_code.specs.Holds.{Plan, HoldsRegisters, HoldsCounters}
 use Rattle.f77_code.specs.Moves as moves
-use Rattle.f77_code.specs.Moves.{Cells, Turns, Move, Ends, chosen, go_on, jump_to}
+use Rattle.f77_code.specs.Moves.{Cells, TurnList, Move, Ends, jump_chosen, go_on, jump_to}
 use Rattle.f77_code.specs.Operation as code
-use Rattle.f77_code.specs.Operation.{Point, point, ended, branch}
+use Rattle.f77_code.specs.Operation.{Point, point, ended_point, branch}
 use Rattle.f77_code.specs.Simulation.{IsMove, are_active}
 use Rattle.f77_values.specs.Number.{fits, is_same}
-use Rattle.f77_values.specs.Told.{of_truth, truth, is_fitting}
+use Rattle.f77_values.specs.Told.{of_truth, truth_number, is_fitting}
 use Rattle.f77_code.proofs.Counters.{counts_without}
 use Rattle.f77_code.proofs.Onward.{onward_active}
 
@@ -22,39 +22,39 @@ pub fits_of : (v : Result ℤ Fault) (z : ℤ) → is_fitting v ≡ true → v �
 fits_of v z h e = subst (λ v. is_fitting v ≡ true) e h
 
 -- control goes on from a statement that did not jump
-pub go_on_alike : (plan : Plan) (statements : List Resolved) (counters : List Turn) (turns : Turns) → Counts statements counters turns
+pub go_on_alike : (plan : Plan) (statements : List Resolved) (counters : List Turn) (turns : TurnList) → HoldsCounters statements counters turns
     → (r : Resolved) (next : ℕ) → are_active turns r.ends.items ≡ true → next ≡ onward statements r.ends.items r.next
-    → (registers : List ℤ) (cells : Cells) → Holds plan registers cells → IsMove plan statements (point next registers counters) (go_on r cells turns)
+    → (registers : List ℤ) (cells : Cells) → HoldsRegisters plan registers cells → IsMove plan statements (point next registers counters) (go_on r cells turns)
 go_on_alike plan statements counters turns counts r next all is registers cells holds = record {
   place = is ∙ sym (onward_active statements r.next turns r.ends.items all);
   holds = holds;
   counts = counts;
 }
 
-module _ (plan : Plan) (statements : List Resolved) (registers : List ℤ) (counters : List Turn) (cells : Cells) (holds : Holds plan registers cells) where
+module _ (plan : Plan) (statements : List Resolved) (registers : List ℤ) (counters : List Turn) (cells : Cells) (holds : HoldsRegisters plan registers cells) where
   pub used_alike : {A : Type 0} (v w : Result A Fault) → v ≡ w → (f : A → Point) (g : A → Move) → ((x : A) → v ≡ Ok x → IsMove plan statements (f x) (g x))
-      → IsMove plan statements (code.used v registers counters f) (moves.used w cells g)
+      → IsMove plan statements (code.used_in_code v registers counters f) (moves.used w cells g)
   used_alike (Ok x) w same f g each = subst (λ w. IsMove plan statements (f x) (moves.used w cells g)) same (each x refl)
   used_alike (Err e) w same f g each =
-      subst (λ w. IsMove plan statements (point (ended (Failed e)) registers counters) (moves.used w cells g)) same (refl, holds)
+      subst (λ w. IsMove plan statements (point (ended_point (Failed e)) registers counters) (moves.used w cells g)) same (refl, holds)
 
   pub truth_alike : (v : Result ℤ Fault) (w : Result Bool Fault) → v ≡ of_truth w → (f : ℤ → Point) (g : Bool → Move)
-      → ((b : Bool) → IsMove plan statements (f (truth b)) (g b)) → IsMove plan statements (code.used v registers counters f) (moves.used w cells g)
-  truth_alike v (Ok b) same f g each = subst (λ v. IsMove plan statements (code.used v registers counters f) (g b)) (sym same) (each b)
-  truth_alike v (Err e) same f g each = subst (λ v. IsMove plan statements (code.used v registers counters f) (Ends (Failed e) cells)) (sym same) (refl, holds)
+      → ((b : Bool) → IsMove plan statements (f (truth_number b)) (g b)) → IsMove plan statements (code.used_in_code v registers counters f) (moves.used w cells g)
+  truth_alike v (Ok b) same f g each = subst (λ v. IsMove plan statements (code.used_in_code v registers counters f) (g b)) (sym same) (each b)
+  truth_alike v (Err e) same f g each = subst (λ v. IsMove plan statements (code.used_in_code v registers counters f) (Ends (Failed e) cells)) (sym same) (refl, holds)
 
   -- a truth value tells where both go
   pub branched : (v : Result ℤ Fault) (w : Result Bool Fault) → v ≡ of_truth w → (there next : ℕ) (taken other : Move)
       → IsMove plan statements (point there registers counters) taken → IsMove plan statements (point next registers counters) other
-      → IsMove plan statements (branch v there next registers counters) (moves.used w cells (λ b. chosen b taken other))
+      → IsMove plan statements (branch v there next registers counters) (moves.used w cells (λ b. jump_chosen b taken other))
   branched v w same there next taken other y n =
-      truth_alike v w same (λ z. point (if is_same z (pos 0) then next else there) registers counters) (λ b. chosen b taken other) each
+      truth_alike v w same (λ z. point (if is_same z (pos 0) then next else there) registers counters) (λ b. jump_chosen b taken other) each
     where
-      each : (b : Bool) → IsMove plan statements (point (if is_same (truth b) (pos 0) then next else there) registers counters) (chosen b taken other)
+      each : (b : Bool) → IsMove plan statements (point (if is_same (truth_number b) (pos 0) then next else there) registers counters) (jump_chosen b taken other)
       each true = y
       each false = n
 
-  pub jumped : (turns : Turns) → Counts statements counters turns → (jump : Jump) (p : ℕ) → p ≡ jump.target
+  pub jumped : (turns : TurnList) → HoldsCounters statements counters turns → (jump : Jump) (p : ℕ) → p ≡ jump.target
       → IsMove plan statements (point p registers counters) (jump_to jump cells turns)
   jumped turns counts jump p e = record {
     place = e;

@@ -8,16 +8,17 @@ use Rattle.f77_actions.specs.declared.resolved.Resolved.{Resolved}
 use Rattle.f77_code.specs.declared.constants.Constants.{Constants}
 use Rattle.f77_code.specs.declared.instruction.Instruction.{Instruction}
 use Rattle.f77_code.specs.declared.instruction.Operation.{Operation}
-use Rattle.f77_code.specs.Instructions.{Increments, AreCode}
-use Rattle.f77_code.specs.Compiled.{IsInstruction, IsIncrement, AreExecuted, AreFollowed, AreCompiled, HaveActions}
-use Rattle.f77_code.specs.Constants.{Grows, Begins}
-use Rattle.f77_code.specs.Holds.{Plan, loop_count, rank, is_loop_at}
+use Rattle.f77_code.specs.Instructions.{StandsForIncrement, AreCode}
+use Rattle.f77_code.specs.Compiled.{IsInstruction, IsIncrement, AreCompiled}
+use Rattle.f77_code.specs.code.Compiled.{AreExecuted, AreFollowed, HaveActions}
+use Rattle.f77_code.specs.Constants.{GrowsPlan, BeginsPlan}
+use Rattle.f77_code.specs.Holds.{Plan, loop_count, do_rank, is_loop_at}
 use Rattle.f77_code.specs.Moves.{is_loop}
 use Rattle.f77_code.proofs.Instructed.{instruction_later}
 use Rattle.f77_code.proofs.Counters.{rank_rises}
 use Rattle.f77_code.proofs.Listed.{pushed, get_left, get_behind, rank_more, count_le, loop_is, loop_within, last_or_below}
 
-pub executed_more : (t u : Constants) (statements : List Resolved) (n : ℕ) (list : List Instruction) (x : Instruction) → Grows t u
+pub executed_more : (t u : Constants) (statements : List Resolved) (n : ℕ) (list : List Instruction) (x : Instruction) → GrowsPlan t u
     → AreExecuted t statements n list → IsInstruction u statements n x → AreExecuted u statements (n + 1) (list ++ (x ∷ []))
 executed_more t u statements n list x g are next = record {
   count = length-append list (x ∷ []) ∙ ap (λ k. k + 1) are.count;
@@ -28,7 +29,7 @@ executed_more t u statements n list x g are next = record {
 pub none_executed : (t : Constants) (statements : List Resolved) → AreExecuted t statements 0 []
 none_executed t statements = record { count = refl; each = λ i x is. absurd (cc (is)) }
 
-no_rank : (rs : List Resolved) → rank rs 0 ≡ 0
+no_rank : (rs : List Resolved) → do_rank rs 0 ≡ 0
 no_rank [] = refl
 no_rank (r ∷ rs) = refl
 
@@ -36,7 +37,7 @@ all_taken : (rs : List Resolved) → take (length rs) rs ≡ rs
 all_taken [] = refl
 all_taken (r ∷ rs) = ap (λ rs. r ∷ rs) (all_taken rs)
 
-pub all_ranked : (rs : List Resolved) → rank rs (length rs) ≡ loop_count rs
+pub all_ranked : (rs : List Resolved) → do_rank rs (length rs) ≡ loop_count rs
 all_ranked rs = ap loop_count (all_taken rs)
 
 -- no incrementation follows yet
@@ -52,15 +53,15 @@ none_followed t statements list are = record {
 pub followed_still : (t : Constants) (statements : List Resolved) (n : ℕ) (r : Resolved) (list : List Instruction) → slice_get statements n ≡ Some r
     → is_loop r.action ≡ false → AreFollowed t statements n list → AreFollowed t statements (n + 1) list
 followed_still t statements n r list at other are =
-    let same : rank statements (n + 1) ≡ rank statements n
-    = rank_more statements n r at ∙ ap (λ b. if b then rank statements n + 1 else rank statements n) other in
+    let same : do_rank statements (n + 1) ≡ do_rank statements n
+    = rank_more statements n r at ∙ ap (λ b. if b then do_rank statements n + 1 else do_rank statements n) other in
     record {
       count = are.count ∙ ap (λ k. length statements + k) (sym same);
       executed = are.executed;
       incremented = λ d x below loop is. by d x below loop is (last_or_below d n below);
     }
   where
-    by : (d : ℕ) (x : Instruction) → d < n + 1 → is_loop_at statements d ≡ true → slice_get list (length statements + rank statements d) ≡ Some x
+    by : (d : ℕ) (x : Instruction) → d < n + 1 → is_loop_at statements d ≡ true → slice_get list (length statements + do_rank statements d) ≡ Some x
         → (d < n) ⊎ (d ≡ n) → IsIncrement statements d x
     by d x below loop is (inl h) = are.incremented d x h loop is
     by d x below loop is (inr e) =
@@ -79,17 +80,17 @@ followed_more t statements n r list x at loops next are =
       incremented = λ d y below loop is. by d y loop is (last_or_below d n below);
     }
   where
-    more : rank statements (n + 1) ≡ rank statements n + 1
-    more = rank_more statements n r at ∙ ap (λ b. if b then rank statements n + 1 else rank statements n) loops
+    more : do_rank statements (n + 1) ≡ do_rank statements n + 1
+    more = rank_more statements n r at ∙ ap (λ b. if b then do_rank statements n + 1 else do_rank statements n) loops
 
-    by : (d : ℕ) (y : Instruction) → is_loop_at statements d ≡ true → slice_get (list ++ (x ∷ [])) (length statements + rank statements d) ≡ Some y
+    by : (d : ℕ) (y : Instruction) → is_loop_at statements d ≡ true → slice_get (list ++ (x ∷ [])) (length statements + do_rank statements d) ≡ Some y
         → (d < n) ⊎ (d ≡ n) → IsIncrement statements d y
     by d y loop is (inl h) =
         are.incremented d y h loop
-        (sym (get_left list (x ∷ []) (length statements + rank statements d) (omega (arith, rank_rises statements d n h loop, are.count))) ∙ is)
+        (sym (get_left list (x ∷ []) (length statements + do_rank statements d) (omega (arith, rank_rises statements d n h loop, are.count))) ∙ is)
     by d y loop is (inr e) =
-        let place : length statements + rank statements d ≡ length list + 0
-        = ap (λ d. length statements + rank statements d) e ∙ omega (arith, are.count) in
+        let place : length statements + do_rank statements d ≡ length list + 0
+        = ap (λ d. length statements + do_rank statements d) e ∙ omega (arith, are.count) in
         let there : slice_get (x ∷ []) 0 ≡ Some y
         = sym (get_behind list (x ∷ []) 0) ∙ ap (slice_get (list ++ (x ∷ []))) (sym place) ∙ is in
         let same : x ≡ y = same_Some _ _ there in
@@ -98,20 +99,20 @@ followed_more t statements n r list x at loops next are =
 pub all_followed : (t : Constants) (statements : List Resolved) (n : ℕ) (list : List Instruction) → n ≡ length statements → AreFollowed t statements n list
     → AreCompiled t statements list
 all_followed t statements n list end are = record {
-  count = are.count ∙ ap (λ k. length statements + k) (ap (rank statements) end ∙ all_ranked statements);
+  count = are.count ∙ ap (λ k. length statements + k) (ap (do_rank statements) end ∙ all_ranked statements);
   executed = are.executed;
   incremented = λ d x loop is. are.incremented d x (subst (λ n. d < n) (sym end) (loop_within statements d loop)) loop is;
 }
 
 -- what is no DO has no incrementation
 increments_if : (plan : Plan) (statements : List Resolved) (d : ℕ) (operation : Operation) (next : ℕ) (act : Action)
-    → (is_loop act ≡ true → Increments plan statements d act operation next) → Increments plan statements d act operation next
+    → (is_loop act ≡ true → StandsForIncrement plan statements d act operation next) → StandsForIncrement plan statements d act operation next
 increments_if plan statements d operation next (Loop slot first last step t) h = h refl
 increments_if plan statements d operation next _ h = tt
 
 -- compiled statements are code in each plan that begins with the constants, where the slots that the statements name are there
 pub code_stands : (plan : Plan) (table : Constants) (statements : List Resolved) (code : List Instruction) → AreCompiled table statements code
-    → length statements < 2147483648 → Begins plan table → HaveActions plan statements → AreCode plan statements code
+    → length statements < 2147483648 → BeginsPlan plan table → HaveActions plan statements → AreCode plan statements code
 code_stands plan table statements code are few begins have = record {
   count = are.count;
   few = omega (arith, are.count, few, count_le statements);

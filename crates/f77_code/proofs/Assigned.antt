@@ -14,17 +14,17 @@ use Rattle.f77_values.specs.declared.value.Value.TheVariants as held
 use Rattle.f77_code.specs.declared.control.Turn.{Turn}
 use Rattle.f77_code.specs.declared.instruction.Operation.{Operation, SetMatrix}
 use Rattle.f77_code.specs.declared.term.Term.{Term}
-use Rattle.f77_code.specs.Instructions.{Giving, giving, Storing, storing, Assigns, onward}
+use Rattle.f77_code.specs.Instructions.{Giving, giving, Storing, storing, StandsForAssignment, onward}
 use Rattle.f77_code.specs.Evaluation.{slot_in, number_in, truth_in}
-use Rattle.f77_code.specs.Holds.{Plan, Holds, Counts, IsSlot, AreSlots}
+use Rattle.f77_code.specs.Holds.{Plan, HoldsRegisters, HoldsCounters, IsSlot, AreSlots}
 use Rattle.f77_code.specs.Moves as moves
-use Rattle.f77_code.specs.Moves.{Cells, Turns, Move, go_on}
-use Rattle.f77_code.specs.Operation.{point, put, put_at, ran}
+use Rattle.f77_code.specs.Moves.{Cells, TurnList, Move, go_on}
+use Rattle.f77_code.specs.Operation.{point, put_in_register, put_at, ran}
 use Rattle.f77_code.specs.Registers.{vector_place, matrix_place}
 use Rattle.f77_code.specs.Simulation.{IsMove, are_active}
 use Rattle.f77_code.specs.Standing.{IsTerm, IsTest}
 use Rattle.f77_code.specs.Term.{term_value}
-use Rattle.f77_values.specs.Told.{truth}
+use Rattle.f77_values.specs.Told.{truth_number}
 use Rattle.f77_values.specs.Value.{given, element}
 use Rattle.f77_code.proofs.Alike.{fits_of, go_on_alike, used_alike, truth_alike}
 use Rattle.f77_code.proofs.Fitting.{term_fits}
@@ -79,17 +79,17 @@ module _ (cells : Cells) (first : ℕ) (g : ℕ → Move) where
   matrix_used rows columns (Ok z) (Err f) = refl
   matrix_used rows columns (Ok z) (Ok w) = place_used (element (rows ∷ (columns ∷ [])) (z ∷ (w ∷ [])))
 
-module _ (plan : Plan) (statements : List Resolved) (registers : List ℤ) (counters : List Turn) (cells : Cells) (holds : Holds plan registers cells) (next : ℕ) where
+module _ (plan : Plan) (statements : List Resolved) (registers : List ℤ) (counters : List Turn) (cells : Cells) (holds : HoldsRegisters plan registers cells) (next : ℕ) where
   abbrev Puts : Kind → (Term → Type 0) → (ℕ → Move) → Type 0
   Puts kind stands g =
-      (k : ℕ) (t : Term) → IsSlot plan kind k → stands t → IsMove plan statements (put k (term_value registers t) next registers counters) (g k)
+      (k : ℕ) (t : Term) → IsSlot plan kind k → stands t → IsMove plan statements (put_in_register k (term_value registers t) next registers counters) (g k)
 
   variable : (kind : Kind) (stands : Term → Type 0) (g : ℕ → Move) → Puts kind stands g → (k : ℕ) (o : Operation) (v : Option Giving) → giving o ≡ v
       → MatchOption v ⊥ (λ v. (v.to ≡ k) × IsSlot plan kind k × stands v.term) → IsMove plan statements (ran o next registers counters) (g k)
   variable kind stands g puts k o None is h = absurd h
   variable kind stands g puts k o (Some v) is h =
       subst (λ p. IsMove plan statements p (g k))
-      (sym (giving_is next registers counters o v is ∙ ap (λ j. put j (term_value registers v.term) next registers counters) h.0))
+      (sym (giving_is next registers counters o v is ∙ ap (λ j. put_in_register j (term_value registers v.term) next registers counters) h.0))
       (puts k v.term h.1 h.2)
 
   vector : (kind : Kind) (stands : Term → Type 0) (g : ℕ → Move) → Puts kind stands g → (first bound : ℕ) (x : Number) (o : Operation) (v : Option Storing) → storing o ≡ v
@@ -99,7 +99,7 @@ module _ (plan : Plan) (statements : List Resolved) (registers : List ℤ) (coun
   vector kind stands g puts first bound x o (Some v) is h =
       subst (λ p. IsMove plan statements p (moves.used place cells (λ k. g (first + k))))
       (sym (storing_is next registers counters o v is ∙ ap (λ f. put_at f here (term_value registers v.term) next registers counters) h.0))
-      (used_alike plan statements registers counters cells holds here place same (λ k. put (first + k) (term_value registers v.term) next registers counters)
+      (used_alike plan statements registers counters cells holds here place same (λ k. put_in_register (first + k) (term_value registers v.term) next registers counters)
       (λ k. g (first + k)) (λ k e. puts (first + k) v.term (h.2 k (vector_below bound (number_in cells x) k (sym same ∙ e))) h.4))
     where
       here : Result ℕ Fault
@@ -112,7 +112,7 @@ module _ (plan : Plan) (statements : List Resolved) (registers : List ℤ) (coun
       same = λ i. vector_place (h.1 i) (same_term plan registers cells holds x v.subscript h.3 i)
 
   -- an element is given what a term has for a value
-  pub assigned : (kind : Kind) (stands : Term → Type 0) (g : ℕ → Move) → Puts kind stands g → (e : Element) (o : Operation) → Assigns plan kind stands e o
+  pub assigned : (kind : Kind) (stands : Term → Type 0) (g : ℕ → Move) → Puts kind stands g → (e : Element) (o : Operation) → StandsForAssignment plan kind stands e o
       → IsMove plan statements (ran o next registers counters) (moves.used (slot_in cells e) cells g)
   assigned kind stands g puts (Variable k) o h = variable kind stands g puts k o (giving o) refl h
   assigned kind stands g puts (Vector' first bound b x) o h =
@@ -123,7 +123,7 @@ module _ (plan : Plan) (statements : List Resolved) (registers : List ℤ) (coun
       (sym (matrix_used cells first g rows columns (number_in cells x) (number_in cells y)))
       (subst (λ p. IsMove plan statements p (moves.used place cells (λ k. g (first + k))))
       (sym (ap (λ f. put_at f here (term_value registers term.value) next registers counters) h.0))
-      (used_alike plan statements registers counters cells holds here place same (λ k. put (first + k) (term_value registers term.value) next registers counters)
+      (used_alike plan statements registers counters cells holds here place same (λ k. put_in_register (first + k) (term_value registers term.value) next registers counters)
       (λ k. g (first + k))
       (λ k e. puts (first + k) term.value (h.3 k (matrix_below rows columns (number_in cells x) (number_in cells y) k (sym same ∙ e))) h.6)))
     where
@@ -137,9 +137,9 @@ module _ (plan : Plan) (statements : List Resolved) (registers : List ℤ) (coun
       same = λ i. matrix_place (h.1 i) (h.2 i) (same_term plan registers cells holds x pair.value.left h.4 i) (same_term plan registers cells holds y pair.value.right h.5 i)
   assigned kind stands g puts _ _ h = absurd h
 
-  module _ (turns : Turns) (counts : Counts statements counters turns) (r : Resolved) (all : are_active turns r.ends.items ≡ true)
+  module _ (turns : TurnList) (counts : HoldsCounters statements counters turns) (r : Resolved) (all : are_active turns r.ends.items ≡ true)
       (is : next ≡ onward statements r.ends.items r.next) where
-    pub number_assigned : (x : Number) (e : Element) (o : Operation) → Assigns plan Integer (IsTerm plan x) e o
+    pub number_assigned : (x : Number) (e : Element) (o : Operation) → StandsForAssignment plan Integer (IsTerm plan x) e o
         → IsMove plan statements (ran o next registers counters)
         (moves.used (slot_in cells e) cells (λ k. moves.used (number_in cells x) cells (λ z. go_on r (slice_set cells k (Some (held.Number z))) turns)))
     number_assigned x e o h =
@@ -152,7 +152,7 @@ module _ (plan : Plan) (statements : List Resolved) (registers : List ℤ) (coun
             (λ z e. go_on_alike plan statements counters turns counts r next all is (slice_set registers k z) (slice_set cells k (Some (held.Number z)))
             (number_written plan registers cells holds k z slot (fits_of (term_value registers t) z (term_fits registers holds.held t) e)))
 
-    pub truth_assigned : (x : Condition) (e : Element) (o : Operation) → Assigns plan Logical (IsTest plan x) e o
+    pub truth_assigned : (x : Condition) (e : Element) (o : Operation) → StandsForAssignment plan Logical (IsTest plan x) e o
         → IsMove plan statements (ran o next registers counters)
         (moves.used (slot_in cells e) cells (λ k. moves.used (truth_in cells x) cells (λ b. go_on r (slice_set cells k (Some (held.Truth b))) turns)))
     truth_assigned x e o h =
@@ -162,5 +162,5 @@ module _ (plan : Plan) (statements : List Resolved) (registers : List ℤ) (coun
         puts k t slot stands =
             truth_alike plan statements registers counters cells holds (term_value registers t) (truth_in cells x) (same_test plan registers cells holds x t stands)
             (λ z. point next (slice_set registers k z) counters) (λ b. go_on r (slice_set cells k (Some (held.Truth b))) turns)
-            (λ b. go_on_alike plan statements counters turns counts r next all is (slice_set registers k (truth b)) (slice_set cells k (Some (held.Truth b)))
+            (λ b. go_on_alike plan statements counters turns counts r next all is (slice_set registers k (truth_number b)) (slice_set cells k (Some (held.Truth b)))
             (truth_written plan registers cells holds k b slot))

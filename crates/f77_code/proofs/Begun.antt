@@ -3,41 +3,41 @@ use Rattle.std.proofs.Common.{◌≡◌, ℕ, List, ℤ, pos, ◌∙◌}
 use Rattle.std.specs.Prelude.{Result, Err, ◌≤ℤ◌, ◌<ℤ◌}
 use Rattle.f77_values.specs.declared.finish.Fault.{Fault}
 use Rattle.f77_values.specs.declared.finish.Finish.TheVariants.{Failed}
-use Rattle.f77_values.specs.Told.{Tells}
+use Rattle.f77_values.specs.Told.{TellsResult}
 use Rattle.f77_code.specs.declared.control.Turn.{Turn}
-use Rattle.f77_code.specs.Operation.{Point, point, used, ended, begun}
+use Rattle.f77_code.specs.Operation.{Point, point, used_in_code, ended_point, begun_in_code}
 use Rattle.f77_code.proofs.Points.{fails, goes}
 
 module _ (variable counter body next : ℕ) (registers : List ℤ) (turns : List Turn) (first last step : Result ℤ Fault) where
   -- behind the evaluation of both other parameters, and behind that of the first
   abbrev on_last : ℤ → ℤ → Point
-  on_last a b = used step registers turns (λ c. begun variable counter body next a b c registers turns)
+  on_last a b = used_in_code step registers turns (λ c. begun_in_code variable counter body next a b c registers turns)
 
   abbrev on_first : ℤ → Point
-  on_first a = used last registers turns (on_last a)
+  on_first a = used_in_code last registers turns (on_last a)
 
-  pub first_fails : (p : ℕ) (a : ℤ) → pos 1099511627776 ≤ℤ a → ((f : Fault) → Tells a (Err f) → p ≡ ended (Failed f)) → Tells a first
-      → point p registers turns ≡ used first registers turns on_first
+  pub first_fails : (p : ℕ) (a : ℤ) → pos 1099511627776 ≤ℤ a → ((f : Fault) → TellsResult a (Err f) → p ≡ ended_point (Failed f)) → TellsResult a first
+      → point p registers turns ≡ used_in_code first registers turns on_first
   first_fails p a h e tells = fails p registers turns a h e on_first first tells
 
-  module _ (a : ℤ) (small : a <ℤ pos 1099511627776) (tells : Tells a first) where
-    pub last_fails : (p : ℕ) (b : ℤ) → pos 1099511627776 ≤ℤ b → ((f : Fault) → Tells b (Err f) → p ≡ ended (Failed f)) → Tells b last
-        → point p registers turns ≡ used first registers turns on_first
+  module _ (a : ℤ) (small : a <ℤ pos 1099511627776) (tells : TellsResult a first) where
+    pub last_fails : (p : ℕ) (b : ℤ) → pos 1099511627776 ≤ℤ b → ((f : Fault) → TellsResult b (Err f) → p ≡ ended_point (Failed f)) → TellsResult b last
+        → point p registers turns ≡ used_in_code first registers turns on_first
     last_fails p b h e t = fails p registers turns b h e (on_last a) last t ∙ goes registers turns a small on_first first tells
 
-    module _ (b : ℤ) (low : b <ℤ pos 1099511627776) (is : Tells b last) where
-      pub step_fails : (p : ℕ) (c : ℤ) → pos 1099511627776 ≤ℤ c → ((f : Fault) → Tells c (Err f) → p ≡ ended (Failed f)) → Tells c step
-          → point p registers turns ≡ used first registers turns on_first
+    module _ (b : ℤ) (low : b <ℤ pos 1099511627776) (is : TellsResult b last) where
+      pub step_fails : (p : ℕ) (c : ℤ) → pos 1099511627776 ≤ℤ c → ((f : Fault) → TellsResult c (Err f) → p ≡ ended_point (Failed f)) → TellsResult c step
+          → point p registers turns ≡ used_in_code first registers turns on_first
       step_fails p c h e t =
-          fails p registers turns c h e (λ c. begun variable counter body next a b c registers turns) step t
+          fails p registers turns c h e (λ c. begun_in_code variable counter body next a b c registers turns) step t
           ∙ goes registers turns b low (on_last a) last is
           ∙ goes registers turns a small on_first first tells
 
       -- all three have values
-      pub all_go : (q : Point) (c : ℤ) → c <ℤ pos 1099511627776 → Tells c step → q ≡ begun variable counter body next a b c registers turns
-          → q ≡ used first registers turns on_first
+      pub all_go : (q : Point) (c : ℤ) → c <ℤ pos 1099511627776 → TellsResult c step → q ≡ begun_in_code variable counter body next a b c registers turns
+          → q ≡ used_in_code first registers turns on_first
       all_go q c h t did =
           did
-          ∙ goes registers turns c h (λ c. begun variable counter body next a b c registers turns) step t
+          ∙ goes registers turns c h (λ c. begun_in_code variable counter body next a b c registers turns) step t
           ∙ goes registers turns b low (on_last a) last is
           ∙ goes registers turns a small on_first first tells

@@ -10,10 +10,11 @@ use Rattle.f77_code.specs.declared.constants.Constants.{Constants}
 use Rattle.f77_code.specs.declared.instruction.Instruction.{Instruction}
 use Rattle.f77_code.specs.declared.instruction.Operation.{Operation, Do, Next}
 use Rattle.f77_code.specs.declared.places.Places.{Places}
-use Rattle.f77_code.specs.Instructions.{onward, round, IsLeft, Tests, Stands, Increments}
-use Rattle.f77_code.specs.Compiled.{IsInstruction, IsIncrement, AreCompiled, HasOneFrame, IsExchanged, IsIncrementExchanged}
-use Rattle.f77_code.specs.Constants.{Grows}
-use Rattle.f77_code.specs.Holds.{Plan, loop_count, rank, is_loop_at}
+use Rattle.f77_code.specs.Instructions.{onward, round, IsLeftDone, Tests, StandsForStatement, StandsForIncrement}
+use Rattle.f77_code.specs.Compiled.{IsInstruction, IsIncrement, AreCompiled, HasOneFrame, IsExchanged}
+use Rattle.f77_code.specs.code.Compiled.{IsIncrementExchanged}
+use Rattle.f77_code.specs.Constants.{GrowsPlan}
+use Rattle.f77_code.specs.Holds.{Plan, loop_count, do_rank, is_loop_at}
 use Rattle.f77_code.specs.Moves.{is_loop}
 use Rattle.f77_code.specs.Places.{ArePlaces}
 use Rattle.f77_code.proofs.Assembled.{all_ranked}
@@ -53,7 +54,7 @@ one_frame before i after change = record {
 -- the same number of DOs stands before each place
 ranked_same : (before after : List Resolved) → length after ≡ length before
     → ((j : ℕ) (r s : Resolved) → slice_get before j ≡ Some r → slice_get after j ≡ Some s → is_loop s.action ≡ is_loop r.action)
-    → (d : ℕ) → rank after d ≡ rank before d
+    → (d : ℕ) → do_rank after d ≡ do_rank before d
 ranked_same [] [] count each d = refl
 ranked_same [] (s ∷ ss) count each d = absurd (omega (arith, count))
 ranked_same (r ∷ rs) [] count each d = absurd (omega (arith, count))
@@ -66,25 +67,25 @@ ranked_same (r ∷ rs) (s ∷ ss) count each (suc d) =
     omega (arith, one, rest, old, new)
 
 module _ (before after : List Resolved) (same : HaveOneFrame before after) where
-  pub rank_same : (d : ℕ) → rank after d ≡ rank before d
+  pub rank_same : (d : ℕ) → do_rank after d ≡ do_rank before d
   rank_same = ranked_same before after same.count (λ j r s old new. (same.each j r s old new).loop)
 
   pub count_same : loop_count after ≡ loop_count before
-  count_same = sym (all_ranked after) ∙ rank_same (length after) ∙ ap (rank before) same.count ∙ all_ranked before
+  count_same = sym (all_ranked after) ∙ rank_same (length after) ∙ ap (do_rank before) same.count ∙ all_ranked before
 
   onward_same : (ends : List ℕ) (next : ℕ) → onward after ends next ≡ onward before ends next
   onward_same [] next = refl
   onward_same (d ∷ ends) next = λ i. same.count i + rank_same d i
 
-  left_same : (d t next : ℕ) → IsLeft before d t next → IsLeft after d t next
+  left_same : (d t next : ℕ) → IsLeftDone before d t next → IsLeftDone after d t next
   left_same d t next h end at =
       let below : t < length before = subst (λ n. t < n) same.count (slice_get_within after t end at) in
       let w = item_at before t below in
       let frame = same.each t w.0 end w.1 at in
       h w.0 w.1 ∙ sym (onward_same (round d w.0.ends.items) w.0.next) ∙ (λ i. onward after (round d (sym frame.ends i)) (sym frame.next i))
 
-  stands_same : (plan : Plan) (i : ℕ) (r : Resolved) (act : Action) (operation : Operation) (next : ℕ) → Stands plan before i r act operation next
-      → Stands plan after i r act operation next
+  stands_same : (plan : Plan) (i : ℕ) (r : Resolved) (act : Action) (operation : Operation) (next : ℕ) → StandsForStatement plan before i r act operation next
+      → StandsForStatement plan after i r act operation next
   stands_same plan i r (Branch x otherwise) operation next h =
       (subst (λ n. Tests plan x n operation) (sym (onward_same r.ends.items r.next)) h.0, h.1)
   stands_same plan i r (Loop slot x y z end) (Do variable counter body parameters) next h =
@@ -92,8 +93,8 @@ module _ (before after : List Resolved) (same : HaveOneFrame before after) where
   stands_same plan i r (Loop slot x y z end) _ next h = absurd h
   stands_same plan i r _ operation next h = (h.0, h.1 ∙ sym (onward_same r.ends.items r.next))
 
-  increments_same : (plan : Plan) (d : ℕ) (act : Action) (operation : Operation) (next : ℕ) → Increments plan before d act operation next
-      → Increments plan after d act operation next
+  increments_same : (plan : Plan) (d : ℕ) (act : Action) (operation : Operation) (next : ℕ) → StandsForIncrement plan before d act operation next
+      → StandsForIncrement plan after d act operation next
   increments_same plan d (Loop slot x y z end) (Next variable counter body) next h =
       (h.0, h.1, h.2 ∙ sym (rank_same d), h.3, left_same d end next h.4)
   increments_same plan d (Loop slot x y z end) _ next h = absurd h
@@ -125,7 +126,7 @@ module _ (before after : List Resolved) (same : HaveOneFrame before after) where
 
 -- two DOs are incremented at two places
 apart_places : (rs : List Resolved) (d i : ℕ) → d ≢ i → is_loop_at rs d ≡ true → is_loop_at rs i ≡ true
-    → length rs + rank rs d ≢ length rs + rank rs i
+    → length rs + do_rank rs d ≢ length rs + do_rank rs i
 apart_places rs d i apart loop also e = by (order d i)
   where
     by : (d < i) ⊎ (i ≤ d) → ⊥
@@ -133,11 +134,11 @@ apart_places rs d i apart loop also e = by (order d i)
     by (inr h) = let lower = rank_rises rs i d (omega (arith, h, apart)) also in absurd (omega (arith, lower, e))
 
 -- the code of the exchanged statement is new, and so is that of its incrementation
-pub exchanged_code : (t u : Constants) (before : List Resolved) (i : ℕ) (after : List Resolved) (code new : List Instruction) → Grows t u
+pub exchanged_code : (t u : Constants) (before : List Resolved) (i : ℕ) (after : List Resolved) (code new : List Instruction) → GrowsPlan t u
     → IsExchanged before i after → i < length after → AreCompiled t before code → length new ≡ length code
     → ((x : Instruction) → slice_get new i ≡ Some x → IsInstruction u after i x)
-    → (is_loop_at after i ≡ true → (x : Instruction) → slice_get new (length after + rank after i) ≡ Some x → IsIncrement after i x)
-    → ((j : ℕ) → j ≢ i → (is_loop_at after i ≡ true → j ≢ length after + rank after i) → slice_get new j ≡ slice_get code j)
+    → (is_loop_at after i ≡ true → (x : Instruction) → slice_get new (length after + do_rank after i) ≡ Some x → IsIncrement after i x)
+    → ((j : ℕ) → j ≢ i → (is_loop_at after i ≡ true → j ≢ length after + do_rank after i) → slice_get new j ≡ slice_get code j)
     → AreCompiled u after new
 exchanged_code t u before i after code new g change within are long here next others = record {
   count = long ∙ are.count ∙ (λ k. sym same.count k + sym (count_same before after same) k);
@@ -157,20 +158,20 @@ exchanged_code t u before i after code new g change within are long here next ot
         (instruction_same before after same t j x (change.others j apart)
         (are.executed j x (subst (λ n. j < n) same.count below) (sym kept ∙ is)))
 
-    incremented_at : (d : ℕ) (x : Instruction) → is_loop_at after d ≡ true → slice_get new (length after + rank after d) ≡ Some x → (d ≡ i) ⊎ (d ≢ i)
+    incremented_at : (d : ℕ) (x : Instruction) → is_loop_at after d ≡ true → slice_get new (length after + do_rank after d) ≡ Some x → (d ≡ i) ⊎ (d ≢ i)
         → IsIncrement after d x
     incremented_at d x loop is (inl e) =
         subst (λ d. IsIncrement after d x) (sym e)
-        (next (subst (λ d. is_loop_at after d ≡ true) e loop) x (subst (λ d. slice_get new (length after + rank after d) ≡ Some x) e is))
+        (next (subst (λ d. is_loop_at after d ≡ true) e loop) x (subst (λ d. slice_get new (length after + do_rank after d) ≡ Some x) e is))
     incremented_at d x loop is (inr apart) =
-        let kept = others (length after + rank after d) (λ e. absurd (omega (arith, e, within))) (apart_places after d i apart loop) in
-        let place : length before + rank before d ≡ length after + rank after d = λ k. sym same.count k + sym (rank_same before after same d) k in
+        let kept = others (length after + do_rank after d) (λ e. absurd (omega (arith, e, within))) (apart_places after d i apart loop) in
+        let place : length before + do_rank before d ≡ length after + do_rank after d = λ k. sym same.count k + sym (rank_same before after same d) k in
         increment_same before after same d x (change.others d apart)
         (are.incremented d x (loop_kept before after same d loop) (ap (slice_get code) place ∙ sym kept ∙ is))
 
 -- the incrementation is exchanged where it stands
 pub increment_set : (statements : List Resolved) (i place : ℕ) (list : List Instruction) (x : Instruction) → is_loop_at statements i ≡ true
-    → place ≡ length statements + rank statements i → IsIncrement statements i x → IsIncrementExchanged statements i list (set list place x)
+    → place ≡ length statements + do_rank statements i → IsIncrement statements i x → IsIncrementExchanged statements i list (set list place x)
 increment_set statements i place list x loop at h = record {
   count = length-set list place x;
   next = λ _ y is.
@@ -187,7 +188,7 @@ none_set statements i list other = record {
 }
 
 pub changed_code : (t u : Constants) (before : List Resolved) (i : ℕ) (after : List Resolved) (code : List Instruction) (x : Instruction) (new : List Instruction)
-    → Grows t u → IsExchanged before i after → i < length after → AreCompiled t before code → IsInstruction u after i x
+    → GrowsPlan t u → IsExchanged before i after → i < length after → AreCompiled t before code → IsInstruction u after i x
     → IsIncrementExchanged after i (set code i x) new → AreCompiled u after new
 changed_code t u before i after code x new g change within are h set_next =
     exchanged_code t u before i after code new g change within are (set_next.count ∙ length-set code i x)

@@ -8,7 +8,7 @@ use Rattle.f77_actions.specs.declared.expression.Connective.{Connective}
 use Rattle.f77_actions.specs.declared.expression.Connective.TheVariants as connective
 use Rattle.f77_actions.specs.declared.expression.Relation.{Relation}
 use Rattle.f77_values.specs.declared.finish.Fault.{Fault}
-use Rattle.f77_values.specs.Number.{fits, in_range, exact_power, negated, size, is_below, is_same}
+use Rattle.f77_values.specs.Number.{fits, in_range, exact_power, negated, without_sign, is_below, is_same}
 use Rattle.f77_values.specs.Told.{is_fitting, negation}
 use Rattle.f77_values.specs.Value.{given, both, pushed}
 use Rattle.f77_values.proofs.Bounds.{fits_truth}
@@ -17,7 +17,7 @@ use Rattle.f77_code.specs.declared.term.Term.{Sum, Difference, Product, Compared
 use Rattle.f77_code.specs.declared.term.Term.{Add', Subtract', Multiply', Calculated', Negated', Absolute', ZeroPush', Related', Connected', Not'}
 use Rattle.f77_code.specs.Evaluation.{calculated, compared}
 use Rattle.f77_code.specs.Registers.{is_held, are_held, register, vector_place, matrix_place, element_at}
-use Rattle.f77_code.specs.Term.{related, connected, term_value}
+use Rattle.f77_code.specs.Term.{related_number, connected_number, term_value}
 use Rattle.f77_code.proofs.Reading.{held_tells}
 
 range_fits : (z : ℤ) → is_fitting (in_range z) ≡ true
@@ -52,10 +52,10 @@ calculated_fits arithmetic.Modulus x (negsuc n) f g = range_fits (int_rem x (neg
 calculated_fits arithmetic.Least x y f g = choice_fits (is_below y x) y x g f
 calculated_fits arithmetic.Greatest x y f g = choice_fits (is_below x y) y x g f
 
-related_fits : (op : Relation) (x y : ℤ) → fits x ≡ true → fits y ≡ true → is_fitting (related op x y) ≡ true
+related_fits : (op : Relation) (x y : ℤ) → fits x ≡ true → fits y ≡ true → is_fitting (related_number op x y) ≡ true
 related_fits op x y f g = fits_truth (compared op x y)
 
-connected_fits : (op : Connective) (x y : ℤ) → fits x ≡ true → fits y ≡ true → is_fitting (connected op x y) ≡ true
+connected_fits : (op : Connective) (x y : ℤ) → fits x ≡ true → fits y ≡ true → is_fitting (connected_number op x y) ≡ true
 connected_fits connective.And x y f g = choice_fits (is_same x (pos 0)) x y f g
 connected_fits connective.Or x y f g = choice_fits (is_same x (pos 0)) y x g f
 connected_fits connective.Equivalent x y f g = fits_truth (is_same x y)
@@ -95,21 +95,26 @@ module _ (registers : List ℤ) (held : are_held registers ≡ true) where
   term_fits (ElementAtDifference first bound a b) =
       element_fits first
       (vector_place bound (both (calculated arithmetic.Subtract) (register registers a) (register registers b)))
-  term_fits (Sum a b) = both_fit (calculated arithmetic.Add) (calculated_fits arithmetic.Add) (register registers a) (register registers b) (register_fits registers a held) (register_fits registers b held)
-  term_fits (Difference a b) = both_fit (calculated arithmetic.Subtract) (calculated_fits arithmetic.Subtract) (register registers a) (register registers b) (register_fits registers a held) (register_fits registers b held)
-  term_fits (Product a b) = both_fit (calculated arithmetic.Multiply) (calculated_fits arithmetic.Multiply) (register registers a) (register registers b) (register_fits registers a held) (register_fits registers b held)
-  term_fits (Compared op a b) = both_fit (related op) (related_fits op) (register registers a) (register registers b) (register_fits registers a held) (register_fits registers b held)
+  term_fits (Sum a b) = both_fit (calculated arithmetic.Add) (calculated_fits arithmetic.Add) (register registers a) (register registers b)
+      (register_fits registers a held) (register_fits registers b held)
+  term_fits (Difference a b) = both_fit (calculated arithmetic.Subtract) (calculated_fits arithmetic.Subtract) (register registers a)
+      (register registers b) (register_fits registers a held) (register_fits registers b held)
+  term_fits (Product a b) = both_fit (calculated arithmetic.Multiply) (calculated_fits arithmetic.Multiply) (register registers a)
+      (register registers b) (register_fits registers a held) (register_fits registers b held)
+  term_fits (Compared op a b) = both_fit (related_number op) (related_fits op) (register registers a) (register registers b) (register_fits registers a held) (register_fits registers b held)
   term_fits TooLarge = refl
   term_fits (Vector' first bound p t) = element_fits first (vector_place bound (term_value registers t))
   term_fits (Matrix' first rows columns p row column) =
       element_fits first (matrix_place rows columns (term_value registers row) (term_value registers column))
   term_fits (Add' p left right) = both_fit (calculated arithmetic.Add) (calculated_fits arithmetic.Add) (term_value registers left) (term_value registers right) (term_fits left) (term_fits right)
-  term_fits (Subtract' p left right) = both_fit (calculated arithmetic.Subtract) (calculated_fits arithmetic.Subtract) (term_value registers left) (term_value registers right) (term_fits left) (term_fits right)
-  term_fits (Multiply' p left right) = both_fit (calculated arithmetic.Multiply) (calculated_fits arithmetic.Multiply) (term_value registers left) (term_value registers right) (term_fits left) (term_fits right)
+  term_fits (Subtract' p left right) = both_fit (calculated arithmetic.Subtract) (calculated_fits arithmetic.Subtract) (term_value registers left)
+      (term_value registers right) (term_fits left) (term_fits right)
+  term_fits (Multiply' p left right) = both_fit (calculated arithmetic.Multiply) (calculated_fits arithmetic.Multiply) (term_value registers left)
+      (term_value registers right) (term_fits left) (term_fits right)
   term_fits (Calculated' op p left right) = both_fit (calculated op) (calculated_fits op) (term_value registers left) (term_value registers right) (term_fits left) (term_fits right)
   term_fits (Negated' p t) = given_fits (λ z. in_range (negated z)) (λ x f. range_fits (negated x)) (term_value registers t) (term_fits t)
-  term_fits (Absolute' p t) = given_fits (λ z. in_range (size z)) (λ x f. range_fits (size x)) (term_value registers t) (term_fits t)
+  term_fits (Absolute' p t) = given_fits (λ z. in_range (without_sign z)) (λ x f. range_fits (without_sign x)) (term_value registers t) (term_fits t)
   term_fits (ZeroPush' p t) = given_fits pushed pushed_fits (term_value registers t) (term_fits t)
-  term_fits (Related' op p left right) = both_fit (related op) (related_fits op) (term_value registers left) (term_value registers right) (term_fits left) (term_fits right)
-  term_fits (Connected' op p left right) = both_fit (connected op) (connected_fits op) (term_value registers left) (term_value registers right) (term_fits left) (term_fits right)
+  term_fits (Related' op p left right) = both_fit (related_number op) (related_fits op) (term_value registers left) (term_value registers right) (term_fits left) (term_fits right)
+  term_fits (Connected' op p left right) = both_fit (connected_number op) (connected_fits op) (term_value registers left) (term_value registers right) (term_fits left) (term_fits right)
   term_fits (Not' p t) = given_fits (λ z. Ok (negation z)) (λ x f. fits_truth (is_same x (pos 0))) (term_value registers t) (term_fits t)

@@ -5,11 +5,11 @@ use Rattle.std.specs.Option.{option_map_or}
 use Rattle.f77_values.specs.declared.finish.Fault.{Fault}
 use Rattle.f77_values.specs.declared.finish.Finish.TheVariants.{Failed}
 use Rattle.f77_values.specs.Number.{in_range}
-use Rattle.f77_values.specs.Told.{Tells}
+use Rattle.f77_values.specs.Told.{TellsResult}
 use Rattle.f77_values.specs.Value.{given, both}
 use Rattle.f77_code.specs.declared.control.Turn.{Turn}
 use Rattle.f77_code.specs.declared.instruction.Operation.{Next}
-use Rattle.f77_code.specs.Operation.{point, ended, passed, one_less, incremented, ran}
+use Rattle.f77_code.specs.Operation.{point, ended_point, passed, one_less, incremented_in_code, ran}
 use Rattle.f77_code.specs.Registers.{register}
 use Rattle.f77_code.proofs.Points.{fails, goes, narrow_tells}
 
@@ -20,18 +20,18 @@ is_there (x ∷ xs) zero d below = refl
 is_there (x ∷ xs) (suc k) d below = is_there xs k d (omega arith)
 
 -- the variable's next value
-pub next_told : (step from x y : ℤ) → FitsSigned w32 step → from ≡ step → (r : Result ℤ Fault) → Tells x r
-    → ((r q : Result ℤ Fault) → Tells x r → Tells from q → Tells y (both (λ a b. in_range (a +ℤ b)) r q))
-    → Tells y (given r (λ z. in_range (z +ℤ step)))
-next_told step from x y f e r a adds = adds r (Ok step) a (subst (λ z. Tells z (Ok step)) (sym e) (narrow_tells step f))
+pub next_told : (step from x y : ℤ) → FitsSigned w32 step → from ≡ step → (r : Result ℤ Fault) → TellsResult x r
+    → ((r q : Result ℤ Fault) → TellsResult x r → TellsResult from q → TellsResult y (both (λ a b. in_range (a +ℤ b)) r q))
+    → TellsResult y (given r (λ z. in_range (z +ℤ step)))
+next_told step from x y f e r a adds = adds r (Ok step) a (subst (λ z. TellsResult z (Ok step)) (sym e) (narrow_tells step f))
 
 module _ (variable counter body next : ℕ) (turn : Turn) (registers : List ℤ) (turns : List Turn) (at : slice_get turns counter ≡ Some turn) where
-  next_is : incremented variable counter body next turn registers turns ≡ ran (Next variable counter body) next registers turns
-  next_is = sym (ap (λ o. option_map_or (λ turn. incremented variable counter body next turn registers turns) o (point next registers turns)) at)
+  next_is : incremented_in_code variable counter body next turn registers turns ≡ ran (Next variable counter body) next registers turns
+  next_is = sym (ap (λ o. option_map_or (λ turn. incremented_in_code variable counter body next turn registers turns) o (point next registers turns)) at)
 
   -- the variable has no value, or none that fits behind the last pass
-  pub next_fails : (p : ℕ) (x : ℤ) → pos 1099511627776 ≤ℤ x → ((f : Fault) → Tells x (Err f) → p ≡ ended (Failed f))
-      → Tells x (given (register registers variable) (λ z. in_range (z +ℤ turn.step)))
+  pub next_fails : (p : ℕ) (x : ℤ) → pos 1099511627776 ≤ℤ x → ((f : Fault) → TellsResult x (Err f) → p ≡ ended_point (Failed f))
+      → TellsResult x (given (register registers variable) (λ z. in_range (z +ℤ turn.step)))
       → point p registers turns ≡ ran (Next variable counter body) next registers turns
   next_fails p x h e tells =
       fails p registers turns x h e (λ z. passed counter body next (one_less turn.passes) turn.step (slice_set registers variable z) turns)
@@ -39,7 +39,7 @@ module _ (variable counter body next : ℕ) (turn : Turn) (registers : List ℤ)
       ∙ next_is
 
   -- it is given its next value, and there is one pass less
-  pub next_goes : (x : ℤ) → x <ℤ pos 1099511627776 → Tells x (given (register registers variable) (λ z. in_range (z +ℤ turn.step)))
+  pub next_goes : (x : ℤ) → x <ℤ pos 1099511627776 → TellsResult x (given (register registers variable) (λ z. in_range (z +ℤ turn.step)))
       → passed counter body next (one_less turn.passes) turn.step (slice_set registers variable x) turns
       ≡ ran (Next variable counter body) next registers turns
   next_goes x h tells =

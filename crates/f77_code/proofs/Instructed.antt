@@ -12,12 +12,14 @@ use Rattle.f77_code.specs.declared.instruction.Instruction.{Instruction}
 use Rattle.f77_code.specs.declared.instruction.Operation.{Operation, Do, Next}
 use Rattle.f77_code.specs.declared.instruction.Parameters.{Parameters}
 use Rattle.f77_code.specs.declared.term.Term.{Term}
-use Rattle.f77_code.specs.Instructions.{onward, IsLeft, IsOperation, Stands, Increments}
-use Rattle.f77_code.specs.Compile.{IsTestTerm}
-use Rattle.f77_code.specs.Compiled.{is_ready, HaveParameters, Advances, IsNext, IsInstruction, IsIncrement}
-use Rattle.f77_code.specs.Compiling.{can_compile, IsTesting, IsCompiled}
-use Rattle.f77_code.specs.Constants.{Grows, Begins}
-use Rattle.f77_code.specs.Holds.{Plan, rank}
+use Rattle.f77_code.specs.Instructions.{onward, IsLeftDone, IsOperation, StandsForStatement, StandsForIncrement}
+use Rattle.f77_code.specs.code.Compile.{IsTestTerm}
+use Rattle.f77_code.specs.Compiled.{is_ready, IsInstruction, IsIncrement}
+use Rattle.f77_code.specs.code.Compiled.{HaveParameters, Advances, IsNext}
+use Rattle.f77_code.specs.Compiling.{can_compile}
+use Rattle.f77_code.specs.code.Compiling.{IsTesting, IsCompiled}
+use Rattle.f77_code.specs.Constants.{GrowsPlan, BeginsPlan}
+use Rattle.f77_code.specs.Holds.{Plan, do_rank}
 use Rattle.f77_code.specs.Moves.{is_loop}
 use Rattle.f77_code.specs.Typing.{HasAction}
 use Rattle.f77_code.proofs.Operations.{term_tests}
@@ -25,13 +27,13 @@ use Rattle.f77_code.proofs.Terms.{begins_before}
 
 -- what an instruction of this operation needs, where the statement i is known
 pub instructed : (t : Constants) (statements : List Resolved) (i : ℕ) (r : Resolved) (operation : Operation) (next : ℕ) → slice_get statements i ≡ Some r
-    → ((plan : Plan) → Begins plan t → HasAction plan r.action → Stands plan statements i r r.action operation next)
+    → ((plan : Plan) → BeginsPlan plan t → HasAction plan r.action → StandsForStatement plan statements i r r.action operation next)
     → IsInstruction t statements i (record { operation = operation; next = next })
 instructed t statements i r operation next at h =
     record {
       stands = λ plan s b is has.
           let same : r ≡ s = same_Some _ _ (sym at ∙ is) in
-          subst (λ s. Stands plan statements i s s.action operation next) same (h plan b (subst (λ s. HasAction plan s.action) (sym same) has));
+          subst (λ s. StandsForStatement plan statements i s s.action operation next) same (h plan b (subst (λ s. HasAction plan s.action) (sym same) has));
     }
 
 pub branch_stands : (t : Constants) (statements : List Resolved) (i : ℕ) (r : Resolved) (x : Condition) (otherwise there next : ℕ) (term : Term)
@@ -41,17 +43,17 @@ pub branch_stands : (t : Constants) (statements : List Resolved) (i : ℕ) (r : 
 branch_stands t statements i r x otherwise there next term operation at is on other h tests =
     instructed t statements i r operation next at
     (λ plan b.
-    subst (λ act. HasAction plan act → Stands plan statements i r act operation next) (sym is)
+    subst (λ act. HasAction plan act → StandsForStatement plan statements i r act operation next) (sym is)
     (λ has. (term_tests plan x term (onward statements r.ends.items r.next) operation (subst (λ n. IsTesting n term operation) on tests) (h.tests plan b has), other)))
 
 pub do_stands : (t : Constants) (statements : List Resolved) (i : ℕ) (r : Resolved) (slot : ℕ) (x y z : Number) (end variable counter body next : ℕ)
     (parameters : Box Parameters Global) → slice_get statements i ≡ Some r → r.action ≡ Loop slot x y z end → variable ≡ slot
-    → counter ≡ rank statements i → body ≡ i + 1 → HaveParameters t x y z parameters.value → IsLeft statements i end next
+    → counter ≡ do_rank statements i → body ≡ i + 1 → HaveParameters t x y z parameters.value → IsLeftDone statements i end next
     → IsInstruction t statements i (record { operation = Do variable counter body parameters; next = next })
 do_stands t statements i r slot x y z end variable counter body next parameters at is same ranked first h left =
     instructed t statements i r (Do variable counter body parameters) next at
     (λ plan b.
-    subst (λ act. HasAction plan act → Stands plan statements i r act (Do variable counter body parameters) next) (sym is)
+    subst (λ act. HasAction plan act → StandsForStatement plan statements i r act (Do variable counter body parameters) next) (sym is)
     (λ has. (
       same,
       has.0,
@@ -63,7 +65,7 @@ do_stands t statements i r slot x y z end variable counter body next parameters 
 
 -- any other action
 plain_stands : (plan : Plan) (statements : List Resolved) (i : ℕ) (r : Resolved) (operation : Operation) (next : ℕ) → next ≡ onward statements r.ends.items r.next
-    → (act : Action) → IsOperation plan act operation → Stands plan statements i r act operation next
+    → (act : Action) → IsOperation plan act operation → StandsForStatement plan statements i r act operation next
 plain_stands plan statements i r operation next on (Branch x otherwise) h = absurd h
 plain_stands plan statements i r operation next on (Loop slot x y z end) h = absurd h
 plain_stands plan statements i r operation next on _ h = (h, on)
@@ -83,8 +85,8 @@ is_plain slots n _ h branch loop = h
 
 -- what increments a DO
 advances_operation : (plan : Plan) (statements : List Resolved) (d slot variable end : ℕ) (x y z : Number) (operation : Operation) (next : ℕ) → variable ≡ slot
-    → Advances statements d variable operation → IsLeft statements d end next → HasAction plan (Loop slot x y z end)
-    → Increments plan statements d (Loop slot x y z end) operation next
+    → Advances statements d variable operation → IsLeftDone statements d end next → HasAction plan (Loop slot x y z end)
+    → StandsForIncrement plan statements d (Loop slot x y z end) operation next
 advances_operation plan statements d slot variable end x y z (Next v counter body) next same h left has = (h.0 ∙ same, has.0, h.1, h.2, left)
 advances_operation plan statements d slot variable end x y z _ next same h left has = absurd h
 
@@ -96,13 +98,13 @@ increment_stands statements d r slot variable end x y z instruction at is same h
       increments = λ plan s found has.
           let one : r ≡ s = same_Some _ _ (sym at ∙ found) in
           let action : s.action ≡ Loop slot x y z end = sym (ap (λ r. r.action) one) ∙ is in
-          subst (λ act. Increments plan statements d act instruction.operation instruction.next) (sym action)
+          subst (λ act. StandsForIncrement plan statements d act instruction.operation instruction.next) (sym action)
           (advances_operation plan statements d slot variable end x y z instruction.operation instruction.next same h.advances h.left
           (subst (HasAction plan) action has));
     }
 
 -- what stands for a statement by one table does so by a later one
-pub instruction_later : (t u : Constants) (statements : List Resolved) (i : ℕ) (instruction : Instruction) → Grows t u → IsInstruction t statements i instruction
+pub instruction_later : (t u : Constants) (statements : List Resolved) (i : ℕ) (instruction : Instruction) → GrowsPlan t u → IsInstruction t statements i instruction
     → IsInstruction u statements i instruction
 instruction_later t u statements i instruction g h = record { stands = λ plan r b at has. h.stands plan r (begins_before t u plan g b) at has }
 
@@ -112,7 +114,7 @@ no_loop (Loop slot x y z end) h = absurd (h slot x y z end refl)
 no_loop _ h = refl
 
 -- the constants of a copy and those behind them
-pub copy_grows : (t copy u : Constants) → copy.slots ≡ t.slots → copy.values.items ≡ t.values.items → Grows copy u → Grows t u
+pub copy_grows : (t copy u : Constants) → copy.slots ≡ t.slots → copy.values.items ≡ t.values.items → GrowsPlan copy u → GrowsPlan t u
 copy_grows t copy u slots values g = record {
   slots = g.slots ∙ slots;
   values = λ k z at. g.values k z (ap (λ xs. slice_get xs k) values ∙ at);

@@ -9,7 +9,7 @@ use Rattle.std.proofs.lemmas.Option.{same_Some, slice_get_within, get_or_from_sl
 use Rattle.std.proofs.Math.ListN.{set}
 use Rattle.f77_actions.specs.declared.resolved.Resolved.{Resolved}
 use Rattle.f77_code.specs.Instructions.{round, onward}
-use Rattle.f77_code.specs.Holds.{loop_count, rank, is_loop_at}
+use Rattle.f77_code.specs.Holds.{loop_count, do_rank, is_loop_at}
 use Rattle.f77_code.specs.Moves.{is_loop, are_below}
 
 abbrev pub one_if : Bool → ℕ
@@ -73,17 +73,17 @@ module _ {A : Type 0} where
 
 -- one statement more is a DO more, or none
 pub rank_more : (rs : List Resolved) (i : ℕ) (r : Resolved) → slice_get rs i ≡ Some r
-    → rank rs (i + 1) ≡ (if is_loop r.action then rank rs i + 1 else rank rs i)
+    → do_rank rs (i + 1) ≡ (if is_loop r.action then do_rank rs i + 1 else do_rank rs i)
 rank_more rs i r is = by (is_loop r.action) refl
   where
     at : get_or rs i r ≡ r
     at = get_or_from_slice_get rs i r r is
 
-    by : (b : Bool) → is_loop r.action ≡ b → rank rs (i + 1) ≡ (if b then rank rs i + 1 else rank rs i)
+    by : (b : Bool) → is_loop r.action ≡ b → do_rank rs (i + 1) ≡ (if b then do_rank rs i + 1 else do_rank rs i)
     by true e = count_by_more_yes (λ r. is_loop r.action) rs i r (slice_get_within rs i r is) (ap (λ r. is_loop r.action) at ∙ e)
     by false e = count_by_more_no (λ r. is_loop r.action) rs i r (slice_get_within rs i r is) (ap (λ r. is_loop r.action) at ∙ e)
 
-pub rank_le : (rs : List Resolved) (i : ℕ) → rank rs i ≤ i
+pub rank_le : (rs : List Resolved) (i : ℕ) → do_rank rs i ≤ i
 rank_le rs i = omega (arith, count_by-le-length (λ r. is_loop r.action) (take i rs), length-take i rs)
 
 pub count_le : (rs : List Resolved) → loop_count rs ≤ length rs
@@ -105,9 +105,9 @@ first_below n [] d some is h = absurd (omega (arith, some))
 first_below n (e ∷ ends) d some is h = subst (λ d. d < n) (sym is) (ltb-true e n (and_parts (nat_lt e n) (are_below n ends) h).0)
 
 pub first_onward : (statements : List Resolved) (ends : List ℕ) (d next k : ℕ) → 1 ≤ length ends → d ≡ get_or ends 0 d
-    → k ≡ length statements + rank statements d → k ≡ onward statements ends next
+    → k ≡ length statements + do_rank statements d → k ≡ onward statements ends next
 first_onward statements [] d next k some is at = absurd (omega (arith, some))
-first_onward statements (e ∷ ends) d next k some is at = at ∙ ap (λ d. length statements + rank statements d) is
+first_onward statements (e ∷ ends) d next k some is at = at ∙ ap (λ d. length statements + do_rank statements d) is
 
 pub round_below : (n d : ℕ) (ends : List ℕ) → are_below n ends ≡ true → are_below n (round d ends) ≡ true
 round_below n d [] h = refl

@@ -6,11 +6,11 @@ use Rattle.std.proofs.lemmas.Bool.{and_parts, eqb-true}
 use Rattle.f77_actions.specs.declared.resolved.Resolved.{Resolved}
 use Rattle.f77_code.specs.declared.control.Place.TheVariants.{Execute, Increment}
 use Rattle.f77_code.specs.Instructions.{place_at, onward, round}
-use Rattle.f77_code.specs.Moves.{Turns, turn_at, innermost}
+use Rattle.f77_code.specs.Moves.{TurnList, turn_at, innermost}
 use Rattle.f77_code.specs.Simulation.{are_active, only_round}
 
 -- from a statement whose DOs are all active
-pub onward_active : (statements : List Resolved) (next : ℕ) (turns : Turns) (ds : List ℕ) → are_active turns ds ≡ true
+pub onward_active : (statements : List Resolved) (next : ℕ) (turns : TurnList) (ds : List ℕ) → are_active turns ds ≡ true
     → place_at statements (option_map_or Increment (innermost turns ds) (Execute next)) ≡ onward statements ds next
 onward_active statements next turns [] all = refl
 onward_active statements next turns (d ∷ ds) all = rw (and_parts (is_some (turn_at turns d)) (are_active turns ds) all).0 refl
@@ -20,7 +20,7 @@ is_not true e = absurd (cc (e))
 is_not false e = refl
 
 -- from a DO whose passes are made
-pub onward_round : (statements : List Resolved) (next d : ℕ) (turns : Turns) → turn_at turns d ≡ None → (ds : List ℕ) → only_round turns d ds ≡ true
+pub onward_round : (statements : List Resolved) (next d : ℕ) (turns : TurnList) → turn_at turns d ≡ None → (ds : List ℕ) → only_round turns d ds ≡ true
     → place_at statements (option_map_or Increment (innermost turns ds) (Execute next)) ≡ onward statements (round d ds) next
 onward_round statements next d turns none [] all = refl
 onward_round statements next d turns none (e ∷ es) all = by (λ rest. onward_round statements next d turns none es rest) (d == e) refl

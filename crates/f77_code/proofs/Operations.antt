@@ -21,10 +21,10 @@ use Rattle.f77_code.specs.declared.instruction.Operation as form
 use Rattle.f77_code.specs.declared.instruction.Operation.TheViews as operations
 use Rattle.f77_code.specs.declared.term.Pair.{Pair}
 use Rattle.f77_code.specs.declared.term.Term.{Term, Register, Compared, Related'}
-use Rattle.f77_code.specs.Instructions.{Comparing, giving, storing, comparing, Assigns, Tests, IsOperation}
-use Rattle.f77_code.specs.Compile.{IsNumberTerm, IsTestTerm, ArePair, IsRelationOf}
-use Rattle.f77_code.specs.Compiling.{IsGiving, IsStoring, IsTesting, IsAssigning, IsConditional, IsCompiled, IsLogicalIf}
-use Rattle.f77_code.specs.Constants.{Grows}
+use Rattle.f77_code.specs.Instructions.{Comparing, giving, storing, comparing, StandsForAssignment, Tests, IsOperation}
+use Rattle.f77_code.specs.code.Compile.{IsNumberTerm, IsTestTerm, ArePair, IsRelationOf}
+use Rattle.f77_code.specs.code.Compiling.{IsGiving, IsStoring, IsTesting, IsAssigning, IsConditional, IsCompiled, IsLogicalIf}
+use Rattle.f77_code.specs.Constants.{GrowsPlan}
 use Rattle.f77_code.specs.Holds.{Plan, IsSlot, AreSlots}
 use Rattle.f77_code.specs.Standing.{IsTerm, IsTest}
 use Rattle.f77_code.specs.Typing.{HasNumbers, HasAction}
@@ -44,7 +44,7 @@ of_all P Q (Some x) each h = each x h
 
 -- an assignment of a term is one of what it stands for
 assigns_as : (plan : Plan) (kind : Kind) (P : Term → Type 0) (term : Term) → P term → (e : Element) (operation : Operation)
-    → Assigns plan kind (λ t. t ≡ term) e operation → Assigns plan kind P e operation
+    → StandsForAssignment plan kind (λ t. t ≡ term) e operation → StandsForAssignment plan kind P e operation
 assigns_as plan kind P term p (Variable k) operation h =
     of_all (λ g. (g.to ≡ k) × IsSlot plan kind k × (g.term ≡ term)) (λ g. (g.to ≡ k) × IsSlot plan kind k × P g.term) (giving operation)
     (λ g at. (at.0, at.1, subst P (sym at.2) p)) h
@@ -95,7 +95,7 @@ matrix_assigned t e first rows columns start a b x y pair value term is row colu
     })
 
 pub number_assigned : (t u : Constants) (act : Action) (e : Element) (x : Number) (term : Term) (operation : Operation) → act ≡ AssignNumber e x
-    → IsNumberTerm t x term → Grows t u → IsAssigning u e term operation → IsCompiled u act operation
+    → IsNumberTerm t x term → GrowsPlan t u → IsAssigning u e term operation → IsCompiled u act operation
 number_assigned t u act e x term operation is h g a =
     rw is (record {
       stands = λ plan b has.
@@ -103,7 +103,7 @@ number_assigned t u act e x term operation is h g a =
     })
 
 pub truth_assigned : (t u : Constants) (act : Action) (e : Element) (x : Condition) (term : Term) (operation : Operation) → act ≡ AssignTruth e x
-    → IsTestTerm t x term → Grows t u → IsAssigning u e term operation → IsCompiled u act operation
+    → IsTestTerm t x term → GrowsPlan t u → IsAssigning u e term operation → IsCompiled u act operation
 truth_assigned t u act e x term operation is h g a =
     rw is (record {
       stands = λ plan b has.
@@ -201,7 +201,7 @@ goto_conditional t x act jump term there operation is at h goes =
     })
 
 pub when_conditional : (t u : Constants) (x : Condition) (act : Action) (l : Term) (made : Operation) (term : Box Term Global) (inner : Box Operation Global)
-    → IsTestTerm t x l → Grows t u → IsCompiled u act made → term.value ≡ l → inner.value ≡ made → IsConditional u x act (operations.When term inner)
+    → IsTestTerm t x l → GrowsPlan t u → IsCompiled u act made → term.value ≡ l → inner.value ≡ made → IsConditional u x act (operations.When term inner)
 when_conditional t u x act l made term inner h g c at is =
     record {
       stands = λ plan whole b whole_is has has_inner.

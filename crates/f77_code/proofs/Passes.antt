@@ -12,13 +12,13 @@ use Rattle.f77_values.specs.declared.value.Value.TheVariants as held
 use Rattle.f77_code.specs.declared.control.Place.TheVariants.{Execute}
 use Rattle.f77_code.specs.declared.control.Turn.{Turn}
 use Rattle.f77_code.specs.declared.instruction.Operation.{Next}
-use Rattle.f77_code.specs.Instructions.{IsLeft}
+use Rattle.f77_code.specs.Instructions.{IsLeftDone}
 use Rattle.f77_code.specs.Evaluation.{held_in}
-use Rattle.f77_code.specs.Holds.{Plan, Holds, Counts, IsSlot, rank, is_loop_at, read_as}
+use Rattle.f77_code.specs.Holds.{Plan, HoldsRegisters, HoldsCounters, IsSlot, do_rank, is_loop_at, read_as}
 use Rattle.f77_code.specs.Moves as moves
-use Rattle.f77_code.specs.Moves.{Cells, Turns, Move, Goes, Ends, state, turn_at, passing, passing_at}
+use Rattle.f77_code.specs.Moves.{Cells, TurnList, Move, Goes, Ends, state, turn_at, passing, passing_at}
 use Rattle.f77_code.specs.Operation as code
-use Rattle.f77_code.specs.Operation.{Point, point, ended, passed, one_less, ran}
+use Rattle.f77_code.specs.Operation.{Point, point, ended_point, passed, one_less, ran}
 use Rattle.f77_code.specs.Registers.{register}
 use Rattle.f77_code.specs.Simulation.{IsMove, only_round}
 use Rattle.f77_values.specs.Number.{fits, in_range, trip_count}
@@ -39,12 +39,12 @@ less : (passes : ℕ) → 0 < passes → one_less passes ≡ passes - 1
 less zero h = absurd (omega arith)
 less (suc k) h = omega arith
 
-module _ (plan : Plan) (statements : List Resolved) (counters : List Turn) (turns : Turns) (counts : Counts statements counters turns) (d t next : ℕ)
-    (loop : is_loop_at statements d ≡ true) (left : IsLeft statements d t next)
+module _ (plan : Plan) (statements : List Resolved) (counters : List Turn) (turns : TurnList) (counts : HoldsCounters statements counters turns) (d t next : ℕ)
+    (loop : is_loop_at statements d ≡ true) (left : IsLeftDone statements d t next)
     (may : MatchOption (slice_get statements t) ⊥ (λ end. only_round (slice_set turns d None) d end.ends.items ≡ true)) where
   passes_alike : (end : Resolved) → slice_get statements t ≡ Some end → only_round (slice_set turns d None) d end.ends.items ≡ true → (passes : ℕ) (step : ℤ)
-      (registers : List ℤ) (cells : Cells) → Holds plan registers cells
-      → IsMove plan statements (passed (rank statements d) (d + 1) next passes step registers counters) (passing end d passes step cells turns)
+      (registers : List ℤ) (cells : Cells) → HoldsRegisters plan registers cells
+      → IsMove plan statements (passed (do_rank statements d) (d + 1) next passes step registers counters) (passing end d passes step cells turns)
   passes_alike end e m zero step registers cells holds = record {
     place = left end e ∙ sym (onward_round statements end.next d (slice_set turns d None) (turn_none turns d) end.ends.items m);
     holds = holds;
@@ -62,21 +62,21 @@ module _ (plan : Plan) (statements : List Resolved) (counters : List Turn) (turn
       is : (t : Turn) → Some turn ≡ Some t → (t ≡ turn) × (0 < t.passes)
       is t e = let same : turn ≡ t = cc (e) in let some : 0 < suc k = omega arith in (sym same, subst (λ t. 0 < t.passes) same some)
 
-  pub passed_alike : (passes : ℕ) (step : ℤ) (registers : List ℤ) (cells : Cells) → Holds plan registers cells
-      → IsMove plan statements (passed (rank statements d) (d + 1) next passes step registers counters) (passing_at statements t d passes step cells turns)
+  pub passed_alike : (passes : ℕ) (step : ℤ) (registers : List ℤ) (cells : Cells) → HoldsRegisters plan registers cells
+      → IsMove plan statements (passed (do_rank statements d) (d + 1) next passes step registers counters) (passing_at statements t d passes step cells turns)
   passed_alike passes step registers cells holds = by (slice_get statements t) refl may
     where
       by : (o : Option Resolved) → slice_get statements t ≡ o → MatchOption o ⊥ (λ end. only_round (slice_set turns d None) d end.ends.items ≡ true)
-          → IsMove plan statements (passed (rank statements d) (d + 1) next passes step registers counters) (passing_at statements t d passes step cells turns)
+          → IsMove plan statements (passed (do_rank statements d) (d + 1) next passes step registers counters) (passing_at statements t d passes step cells turns)
       by None e m = absurd m
       by (Some end) e m =
-          subst (λ o. IsMove plan statements (passed (rank statements d) (d + 1) next passes step registers counters)
+          subst (λ o. IsMove plan statements (passed (do_rank statements d) (d + 1) next passes step registers counters)
           (option_map_or (λ end. passing end d passes step cells turns) o (Goes (state (Execute t) cells turns)))) (sym e)
           (passes_alike end e m passes step registers cells holds)
 
-  module _ (registers : List ℤ) (cells : Cells) (holds : Holds plan registers cells) (slot : ℕ) (is : IsSlot plan Integer slot) where
+  module _ (registers : List ℤ) (cells : Cells) (holds : HoldsRegisters plan registers cells) (slot : ℕ) (is : IsSlot plan Integer slot) where
     pub begun_alike : (a b c : ℤ) → fits a ≡ true
-        → IsMove plan statements (code.begun slot (rank statements d) (d + 1) next a b c registers counters) (moves.begun statements d slot t a b c cells turns)
+        → IsMove plan statements (code.begun_in_code slot (do_rank statements d) (d + 1) next a b c registers counters) (moves.begun statements d slot t a b c cells turns)
     begun_alike a b (pos zero) f = (refl, holds)
     begun_alike a b (pos (suc m)) f =
         passed_alike (trip_count a b (pos (suc m))) (pos (suc m)) (slice_set registers slot a) (slice_set cells slot (Some (held.Number a)))
@@ -87,36 +87,36 @@ module _ (plan : Plan) (statements : List Resolved) (counters : List Turn) (turn
 
     summed : (turn : Turn) → 0 < turn.passes → (r w : Result ℤ Fault) → r ≡ w
         → IsMove plan statements
-        (code.used (given r (λ z. in_range (z +ℤ turn.step))) registers counters
-        (λ z. passed (rank statements d) (d + 1) next (one_less turn.passes) turn.step (slice_set registers slot z) counters))
+        (code.used_in_code (given r (λ z. in_range (z +ℤ turn.step))) registers counters
+        (λ z. passed (do_rank statements d) (d + 1) next (one_less turn.passes) turn.step (slice_set registers slot z) counters))
         (moves.used w cells (λ z. moves.used (in_range (z +ℤ turn.step)) cells
         (λ n. passing_at statements t d (turn.passes - 1) turn.step (slice_set cells slot (Some (held.Number n))) turns)))
     summed turn some (Err f) w same =
-        subst (λ w. IsMove plan statements (point (ended (Failed f)) registers counters)
+        subst (λ w. IsMove plan statements (point (ended_point (Failed f)) registers counters)
         (moves.used w cells (λ z. moves.used (in_range (z +ℤ turn.step)) cells
         (λ n. passing_at statements t d (turn.passes - 1) turn.step (slice_set cells slot (Some (held.Number n))) turns)))) same (refl, holds)
     summed turn some (Ok z) w same =
         subst (λ w. IsMove plan statements
-        (code.used (in_range (z +ℤ turn.step)) registers counters
-        (λ z. passed (rank statements d) (d + 1) next (one_less turn.passes) turn.step (slice_set registers slot z) counters))
+        (code.used_in_code (in_range (z +ℤ turn.step)) registers counters
+        (λ z. passed (do_rank statements d) (d + 1) next (one_less turn.passes) turn.step (slice_set registers slot z) counters))
         (moves.used w cells (λ z. moves.used (in_range (z +ℤ turn.step)) cells
         (λ n. passing_at statements t d (turn.passes - 1) turn.step (slice_set cells slot (Some (held.Number n))) turns)))) same
         (used_alike plan statements registers counters cells holds (in_range (z +ℤ turn.step)) (in_range (z +ℤ turn.step)) refl
-        (λ z. passed (rank statements d) (d + 1) next (one_less turn.passes) turn.step (slice_set registers slot z) counters)
+        (λ z. passed (do_rank statements d) (d + 1) next (one_less turn.passes) turn.step (slice_set registers slot z) counters)
         (λ n. passing_at statements t d (turn.passes - 1) turn.step (slice_set cells slot (Some (held.Number n))) turns)
-        (λ n e. subst (λ passes. IsMove plan statements (passed (rank statements d) (d + 1) next passes turn.step (slice_set registers slot n) counters)
+        (λ n e. subst (λ passes. IsMove plan statements (passed (do_rank statements d) (d + 1) next passes turn.step (slice_set registers slot n) counters)
         (passing_at statements t d (turn.passes - 1) turn.step (slice_set cells slot (Some (held.Number n))) turns)) (sym (less turn.passes some))
         (passed_alike (turn.passes - 1) turn.step (slice_set registers slot n) (slice_set cells slot (Some (held.Number n)))
         (number_written plan registers cells holds slot n is (fits_in_range (z +ℤ turn.step) n e)))))
 
     pub incremented_alike : (turn : Turn) → turn_at turns d ≡ Some turn → (first last step : Number)
-        → IsMove plan statements (ran (Next slot (rank statements d) (d + 1)) next registers counters)
+        → IsMove plan statements (ran (Next slot (do_rank statements d) (d + 1)) next registers counters)
         (moves.incremented statements d (Loop slot first last step t) turn cells turns)
     incremented_alike turn at first last step =
         let counted = counts.active d turn at in
         let read : register registers slot ≡ whole (held_in cells slot) =
         holds.slots slot is.0 ∙ ap (λ kind. read_as kind (held_in cells slot)) is.1 in
         subst (λ o. IsMove plan statements
-        (option_map_or (λ turn. code.incremented slot (rank statements d) (d + 1) next turn registers counters) o (point next registers counters))
+        (option_map_or (λ turn. code.incremented_in_code slot (do_rank statements d) (d + 1) next turn registers counters) o (point next registers counters))
         (moves.incremented statements d (Loop slot first last step t) turn cells turns)) (sym counted.counter)
         (summed turn counted.left (register registers slot) (whole (held_in cells slot)) read)

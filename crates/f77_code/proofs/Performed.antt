@@ -12,18 +12,18 @@ use Rattle.f77_actions.specs.declared.resolved.Resolved.{Resolved}
 use Rattle.f77_values.specs.declared.finish.Fault.{Fault}
 use Rattle.f77_code.specs.declared.control.Turn.{Turn}
 use Rattle.f77_code.specs.declared.instruction.Operation.{Operation, IfTrue, Sign, Select, When', Continue, Goto, Return, Stop, Trap}
-use Rattle.f77_code.specs.Choice.{by_sign, numbered}
+use Rattle.f77_code.specs.Choice.{by_sign, item_chosen}
 use Rattle.f77_code.specs.Instructions.{Comparing, comparing, Tests, IsOperation, onward}
 use Rattle.f77_code.specs.Evaluation.{number_in, truth_in, compared}
-use Rattle.f77_code.specs.Holds.{Plan, Holds, Counts}
+use Rattle.f77_code.specs.Holds.{Plan, HoldsRegisters, HoldsCounters}
 use Rattle.f77_code.specs.Moves as moves
-use Rattle.f77_code.specs.Moves.{Cells, Turns, Move, acted, chosen, go_on, jump_to, is_executed}
+use Rattle.f77_code.specs.Moves.{Cells, TurnList, Move, acted, jump_chosen, go_on, jump_to, is_executed}
 use Rattle.f77_code.specs.Operation.{point, ran}
 use Rattle.f77_code.specs.Simulation.{IsMove, are_active}
 use Rattle.f77_code.specs.Standing.{IsTerm}
-use Rattle.f77_code.specs.Term.{related, term_value}
+use Rattle.f77_code.specs.Term.{related_number, term_value}
 use Rattle.f77_values.specs.Number.{is_same}
-use Rattle.f77_values.specs.Told.{of_truth, truth}
+use Rattle.f77_values.specs.Told.{of_truth, truth_number}
 use Rattle.f77_values.specs.Value.{both}
 use Rattle.f77_code.proofs.Alike.{go_on_alike, used_alike, truth_alike, branched, jumped}
 use Rattle.f77_code.proofs.Assigned.{number_assigned, truth_assigned}
@@ -31,21 +31,21 @@ use Rattle.f77_code.proofs.SameValue.{same_term, same_test}
 use Rattle.f77_code.proofs.Shorter.{comparing_is}
 
 -- a relation of numbers is a truth value
-relation_told : (op : Relation) (r q : Result ℤ Fault) → both (related op) r q ≡ of_truth (both (λ a b. Ok (compared op a b)) r q)
+relation_told : (op : Relation) (r q : Result ℤ Fault) → both (related_number op) r q ≡ of_truth (both (λ a b. Ok (compared op a b)) r q)
 relation_told op (Ok a) (Ok b) = refl
 relation_told op (Ok a) (Err f) = refl
 relation_told op (Err f) q = refl
 
-module _ (plan : Plan) (statements : List Resolved) (registers : List ℤ) (counters : List Turn) (cells : Cells) (holds : Holds plan registers cells) (next : ℕ) where
+module _ (plan : Plan) (statements : List Resolved) (registers : List ℤ) (counters : List Turn) (cells : Cells) (holds : HoldsRegisters plan registers cells) (next : ℕ) where
   compares : (x y : Number) (op : Relation) (there : ℕ) (o : Operation) (taken other : Move) → IsMove plan statements (point there registers counters) taken
       → IsMove plan statements (point next registers counters) other → (v : Option Comparing) → comparing o ≡ v
       → MatchOption v ⊥ (λ c. (c.there ≡ there) × (op ≡ c.relation) × IsTerm plan x c.left × IsTerm plan y c.right)
-      → IsMove plan statements (ran o next registers counters) (moves.used (truth_in cells (Related op x y)) cells (λ b. chosen b taken other))
+      → IsMove plan statements (ran o next registers counters) (moves.used (truth_in cells (Related op x y)) cells (λ b. jump_chosen b taken other))
   compares x y op there o taken other t f None is h = absurd h
   compares x y op there o taken other t f (Some c) is h =
-      subst (λ p. IsMove plan statements p (moves.used (truth_in cells (Related op x y)) cells (λ b. chosen b taken other)))
+      subst (λ p. IsMove plan statements p (moves.used (truth_in cells (Related op x y)) cells (λ b. jump_chosen b taken other)))
       (sym (comparing_is next registers counters o c is))
-      (branched plan statements registers counters cells holds (both (related c.relation) (term_value registers c.left) (term_value registers c.right))
+      (branched plan statements registers counters cells holds (both (related_number c.relation) (term_value registers c.left) (term_value registers c.right))
       (truth_in cells (Related op x y)) same c.there next taken other
       (subst (λ q. IsMove plan statements (point q registers counters) taken) (sym h.0) t) f)
     where
@@ -55,22 +55,22 @@ module _ (plan : Plan) (statements : List Resolved) (registers : List ℤ) (coun
       right : term_value registers c.right ≡ number_in cells y
       right = same_term plan registers cells holds y c.right h.3
 
-      same : both (related c.relation) (term_value registers c.left) (term_value registers c.right) ≡ of_truth (truth_in cells (Related op x y))
-      same = ap (λ op. both (related op) (term_value registers c.left) (term_value registers c.right)) (sym h.1)
-          ∙ (λ i. both (related op) (left i) (right i))
+      same : both (related_number c.relation) (term_value registers c.left) (term_value registers c.right) ≡ of_truth (truth_in cells (Related op x y))
+      same = ap (λ op. both (related_number op) (term_value registers c.left) (term_value registers c.right)) (sym h.1)
+          ∙ (λ i. both (related_number op) (left i) (right i))
           ∙ relation_told op (number_in cells x) (number_in cells y)
 
   -- a test goes where the condition tells
   pub tests : (x : Condition) (there : ℕ) (o : Operation) (taken other : Move) → IsMove plan statements (point there registers counters) taken
       → IsMove plan statements (point next registers counters) other → Tests plan x there o
-      → IsMove plan statements (ran o next registers counters) (moves.used (truth_in cells x) cells (λ b. chosen b taken other))
+      → IsMove plan statements (ran o next registers counters) (moves.used (truth_in cells x) cells (λ b. jump_chosen b taken other))
   tests x there (IfTrue place term) taken other t f h =
       branched plan statements registers counters cells holds (term_value registers term.value) (truth_in cells x) (same_test plan registers cells holds x term.value h.1)
       place next taken other (subst (λ q. IsMove plan statements (point q registers counters) taken) (sym h.0) t) f
   tests (Related op x y) there o taken other t f h = compares x y op there o taken other t f (comparing o) refl h
   tests _ there _ taken other t f h = absurd h
 
-  module _ (turns : Turns) (counts : Counts statements counters turns) (r : Resolved) (all : are_active turns r.ends.items ≡ true)
+  module _ (turns : TurnList) (counts : HoldsCounters statements counters turns) (r : Resolved) (all : are_active turns r.ends.items ≡ true)
       (is : next ≡ onward statements r.ends.items r.next) (i : ℕ) where
     goes : IsMove plan statements (point next registers counters) (go_on r cells turns)
     goes = go_on_alike plan statements counters turns counts r next all is registers cells holds
@@ -92,15 +92,15 @@ module _ (plan : Plan) (statements : List Resolved) (registers : List ℤ) (coun
     item (j ∷ js) (suc n) = item js n
 
     selected : (js : List Jump) (z : ℤ)
-        → IsMove plan statements (point (unwrap_or (numbered (map (λ jump. jump.target) js) z) next) registers counters)
-        (option_map_or (λ jump. jump_to jump cells turns) (numbered js z) (go_on r cells turns))
+        → IsMove plan statements (point (unwrap_or (item_chosen (map (λ jump. jump.target) js) z) next) registers counters)
+        (option_map_or (λ jump. jump_to jump cells turns) (item_chosen js z) (go_on r cells turns))
     selected js (negsuc n) = goes
     selected js (pos zero) = goes
     selected js (pos (suc n)) = item js n
 
     -- what a logical IF executes, or nothing
     either : (o : Operation) (inner : Move) → IsMove plan statements (ran o next registers counters) inner → (c : Bool)
-        → IsMove plan statements (if is_same (truth c) (pos 0) then point next registers counters else ran o next registers counters) (chosen c inner (go_on r cells turns))
+        → IsMove plan statements (if is_same (truth_number c) (pos 0) then point next registers counters else ran o next registers counters) (jump_chosen c inner (go_on r cells turns))
     either o inner did true = did
     either o inner did false = goes
 
@@ -112,10 +112,10 @@ module _ (plan : Plan) (statements : List Resolved) (registers : List ℤ) (coun
     performed (action.Goto jump) (Goto there) e h = jumps jump there h
     performed (ComputedGoto x js) (Select term places) e h =
         used_alike plan statements registers counters cells holds (term_value registers term.value) (number_in cells x) (same_term plan registers cells holds x term.value h.0)
-        (λ z. point (unwrap_or (numbered places.items z) next) registers counters)
-        (λ z. option_map_or (λ jump. jump_to jump cells turns) (numbered js.items z) (go_on r cells turns))
-        (λ z v. subst (λ ps. IsMove plan statements (point (unwrap_or (numbered ps z) next) registers counters)
-        (option_map_or (λ jump. jump_to jump cells turns) (numbered js.items z) (go_on r cells turns))) (sym h.1) (selected js.items z))
+        (λ z. point (unwrap_or (item_chosen places.items z) next) registers counters)
+        (λ z. option_map_or (λ jump. jump_to jump cells turns) (item_chosen js.items z) (go_on r cells turns))
+        (λ z v. subst (λ ps. IsMove plan statements (point (unwrap_or (item_chosen ps z) next) registers counters)
+        (option_map_or (λ jump. jump_to jump cells turns) (item_chosen js.items z) (go_on r cells turns))) (sym h.1) (selected js.items z))
     performed (ArithmeticIf x a b c) (Sign negative middle positive term) e h =
         used_alike plan statements registers counters cells holds (term_value registers term.value) (number_in cells x) (same_term plan registers cells holds x term.value h.0)
         (λ z. point (by_sign z negative middle positive) registers counters) (λ z. jump_to (by_sign z a b c) cells turns)
@@ -123,7 +123,7 @@ module _ (plan : Plan) (statements : List Resolved) (registers : List ℤ) (coun
     performed (LogicalIf' x b inner) (When' term q o) e h =
         truth_alike plan statements registers counters cells holds (term_value registers term.value) (truth_in cells x) (same_test plan registers cells holds x term.value h.0)
         (λ z. if is_same z (pos 0) then point next registers counters else ran o next registers counters)
-        (λ c. chosen c (acted statements i r inner cells turns) (go_on r cells turns))
+        (λ c. jump_chosen c (acted statements i r inner cells turns) (go_on r cells turns))
         (either o (acted statements i r inner cells turns) (performed inner o e h.1))
     performed (LogicalIf' x b (action.Goto jump)) o e h =
         tests x jump.target o (jump_to jump cells turns) (go_on r cells turns) (jumps jump jump.target refl) goes h

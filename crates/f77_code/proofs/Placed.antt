@@ -5,8 +5,8 @@ use Rattle.std.proofs.lemmas.Bool.{and_parts}
 use Rattle.std.proofs.lemmas.Option.{same_Some, slice_get_read}
 use Rattle.f77_actions.specs.declared.resolved.Resolved.{Resolved}
 use Rattle.f77_code.specs.Instructions.{round, onward}
-use Rattle.f77_code.specs.Compiling.{is_small}
-use Rattle.f77_code.specs.Holds.{rank}
+use Rattle.f77_code.specs.Compiling.{is_of_32_bits}
+use Rattle.f77_code.specs.Holds.{do_rank}
 use Rattle.f77_code.specs.Moves.{is_loop, are_below}
 use Rattle.f77_code.specs.Places.{has_places, have_places}
 use Rattle.f77_code.proofs.Listed.{pushed, all_at, rank_more, round_below}
@@ -22,25 +22,25 @@ behind_place false n place before after made here more is = omega arith
 
 -- the place behind a statement's incrementation
 pub next_place : (statements : List Resolved) (i : ℕ) (r s : Resolved) (place made : ℕ) → slice_get statements i ≡ Some r → s ≡ r
-    → place ≡ length statements + rank statements i → made ≡ (if is_loop s.action then place + 1 else place) → made ≡ length statements + rank statements (i + 1)
+    → place ≡ length statements + do_rank statements i → made ≡ (if is_loop s.action then place + 1 else place) → made ≡ length statements + do_rank statements (i + 1)
 next_place statements i r s place made at same here is =
-    behind_place (is_loop s.action) (length statements) place (rank statements i) (rank statements (i + 1)) made here
-    (subst (λ s. rank statements (i + 1) ≡ (if is_loop s.action then rank statements i + 1 else rank statements i)) (sym same) (rank_more statements i r at)) is
+    behind_place (is_loop s.action) (length statements) place (do_rank statements i) (do_rank statements (i + 1)) made here
+    (subst (λ s. do_rank statements (i + 1) ≡ (if is_loop s.action then do_rank statements i + 1 else do_rank statements i)) (sym same) (rank_more statements i r at)) is
 
 -- one place more
-pub places_more : (statements : List Resolved) (increments new : List ℕ) (i place : ℕ) → length increments ≡ i → place ≡ length statements + rank statements i
-    → new ≡ increments ++ (place ∷ []) → ((d k : ℕ) → slice_get increments d ≡ Some k → k ≡ length statements + rank statements d)
-    → (d k : ℕ) → slice_get new d ≡ Some k → k ≡ length statements + rank statements d
+pub places_more : (statements : List Resolved) (increments new : List ℕ) (i place : ℕ) → length increments ≡ i → place ≡ length statements + do_rank statements i
+    → new ≡ increments ++ (place ∷ []) → ((d k : ℕ) → slice_get increments d ≡ Some k → k ≡ length statements + do_rank statements d)
+    → (d k : ℕ) → slice_get new d ≡ Some k → k ≡ length statements + do_rank statements d
 places_more statements increments new i place count here is each d k at =
-    pushed (λ d k. k ≡ length statements + rank statements d) increments place each
-    (subst (λ i. place ≡ length statements + rank statements i) (sym count) here) d k (subst (λ xs. slice_get xs d ≡ Some k) is at)
+    pushed (λ d k. k ≡ length statements + do_rank statements d) increments place each
+    (subst (λ i. place ≡ length statements + do_rank statements i) (sym count) here) d k (subst (λ xs. slice_get xs d ≡ Some k) is at)
 
 -- of the DOs that end at a statement, those round one are there
 pub round_there : (statements : List Resolved) (t d : ℕ) (r : Resolved) → slice_get statements t ≡ Some r → have_places statements ≡ true
     → are_below (length statements) (round d r.ends.items) ≡ true
 round_there statements t d r at have =
     round_below (length statements) d r.ends.items
-    (and_parts (is_small r.next) (are_below (length statements) r.ends.items) (all_at (has_places (length statements)) statements t r have at)).1
+    (and_parts (is_of_32_bits r.next) (are_below (length statements) r.ends.items) (all_at (has_places (length statements)) statements t r have at)).1
 
 -- where control goes on from a DO
 pub left_onward : (statements : List Resolved) (t d : ℕ) (r : Resolved) (rest : List ℕ) (next made : ℕ) → slice_get statements t ≡ Some r

@@ -1,5 +1,6 @@
 -- What functions that perform operations answer: points.
-use Rattle.std.proofs.Common.{arith, ◌≡◌, ◌<◌, ◌≤◌, ℕ, zero, suc, Bool, true, false, List, [], ◌∷◌, ℤ, pos, negsuc, refl, sym, ap, ◌∙◌, subst, ◌+◌, ◌-◌, ◌*◌, ◌%◌, ◌^◌, add-one, Some, None, w32, w64, FitsSigned, to_z, of_z}
+use Rattle.std.proofs.Common.{arith, ◌≡◌, ◌<◌, ◌≤◌, ℕ, zero, suc, Bool, true, false, List, [], ◌∷◌, ℤ, pos, negsuc, refl, sym}
+use Rattle.std.proofs.Common.{ap, ◌∙◌, subst, ◌+◌, ◌-◌, ◌*◌, ◌%◌, ◌^◌, add-one, Some, None, w32, w64, FitsSigned, to_z, of_z}
 use lib.Signed.{le_z, lt_z}
 use Rattle.std.specs.Prelude.{Result, Ok, Err, nat_lt, slice_get, slice_set, unwrap_or, if◌then◌else◌, ◌<ℤ◌, ◌≤ℤ◌}
 use Rattle.std.proofs.Math.Dec.{eqb-suc-zero}
@@ -9,73 +10,74 @@ use Rattle.f77_values.specs.declared.finish.Fault.{Fault}
 use Rattle.f77_values.specs.declared.finish.Fault.TheVariants.{BadSubscript, ZeroStep}
 use Rattle.f77_values.specs.declared.finish.Finish.TheVariants.{Failed}
 use Rattle.f77_code.specs.declared.control.Turn.{Turn}
-use Rattle.f77_code.specs.Choice.{by_sign, numbered}
-use Rattle.f77_code.specs.Operation.{Point, point, used, ended, put, put_at, branch, passed, begun, one_less}
-use Rattle.f77_code.specs.Registers.{IsOffset, vector_place, matrix_place}
+use Rattle.f77_code.specs.Choice.{by_sign, item_chosen}
+use Rattle.f77_code.specs.Operation.{Point, point, used_in_code, ended_point, put_in_register, put_at, branch, passed, begun_in_code, one_less}
+use Rattle.f77_code.specs.code.Registers.{IsOffset}
+use Rattle.f77_code.specs.Registers.{vector_place, matrix_place}
 use Rattle.f77_values.specs.Number.{fits, is_same, trip_count}
-use Rattle.f77_values.specs.Told.{Tells, IsTold, code}
+use Rattle.f77_values.specs.Told.{TellsResult, IsValueOrFault, code}
 use Rattle.f77_values.specs.Value.{given, element}
 use Rattle.f77_values.proofs.Bounds.{Within, within, at_least, told_value, tells_value, tells_fault, told_code}
 use Rattle.f77_code.proofs.Offsets.{vector_within, vector_beyond, matrix_within, row_beyond, column_beyond}
 
 -- what a number tells that is a value
-pub has_value : (x : ℤ) → x <ℤ pos 1099511627776 → (r : Result ℤ Fault) → Tells x r → r ≡ Ok x
+pub has_value : (x : ℤ) → x <ℤ pos 1099511627776 → (r : Result ℤ Fault) → TellsResult x r → r ≡ Ok x
 has_value x h (Ok z) a = ap Ok (sym a.is)
 has_value x h (Err f) a = let e : x ≡ pos (code f) = a.is in absurd (omega (arith, ints))
 
 -- the end of the fault that a number tells
-pub fails : (p : ℕ) (registers : List ℤ) (turns : List Turn) (x : ℤ) → pos 1099511627776 ≤ℤ x → ((f : Fault) → Tells x (Err f) → p ≡ ended (Failed f))
-    → (on : ℤ → Point) (r : Result ℤ Fault) → Tells x r → point p registers turns ≡ used r registers turns on
+pub fails : (p : ℕ) (registers : List ℤ) (turns : List Turn) (x : ℤ) → pos 1099511627776 ≤ℤ x → ((f : Fault) → TellsResult x (Err f) → p ≡ ended_point (Failed f))
+    → (on : ℤ → Point) (r : Result ℤ Fault) → TellsResult x r → point p registers turns ≡ used_in_code r registers turns on
 fails p registers turns x h e on (Ok z) a = let w : Within z = within z a.fitting in absurd (omega (arith, ints))
 fails p registers turns x h e on (Err f) a = ap (λ q. point q registers turns) (e f a)
 
-pub goes : (registers : List ℤ) (turns : List Turn) (x : ℤ) → x <ℤ pos 1099511627776 → (on : ℤ → Point) (r : Result ℤ Fault) → Tells x r
-    → on x ≡ used r registers turns on
-goes registers turns x h on r a = ap (λ r. used r registers turns on) (sym (has_value x h r a))
+pub goes : (registers : List ℤ) (turns : List Turn) (x : ℤ) → x <ℤ pos 1099511627776 → (on : ℤ → Point) (r : Result ℤ Fault) → TellsResult x r
+    → on x ≡ used_in_code r registers turns on
+goes registers turns x h on r a = ap (λ r. used_in_code r registers turns on) (sym (has_value x h r a))
 
 -- a value is put in an element of one dimension
 pub element_put : (first bound k next p : ℕ) (registers after : List ℤ) (turns : List Turn) (s : ℤ) (told : Result ℤ Fault)
-    → IsOffset s k → k < bound → bound < 4294967296 → (r : Result ℤ Fault) → Tells s r
-    → point p after turns ≡ put (first + k) told next registers turns → point p after turns ≡ put_at first (vector_place bound r) told next registers turns
+    → IsOffset s k → k < bound → bound < 4294967296 → (r : Result ℤ Fault) → TellsResult s r
+    → point p after turns ≡ put_in_register (first + k) told next registers turns → point p after turns ≡ put_at first (vector_place bound r) told next registers turns
 element_put first bound k next p registers after turns s told o below small r a did = rw (vector_within bound k s o below small r a) did
 
 pub element_fails : (first bound k next p : ℕ) (registers : List ℤ) (turns : List Turn) (s : ℤ) (told : Result ℤ Fault) → IsOffset s k → bound ≤ k
-    → ((b : ℕ) (r : Result ℤ Fault) (f : Fault) → Tells s r → vector_place b r ≡ Err f → p ≡ ended (Failed f))
-    → (r : Result ℤ Fault) → Tells s r → point p registers turns ≡ put_at first (vector_place bound r) told next registers turns
+    → ((b : ℕ) (r : Result ℤ Fault) (f : Fault) → TellsResult s r → vector_place b r ≡ Err f → p ≡ ended_point (Failed f))
+    → (r : Result ℤ Fault) → TellsResult s r → point p registers turns ≡ put_at first (vector_place bound r) told next registers turns
 element_fails first bound k next p registers turns s told o above e r a =
     let bad = vector_beyond bound k s o above r a in rw bad.1 (ap (λ q. point q registers turns) (e bound r bad.0 a bad.1))
 
 -- in one of two dimensions
 pub matrix_put : (first rows columns i j next p : ℕ) (registers after : List ℤ) (turns : List Turn) (s t : ℤ) (told : Result ℤ Fault)
     → IsOffset s i → IsOffset t j → i < rows → j < columns → rows < 4294967296 → columns < 4294967296
-    → (r q : Result ℤ Fault) → Tells s r → Tells t q → point p after turns ≡ put (first + (i + rows * j)) told next registers turns
+    → (r q : Result ℤ Fault) → TellsResult s r → TellsResult t q → point p after turns ≡ put_in_register (first + (i + rows * j)) told next registers turns
     → point p after turns ≡ put_at first (matrix_place rows columns r q) told next registers turns
 matrix_put first rows columns i j next p registers after turns s t told o u down across small few r q a b did =
     rw (matrix_within rows columns i j s t o u down across small few r q a b) did
 
 pub row_fails : (first rows columns i next p : ℕ) (registers : List ℤ) (turns : List Turn) (s t : ℤ) (told : Result ℤ Fault) → IsOffset s i → rows ≤ i
-    → ((m n : ℕ) (r q : Result ℤ Fault) (f : Fault) → Tells s r → Tells t q → matrix_place m n r q ≡ Err f → p ≡ ended (Failed f))
-    → (r q : Result ℤ Fault) → Tells s r → Tells t q → point p registers turns ≡ put_at first (matrix_place rows columns r q) told next registers turns
+    → ((m n : ℕ) (r q : Result ℤ Fault) (f : Fault) → TellsResult s r → TellsResult t q → matrix_place m n r q ≡ Err f → p ≡ ended_point (Failed f))
+    → (r q : Result ℤ Fault) → TellsResult s r → TellsResult t q → point p registers turns ≡ put_at first (matrix_place rows columns r q) told next registers turns
 row_fails first rows columns i next p registers turns s t told o above e r q a b =
     let bad = row_beyond rows columns i s t o above r q a b in rw bad.1 (ap (λ z. point z registers turns) (e rows columns r q bad.0 a b bad.1))
 
 pub column_fails : (first rows columns i j next p : ℕ) (registers : List ℤ) (turns : List Turn) (s t : ℤ) (told : Result ℤ Fault)
     → IsOffset s i → i < rows → rows < 4294967296 → IsOffset t j → columns ≤ j
-    → ((m n : ℕ) (r q : Result ℤ Fault) (f : Fault) → Tells s r → Tells t q → matrix_place m n r q ≡ Err f → p ≡ ended (Failed f))
-    → (r q : Result ℤ Fault) → Tells s r → Tells t q → point p registers turns ≡ put_at first (matrix_place rows columns r q) told next registers turns
+    → ((m n : ℕ) (r q : Result ℤ Fault) (f : Fault) → TellsResult s r → TellsResult t q → matrix_place m n r q ≡ Err f → p ≡ ended_point (Failed f))
+    → (r q : Result ℤ Fault) → TellsResult s r → TellsResult t q → point p registers turns ≡ put_at first (matrix_place rows columns r q) told next registers turns
 column_fails first rows columns i j next p registers turns s t told o down small u above e r q a b =
     let bad = column_beyond rows columns i j s t o down small u above r q a b in
     rw bad.1 (ap (λ z. point z registers turns) (e rows columns r q bad.0 a b bad.1))
 
 -- a truth value tells where control goes
-pub branch_zero : (there next : ℕ) (registers : List ℤ) (turns : List Turn) (x : ℤ) → x ≡ pos 0 → (r : Result ℤ Fault) → Tells x r
+pub branch_zero : (there next : ℕ) (registers : List ℤ) (turns : List Turn) (x : ℤ) → x ≡ pos 0 → (r : Result ℤ Fault) → TellsResult x r
     → point next registers turns ≡ branch r there next registers turns
 branch_zero there next registers turns x h (Ok (pos zero)) a = refl
 branch_zero there next registers turns x h (Ok (pos (suc n))) a = let e : x ≡ pos (suc n) = a.is in absurd (omega (arith, ints))
 branch_zero there next registers turns x h (Ok (negsuc n)) a = let e : x ≡ negsuc n = a.is in absurd (omega (arith, ints))
 branch_zero there next registers turns x h (Err f) a = let e : x ≡ pos (code f) = a.is in absurd (omega (arith, ints))
 
-pub branch_there : (there next : ℕ) (registers : List ℤ) (turns : List Turn) (x : ℤ) → x <ℤ pos 1099511627776 → (x ≡ pos 0 → ⊥) → (r : Result ℤ Fault) → Tells x r
+pub branch_there : (there next : ℕ) (registers : List ℤ) (turns : List Turn) (x : ℤ) → x <ℤ pos 1099511627776 → (x ≡ pos 0 → ⊥) → (r : Result ℤ Fault) → TellsResult x r
     → point there registers turns ≡ branch r there next registers turns
 branch_there there next registers turns x l h (Ok (pos zero)) a = absurd (h a.is)
 branch_there there next registers turns x l h (Ok (pos (suc n))) a =
@@ -95,10 +97,10 @@ some_inner next inner (pos (suc n)) h = ap (λ b. if b then next else inner) (sy
 some_inner next inner (negsuc n) h = refl
 
 -- the fault of a subscript that is that of no element
-pub bad_told : IsTold (pos 1099511627778)
+pub bad_told : IsValueOrFault (pos 1099511627778)
 bad_told = told_code BadSubscript
 
-pub zero_told : IsTold (pos 1099511627779)
+pub zero_told : IsValueOrFault (pos 1099511627779)
 zero_told = told_code ZeroStep
 
 vector_bad : (bound : ℕ) (z : ℤ) (f : Fault) → element (bound ∷ []) (z ∷ []) ≡ Err f → BadSubscript ≡ f
@@ -131,20 +133,20 @@ none_within (pos zero) = refl
 none_within (negsuc n) = refl
 none_within (pos (suc n)) = not_there (nat_lt n 0) (Ok (n + 0 * 0)) (le-ltb n 0 (omega arith))
 
-pub subscript_fault : (s : ℤ) → pos 1099511627776 ≤ℤ s → (bound : ℕ) (r : Result ℤ Fault) (f : Fault) → Tells s r → vector_place bound r ≡ Err f → Tells s (Err f)
+pub subscript_fault : (s : ℤ) → pos 1099511627776 ≤ℤ s → (bound : ℕ) (r : Result ℤ Fault) (f : Fault) → TellsResult s r → vector_place bound r ≡ Err f → TellsResult s (Err f)
 subscript_fault s h bound (Ok z) f a e = let w : Within z = within z a.fitting in absurd (omega (arith, ints))
-subscript_fault s h bound (Err g) f a e = let same : g ≡ f = cc (e) in subst (λ f. Tells s (Err f)) same a
+subscript_fault s h bound (Err g) f a e = let same : g ≡ f = cc (e) in subst (λ f. TellsResult s (Err f)) same a
 
-pub subscript_bad : (s : ℤ) → s <ℤ pos 1099511627776 → (bound : ℕ) (r : Result ℤ Fault) (f : Fault) → Tells s r → vector_place bound r ≡ Err f
-    → Tells (pos 1099511627778) (Err f)
-subscript_bad s h bound (Ok z) f a e = subst (λ f. Tells (pos 1099511627778) (Err f)) (vector_bad bound z f e) (tells_fault BadSubscript)
+pub subscript_bad : (s : ℤ) → s <ℤ pos 1099511627776 → (bound : ℕ) (r : Result ℤ Fault) (f : Fault) → TellsResult s r → vector_place bound r ≡ Err f
+    → TellsResult (pos 1099511627778) (Err f)
+subscript_bad s h bound (Ok z) f a e = subst (λ f. TellsResult (pos 1099511627778) (Err f)) (vector_bad bound z f e) (tells_fault BadSubscript)
 subscript_bad s h bound (Err g) f a e = let is : s ≡ pos (code g) = a.is in absurd (omega (arith, ints))
 
-pub row_fault : (s : ℤ) → pos 1099511627776 ≤ℤ s → (rows columns : ℕ) (r q : Result ℤ Fault) (f : Fault) → Tells s r → matrix_place rows columns r q ≡ Err f → Tells s (Err f)
+pub row_fault : (s : ℤ) → pos 1099511627776 ≤ℤ s → (rows columns : ℕ) (r q : Result ℤ Fault) (f : Fault) → TellsResult s r → matrix_place rows columns r q ≡ Err f → TellsResult s (Err f)
 row_fault s h rows columns (Ok z) q f a e = let w : Within z = within z a.fitting in absurd (omega (arith, ints))
-row_fault s h rows columns (Err g) q f a e = let same : g ≡ f = cc (e) in subst (λ f. Tells s (Err f)) same a
+row_fault s h rows columns (Err g) q f a e = let same : g ≡ f = cc (e) in subst (λ f. TellsResult s (Err f)) same a
 
-pub column_fault : (s : ℤ) → s <ℤ pos 1099511627776 → (rows columns : ℕ) (r q : Result ℤ Fault) (f : Fault) → Tells s r → matrix_place rows columns r q ≡ Err f
+pub column_fault : (s : ℤ) → s <ℤ pos 1099511627776 → (rows columns : ℕ) (r q : Result ℤ Fault) (f : Fault) → TellsResult s r → matrix_place rows columns r q ≡ Err f
     → vector_place 0 q ≡ Err f
 column_fault s h rows columns (Err g) q f a e = let is : s ≡ pos (code g) = a.is in absurd (omega (arith, ints))
 column_fault s h rows columns (Ok z) (Err g) f a e = e
@@ -164,20 +166,20 @@ pub below_one : (y : ℤ) → FitsSigned w64 y → lt_z (to_z w64 (of_z w64 y)) 
 below_one y f e = grind (arith, ints)
 
 -- the place of a number
-pub numbered_none : (places : List ℕ) (next : ℕ) (z : ℤ) → z <ℤ pos 1 → next ≡ unwrap_or (numbered places z) next
+pub numbered_none : (places : List ℕ) (next : ℕ) (z : ℤ) → z <ℤ pos 1 → next ≡ unwrap_or (item_chosen places z) next
 numbered_none places next (pos zero) h = refl
 numbered_none places next (pos (suc n)) h = absurd (omega (arith, ints))
 numbered_none places next (negsuc n) h = refl
 
-pub numbered_some : (places : List ℕ) (next k place : ℕ) (z : ℤ) → z ≡ pos (k + 1) → slice_get places k ≡ Some place → place ≡ unwrap_or (numbered places z) next
+pub numbered_some : (places : List ℕ) (next k place : ℕ) (z : ℤ) → z ≡ pos (k + 1) → slice_get places k ≡ Some place → place ≡ unwrap_or (item_chosen places z) next
 numbered_some places next k place z e at =
     let suc_k : z ≡ pos (suc k) = e ∙ ap pos (add-one k) in
-    subst (λ z. place ≡ unwrap_or (numbered places z) next) (sym suc_k) (ap (λ o. unwrap_or o next) (sym at))
+    subst (λ z. place ≡ unwrap_or (item_chosen places z) next) (sym suc_k) (ap (λ o. unwrap_or o next) (sym at))
 
-pub numbered_past : (places : List ℕ) (next k : ℕ) (z : ℤ) → z ≡ pos (k + 1) → slice_get places k ≡ None → next ≡ unwrap_or (numbered places z) next
+pub numbered_past : (places : List ℕ) (next k : ℕ) (z : ℤ) → z ≡ pos (k + 1) → slice_get places k ≡ None → next ≡ unwrap_or (item_chosen places z) next
 numbered_past places next k z e at =
     let suc_k : z ≡ pos (suc k) = e ∙ ap pos (add-one k) in
-    subst (λ z. next ≡ unwrap_or (numbered places z) next) (sym suc_k) (ap (λ o. unwrap_or o next) (sym at))
+    subst (λ z. next ≡ unwrap_or (item_chosen places z) next) (sym suc_k) (ap (λ o. unwrap_or o next) (sym at))
 
 -- one of three places by a sign
 pub by_negative : (a b c : ℕ) (x : ℤ) → x <ℤ pos 0 → a ≡ by_sign x a b c
@@ -205,14 +207,14 @@ pub pass_some : (counter body next passes : ℕ) (step : ℤ) (registers : List 
 pass_some counter body next zero step registers turns e = absurd (e refl)
 pass_some counter body next (suc k) step registers turns e = refl
 
-pub begun_none : (variable counter body next p : ℕ) (a b c : ℤ) (registers : List ℤ) (turns : List Turn) → c ≡ pos 0 → p ≡ ended (Failed ZeroStep)
-    → point p registers turns ≡ begun variable counter body next a b c registers turns
+pub begun_none : (variable counter body next p : ℕ) (a b c : ℤ) (registers : List ℤ) (turns : List Turn) → c ≡ pos 0 → p ≡ ended_point (Failed ZeroStep)
+    → point p registers turns ≡ begun_in_code variable counter body next a b c registers turns
 begun_none variable counter body next p a b (pos zero) registers turns e is = ap (λ q. point q registers turns) is
 begun_none variable counter body next p a b (pos (suc n)) registers turns e is = absurd (omega (arith, ints))
 begun_none variable counter body next p a b (negsuc n) registers turns e is = absurd (omega (arith, ints))
 
 pub begun_some : (variable counter body next : ℕ) (a b c : ℤ) (registers : List ℤ) (turns : List Turn) → (c ≡ pos 0 → ⊥)
-    → begun variable counter body next a b c registers turns
+    → begun_in_code variable counter body next a b c registers turns
     ≡ passed counter body next (trip_count a b c) c (slice_set registers variable a) turns
 begun_some variable counter body next a b (pos zero) registers turns h = absurd (h refl)
 begun_some variable counter body next a b (pos (suc n)) registers turns h = refl
@@ -223,10 +225,10 @@ pub narrow_fits : (z : ℤ) → FitsSigned w32 z → fits z ≡ true
 narrow_fits (pos n) f = let small = f.sfits in lt-ltb n (2 ^ 31) (omega (arith, ints))
 narrow_fits (negsuc n) f = let small = f.sfits in lt-ltb n (2 ^ 31) (omega (arith, ints))
 
-pub narrow_tells : (z : ℤ) → FitsSigned w32 z → Tells z (Ok z)
+pub narrow_tells : (z : ℤ) → FitsSigned w32 z → TellsResult z (Ok z)
 narrow_tells z f = tells_value z (narrow_fits z f)
 
-pub narrow_told : (z : ℤ) → FitsSigned w32 z → IsTold z
+pub narrow_told : (z : ℤ) → FitsSigned w32 z → IsValueOrFault z
 narrow_told z f = told_value z (narrow_fits z f)
 
 -- one pass less, in 64 bits

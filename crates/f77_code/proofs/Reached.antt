@@ -25,14 +25,14 @@ use Rattle.f77_code.specs.declared.term.Term.{Term, Register, Element, ElementAt
 use Rattle.f77_code.specs.declared.term.Term.{Sum, Difference, Product, Compared, TooLarge, Vector', Matrix'}
 use Rattle.f77_code.specs.declared.term.Term.{Add', Subtract', Multiply', Calculated', Negated', Absolute', ZeroPush', Related', Connected', Not'}
 use Rattle.f77_code.specs.Block.{code_within}
-use Rattle.f77_code.specs.Instructions.{Giving, Storing, Comparing, giving, storing, comparing, Assigns, Tests, IsOperation, Stands, Increments, AreCode, onward}
+use Rattle.f77_code.specs.Instructions.{Giving, Storing, Comparing, giving, storing, comparing, StandsForAssignment, Tests, IsOperation, StandsForStatement, StandsForIncrement, AreCode, onward}
 use Rattle.f77_code.specs.Compiled.{is_ready, are_ready}
 use Rattle.f77_code.specs.Compiling.{can_compile}
 use Rattle.f77_code.specs.Evaluation.{element_within, number_within, condition_within}
-use Rattle.f77_code.specs.Holds.{Plan, IsSlot, AreSlots, IsConstant, loop_count, rank}
+use Rattle.f77_code.specs.Holds.{Plan, IsSlot, AreSlots, IsConstant, loop_count, do_rank}
 use Rattle.f77_code.specs.Moves.{is_loop}
 use Rattle.f77_code.specs.Operation.{operation_within}
-use Rattle.f77_code.specs.Standing.{Reads, IsTerm, IsTest}
+use Rattle.f77_code.specs.Standing.{ReadsElement, IsTerm, IsTest}
 use Rattle.f77_code.specs.Term.{term_within}
 use Rattle.f77_code.proofs.Assembled.{all_ranked}
 use Rattle.f77_code.proofs.Counters.{weight, more, rank_rises}
@@ -104,7 +104,7 @@ module _ (plan : Plan) (n : ℕ) (room : n ≡ plan.slots + length plan.constant
   number_there _ _ h w = absurd h
 
   -- a variable or an array element of any kind
-  pub element_there : (kind : Kind) (e : slots.Element) (t : Term) → Reads plan kind e t → element_within plan.slots e ≡ true → term_within n t ≡ true
+  pub element_there : (kind : Kind) (e : slots.Element) (t : Term) → ReadsElement plan kind e t → element_within plan.slots e ≡ true → term_within n t ≡ true
   element_there kind (Variable k) (Register r) h w = slot_there r k h.0 h.1.0
   element_there kind (slots.Vector' first bound p x) (Element start count s) h w =
       let parts = and_parts _ _ w in and_from _ _ (array_there start first count bound h.0 h.1 parts.0) (number_there x (Register s) h.3 parts.1)
@@ -206,7 +206,7 @@ module _ (plan : Plan) (n : ℕ) (room : n ≡ plan.slots + length plan.constant
       storing_there loops operation s e (array_there s.first first s.bound bound h.0 h.1 fits) (number_there x s.subscript h.3 within) (each s.term h.4)
 
   assigns_there : (loops : ℕ) (kind : Kind) (P : Term → Type 0) → ((t : Term) → P t → term_within n t ≡ true) → (e : slots.Element) (operation : Operation)
-      → Assigns plan kind P e operation → element_within plan.slots e ≡ true → operation_within n loops operation ≡ true
+      → StandsForAssignment plan kind P e operation → element_within plan.slots e ≡ true → operation_within n loops operation ≡ true
   assigns_there loops kind P each (Variable k) operation h w = given_there loops kind P k each operation (giving operation) refl h
   assigns_there loops kind P each (slots.Vector' first bound p x) operation h w =
       let parts = and_parts _ _ w in stored_there loops kind P first bound x each parts.0 parts.1 operation (storing operation) refl h
@@ -253,8 +253,8 @@ module _ (plan : Plan) (n : ℕ) (room : n ≡ plan.slots + length plan.constant
   operation_there loops _ _ h w = absurd h
 
   stands_there : (statements : List Resolved) (i : ℕ) (r : Resolved) (act : Action) (operation : Operation) (next : ℕ)
-      → Stands plan statements i r act operation next → is_ready plan.slots (length statements) act ≡ true
-      → (is_loop act ≡ true → rank statements i < loop_count statements) → operation_within n (loop_count statements) operation ≡ true
+      → StandsForStatement plan statements i r act operation next → is_ready plan.slots (length statements) act ≡ true
+      → (is_loop act ≡ true → do_rank statements i < loop_count statements) → operation_within n (loop_count statements) operation ≡ true
   stands_there statements i r (action.Branch x otherwise) operation next h w counted =
       tests_there (loop_count statements) x (onward statements r.ends.items r.next) operation h.0 (and_parts _ _ w).0
   stands_there statements i r (action.Loop slot x y z end) (Do variable counter body parameters) next h w counted =
@@ -271,7 +271,7 @@ module _ (plan : Plan) (n : ℕ) (room : n ≡ plan.slots + length plan.constant
   stands_there statements i r act operation next h w counted = operation_there (loop_count statements) act operation h.0 w
 
   increments_there : (statements : List Resolved) (d : ℕ) (act : Action) (operation : Operation) (next : ℕ)
-      → Increments plan statements d act operation next → is_loop act ≡ true → rank statements d < loop_count statements
+      → StandsForIncrement plan statements d act operation next → is_loop act ≡ true → do_rank statements d < loop_count statements
       → operation_within n (loop_count statements) operation ≡ true
   increments_there statements d (action.Loop slot x y z end) (Next variable counter body) next h loops below =
       and_from _ _ (slot_there variable slot h.0 h.1.0) (lt-ltb counter (loop_count statements) (omega (arith, below, h.2)))
@@ -284,7 +284,7 @@ record Counted (statements : List Resolved) (k : ℕ) : Type 0 where
   resolved : Resolved
   at : slice_get statements place ≡ Some resolved
   loop : is_loop resolved.action ≡ true
-  ranked : rank statements place ≡ k
+  ranked : do_rank statements place ≡ k
 
 counted_at : (statements : List Resolved) (k : ℕ) → k < loop_count statements → Counted statements k
 counted_at [] k h = absurd (omega (arith, h))
@@ -310,9 +310,9 @@ all_from_each test [] each = refl
 all_from_each test (x ∷ xs) each = rw (each 0 x refl) (all_from_each test xs (λ i. each (suc i)))
 
 counted_below : (statements : List Resolved) (d : ℕ) (r : Resolved) → slice_get statements d ≡ Some r → is_loop r.action ≡ true
-    → rank statements d < loop_count statements
+    → do_rank statements d < loop_count statements
 counted_below statements d r at loops =
-    subst (λ k. rank statements d < k) (all_ranked statements)
+    subst (λ k. do_rank statements d < k) (all_ranked statements)
     (rank_rises statements d (length statements) (slice_get_within statements d r at) (loop_is statements d r at ∙ loops))
 
 -- the registers and the counters that the code of a program names are there
@@ -329,7 +329,7 @@ code_there plan statements code are ready = all_from_each _ code (λ j x is. by 
     followed : (j : ℕ) (x : Instruction) → slice_get code j ≡ Some x → Counted statements (j - length statements) → length statements ≤ j
         → operation_within (plan.slots + length plan.constants) (loop_count statements) x.operation ≡ true
     followed j x is w h =
-        let place : length statements + rank statements w.place ≡ j = omega (arith, w.ranked, h) in
+        let place : length statements + do_rank statements w.place ≡ j = omega (arith, w.ranked, h) in
         increments_there plan (plan.slots + length plan.constants) refl statements w.place w.resolved.action x.operation x.next
         (are.incremented w.place w.resolved x w.at (ap (slice_get code) place ∙ is)) w.loop (counted_below statements w.place w.resolved w.at w.loop)
 

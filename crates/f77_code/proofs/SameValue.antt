@@ -16,18 +16,18 @@ use Rattle.f77_actions.specs.declared.expression.Number as number
 use Rattle.f77_actions.specs.declared.expression.Condition.{Condition, Related}
 use Rattle.f77_actions.specs.declared.expression.Condition as condition
 use Rattle.f77_values.specs.declared.finish.Fault.{Fault}
-use Rattle.f77_values.specs.Number.{in_range, negated, size}
-use Rattle.f77_values.specs.Told.{truth, of_truth, negation}
+use Rattle.f77_values.specs.Number.{in_range, negated, without_sign}
+use Rattle.f77_values.specs.Told.{truth_number, of_truth, negation}
 use Rattle.f77_values.specs.Value.{given, both, logic, element, pushed}
 use Rattle.f77_code.specs.declared.term.Term.{Term, Register, Element, ElementAtSum, ElementAtDifference}
 use Rattle.f77_code.specs.declared.term.Term.{Sum, Difference, Product, Compared, TooLarge, Vector', Matrix'}
 use Rattle.f77_code.specs.declared.term.Term.{Add', Subtract', Multiply', Calculated', Negated', Absolute', ZeroPush', Related', Connected', Not'}
 use Rattle.f77_code.specs.Evaluation.{held_in, slot_in, number_in, truth_in, calculated, compared, joined}
-use Rattle.f77_code.specs.Holds.{Plan, Holds, IsSlot, AreSlots, IsConstant, read_as}
+use Rattle.f77_code.specs.Holds.{Plan, HoldsRegisters, IsSlot, AreSlots, IsConstant, read_as}
 use Rattle.f77_code.specs.Moves.{Cells}
 use Rattle.f77_code.specs.Registers.{register, vector_place, matrix_place, element_at}
-use Rattle.f77_code.specs.Standing.{Reads, IsTerm, IsTest}
-use Rattle.f77_code.specs.Term.{related, connected, term_value}
+use Rattle.f77_code.specs.Standing.{ReadsElement, IsTerm, IsTest}
+use Rattle.f77_code.specs.Term.{related_number, connected_number, term_value}
 use Rattle.f77_code.proofs.Reading.{in_matrix}
 
 -- the place of an element is among those of its array
@@ -58,12 +58,12 @@ matrix_place_below rows columns (pos (suc n)) w k e = by (nat_lt n rows) refl
 both_same : {B : Type 0} (f g : ℤ → ℤ → Result B Fault) (a b c d : Result ℤ Fault) → f ≡ g → a ≡ c → b ≡ d → both f a b ≡ both g c d
 both_same f g a b c d e left right = λ i. both (e i) (left i) (right i)
 
-related_same : (op : Relation) (r q : Result ℤ Fault) → both (related op) r q ≡ of_truth (both (λ a b. Ok (compared op a b)) r q)
+related_same : (op : Relation) (r q : Result ℤ Fault) → both (related_number op) r q ≡ of_truth (both (λ a b. Ok (compared op a b)) r q)
 related_same op (Ok x) (Ok y) = refl
 related_same op (Ok x) (Err f) = refl
 related_same op (Err f) q = refl
 
-connected_same : (op : Connective) (r q : Result Bool Fault) → both (connected op) (of_truth r) (of_truth q) ≡ of_truth (both (λ a b. Ok (joined op a b)) r q)
+connected_same : (op : Connective) (r q : Result Bool Fault) → both (connected_number op) (of_truth r) (of_truth q) ≡ of_truth (both (λ a b. Ok (joined op a b)) r q)
 connected_same connective.And (Ok true) (Ok true) = refl
 connected_same connective.And (Ok true) (Ok false) = refl
 connected_same connective.And (Ok false) (Ok true) = refl
@@ -96,7 +96,7 @@ element_same cells e = by (slot_in cells e)
     by (Ok k) = refl
     by (Err f) = refl
 
-module _ (plan : Plan) (registers : List ℤ) (cells : Cells) (holds : Holds plan registers cells) where
+module _ (plan : Plan) (registers : List ℤ) (cells : Cells) (holds : HoldsRegisters plan registers cells) where
   slot_same : (kind : Kind) (k : ℕ) → IsSlot plan kind k → register registers k ≡ read_as kind (held_in cells k)
   slot_same kind k is = holds.slots k is.0 ∙ ap (λ of. read_as of (held_in cells k)) is.1
 
@@ -128,7 +128,7 @@ module _ (plan : Plan) (registers : List ℤ) (cells : Cells) (holds : Holds pla
   operands_same op o a b c d e left right = λ i. both (calculated (sym e i)) (left i) (right i)
 
   mutual
-    reads_same : (kind : Kind) (e : slots.Element) (t : Term) → Reads plan kind e t → term_value registers t ≡ given (slot_in cells e) (λ k. read_as kind (held_in cells k))
+    reads_same : (kind : Kind) (e : slots.Element) (t : Term) → ReadsElement plan kind e t → term_value registers t ≡ given (slot_in cells e) (λ k. read_as kind (held_in cells k))
     reads_same kind (Variable k) (Register r) h = ap (register registers) h.0 ∙ slot_same kind k h.1
     reads_same kind (slots.Vector' first bound p x) (Element start count s) h =
         (λ i. element_at registers (h.0 i) (vector_place (h.1 i) (same_term x (Register s) h.3 i))) ∙ vector_same kind first bound h.2 (number_in cells x)
@@ -150,7 +150,7 @@ module _ (plan : Plan) (registers : List ℤ) (cells : Cells) (holds : Holds pla
     same_term number.TooLarge TooLarge h = refl
     same_term (number.Element e) t h = reads_same Integer e t h
     same_term (number.Negated' p x) (Negated' q t) h = ap (λ r. given r (λ z. in_range (negated z))) (same_term x t h)
-    same_term (number.Absolute' p x) (Absolute' q t) h = ap (λ r. given r (λ z. in_range (size z))) (same_term x t h)
+    same_term (number.Absolute' p x) (Absolute' q t) h = ap (λ r. given r (λ z. in_range (without_sign z))) (same_term x t h)
     same_term (number.ZeroPush' p x) (ZeroPush' q t) h = ap (λ r. given r pushed) (same_term x t h)
     same_term (Binary' op p x q y) (Sum a b) h =
         operands_same op arithmetic.Add _ _ _ _ h.0 (same_term x (Register a) h.1) (same_term y (Register b) h.2)
@@ -169,11 +169,11 @@ module _ (plan : Plan) (registers : List ℤ) (cells : Cells) (holds : Holds pla
     same_term _ _ h = absurd h
 
   compared_same : (op relation : Relation) (a b c d : Result ℤ Fault) → op ≡ relation → a ≡ c → b ≡ d
-      → both (related relation) a b ≡ of_truth (both (λ x y. Ok (compared op x y)) c d)
-  compared_same op relation a b c d e left right = (λ i. both (related (sym e i)) (left i) (right i)) ∙ related_same op c d
+      → both (related_number relation) a b ≡ of_truth (both (λ x y. Ok (compared op x y)) c d)
+  compared_same op relation a b c d e left right = (λ i. both (related_number (sym e i)) (left i) (right i)) ∙ related_same op c d
 
   pub same_test : (x : Condition) (t : Term) → IsTest plan x t → term_value registers t ≡ of_truth (truth_in cells x)
-  same_test (condition.Constant b) (Register r) h = constant_same r (truth b) h
+  same_test (condition.Constant b) (Register r) h = constant_same r (truth_number b) h
   same_test (condition.Element e) t h = reads_same Logical e t h ∙ element_same cells e
   same_test (condition.Not' p x) (Not' q t) h = ap (λ r. given r (λ z. Ok (negation z))) (same_test x t h) ∙ not_same (truth_in cells x)
   same_test (Related op x y) (Compared relation a b) h =
@@ -181,5 +181,5 @@ module _ (plan : Plan) (registers : List ℤ) (cells : Cells) (holds : Holds pla
   same_test (Related op x y) (Related' relation p left right) h =
       compared_same op relation _ _ _ _ h.0 (same_term x left h.1) (same_term y right h.2)
   same_test (condition.Connected' op p x q y) (Connected' connective o left right) h =
-      (λ i. both (connected (sym h.0 i)) (same_test x left h.1 i) (same_test y right h.2 i)) ∙ connected_same op (truth_in cells x) (truth_in cells y)
+      (λ i. both (connected_number (sym h.0 i)) (same_test x left h.1 i) (same_test y right h.2 i)) ∙ connected_same op (truth_in cells x) (truth_in cells y)
   same_test _ _ h = absurd h

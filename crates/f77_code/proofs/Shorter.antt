@@ -6,9 +6,9 @@ use Rattle.f77_code.specs.declared.instruction.Operation.{Move, Add, Subtract, M
 use Rattle.f77_code.specs.declared.instruction.Operation.{Store, StoreSum, StoreDifference}
 use Rattle.f77_code.specs.declared.instruction.Operation.{IfLess, IfLessOrEqual, IfEqual, IfNotEqual, IfGreaterOrEqual, IfGreater}
 use Rattle.f77_code.specs.Instructions.{Giving, giving, Storing, storing, Comparing, comparing}
-use Rattle.f77_code.specs.Operation.{Point, ran, put, put_at, branch}
+use Rattle.f77_code.specs.Operation.{Point, ran, put_in_register, put_at, branch}
 use Rattle.f77_code.specs.Registers.{vector_place}
-use Rattle.f77_code.specs.Term.{related, term_value}
+use Rattle.f77_code.specs.Term.{related_number, term_value}
 use Rattle.f77_values.specs.Value.{both}
 
 held : {A : Type 0} (a b : A) → Some a ≡ Some b → a ≡ b
@@ -16,13 +16,13 @@ held a b e = cc (e)
 
 -- what an operation that gives a register a value does, and the others
 abbrev pub given : Giving → ℕ → List ℤ → List Turn → Point
-given g next registers turns = put g.to (term_value registers g.term) next registers turns
+given g next registers turns = put_in_register g.to (term_value registers g.term) next registers turns
 
 abbrev pub stored : Storing → ℕ → List ℤ → List Turn → Point
 stored s next registers turns = put_at s.first (vector_place s.bound (term_value registers s.subscript)) (term_value registers s.term) next registers turns
 
 abbrev pub tested : Comparing → ℕ → List ℤ → List Turn → Point
-tested c next registers turns = branch (both (related c.relation) (term_value registers c.left) (term_value registers c.right)) c.there next registers turns
+tested c next registers turns = branch (both (related_number c.relation) (term_value registers c.left) (term_value registers c.right)) c.there next registers turns
 
 module _ (next : ℕ) (registers : List ℤ) (turns : List Turn) where
   pub giving_is : (o : Operation) (g : Giving) → giving o ≡ Some g → ran o next registers turns ≡ given g next registers turns

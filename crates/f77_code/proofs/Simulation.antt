@@ -11,11 +11,11 @@ use Rattle.f77_code.specs.declared.control.Turn.{Turn}
 use Rattle.f77_code.specs.declared.instruction.Instruction.{Instruction}
 use Rattle.f77_code.specs.declared.instruction.Operation.{Operation, Do, Next}
 use Rattle.f77_code.specs.Block.{one}
-use Rattle.f77_code.specs.Instructions.{place_at, onward, Stands, Increments, AreCode}
+use Rattle.f77_code.specs.Instructions.{place_at, onward, StandsForStatement, StandsForIncrement, AreCode}
 use Rattle.f77_code.specs.Evaluation.{number_in}
-use Rattle.f77_code.specs.Holds.{Plan, Holds, Counts, rank, is_loop_at}
+use Rattle.f77_code.specs.Holds.{Plan, HoldsRegisters, HoldsCounters, do_rank, is_loop_at}
 use Rattle.f77_code.specs.Moves as moves
-use Rattle.f77_code.specs.Moves.{Cells, Turns, State, Move, Goes, state, turn_at, acted, go_on, is_executed, is_loop, moved, incremented}
+use Rattle.f77_code.specs.Moves.{Cells, TurnList, State, Move, Goes, state, turn_at, acted, go_on, is_executed, is_loop, moved, incremented}
 use Rattle.f77_code.specs.Operation as code
 use Rattle.f77_code.specs.Operation.{Point, point, ran}
 use Rattle.f77_code.specs.Simulation.{IsMove, IsNested, MayLeave, MovesAlike, are_active}
@@ -32,11 +32,11 @@ there_is [] k below = absurd (omega arith)
 there_is (x ∷ xs) zero below = (x, refl)
 there_is (x ∷ xs) (suc k) below = there_is xs k (omega arith)
 
-module _ (plan : Plan) (statements : List Resolved) (registers : List ℤ) (counters : List Turn) (cells : Cells) (turns : Turns)
-    (holds : Holds plan registers cells) (counts : Counts statements counters turns) where
+module _ (plan : Plan) (statements : List Resolved) (registers : List ℤ) (counters : List Turn) (cells : Cells) (turns : TurnList)
+    (holds : HoldsRegisters plan registers cells) (counts : HoldsCounters statements counters turns) where
   -- a statement that is executed
   performs : (i : ℕ) (r : Resolved) (act : Action) (o : Operation) (next : ℕ) → is_loop_at statements i ≡ is_loop act → is_executed act ≡ true
-      → are_active turns r.ends.items ≡ true → MayLeave statements i act turns → Stands plan statements i r act o next
+      → are_active turns r.ends.items ≡ true → MayLeave statements i act turns → StandsForStatement plan statements i r act o next
       → IsMove plan statements (ran o next registers counters) (acted statements i r act cells turns)
   performs i r (Branch x otherwise) o next loop e all may h =
       tests plan statements registers counters cells holds next x (onward statements r.ends.items r.next) o (go_on r cells turns)
@@ -47,43 +47,43 @@ module _ (plan : Plan) (statements : List Resolved) (registers : List ℤ) (coun
       subst (λ p. IsMove plan statements p (acted statements i r (Loop slot first last step t) cells turns)) (sym named)
       (used_alike plan statements registers counters cells holds (term_value registers parameters.value.first) (number_in cells first)
       (same_term plan registers cells holds first parameters.value.first h.4.first)
-      (λ a. code.used (term_value registers parameters.value.last) registers counters
-      (λ b. code.used (term_value registers parameters.value.step) registers counters
-      (λ c. code.begun slot (rank statements i) (i + 1) next a b c registers counters)))
+      (λ a. code.used_in_code (term_value registers parameters.value.last) registers counters
+      (λ b. code.used_in_code (term_value registers parameters.value.step) registers counters
+      (λ c. code.begun_in_code slot (do_rank statements i) (i + 1) next a b c registers counters)))
       (λ a. moves.used (number_in cells last) cells
       (λ b. moves.used (number_in cells step) cells (λ c. moves.begun statements i slot t a b c cells turns)))
       (λ a is. used_alike plan statements registers counters cells holds (term_value registers parameters.value.last) (number_in cells last)
       (same_term plan registers cells holds last parameters.value.last h.4.last)
-      (λ b. code.used (term_value registers parameters.value.step) registers counters
-      (λ c. code.begun slot (rank statements i) (i + 1) next a b c registers counters))
+      (λ b. code.used_in_code (term_value registers parameters.value.step) registers counters
+      (λ c. code.begun_in_code slot (do_rank statements i) (i + 1) next a b c registers counters))
       (λ b. moves.used (number_in cells step) cells (λ c. moves.begun statements i slot t a b c cells turns))
       (λ b has. used_alike plan statements registers counters cells holds (term_value registers parameters.value.step) (number_in cells step)
       (same_term plan registers cells holds step parameters.value.step h.4.step)
-      (λ c. code.begun slot (rank statements i) (i + 1) next a b c registers counters)
+      (λ c. code.begun_in_code slot (do_rank statements i) (i + 1) next a b c registers counters)
       (λ c. moves.begun statements i slot t a b c cells turns)
       (λ c to. begun_alike plan statements counters turns counts i t next loop h.5 may registers cells holds slot h.1 a b c
       (fits_of (term_value registers parameters.value.first) a (term_fits registers holds.held parameters.value.first) is)))))
     where
-      named : ran (Do variable counter body parameters) next registers counters ≡ ran (Do slot (rank statements i) (i + 1) parameters) next registers counters
+      named : ran (Do variable counter body parameters) next registers counters ≡ ran (Do slot (do_rank statements i) (i + 1) parameters) next registers counters
       named = λ j. ran (Do (h.0 j) (h.2 j) (h.3 j) parameters) next registers counters
   performs i r (Loop slot first last step t) _ next loop e all may h = absurd h
   performs i r act o next loop e all may h = performed plan statements registers counters cells holds next turns counts r all h.1 i act o e h.0
 
   -- a DO that is incremented
   increments : (d : ℕ) (act : Action) (o : Operation) (next : ℕ) → is_loop_at statements d ≡ true → is_loop act ≡ true → MayLeave statements d act turns
-      → Increments plan statements d act o next → (turn : Turn) → turn_at turns d ≡ Some turn
+      → StandsForIncrement plan statements d act o next → (turn : Turn) → turn_at turns d ≡ Some turn
       → IsMove plan statements (ran o next registers counters) (incremented statements d act turn cells turns)
   increments d (Loop slot first last step t) (Next variable counter body) next loop e may h turn at =
       subst (λ p. IsMove plan statements p (incremented statements d (Loop slot first last step t) turn cells turns)) (sym named)
       (incremented_alike plan statements counters turns counts d t next loop h.4 may registers cells holds slot h.1 turn at first last step)
     where
-      named : ran (Next variable counter body) next registers counters ≡ ran (Next slot (rank statements d) (d + 1)) next registers counters
+      named : ran (Next variable counter body) next registers counters ≡ ran (Next slot (do_rank statements d) (d + 1)) next registers counters
       named = λ j. ran (Next (h.0 j) (h.2 j) (h.3 j)) next registers counters
   increments d (Loop slot first last step t) _ next loop e may h turn at = absurd h
   increments d _ o next loop e may h turn at = absurd (cc (e))
 
-module _ (plan : Plan) (statements : List Resolved) (code : List Instruction) (are : AreCode plan statements code) (p : Point) (cells : Cells) (turns : Turns)
-    (holds : Holds plan p.registers cells) (counts : Counts statements p.turns turns) (move : Move) where
+module _ (plan : Plan) (statements : List Resolved) (code : List Instruction) (are : AreCode plan statements code) (p : Point) (cells : Cells) (turns : TurnList)
+    (holds : HoldsRegisters plan p.registers cells) (counts : HoldsCounters statements p.turns turns) (move : Move) where
   -- the code makes this move, if the instruction where it stands does
   makes : (instruction : Instruction) → slice_get code p.place ≡ Some instruction
       → IsMove plan statements (ran instruction.operation instruction.next p.registers p.turns) move → IsMove plan statements (one code p) move
@@ -107,7 +107,7 @@ module _ (plan : Plan) (statements : List Resolved) (code : List Instruction) (a
       (performs plan statements p.registers p.turns cells turns holds counts i r r.action found.0.operation found.0.next loop e here.0 here.1
       (are.executed i r found.0 known found.1)))
 
-  goes_on : (d : ℕ) → p.place ≡ length statements + rank statements d → IsNested statements (state (Increment d) cells turns) → (r : Resolved)
+  goes_on : (d : ℕ) → p.place ≡ length statements + do_rank statements d → IsNested statements (state (Increment d) cells turns) → (r : Resolved)
       → slice_get statements d ≡ Some r → (b : Bool) → is_loop r.action ≡ b → (o : Option Turn) → turn_at turns d ≡ o
       → (if b then option_map (λ turn. incremented statements d r.action turn cells turns) o else None) ≡ Some move
       → IsMove plan statements (one code p) move
@@ -117,7 +117,7 @@ module _ (plan : Plan) (statements : List Resolved) (code : List Instruction) (a
       let loop : is_loop_at statements d ≡ true = ap (λ o. option_map_or (λ r. is_loop r.action) o false) known ∙ e in
       let below = rank_below statements d loop in
       let count = are.count in
-      let found = there_is code (length statements + rank statements d) (omega (arith, below, count)) in
+      let found = there_is code (length statements + do_rank statements d) (omega (arith, below, count)) in
       let same : incremented statements d r.action turn cells turns ≡ move = cc (is) in
       makes found.0 (ap (slice_get code) at ∙ found.1)
       (subst (λ m. IsMove plan statements (ran found.0.operation found.0.next p.registers p.turns) m) same

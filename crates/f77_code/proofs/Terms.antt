@@ -14,34 +14,35 @@ use Rattle.f77_code.specs.declared.term.Term.{Term, Register, Element, ElementAt
 use Rattle.f77_code.specs.declared.term.Term.{Difference, Product, Vector', Add', Subtract', Multiply', Calculated'}
 use Rattle.f77_code.specs.declared.term.Term as term
 use Rattle.f77_code.specs.declared.term.Term.TheViews as terms
-use Rattle.f77_code.specs.Compile.{IsReadTerm, IsNumberTerm, ArePair, IsVectorOf, IsCalculationOf}
-use Rattle.f77_code.specs.Constants.{IsKept, Grows, Begins}
+use Rattle.f77_code.specs.code.Compile.{IsReadTerm, IsNumberTerm, ArePair, IsVectorOf, IsCalculationOf}
+use Rattle.f77_code.specs.code.Constants.{HasRegister}
+use Rattle.f77_code.specs.Constants.{GrowsPlan, BeginsPlan}
 use Rattle.f77_code.specs.Holds.{Plan, IsConstant}
-use Rattle.f77_code.specs.Standing.{Reads, IsTerm}
+use Rattle.f77_code.specs.Standing.{ReadsElement, IsTerm}
 use Rattle.f77_code.specs.Typing.{HasSlots, HasNumbers}
 
 -- a plan that begins with the later table begins with the earlier one
-pub begins_before : (t u : Constants) (plan : Plan) → Grows t u → Begins plan u → Begins plan t
+pub begins_before : (t u : Constants) (plan : Plan) → GrowsPlan t u → BeginsPlan plan u → BeginsPlan plan t
 begins_before t u plan g b = record { slots = b.slots ∙ g.slots; values = λ k z at. b.values k z (g.values k z at) }
 
-pub grows_on : (t u v : Constants) → Grows t u → Grows u v → Grows t v
+pub grows_on : (t u v : Constants) → GrowsPlan t u → GrowsPlan u v → GrowsPlan t v
 grows_on t u v g h = record { slots = h.slots ∙ g.slots; values = λ k z at. h.values k z (g.values k z at) }
 
-pub number_later : (t u : Constants) (x : Number) (l : Term) → Grows t u → IsNumberTerm t x l → IsNumberTerm u x l
+pub number_later : (t u : Constants) (x : Number) (l : Term) → GrowsPlan t u → IsNumberTerm t x l → IsNumberTerm u x l
 number_later t u x l g h = record { stands = λ plan b has. h.stands plan (begins_before t u plan g b) has }
 
 -- two expressions, the second compiled behind the first
-pub pair_stands : (t u : Constants) (x y : Number) (l r : Term) (pair : Pair) → Grows t u → IsNumberTerm t x l → IsNumberTerm u y r → pair.left ≡ l → pair.right ≡ r
+pub pair_stands : (t u : Constants) (x y : Number) (l r : Term) (pair : Pair) → GrowsPlan t u → IsNumberTerm t x l → IsNumberTerm u y r → pair.left ≡ l → pair.right ≡ r
     → ArePair u x y pair
 pair_stands t u x y l r pair g h k left right =
     record { left = subst (IsNumberTerm u x) (sym left) (number_later t u x l g h); right = subst (IsNumberTerm u y) (sym right) k }
 
 -- a constant is kept where the plan has it
-pub kept_constant : (t : Constants) (plan : Plan) (r : ℕ) (z : ℤ) → IsKept t r z → Begins plan t → IsConstant plan r z
+pub kept_constant : (t : Constants) (plan : Plan) (r : ℕ) (z : ℤ) → HasRegister t r z → BeginsPlan plan t → IsConstant plan r z
 kept_constant t plan r z k b =
     record { place = k.place; behind = k.behind ∙ ap (λ n. n + k.place) (sym b.slots); value = b.values k.place z k.value }
 
-pub constant_term : (t : Constants) (e : Number) (r : ℕ) (z : ℤ) → e ≡ number.Constant z → IsKept t r z → IsNumberTerm t e (Register r)
+pub constant_term : (t : Constants) (e : Number) (r : ℕ) (z : ℤ) → e ≡ number.Constant z → HasRegister t r z → IsNumberTerm t e (Register r)
 constant_term t e r z is k = rw is (record { stands = λ plan b has. kept_constant t plan r z k b })
 
 pub large_term : (t : Constants) (e : Number) → e ≡ number.TooLarge → IsNumberTerm t e term.TooLarge
@@ -77,7 +78,7 @@ module _ (plan : Plan) where
 
   -- an element of an array of one dimension
   vector_reads : (kind : Kind) (first bound : ℕ) (a : Box Number Global) (s t : Term) → IsVectorOf first bound s t → HasSlots plan kind (views.Vector first bound a)
-      → IsTerm plan a.value s → Reads plan kind (views.Vector first bound a) t
+      → IsTerm plan a.value s → ReadsElement plan kind (views.Vector first bound a) t
   vector_reads kind first bound a s (Element start count r) h has stands = (h.0, h.1, has.0, subst (IsTerm plan a.value) h.2 stands)
   vector_reads kind first bound a s (ElementAtSum start count l r) h has stands =
       (h.0, h.1, has.0, subst (IsTerm plan a.value) h.2 stands)
@@ -87,7 +88,7 @@ module _ (plan : Plan) where
   vector_reads kind first bound a s _ h has stands = absurd h
 
 pub binary_term : (t u : Constants) (e x y : Number) (op : Arithmetic) (a b : Box Number Global) (l r : Term) (made : Term)
-    → e ≡ views.Binary op a b → x ≡ a.value → y ≡ b.value → Grows t u → IsNumberTerm t x l → IsNumberTerm u y r → IsCalculationOf op l r made
+    → e ≡ views.Binary op a b → x ≡ a.value → y ≡ b.value → GrowsPlan t u → IsNumberTerm t x l → IsNumberTerm u y r → IsCalculationOf op l r made
     → IsNumberTerm u e made
 binary_term t u e x y op a b l r made is left right g h k c =
     rw is (record {

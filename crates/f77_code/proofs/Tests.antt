@@ -14,19 +14,20 @@ use Rattle.f77_code.specs.declared.constants.Constants.{Constants}
 use Rattle.f77_code.specs.declared.term.Pair.{Pair}
 use Rattle.f77_code.specs.declared.term.Term.{Term, Register, Compared, Related'}
 use Rattle.f77_code.specs.declared.term.Term.TheViews as terms
-use Rattle.f77_code.specs.Compile.{IsReadTerm, IsNumberTerm, IsTestTerm, IsRelationOf}
-use Rattle.f77_code.specs.Constants.{IsKept, Grows}
+use Rattle.f77_code.specs.code.Compile.{IsReadTerm, IsNumberTerm, IsTestTerm, IsRelationOf}
+use Rattle.f77_code.specs.code.Constants.{HasRegister}
+use Rattle.f77_code.specs.Constants.{GrowsPlan}
 use Rattle.f77_code.specs.Holds.{Plan}
 use Rattle.f77_code.specs.Standing.{IsTerm, IsTest}
 use Rattle.f77_code.specs.Typing.{HasTruths}
-use Rattle.f77_values.specs.Told.{truth}
+use Rattle.f77_values.specs.Told.{truth_number}
 use Rattle.f77_code.proofs.Terms.{begins_before, kept_constant}
 
-pub test_later : (t u : Constants) (x : Condition) (l : Term) → Grows t u → IsTestTerm t x l → IsTestTerm u x l
+pub test_later : (t u : Constants) (x : Condition) (l : Term) → GrowsPlan t u → IsTestTerm t x l → IsTestTerm u x l
 test_later t u x l g h = record { tests = λ plan b has. h.tests plan (begins_before t u plan g b) has }
 
-pub truth_test : (t : Constants) (e : Condition) (b : Bool) (r : ℕ) → e ≡ condition.Constant b → IsKept t r (truth b) → IsTestTerm t e (Register r)
-truth_test t e b r is k = rw is (record { tests = λ plan begins has. kept_constant t plan r (truth b) k begins })
+pub truth_test : (t : Constants) (e : Condition) (b : Bool) (r : ℕ) → e ≡ condition.Constant b → HasRegister t r (truth_number b) → IsTestTerm t e (Register r)
+truth_test t e b r is k = rw is (record { tests = λ plan begins has. kept_constant t plan r (truth_number b) k begins })
 
 pub read_test : (t : Constants) (e : Condition) (x : Element) (l : Term) → e ≡ condition.Element x → IsReadTerm t x l → IsTestTerm t e l
 read_test t e x l is h = rw is (record { tests = λ plan b has. h.reads plan Logical b has })
@@ -41,7 +42,7 @@ relation_stands plan op x y l r (Compared o i j) h left right = (h.0, subst (IsT
 relation_stands plan op x y l r (Related' o p i j) h left right = (h.0, subst (IsTerm plan x) h.1 left, subst (IsTerm plan y) h.2 right)
 relation_stands plan op x y l r _ h left right = absurd h
 
-pub related_test : (t u : Constants) (e : Condition) (op : Relation) (x y : Number) (l r : Term) (made : Term) → e ≡ condition.Related op x y → Grows t u
+pub related_test : (t u : Constants) (e : Condition) (op : Relation) (x y : Number) (l r : Term) (made : Term) → e ≡ condition.Related op x y → GrowsPlan t u
     → IsNumberTerm t x l → IsNumberTerm u y r → IsRelationOf op l r made → IsTestTerm u e made
 related_test t u e op x y l r made is g h k c =
     rw is (record {
@@ -50,7 +51,7 @@ related_test t u e op x y l r made is g h k c =
     })
 
 pub connected_test : (t u : Constants) (e x y : Condition) (op : Connective) (a b : Box Condition Global) (l r : Term) (pair : Box Pair Global)
-    → e ≡ conditions.Connected op a b → x ≡ a.value → y ≡ b.value → Grows t u → IsTestTerm t x l → IsTestTerm u y r
+    → e ≡ conditions.Connected op a b → x ≡ a.value → y ≡ b.value → GrowsPlan t u → IsTestTerm t x l → IsTestTerm u y r
     → pair.value.left ≡ l → pair.value.right ≡ r → IsTestTerm u e (terms.Connected op pair)
 connected_test t u e x y op a b l r pair is first second g h k left right =
     rw is (record {

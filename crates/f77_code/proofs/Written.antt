@@ -8,15 +8,15 @@ use Rattle.f77_tree.specs.declared.tree.Kind.TheVariants.{Integer, Logical}
 use Rattle.f77_values.specs.declared.value.Value.{Value}
 use Rattle.f77_values.specs.declared.value.Value.TheVariants as held
 use Rattle.f77_code.specs.Evaluation.{held_in}
-use Rattle.f77_code.specs.Holds.{Plan, Holds, IsSlot, read_as}
+use Rattle.f77_code.specs.Holds.{Plan, HoldsRegisters, IsSlot, read_as}
 use Rattle.f77_code.specs.Moves.{Cells}
-use Rattle.f77_code.specs.Registers.{register, told, is_held, are_held}
+use Rattle.f77_code.specs.Registers.{register, told_by_register, is_held, are_held}
 use Rattle.f77_values.specs.Number.{fits}
-use Rattle.f77_values.specs.Told.{IsTold, truth}
+use Rattle.f77_values.specs.Told.{IsValueOrFault, truth_number}
 use Rattle.f77_values.proofs.Bounds.{fits_truth}
 use Rattle.f77_values.proofs.Operations.{value_fits}
 
-register_same : (registers : List ℤ) (k : ℕ) (z : ℤ) → k < length registers → register (slice_set registers k z) k ≡ told z
+register_same : (registers : List ℤ) (k : ℕ) (z : ℤ) → k < length registers → register (slice_set registers k z) k ≡ told_by_register z
 register_same [] k z below = absurd (omega arith)
 register_same (x ∷ xs) zero z below = refl
 register_same (x ∷ xs) (suc k) z below = register_same xs k z (omega arith)
@@ -44,11 +44,11 @@ at_other (x ∷ xs) zero (suc j) v apart = refl
 at_other (x ∷ xs) (suc k) zero v apart = refl
 at_other (x ∷ xs) (suc k) (suc j) v apart = at_other xs k j v (λ e. apart (omega arith))
 
-pub told_fits : (z : ℤ) → fits z ≡ true → told z ≡ Ok z
+pub told_fits : (z : ℤ) → fits z ≡ true → told_by_register z ≡ Ok z
 told_fits (negsuc n) e = refl
 told_fits (pos n) e = by (n == 1099511627776) refl
   where
-    by : (b : Bool) → (n == 1099511627776) ≡ b → told (pos n) ≡ Ok (pos n)
+    by : (b : Bool) → (n == 1099511627776) ≡ b → told_by_register (pos n) ≡ Ok (pos n)
     by true t = let same = eqb-true n 1099511627776 t in let below = ltb-true n 2147483648 e in absurd (omega arith)
     by false t = rw t refl
 
@@ -65,11 +65,11 @@ set_held (x ∷ xs) (suc k) z is all = let parts = and_parts (is_held x) (are_he
 pub fitting_held : (registers : List ℤ) (k : ℕ) (x : ℤ) → fits x ≡ true → are_held registers ≡ true → are_held (slice_set registers k x) ≡ true
 fitting_held registers k x e all = set_held registers k x (held_fits x e) all
 
-pub put_held : (registers : List ℤ) (k : ℕ) (x : ℤ) → IsTold x → x <ℤ pos 1099511627776 → are_held registers ≡ true → are_held (slice_set registers k x) ≡ true
+pub put_held : (registers : List ℤ) (k : ℕ) (x : ℤ) → IsValueOrFault x → x <ℤ pos 1099511627776 → are_held registers ≡ true → are_held (slice_set registers k x) ≡ true
 put_held registers k x t below all = fitting_held registers k x (value_fits x t below) all
 
-value_written : (plan : Plan) (registers : List ℤ) (cells : Cells) → Holds plan registers cells → (k : ℕ) (z : ℤ) (v : Value) → k < plan.slots → fits z ≡ true
-    → read_as (plan.kind k) (Some v) ≡ Ok z → Holds plan (slice_set registers k z) (slice_set cells k (Some v))
+value_written : (plan : Plan) (registers : List ℤ) (cells : Cells) → HoldsRegisters plan registers cells → (k : ℕ) (z : ℤ) (v : Value) → k < plan.slots → fits z ≡ true
+    → read_as (plan.kind k) (Some v) ≡ Ok z → HoldsRegisters plan (slice_set registers k z) (slice_set cells k (Some v))
 value_written plan registers cells holds k z v is e read = record {
   slots = λ j below. slots j below (cases_eq j k);
   constants = λ j w c.
@@ -94,12 +94,12 @@ value_written plan registers cells holds k z v is e read = record {
     slots j below (inr apart) =
         register_other registers k j z apart ∙ holds.slots j below ∙ sym (ap (read_as (plan.kind j)) (at_other cells k j (Some v) apart))
 
-pub number_written : (plan : Plan) (registers : List ℤ) (cells : Cells) → Holds plan registers cells → (k : ℕ) (z : ℤ) → IsSlot plan Integer k → fits z ≡ true
-    → Holds plan (slice_set registers k z) (slice_set cells k (Some (held.Number z)))
+pub number_written : (plan : Plan) (registers : List ℤ) (cells : Cells) → HoldsRegisters plan registers cells → (k : ℕ) (z : ℤ) → IsSlot plan Integer k → fits z ≡ true
+    → HoldsRegisters plan (slice_set registers k z) (slice_set cells k (Some (held.Number z)))
 number_written plan registers cells holds k z is e =
     value_written plan registers cells holds k z (held.Number z) is.0 e (ap (λ kind. read_as kind (Some (held.Number z))) is.1)
 
-pub truth_written : (plan : Plan) (registers : List ℤ) (cells : Cells) → Holds plan registers cells → (k : ℕ) (b : Bool) → IsSlot plan Logical k
-    → Holds plan (slice_set registers k (truth b)) (slice_set cells k (Some (held.Truth b)))
+pub truth_written : (plan : Plan) (registers : List ℤ) (cells : Cells) → HoldsRegisters plan registers cells → (k : ℕ) (b : Bool) → IsSlot plan Logical k
+    → HoldsRegisters plan (slice_set registers k (truth_number b)) (slice_set cells k (Some (held.Truth b)))
 truth_written plan registers cells holds k b is =
-    value_written plan registers cells holds k (truth b) (held.Truth b) is.0 (fits_truth b) (ap (λ kind. read_as kind (Some (held.Truth b))) is.1)
+    value_written plan registers cells holds k (truth_number b) (held.Truth b) is.0 (fits_truth b) (ap (λ kind. read_as kind (Some (held.Truth b))) is.1)

@@ -8,13 +8,15 @@ use Rattle.f77_code.specs.Operation.{Point, ran, operation_within}
 -- one instruction; where there is none nothing happens any more
 abbrev pub one : List Instruction → Point → Point
 one code p =
-    option_map_or (λ instruction. ran instruction.operation instruction.next p.registers p.turns) (slice_get code p.place) p
+    option_map_or (λ instruction. ran instruction.operation instruction.next p.registers p.turns)
+    (slice_get code p.place) p
 
 -- so many of them
-abbrev pub after : List Instruction → ℕ → Point → Point
-after code zero p = p
-after code (suc n) p = after code n (one code p)
+abbrev pub code_after : List Instruction → ℕ → Point → Point
+code_after code zero p = p
+code_after code (suc n) p = code_after code n (one code p)
 
 -- the registers and the counters that instructions name are among so many
 abbrev pub code_within : ℕ → ℕ → List Instruction → Bool
-code_within n loops code = list_all (λ instruction. operation_within n loops instruction.operation) code
+code_within n loops code =
+    list_all (λ instruction. operation_within n loops instruction.operation) code

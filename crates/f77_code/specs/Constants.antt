@@ -1,20 +1,16 @@
 -- The constants that code names, in the registers behind those of slots.
-use Rattle.std.specs.Prelude.{◌≡◌, ◌+◌, ℕ, ℤ, Some, slice_get}
+use Rattle.std.specs.Prelude.{◌≡◌, ℕ, ℤ, Some, slice_get}
 use Rattle.f77_code.specs.declared.constants.Constants.{Constants}
 use Rattle.f77_code.specs.Holds.{Plan}
 
--- the register r is that of a constant
-pub record IsKept (table : Constants) (r : ℕ) (z : ℤ) : Type 0 where
-  pub place : ℕ
-  pub behind : r ≡ table.slots + place
-  pub value : slice_get table.values.items place ≡ Some z
-
 -- the later table has each constant of the earlier one in the same register
-pub record Grows (earlier later : Constants) : Type 0 where
+pub record GrowsPlan (earlier later : Constants) : Type 0 where
   pub slots : later.slots ≡ earlier.slots
-  pub values : (k : ℕ) (z : ℤ) → slice_get earlier.values.items k ≡ Some z → slice_get later.values.items k ≡ Some z
+  pub values : (k : ℕ) (z : ℤ)
+      → slice_get earlier.values.items k ≡ Some z → slice_get later.values.items k ≡ Some z
 
 -- the plan has these slots, and each of these constants in the same register
-pub record Begins (plan : Plan) (table : Constants) : Type 0 where
+pub record BeginsPlan (plan : Plan) (table : Constants) : Type 0 where
   pub slots : plan.slots ≡ table.slots
-  pub values : (k : ℕ) (z : ℤ) → slice_get table.values.items k ≡ Some z → slice_get plan.constants k ≡ Some z
+  pub values : (k : ℕ) (z : ℤ)
+      → slice_get table.values.items k ≡ Some z → slice_get plan.constants k ≡ Some z

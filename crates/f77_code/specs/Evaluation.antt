@@ -9,14 +9,15 @@ use Rattle.f77_actions.specs.declared.expression.Relation.TheVariants as relatio
 use Rattle.f77_actions.specs.declared.expression.Connective.{Connective}
 use Rattle.f77_actions.specs.declared.expression.Connective.TheVariants as connective
 use Rattle.f77_actions.specs.declared.expression.Element.{Element, Variable, Vector', Matrix'}
-use Rattle.f77_actions.specs.declared.expression.Number.{Number, Constant, TooLarge, Negated', Absolute', ZeroPush', Binary'}
+use Rattle.f77_actions.specs.declared.expression.Number.{Number, Constant, TooLarge, Negated'}
+use Rattle.f77_actions.specs.declared.expression.Number.{Absolute', ZeroPush', Binary'}
 use Rattle.f77_actions.specs.declared.expression.Number as number
 use Rattle.f77_actions.specs.declared.expression.Condition.{Condition, Not', Related, Connected'}
 use Rattle.f77_actions.specs.declared.expression.Condition as condition
 use Rattle.f77_values.specs.declared.finish.Fault.{Fault}
 use Rattle.f77_values.specs.declared.finish.Fault.TheVariants.{Overflow}
 use Rattle.f77_values.specs.declared.value.Value.{Value}
-use Rattle.f77_values.specs.Number.{in_range, quotient, modulus, power, negated, size, is_below, is_same}
+use Rattle.f77_values.specs.Number.{in_range, quotient, modulus, power, negated, without_sign, is_below, is_same}
 use Rattle.f77_values.specs.Value.{given, both, whole, logic, element, same_truth, pushed}
 
 -- what a slot holds
@@ -55,7 +56,8 @@ abbrev mutual
   slot_in cells (Vector' first bound p x) =
       given (number_in cells x) (λ z. given (element (bound ∷ []) (z ∷ [])) (λ k. Ok (first + k)))
   slot_in cells (Matrix' first rows columns p x q y) =
-      given (number_in cells x) (λ z. given (number_in cells y) (λ w. given (element (rows ∷ (columns ∷ [])) (z ∷ (w ∷ []))) (λ k. Ok (first + k))))
+      given (number_in cells x) (λ z. given (number_in cells y)
+      (λ w. given (element (rows ∷ (columns ∷ [])) (z ∷ (w ∷ []))) (λ k. Ok (first + k))))
 
   -- a number
   pub number_in : List (Option Value) → Number → Result ℤ Fault
@@ -63,24 +65,28 @@ abbrev mutual
   number_in cells TooLarge = Err Overflow
   number_in cells (number.Element e) = given (slot_in cells e) (λ k. whole (held_in cells k))
   number_in cells (Negated' p x) = given (number_in cells x) (λ z. in_range (negated z))
-  number_in cells (Absolute' p x) = given (number_in cells x) (λ z. in_range (size z))
+  number_in cells (Absolute' p x) = given (number_in cells x) (λ z. in_range (without_sign z))
   number_in cells (ZeroPush' p x) = given (number_in cells x) pushed
-  number_in cells (Binary' op p x q y) = both (calculated op) (number_in cells x) (number_in cells y)
+  number_in cells (Binary' op p x q y) =
+      both (calculated op) (number_in cells x) (number_in cells y)
 
 -- a truth value
 abbrev pub truth_in : List (Option Value) → Condition → Result Bool Fault
 truth_in cells (condition.Constant b) = Ok b
 truth_in cells (condition.Element e) = given (slot_in cells e) (λ k. logic (held_in cells k))
 truth_in cells (Not' p x) = given (truth_in cells x) (λ b. Ok (not b))
-truth_in cells (Related op x y) = both (λ a b. Ok (compared op a b)) (number_in cells x) (number_in cells y)
-truth_in cells (Connected' op p x q y) = both (λ a b. Ok (joined op a b)) (truth_in cells x) (truth_in cells y)
+truth_in cells (Related op x y) =
+    both (λ a b. Ok (compared op a b)) (number_in cells x) (number_in cells y)
+truth_in cells (Connected' op p x q y) =
+    both (λ a b. Ok (joined op a b)) (truth_in cells x) (truth_in cells y)
 
 -- the slots that an expression can name are among so many
 abbrev mutual
   pub element_within : ℕ → Element → Bool
   element_within n (Variable slot) = nat_lt slot n
   element_within n (Vector' first bound p x) = not (nat_lt n (first + bound)) && number_within n x
-  element_within n (Matrix' first rows columns p x q y) = not (nat_lt n (first + rows * columns)) && (number_within n x && number_within n y)
+  element_within n (Matrix' first rows columns p x q y) =
+      not (nat_lt n (first + rows * columns)) && (number_within n x && number_within n y)
 
   pub number_within : ℕ → Number → Bool
   number_within n (Constant z) = true

@@ -1,5 +1,7 @@
--- What registers hold of a machine over slots: first each slot, and behind them the constants. DOs have counters beside the registers.
-use Rattle.std.specs.Prelude.{◌≡◌, ◌<◌, ◌≤◌, ◌+◌, ℕ, Bool, true, false, List, length, take, count_by, Option, Some, slice_get, ℤ, Result, Ok}
+-- What registers hold of a machine over slots: first each slot, and
+-- behind them the constants. DOs have counters beside the registers.
+use Rattle.std.specs.Prelude.{◌≡◌, ◌<◌, ◌≤◌, ◌+◌, ℕ, Bool, true, false, List, length}
+use Rattle.std.specs.Prelude.{take, count_by, Option, Some, slice_get, ℤ, Result, Ok}
 use Rattle.std.specs.Option.{option_map_or}
 use Rattle.f77_tree.specs.declared.tree.Kind.{Kind}
 use Rattle.f77_tree.specs.declared.tree.Kind.TheVariants.{Integer, Logical}
@@ -8,7 +10,7 @@ use Rattle.f77_values.specs.declared.finish.Fault.{Fault}
 use Rattle.f77_values.specs.declared.value.Value.{Value}
 use Rattle.f77_code.specs.declared.control.Turn.{Turn}
 use Rattle.f77_code.specs.Evaluation.{held_in}
-use Rattle.f77_code.specs.Moves.{Cells, Turns, turn_at, is_loop}
+use Rattle.f77_code.specs.Moves.{Cells, TurnList, turn_at, is_loop}
 use Rattle.f77_code.specs.Registers.{register, are_held}
 use Rattle.f77_values.specs.Told.{of_truth}
 use Rattle.f77_values.specs.Value.{whole, logic}
@@ -39,9 +41,11 @@ read_as Integer value = whole value
 read_as Logical value = of_truth (logic value)
 
 -- Each register tells what is read from its slot, or its constant.
-pub record Holds (plan : Plan) (registers : List ℤ) (cells : Cells) : Type 0 where
-  pub slots : (k : ℕ) → k < plan.slots → register registers k ≡ read_as (plan.kind k) (held_in cells k)
-  pub constants : (k : ℕ) (z : ℤ) → slice_get plan.constants k ≡ Some z → register registers (plan.slots + k) ≡ Ok z
+pub record HoldsRegisters (plan : Plan) (registers : List ℤ) (cells : Cells) : Type 0 where
+  pub slots : (k : ℕ)
+      → k < plan.slots → register registers k ≡ read_as (plan.kind k) (held_in cells k)
+  pub constants : (k : ℕ) (z : ℤ)
+      → slice_get plan.constants k ≡ Some z → register registers (plan.slots + k) ≡ Ok z
   pub held : are_held registers ≡ true
   pub count : length cells ≡ plan.slots
   pub room : plan.slots ≤ length registers
@@ -51,19 +55,23 @@ abbrev pub loop_count : List Resolved → ℕ
 loop_count statements = count_by (λ r. is_loop r.action) statements
 
 -- how many stand before a statement
-abbrev pub rank : List Resolved → ℕ → ℕ
-rank statements d = loop_count (take d statements)
+abbrev pub do_rank : List Resolved → ℕ → ℕ
+do_rank statements d = loop_count (take d statements)
 
 abbrev pub is_loop_at : List Resolved → ℕ → Bool
 is_loop_at statements d = option_map_or (λ r. is_loop r.action) (slice_get statements d) false
 
 -- d is a DO, and its counter holds what it has left
-pub record IsCounted (statements : List Resolved) (counters : List Turn) (d : ℕ) (turn : Turn) : Type 0 where
+pub record IsCounted (statements : List Resolved) (counters : List Turn) (d : ℕ)
+    (turn : Turn) : Type 0 where
   pub loop : is_loop_at statements d ≡ true
-  pub counter : slice_get counters (rank statements d) ≡ Some turn
+  pub counter : slice_get counters (do_rank statements d) ≡ Some turn
   pub left : 0 < turn.passes
 
--- The counters hold what the active DOs have left. Of the others nothing is said, so a jump out of a DO changes no counter.
-pub record Counts (statements : List Resolved) (counters : List Turn) (turns : Turns) : Type 0 where
-  pub active : (d : ℕ) (turn : Turn) → turn_at turns d ≡ Some turn → IsCounted statements counters d turn
+-- The counters hold what the active DOs have left. Of the others
+-- nothing is said, so a jump out of a DO changes no counter.
+pub record HoldsCounters (statements : List Resolved) (counters : List Turn)
+    (turns : TurnList) : Type 0 where
+  pub active : (d : ℕ) (turn : Turn)
+      → turn_at turns d ≡ Some turn → IsCounted statements counters d turn
   pub room : loop_count statements ≤ length counters

@@ -1,8 +1,11 @@
--- The code of a program: an instruction for each statement, and behind them one for the incrementation of each DO.
-use Rattle.std.specs.Prelude.{◌≡◌, ◌<◌, ◌^◌, ◌+◌, ◌*◌, ◌==◌, if◌then◌else◌, ℕ, List, [], ◌∷◌, length, map, Option, Some, None, MatchOption, slice_get}
+-- The code of a program: an instruction for each statement,
+-- and behind them one for the incrementation of each DO.
+use Rattle.std.specs.Prelude.{◌≡◌, ◌<◌, ◌^◌, ◌+◌, ◌*◌, ◌==◌, if◌then◌else◌, ℕ, List, []}
+use Rattle.std.specs.Prelude.{◌∷◌, length, map, Option, Some, None, MatchOption, slice_get}
 use Rattle.f77_tree.specs.declared.tree.Kind.{Kind}
 use Rattle.f77_tree.specs.declared.tree.Kind.TheVariants.{Integer, Logical}
-use Rattle.f77_actions.specs.declared.action.Action.{Action, Declaration, AssignNumber, AssignTruth, ComputedGoto, ArithmeticIf, LogicalIf', Branch, Loop}
+use Rattle.f77_actions.specs.declared.action.Action.{Action, Declaration, AssignNumber, AssignTruth}
+use Rattle.f77_actions.specs.declared.action.Action.{ComputedGoto, ArithmeticIf, LogicalIf', Branch, Loop}
 use Rattle.f77_actions.specs.declared.action.Action as action
 use Rattle.f77_actions.specs.declared.expression.Condition.{Condition, Related}
 use Rattle.f77_actions.specs.declared.expression.Element.{Element, Variable, Vector', Matrix'}
@@ -13,22 +16,24 @@ use Rattle.f77_actions.specs.declared.resolved.Resolved.{Resolved}
 use Rattle.f77_code.specs.declared.control.Place.{Place}
 use Rattle.f77_code.specs.declared.control.Place.TheVariants.{Execute, Increment}
 use Rattle.f77_code.specs.declared.instruction.Instruction.{Instruction}
-use Rattle.f77_code.specs.declared.instruction.Operation.{Operation, Set, SetElement, SetMatrix, IfTrue, IfRelated, Do, Next, Sign, Select, When'}
-use Rattle.f77_code.specs.declared.instruction.Operation.{Continue, Goto, Return, Stop, Trap, Move, Add, Subtract, Multiply, Load}
-use Rattle.f77_code.specs.declared.instruction.Operation.{Store, StoreSum, StoreDifference}
-use Rattle.f77_code.specs.declared.instruction.Operation.{IfLess, IfLessOrEqual, IfEqual, IfNotEqual, IfGreaterOrEqual, IfGreater}
+use Rattle.f77_code.specs.declared.instruction.Operation.{Operation, Set, SetElement, SetMatrix, IfTrue, IfRelated}
+use Rattle.f77_code.specs.declared.instruction.Operation.{Do, Next, Sign, Select, When', Continue, Goto, Return}
+use Rattle.f77_code.specs.declared.instruction.Operation.{Stop, Trap, Move, Add, Subtract, Multiply, Load, Store}
+use Rattle.f77_code.specs.declared.instruction.Operation.{StoreSum, StoreDifference, IfLess, IfLessOrEqual}
+use Rattle.f77_code.specs.declared.instruction.Operation.{IfEqual, IfNotEqual, IfGreaterOrEqual, IfGreater}
 use Rattle.f77_code.specs.declared.instruction.Parameters.{Parameters}
 use Rattle.f77_code.specs.declared.term.Term.{Term}
 use Rattle.f77_code.specs.declared.term.Term as term
-use Rattle.f77_code.specs.Holds.{Plan, IsSlot, AreSlots, loop_count, rank}
+use Rattle.f77_code.specs.Holds.{Plan, IsSlot, AreSlots, loop_count, do_rank}
 use Rattle.f77_code.specs.Standing.{IsTerm, IsTest}
 
 -- the number of a place: statements come first, then the incrementations of DOs
 abbrev pub place_at : List Resolved → Place → ℕ
 place_at statements (Execute i) = i
-place_at statements (Increment d) = length statements + rank statements d
+place_at statements (Increment d) = length statements + do_rank statements d
 
--- where control goes on behind a statement that ends these DOs, which are active, the innermost first: to its incrementation, or to what follows
+-- where control goes on behind a statement that ends these DOs, which are
+-- active, the innermost first: to its incrementation, or to what follows
 abbrev pub onward : List Resolved → List ℕ → ℕ → ℕ
 onward statements [] next = next
 onward statements (d ∷ ds) next = place_at statements (Increment d)
@@ -49,7 +54,8 @@ giving (Move to from) = Some (record { to = to; term = term.Register from })
 giving (Add to left right) = Some (record { to = to; term = term.Sum left right })
 giving (Subtract to left right) = Some (record { to = to; term = term.Difference left right })
 giving (Multiply to left right) = Some (record { to = to; term = term.Product left right })
-giving (Load to first bound subscript) = Some (record { to = to; term = term.Element first bound subscript })
+giving (Load to first bound subscript) =
+    Some (record { to = to; term = term.Element first bound subscript })
 giving _ = None
 
 -- an operation that gives an element of an array of one dimension the value of a term
@@ -60,13 +66,29 @@ pub record Storing : Type 0 where
   pub term : Term
 
 abbrev pub storing : Operation → Option Storing
-storing (SetElement first bound pair) = Some (record { first = first; bound = bound; subscript = pair.value.left; term = pair.value.right })
+storing (SetElement first bound pair) = Some
+    (record { first = first; bound = bound; subscript = pair.value.left; term = pair.value.right })
 storing (Store first bound subscript from) =
-    Some (record { first = first; bound = bound; subscript = term.Register subscript; term = term.Register from })
+    Some (record {
+      first = first;
+      bound = bound;
+      subscript = term.Register subscript;
+      term = term.Register from;
+    })
 storing (StoreSum first bound subscript left right) =
-    Some (record { first = first; bound = bound; subscript = term.Register subscript; term = term.Sum left right })
+    Some (record {
+      first = first;
+      bound = bound;
+      subscript = term.Register subscript;
+      term = term.Sum left right;
+    })
 storing (StoreDifference first bound subscript left right) =
-    Some (record { first = first; bound = bound; subscript = term.Register subscript; term = term.Difference left right })
+    Some (record {
+      first = first;
+      bound = bound;
+      subscript = term.Register subscript;
+      term = term.Difference left right;
+    })
 storing _ = None
 
 -- an operation that goes to a place where a relation holds
@@ -78,26 +100,33 @@ pub record Comparing : Type 0 where
 
 -- the same of two registers
 abbrev pub registers_compared : Relation → ℕ → ℕ → ℕ → Comparing
-registers_compared op left right there = record { relation = op; left = term.Register left; right = term.Register right; there = there }
+registers_compared op left right there =
+    record { relation = op; left = term.Register left; right = term.Register right; there = there }
 
 abbrev pub comparing : Operation → Option Comparing
-comparing (IfRelated op there pair) = Some (record { relation = op; left = pair.value.left; right = pair.value.right; there = there })
+comparing (IfRelated op there pair) =
+    Some (record { relation = op; left = pair.value.left; right = pair.value.right; there = there })
 comparing (IfLess left right there) = Some (registers_compared relation.Less left right there)
-comparing (IfLessOrEqual left right there) = Some (registers_compared relation.LessOrEqual left right there)
+comparing (IfLessOrEqual left right there) =
+    Some (registers_compared relation.LessOrEqual left right there)
 comparing (IfEqual left right there) = Some (registers_compared relation.Equal left right there)
-comparing (IfNotEqual left right there) = Some (registers_compared relation.NotEqual left right there)
-comparing (IfGreaterOrEqual left right there) = Some (registers_compared relation.GreaterOrEqual left right there)
+comparing (IfNotEqual left right there) =
+    Some (registers_compared relation.NotEqual left right there)
+comparing (IfGreaterOrEqual left right there) =
+    Some (registers_compared relation.GreaterOrEqual left right there)
 comparing (IfGreater left right there) = Some (registers_compared relation.Greater left right there)
 comparing _ = None
 
 -- An operation stands for an assignment to an element of this kind, of what a term stands for.
-abbrev pub Assigns : Plan → Kind → (Term → Type 0) → Element → Operation → Type 0
-Assigns plan kind stands (Variable k) operation =
+abbrev pub StandsForAssignment : Plan → Kind → (Term → Type 0) → Element → Operation → Type 0
+StandsForAssignment plan kind stands (Variable k) operation =
     MatchOption (giving operation) ⊥ (λ g. (g.to ≡ k) × IsSlot plan kind k × stands g.term)
-Assigns plan kind stands (Vector' first bound p x) operation =
+StandsForAssignment plan kind stands (Vector' first bound p x) operation =
     MatchOption (storing operation) ⊥
-    (λ s. (s.first ≡ first) × (s.bound ≡ bound) × AreSlots plan kind first bound × IsTerm plan x s.subscript × stands s.term)
-Assigns plan kind stands (Matrix' first rows columns p x q y) (SetMatrix start height width pair term) =
+    (λ s. (s.first ≡ first) × (s.bound ≡ bound)
+    × AreSlots plan kind first bound × IsTerm plan x s.subscript × stands s.term)
+StandsForAssignment plan kind stands (Matrix' first rows columns p x q y)
+    (SetMatrix start height width pair term) =
     (start ≡ first)
     × (height ≡ rows)
     × (width ≡ columns)
@@ -105,7 +134,7 @@ Assigns plan kind stands (Matrix' first rows columns p x q y) (SetMatrix start h
     × IsTerm plan x pair.value.left
     × IsTerm plan y pair.value.right
     × stands term.value
-Assigns plan kind stands _ _ = ⊥
+StandsForAssignment plan kind stands _ _ = ⊥
 
 -- An operation goes to this place where the condition is true.
 abbrev pub Tests : Plan → Condition → ℕ → Operation → Type 0
@@ -118,14 +147,17 @@ Tests plan x there _ = ⊥
 -- which operation stands for which action, where control goes on from both to the same place
 abbrev pub IsOperation : Plan → Action → Operation → Type 0
 IsOperation plan Declaration Continue = Unit {0}
-IsOperation plan (AssignNumber e x) operation = Assigns plan Integer (IsTerm plan x) e operation
-IsOperation plan (AssignTruth e x) operation = Assigns plan Logical (IsTest plan x) e operation
+IsOperation plan (AssignNumber e x) operation =
+    StandsForAssignment plan Integer (IsTerm plan x) e operation
+IsOperation plan (AssignTruth e x) operation =
+    StandsForAssignment plan Logical (IsTest plan x) e operation
 IsOperation plan (action.Goto jump) (Goto there) = there ≡ jump.target
 IsOperation plan (ComputedGoto x jumps) (Select term places) =
     IsTerm plan x term.value × (places.items ≡ map (λ jump. jump.target) jumps.items)
 IsOperation plan (ArithmeticIf x a b c) (Sign negative middle positive term) =
     IsTerm plan x term.value × (negative ≡ a.target) × (middle ≡ b.target) × (positive ≡ c.target)
-IsOperation plan (LogicalIf' x p inner) (When' term q operation) = IsTest plan x term.value × IsOperation plan inner operation
+IsOperation plan (LogicalIf' x p inner) (When' term q operation) =
+    IsTest plan x term.value × IsOperation plan inner operation
 IsOperation plan (LogicalIf' x p (action.Goto jump)) operation = Tests plan x jump.target operation
 IsOperation plan action.Continue Continue = Unit {0}
 IsOperation plan action.Return Return = Unit {0}
@@ -134,42 +166,52 @@ IsOperation plan action.Trap Trap = Unit {0}
 IsOperation plan _ _ = ⊥
 
 -- where control goes on from the DO d, which ends at the statement t, when its passes are made
-abbrev pub IsLeft : List Resolved → ℕ → ℕ → ℕ → Type 0
-IsLeft statements d t next =
-    (end : Resolved) → slice_get statements t ≡ Some end → next ≡ onward statements (round d end.ends.items) end.next
+abbrev pub IsLeftDone : List Resolved → ℕ → ℕ → ℕ → Type 0
+IsLeftDone statements d t next =
+    (end : Resolved) → slice_get statements t ≡ Some end
+    → next ≡ onward statements (round d end.ends.items) end.next
 
 -- the parameters of a DO
-pub record AreParameters (plan : Plan) (from to by : Number) (parameters : Parameters) : Type 0 where
+pub record AreParameters (plan : Plan) (from to by : Number)
+    (parameters : Parameters) : Type 0 where
   pub first : IsTerm plan from parameters.first
   pub last : IsTerm plan to parameters.last
   pub step : IsTerm plan by parameters.step
 
 -- which operation stands for the statement i, and where control goes on from it
-abbrev pub Stands : Plan → List Resolved → ℕ → Resolved → Action → Operation → ℕ → Type 0
-Stands plan statements i r (Branch x otherwise) operation next =
+abbrev pub StandsForStatement : Plan
+    → List Resolved → ℕ → Resolved → Action → Operation → ℕ → Type 0
+StandsForStatement plan statements i r (Branch x otherwise) operation next =
     Tests plan x (onward statements r.ends.items r.next) operation × (next ≡ otherwise)
-Stands plan statements i r (Loop slot first last step t) (Do variable counter body parameters) next =
+StandsForStatement plan statements i r (Loop slot first last step t)
+    (Do variable counter body parameters) next =
     (variable ≡ slot)
     × IsSlot plan Integer slot
-    × (counter ≡ rank statements i)
+    × (counter ≡ do_rank statements i)
     × (body ≡ i + 1)
     × AreParameters plan first last step parameters.value
-    × IsLeft statements i t next
-Stands plan statements i r (Loop slot first last step t) _ next = ⊥
-Stands plan statements i r act operation next = IsOperation plan act operation × (next ≡ onward statements r.ends.items r.next)
+    × IsLeftDone statements i t next
+StandsForStatement plan statements i r (Loop slot first last step t) _ next = ⊥
+StandsForStatement plan statements i r act operation next =
+    IsOperation plan act operation × (next ≡ onward statements r.ends.items r.next)
 
 -- which operation increments the DO d, and where control goes on from it
-abbrev pub Increments : Plan → List Resolved → ℕ → Action → Operation → ℕ → Type 0
-Increments plan statements d (Loop slot first last step t) (Next variable counter body) next =
-    (variable ≡ slot) × IsSlot plan Integer slot × (counter ≡ rank statements d) × (body ≡ d + 1) × IsLeft statements d t next
-Increments plan statements d (Loop slot first last step t) _ next = ⊥
-Increments plan statements d _ operation next = Unit {0}
+abbrev pub StandsForIncrement : Plan → List Resolved → ℕ → Action → Operation → ℕ → Type 0
+StandsForIncrement plan statements d (Loop slot first last step t)
+    (Next variable counter body) next =
+    (variable ≡ slot) × IsSlot plan Integer slot
+    × (counter ≡ do_rank statements d) × (body ≡ d + 1) × IsLeftDone statements d t next
+StandsForIncrement plan statements d (Loop slot first last step t) _ next = ⊥
+StandsForIncrement plan statements d _ operation next = Unit {0}
 
-pub record AreCode (plan : Plan) (statements : List Resolved) (code : List Instruction) : Type 0 where
+pub record AreCode (plan : Plan) (statements : List Resolved)
+    (code : List Instruction) : Type 0 where
   pub count : length code ≡ length statements + loop_count statements
   pub few : length code < 2 ^ 32
-  pub executed : (i : ℕ) (r : Resolved) (instruction : Instruction) → slice_get statements i ≡ Some r → slice_get code i ≡ Some instruction
-      → Stands plan statements i r r.action instruction.operation instruction.next
-  pub incremented : (d : ℕ) (r : Resolved) (instruction : Instruction) → slice_get statements d ≡ Some r
-      → slice_get code (length statements + rank statements d) ≡ Some instruction
-      → Increments plan statements d r.action instruction.operation instruction.next
+  pub executed : (i : ℕ) (r : Resolved) (instruction : Instruction)
+      → slice_get statements i ≡ Some r → slice_get code i ≡ Some instruction
+      → StandsForStatement plan statements i r r.action instruction.operation instruction.next
+  pub incremented : (d : ℕ) (r : Resolved) (instruction : Instruction)
+      → slice_get statements d ≡ Some r
+      → slice_get code (length statements + do_rank statements d) ≡ Some instruction
+      → StandsForIncrement plan statements d r.action instruction.operation instruction.next

@@ -1,6 +1,5 @@
 pub mod Block
 pub mod Choice
-pub mod Compile
 pub mod Compiled
 pub mod Compiling
 pub mod Constants
@@ -17,3 +16,4 @@ pub mod Simulation
 pub mod Standing
 pub mod Term
 pub mod Typing
+pub mod code

@@ -1,12 +1,13 @@
--- One step of a machine over slots: what it does to its place, its slots and its active DOs, and which slots and statements it asks for.
--- Statements are numbered from 0 here.
-use Rattle.std.specs.Prelude.{◌+◌, ◌-◌, ◌∷◌, ◌&&◌, ◌+ℤ◌, if◌then◌else◌, nat_lt}
+-- One step of a machine over slots: what it does to its place, its slots and its active
+-- DOs, and which slots and statements it asks for. Statements are numbered from 0 here.
+use Rattle.std.specs.Prelude.{◌+◌, ◌-◌, ◌∷◌, ◌+ℤ◌, if◌then◌else◌, nat_lt}
 use Rattle.std.specs.Prelude.{ℕ, zero, suc, List, [], Option, Some, None, is_some, slice_get, slice_set}
 use Rattle.std.specs.Prelude.{ℤ, pos, negsuc, Bool, true, false, option_map, Result, Ok, Err}
 use Rattle.std.specs.List.{find, list_all}
 use Rattle.std.specs.Option.{option_and_then, option_map_or}
-use Rattle.f77_actions.specs.declared.action.Action.{Action, Declaration, AssignNumber, AssignTruth, Goto, ComputedGoto, ArithmeticIf}
-use Rattle.f77_actions.specs.declared.action.Action.{LogicalIf', Branch, Continue, Loop, Return, Stop, Trap}
+use Rattle.f77_actions.specs.declared.action.Action.{Action, Declaration, AssignNumber, AssignTruth}
+use Rattle.f77_actions.specs.declared.action.Action.{Goto, ComputedGoto, ArithmeticIf, LogicalIf'}
+use Rattle.f77_actions.specs.declared.action.Action.{Branch, Continue, Loop, Return, Stop, Trap}
 use Rattle.f77_actions.specs.declared.action.Jump.{Jump}
 use Rattle.f77_actions.specs.declared.resolved.Resolved.{Resolved}
 use Rattle.f77_values.specs.declared.finish.Fault.{Fault}
@@ -18,23 +19,23 @@ use Rattle.f77_code.specs.declared.control.Place.TheVariants.{Execute, Increment
 use Rattle.f77_code.specs.declared.control.Turn.{Turn}
 use Rattle.f77_values.specs.declared.value.Value.{Value}
 use Rattle.f77_values.specs.declared.value.Value.TheVariants as held
-use Rattle.f77_code.specs.Choice.{by_sign, numbered}
-use Rattle.f77_code.specs.Evaluation.{held_in, slot_in, number_in, truth_in, element_within, number_within, condition_within}
+use Rattle.f77_code.specs.Choice.{by_sign, item_chosen}
+use Rattle.f77_code.specs.Evaluation.{held_in, slot_in, number_in, truth_in}
 use Rattle.f77_values.specs.Number.{in_range, trip_count}
 use Rattle.f77_values.specs.Value.{whole}
 
 abbrev pub Cells : Type 0
 Cells = List (Option Value)
 
-abbrev pub Turns : Type 0
-Turns = List (Option Turn)
+abbrev pub TurnList : Type 0
+TurnList = List (Option Turn)
 
 pub record State : Type 0 where
   pub place : Place
   pub cells : Cells
-  pub turns : Turns
+  pub turns : TurnList
 
-abbrev pub state : Place → Cells → Turns → State
+abbrev pub state : Place → Cells → TurnList → State
 state place cells turns = record { place = place; cells = cells; turns = turns }
 
 -- what a step leads to: another state, or an end with what the slots hold then
@@ -48,65 +49,76 @@ used (Ok x) cells f = f x
 used (Err fault) cells f = Ends (Failed fault) cells
 
 -- what an active DO has left
-abbrev pub turn_at : Turns → ℕ → Option Turn
+abbrev pub turn_at : TurnList → ℕ → Option Turn
 turn_at turns d = option_and_then (λ turn. turn) (slice_get turns d)
 
 -- the first of these DOs that is active
-abbrev pub innermost : Turns → List ℕ → Option ℕ
+abbrev pub innermost : TurnList → List ℕ → Option ℕ
 innermost turns ends = find (λ d. is_some (turn_at turns d)) ends
 
 -- where control goes on from a statement that did not jump
-abbrev pub place_behind : Resolved → Turns → Place
+abbrev pub place_behind : Resolved → TurnList → Place
 place_behind r turns = option_map_or Increment (innermost turns r.ends.items) (Execute r.next)
 
-abbrev pub go_on : Resolved → Cells → Turns → Move
+abbrev pub go_on : Resolved → Cells → TurnList → Move
 go_on r cells turns = Goes (state (place_behind r turns) cells turns)
 
 -- none of these DOs is active any more
-abbrev pub without : Turns → List ℕ → Turns
+abbrev pub without : TurnList → List ℕ → TurnList
 without turns [] = turns
 without turns (d ∷ ds) = without (slice_set turns d None) ds
 
-abbrev pub jump_to : Jump → Cells → Turns → Move
-jump_to jump cells turns = Goes (state (Execute jump.target) cells (without turns jump.leaves.items))
+abbrev pub jump_to : Jump → Cells → TurnList → Move
+jump_to jump cells turns =
+    Goes (state (Execute jump.target) cells (without turns jump.leaves.items))
 
 -- the DO d, which ends at this statement, has so many passes to make
-abbrev pub passing : Resolved → ℕ → ℕ → ℤ → Cells → Turns → Move
+abbrev pub passing : Resolved → ℕ → ℕ → ℤ → Cells → TurnList → Move
 passing end d zero step cells turns = go_on end cells (slice_set turns d None)
-passing end d (suc k) step cells turns = Goes (state (Execute (d + 1)) cells (slice_set turns d (Some (record { passes = suc k; step = step }))))
+passing end d (suc k) step cells turns = Goes (state (Execute (d + 1)) cells
+    (slice_set turns d (Some (record { passes = suc k; step = step }))))
 
 -- the same where the statement has this number, if there is one
-abbrev pub passing_at : List Resolved → ℕ → ℕ → ℕ → ℤ → Cells → Turns → Move
+abbrev pub passing_at : List Resolved → ℕ → ℕ → ℕ → ℤ → Cells → TurnList → Move
 passing_at statements t d passes step cells turns =
-    option_map_or (λ end. passing end d passes step cells turns) (slice_get statements t) (Goes (state (Execute t) cells turns))
+    option_map_or (λ end. passing end d passes step cells turns) (slice_get statements t)
+    (Goes (state (Execute t) cells turns))
 
 -- the DO d begins with these parameters
-abbrev pub begun : List Resolved → ℕ → ℕ → ℕ → ℤ → ℤ → ℤ → Cells → Turns → Move
+abbrev pub begun : List Resolved → ℕ → ℕ → ℕ → ℤ → ℤ → ℤ → Cells → TurnList → Move
 begun statements d variable t first last (pos zero) cells turns = Ends (Failed ZeroStep) cells
 begun statements d variable t first last (pos (suc m)) cells turns =
-    passing_at statements t d (trip_count first last (pos (suc m))) (pos (suc m)) (slice_set cells variable (Some (held.Number first))) turns
+    passing_at statements t d (trip_count first last (pos (suc m))) (pos (suc m))
+    (slice_set cells variable (Some (held.Number first))) turns
 begun statements d variable t first last (negsuc m) cells turns =
-    passing_at statements t d (trip_count first last (negsuc m)) (negsuc m) (slice_set cells variable (Some (held.Number first))) turns
+    passing_at statements t d (trip_count first last (negsuc m)) (negsuc m)
+    (slice_set cells variable (Some (held.Number first))) turns
 
-abbrev pub chosen : {A : Type 0} → Bool → A → A → A
-chosen true a b = a
-chosen false a b = b
+abbrev pub jump_chosen : {A : Type 0} → Bool → A → A → A
+jump_chosen true a b = a
+jump_chosen false a b = b
 
 -- the statement i does this
-abbrev pub acted : List Resolved → ℕ → Resolved → Action → Cells → Turns → Move
+abbrev pub acted : List Resolved → ℕ → Resolved → Action → Cells → TurnList → Move
 acted statements i r Declaration cells turns = Goes (state (Execute i) cells turns)
 acted statements i r (AssignNumber e x) cells turns =
-    used (slot_in cells e) cells (λ k. used (number_in cells x) cells (λ z. go_on r (slice_set cells k (Some (held.Number z))) turns))
+    used (slot_in cells e) cells (λ k. used (number_in cells x) cells
+    (λ z. go_on r (slice_set cells k (Some (held.Number z))) turns))
 acted statements i r (AssignTruth e x) cells turns =
-    used (slot_in cells e) cells (λ k. used (truth_in cells x) cells (λ b. go_on r (slice_set cells k (Some (held.Truth b))) turns))
+    used (slot_in cells e) cells (λ k. used (truth_in cells x) cells
+    (λ b. go_on r (slice_set cells k (Some (held.Truth b))) turns))
 acted statements i r (Goto jump) cells turns = jump_to jump cells turns
 acted statements i r (ComputedGoto x jumps) cells turns =
-    used (number_in cells x) cells (λ z. option_map_or (λ jump. jump_to jump cells turns) (numbered jumps.items z) (go_on r cells turns))
-acted statements i r (ArithmeticIf x a b c) cells turns = used (number_in cells x) cells (λ z. jump_to (by_sign z a b c) cells turns)
+    used (number_in cells x) cells (λ z. option_map_or (λ jump. jump_to jump cells turns)
+    (item_chosen jumps.items z) (go_on r cells turns))
+acted statements i r (ArithmeticIf x a b c) cells turns =
+    used (number_in cells x) cells (λ z. jump_to (by_sign z a b c) cells turns)
 acted statements i r (LogicalIf' x p action) cells turns =
-    used (truth_in cells x) cells (λ b. chosen b (acted statements i r action cells turns) (go_on r cells turns))
+    used (truth_in cells x) cells
+    (λ b. jump_chosen b (acted statements i r action cells turns) (go_on r cells turns))
 acted statements i r (Branch x otherwise) cells turns =
-    used (truth_in cells x) cells (λ b. chosen b (go_on r cells turns) (Goes (state (Execute otherwise) cells turns)))
+    used (truth_in cells x) cells
+    (λ b. jump_chosen b (go_on r cells turns) (Goes (state (Execute otherwise) cells turns)))
 acted statements i r Continue cells turns = go_on r cells turns
 acted statements i r (Loop variable first last step t) cells turns =
     used (number_in cells first) cells
@@ -118,11 +130,12 @@ acted statements i r Stop cells turns = Ends Stopped cells
 acted statements i r Trap cells turns = Ends (Failed Trapped) cells
 
 -- the DO d, which does this and has this left, is incremented
-abbrev pub incremented : List Resolved → ℕ → Action → Turn → Cells → Turns → Move
+abbrev pub incremented : List Resolved → ℕ → Action → Turn → Cells → TurnList → Move
 incremented statements d (Loop variable first last step t) turn cells turns =
     used (whole (held_in cells variable)) cells
     (λ z. used (in_range (z +ℤ turn.step)) cells
-    (λ next. passing_at statements t d (turn.passes - 1) turn.step (slice_set cells variable (Some (held.Number next))) turns))
+    (λ next. passing_at statements t d (turn.passes - 1) turn.step
+    (slice_set cells variable (Some (held.Number next))) turns))
 incremented statements d _ turn cells turns = Goes (state (Increment d) cells turns)
 
 -- it is executed at all, and so is the statement in a logical IF
@@ -141,37 +154,16 @@ moved statements s = at s.place
   where
     at : Place → Option Move
     at (Execute i) =
-        option_and_then (λ r. if is_executed r.action then Some (acted statements i r r.action s.cells s.turns) else None) (slice_get statements i)
+        option_and_then (λ r. if is_executed r.action
+        then Some (acted statements i r r.action s.cells s.turns) else None)
+        (slice_get statements i)
     at (Increment d) =
         option_and_then
-        (λ r. if is_loop r.action then option_map (λ turn. incremented statements d r.action turn s.cells s.turns) (turn_at s.turns d) else None)
+        (λ r. if is_loop r.action then option_map (λ turn. incremented statements d r.action turn
+        s.cells s.turns) (turn_at s.turns d) else None)
         (slice_get statements d)
 
--- What statements name is there, of so many slots and so many statements: these numbers are below that one.
+-- What statements name is there, of so many slots and
+-- so many statements: these numbers are below that one.
 abbrev pub are_below : ℕ → List ℕ → Bool
 are_below n numbers = list_all (λ k. nat_lt k n) numbers
-
-abbrev pub jump_within : ℕ → Jump → Bool
-jump_within n jump = are_below n jump.leaves.items
-
-abbrev pub action_within : ℕ → ℕ → Action → Bool
-action_within slots n Declaration = true
-action_within slots n (AssignNumber e x) = element_within slots e && number_within slots x
-action_within slots n (AssignTruth e x) = element_within slots e && condition_within slots x
-action_within slots n (Goto jump) = jump_within n jump
-action_within slots n (ComputedGoto x jumps) = number_within slots x && list_all (jump_within n) jumps.items
-action_within slots n (ArithmeticIf x a b c) = number_within slots x && (jump_within n a && (jump_within n b && jump_within n c))
-action_within slots n (LogicalIf' x p action) = condition_within slots x && action_within slots n action
-action_within slots n (Branch x otherwise) = condition_within slots x
-action_within slots n Continue = true
-action_within slots n (Loop variable first last step t) =
-    nat_lt variable slots && (number_within slots first && (number_within slots last && (number_within slots step && nat_lt t n)))
-action_within slots n Return = true
-action_within slots n Stop = true
-action_within slots n Trap = true
-
-abbrev pub resolved_within : ℕ → ℕ → Resolved → Bool
-resolved_within slots n r = action_within slots n r.action && are_below n r.ends.items
-
-abbrev pub all_within : ℕ → ℕ → List Resolved → Bool
-all_within slots n statements = list_all (resolved_within slots n) statements

@@ -1,6 +1,7 @@
--- What an operation does: the place where control is then, or how the run ended, the registers and the counters.
-use Rattle.std.specs.Prelude.{◌+◌, ◌*◌, ◌+ℤ◌, ◌&&◌, if◌then◌else◌, not, nat_lt, ℕ, zero, suc, Bool, true, List, slice_get, slice_set, unwrap_or}
-use Rattle.std.specs.Prelude.{ℤ, pos, negsuc, Result, Ok, Err}
+-- What an operation does: the place where control is then,
+-- or how the run ended, the registers and the counters.
+use Rattle.std.specs.Prelude.{◌+◌, ◌*◌, ◌+ℤ◌, ◌&&◌, if◌then◌else◌, not, nat_lt, ℕ, zero, suc, Bool, true}
+use Rattle.std.specs.Prelude.{List, slice_get, slice_set, unwrap_or, ℤ, pos, negsuc, Result, Ok, Err}
 use Rattle.std.specs.Option.{option_map_or}
 use Rattle.f77_actions.specs.declared.expression.Arithmetic.TheVariants as arithmetic
 use Rattle.f77_actions.specs.declared.expression.Relation.{Relation}
@@ -10,16 +11,17 @@ use Rattle.f77_values.specs.declared.finish.Fault.TheVariants.{ZeroStep, Trapped
 use Rattle.f77_values.specs.declared.finish.Finish.{Finish}
 use Rattle.f77_values.specs.declared.finish.Finish.TheVariants.{Returned, Stopped, Failed, StepLimit}
 use Rattle.f77_code.specs.declared.control.Turn.{Turn}
-use Rattle.f77_code.specs.declared.instruction.Operation.{Operation, Set, SetElement, SetMatrix, IfTrue, IfRelated, Do, Next, Sign, Select, When'}
-use Rattle.f77_code.specs.declared.instruction.Operation.{Continue, Goto, Return, Stop, Trap, Move, Add, Subtract, Multiply, Load}
-use Rattle.f77_code.specs.declared.instruction.Operation.{Store, StoreSum, StoreDifference}
-use Rattle.f77_code.specs.declared.instruction.Operation.{IfLess, IfLessOrEqual, IfEqual, IfNotEqual, IfGreaterOrEqual, IfGreater}
-use Rattle.f77_code.specs.Choice.{by_sign, numbered}
+use Rattle.f77_code.specs.declared.instruction.Operation.{Operation, Set, SetElement, SetMatrix, IfTrue, IfRelated}
+use Rattle.f77_code.specs.declared.instruction.Operation.{Do, Next, Sign, Select, When', Continue, Goto, Return}
+use Rattle.f77_code.specs.declared.instruction.Operation.{Stop, Trap, Move, Add, Subtract, Multiply, Load, Store}
+use Rattle.f77_code.specs.declared.instruction.Operation.{StoreSum, StoreDifference, IfLess, IfLessOrEqual}
+use Rattle.f77_code.specs.declared.instruction.Operation.{IfEqual, IfNotEqual, IfGreaterOrEqual, IfGreater}
+use Rattle.f77_code.specs.Choice.{by_sign, item_chosen}
 use Rattle.f77_code.specs.Evaluation.{calculated}
 use Rattle.f77_code.specs.Registers.{register, vector_place, matrix_place, element_at}
-use Rattle.f77_code.specs.Term.{related, term_value, term_within}
+use Rattle.f77_code.specs.Term.{related_number, term_value, term_within}
 use Rattle.f77_values.specs.Number.{in_range, is_same, trip_count}
-use Rattle.f77_values.specs.Told.{number_of}
+use Rattle.f77_values.specs.Told.{fault_number}
 use Rattle.f77_values.specs.Value.{given, both}
 
 -- where control is, or how the run ended, the registers, and the counters of the DOs
@@ -32,41 +34,49 @@ abbrev pub point : ℕ → List ℤ → List Turn → Point
 point place registers turns = record { place = place; registers = registers; turns = turns }
 
 -- the place that tells how a run ended: from 2 ^ 32 on, beyond those of all instructions
-abbrev pub ended : Finish → ℕ
-ended (Failed fault) = 4294967296 + number_of fault
-ended Returned = 4294967312
-ended Stopped = 4294967313
-ended StepLimit = 4294967314
+abbrev pub ended_point : Finish → ℕ
+ended_point (Failed fault) = 4294967296 + fault_number fault
+ended_point Returned = 4294967312
+ended_point Stopped = 4294967313
+ended_point StepLimit = 4294967314
 
 -- a result is used, or its fault ends the run
-abbrev pub used : {A : Type 0} → Result A Fault → List ℤ → List Turn → (A → Point) → Point
-used (Ok x) registers turns f = f x
-used (Err fault) registers turns f = point (ended (Failed fault)) registers turns
+abbrev pub used_in_code : {A : Type 0} → Result A Fault → List ℤ → List Turn → (A → Point) → Point
+used_in_code (Ok x) registers turns f = f x
+used_in_code (Err fault) registers turns f = point (ended_point (Failed fault)) registers turns
 
 -- a register is given what is told
-abbrev pub put : ℕ → Result ℤ Fault → ℕ → List ℤ → List Turn → Point
-put to told next registers turns = used told registers turns (λ z. point next (slice_set registers to z) turns)
+abbrev pub put_in_register : ℕ → Result ℤ Fault → ℕ → List ℤ → List Turn → Point
+put_in_register to told next registers turns =
+    used_in_code told registers turns (λ z. point next (slice_set registers to z) turns)
 
 -- the element at a place of an array is given what is told
 abbrev pub put_at : ℕ → Result ℕ Fault → Result ℤ Fault → ℕ → List ℤ → List Turn → Point
-put_at first place told next registers turns = used place registers turns (λ k. put (first + k) told next registers turns)
+put_at first place told next registers turns =
+    used_in_code place registers turns (λ k. put_in_register (first + k) told next registers turns)
 
 -- a truth value tells where control goes
 abbrev pub branch : Result ℤ Fault → ℕ → ℕ → List ℤ → List Turn → Point
-branch told there next registers turns = used told registers turns (λ z. point (if is_same z (pos 0) then next else there) registers turns)
+branch told there next registers turns = used_in_code told registers turns
+    (λ z. point (if is_same z (pos 0) then next else there) registers turns)
 
 -- so many passes of a DO are to be made
 abbrev pub passed : ℕ → ℕ → ℕ → ℕ → ℤ → List ℤ → List Turn → Point
-passed counter body next zero step registers turns = point next registers (slice_set turns counter (record { passes = zero; step = step }))
-passed counter body next (suc k) step registers turns = point body registers (slice_set turns counter (record { passes = suc k; step = step }))
+passed counter body next zero step registers turns =
+    point next registers (slice_set turns counter (record { passes = zero; step = step }))
+passed counter body next (suc k) step registers turns =
+    point body registers (slice_set turns counter (record { passes = suc k; step = step }))
 
 -- a DO begins with these parameters
-abbrev pub begun : ℕ → ℕ → ℕ → ℕ → ℤ → ℤ → ℤ → List ℤ → List Turn → Point
-begun variable counter body next first last (pos zero) registers turns = point (ended (Failed ZeroStep)) registers turns
-begun variable counter body next first last (pos (suc m)) registers turns =
-    passed counter body next (trip_count first last (pos (suc m))) (pos (suc m)) (slice_set registers variable first) turns
-begun variable counter body next first last (negsuc m) registers turns =
-    passed counter body next (trip_count first last (negsuc m)) (negsuc m) (slice_set registers variable first) turns
+abbrev pub begun_in_code : ℕ → ℕ → ℕ → ℕ → ℤ → ℤ → ℤ → List ℤ → List Turn → Point
+begun_in_code variable counter body next first last (pos zero) registers turns =
+    point (ended_point (Failed ZeroStep)) registers turns
+begun_in_code variable counter body next first last (pos (suc m)) registers turns =
+    passed counter body next (trip_count first last (pos (suc m))) (pos (suc m))
+    (slice_set registers variable first) turns
+begun_in_code variable counter body next first last (negsuc m) registers turns =
+    passed counter body next (trip_count first last (negsuc m)) (negsuc m)
+    (slice_set registers variable first) turns
 
 -- one pass less: a number of 64 bits, which no active DO has at 0
 abbrev pub one_less : ℕ → ℕ
@@ -74,68 +84,97 @@ one_less zero = 18446744073709551615
 one_less (suc k) = k
 
 -- a DO that has this left is incremented
-abbrev pub incremented : ℕ → ℕ → ℕ → ℕ → Turn → List ℤ → List Turn → Point
-incremented variable counter body next turn registers turns =
-    used (given (register registers variable) (λ z. in_range (z +ℤ turn.step))) registers turns
-    (λ z. passed counter body next (one_less turn.passes) turn.step (slice_set registers variable z) turns)
+abbrev pub incremented_in_code : ℕ → ℕ → ℕ → ℕ → Turn → List ℤ → List Turn → Point
+incremented_in_code variable counter body next turn registers turns =
+    used_in_code
+    (given (register registers variable) (λ z. in_range (z +ℤ turn.step))) registers turns
+    (λ z. passed counter body next (one_less turn.passes) turn.step
+    (slice_set registers variable z) turns)
 
 -- two registers are compared
 abbrev pub compares : Relation → ℕ → ℕ → ℕ → ℕ → List ℤ → List Turn → Point
 compares relation left right there next registers turns =
-    branch (both (related relation) (register registers left) (register registers right)) there next registers turns
+    branch (both (related_number relation) (register registers left) (register registers right))
+    there next registers turns
 
 abbrev pub ran : Operation → ℕ → List ℤ → List Turn → Point
-ran (Set to term) next registers turns = put to (term_value registers term.value) next registers turns
+ran (Set to term) next registers turns =
+    put_in_register to (term_value registers term.value) next registers turns
 ran (SetElement first bound pair) next registers turns =
-    put_at first (vector_place bound (term_value registers pair.value.left)) (term_value registers pair.value.right) next registers turns
+    put_at first (vector_place bound (term_value registers pair.value.left))
+    (term_value registers pair.value.right) next registers turns
 ran (SetMatrix first rows columns pair term) next registers turns =
-    put_at first (matrix_place rows columns (term_value registers pair.value.left) (term_value registers pair.value.right))
+    put_at first (matrix_place rows columns (term_value registers pair.value.left)
+    (term_value registers pair.value.right))
     (term_value registers term.value) next registers turns
-ran (IfTrue there term) next registers turns = branch (term_value registers term.value) there next registers turns
+ran (IfTrue there term) next registers turns =
+    branch (term_value registers term.value) there next registers turns
 ran (IfRelated relation there pair) next registers turns =
-    branch (both (related relation) (term_value registers pair.value.left) (term_value registers pair.value.right)) there next registers turns
+    branch (both (related_number relation) (term_value registers pair.value.left)
+    (term_value registers pair.value.right)) there next registers turns
 ran (Do variable counter body parameters) next registers turns =
-    used (term_value registers parameters.value.first) registers turns
-    (λ a. used (term_value registers parameters.value.last) registers turns
-    (λ b. used (term_value registers parameters.value.step) registers turns
-    (λ c. begun variable counter body next a b c registers turns)))
+    used_in_code (term_value registers parameters.value.first) registers turns
+    (λ a. used_in_code (term_value registers parameters.value.last) registers turns
+    (λ b. used_in_code (term_value registers parameters.value.step) registers turns
+    (λ c. begun_in_code variable counter body next a b c registers turns)))
 ran (Next variable counter body) next registers turns =
-    option_map_or (λ turn. incremented variable counter body next turn registers turns) (slice_get turns counter) (point next registers turns)
+    option_map_or (λ turn. incremented_in_code variable counter body next turn registers turns)
+    (slice_get turns counter) (point next registers turns)
 ran (Sign negative middle positive term) next registers turns =
-    used (term_value registers term.value) registers turns (λ z. point (by_sign z negative middle positive) registers turns)
+    used_in_code (term_value registers term.value) registers turns
+    (λ z. point (by_sign z negative middle positive) registers turns)
 ran (Select term places) next registers turns =
-    used (term_value registers term.value) registers turns (λ z. point (unwrap_or (numbered places.items z) next) registers turns)
+    used_in_code (term_value registers term.value) registers turns
+    (λ z. point (unwrap_or (item_chosen places.items z) next) registers turns)
 ran (When' term p inner) next registers turns =
-    used (term_value registers term.value) registers turns
+    used_in_code (term_value registers term.value) registers turns
     (λ z. if is_same z (pos 0) then point next registers turns else ran inner next registers turns)
 ran Continue next registers turns = point next registers turns
 ran (Goto there) next registers turns = point there registers turns
-ran Return next registers turns = point (ended Returned) registers turns
-ran Stop next registers turns = point (ended Stopped) registers turns
-ran Trap next registers turns = point (ended (Failed Trapped)) registers turns
-ran (Move to from) next registers turns = put to (register registers from) next registers turns
+ran Return next registers turns = point (ended_point Returned) registers turns
+ran Stop next registers turns = point (ended_point Stopped) registers turns
+ran Trap next registers turns = point (ended_point (Failed Trapped)) registers turns
+ran (Move to from) next registers turns =
+    put_in_register to (register registers from) next registers turns
 ran (Add to left right) next registers turns =
-    put to (both (calculated arithmetic.Add) (register registers left) (register registers right)) next registers turns
+    put_in_register
+    to (both (calculated arithmetic.Add) (register registers left) (register registers right))
+    next registers turns
 ran (Subtract to left right) next registers turns =
-    put to (both (calculated arithmetic.Subtract) (register registers left) (register registers right)) next registers turns
+    put_in_register to
+    (both (calculated arithmetic.Subtract) (register registers left) (register registers right))
+    next registers turns
 ran (Multiply to left right) next registers turns =
-    put to (both (calculated arithmetic.Multiply) (register registers left) (register registers right)) next registers turns
+    put_in_register to
+    (both (calculated arithmetic.Multiply) (register registers left) (register registers right))
+    next registers turns
 ran (Load to first bound subscript) next registers turns =
-    put to (element_at registers first (vector_place bound (register registers subscript))) next registers turns
+    put_in_register
+    to (element_at registers first (vector_place bound (register registers subscript)))
+    next registers turns
 ran (Store first bound subscript from) next registers turns =
-    put_at first (vector_place bound (register registers subscript)) (register registers from) next registers turns
+    put_at first (vector_place bound (register registers subscript)) (register registers from)
+    next registers turns
 ran (StoreSum first bound subscript left right) next registers turns =
     put_at first (vector_place bound (register registers subscript))
-    (both (calculated arithmetic.Add) (register registers left) (register registers right)) next registers turns
+    (both (calculated arithmetic.Add) (register registers left) (register registers right))
+    next registers turns
 ran (StoreDifference first bound subscript left right) next registers turns =
     put_at first (vector_place bound (register registers subscript))
-    (both (calculated arithmetic.Subtract) (register registers left) (register registers right)) next registers turns
-ran (IfLess left right there) next registers turns = compares relation.Less left right there next registers turns
-ran (IfLessOrEqual left right there) next registers turns = compares relation.LessOrEqual left right there next registers turns
-ran (IfEqual left right there) next registers turns = compares relation.Equal left right there next registers turns
-ran (IfNotEqual left right there) next registers turns = compares relation.NotEqual left right there next registers turns
-ran (IfGreaterOrEqual left right there) next registers turns = compares relation.GreaterOrEqual left right there next registers turns
-ran (IfGreater left right there) next registers turns = compares relation.Greater left right there next registers turns
+    (both (calculated arithmetic.Subtract) (register registers left) (register registers right))
+    next registers turns
+ran (IfLess left right there) next registers turns =
+    compares relation.Less left right there next registers turns
+ran (IfLessOrEqual left right there) next registers turns =
+    compares relation.LessOrEqual left right there next registers turns
+ran (IfEqual left right there) next registers turns =
+    compares relation.Equal left right there next registers turns
+ran (IfNotEqual left right there) next registers turns =
+    compares relation.NotEqual left right there next registers turns
+ran (IfGreaterOrEqual left right there) next registers turns =
+    compares relation.GreaterOrEqual left right there next registers turns
+ran (IfGreater left right there) next registers turns =
+    compares relation.Greater left right there next registers turns
 
 -- the registers from the first one on, so many, are among n
 abbrev pub array_within : ℕ → ℕ → ℕ → Bool
@@ -147,17 +186,21 @@ operation_within n loops (Set to term) = nat_lt to n && term_within n term.value
 operation_within n loops (SetElement first bound pair) =
     array_within n first bound && (term_within n pair.value.left && term_within n pair.value.right)
 operation_within n loops (SetMatrix first rows columns pair term) =
-    array_within n first (rows * columns) && (term_within n pair.value.left && (term_within n pair.value.right && term_within n term.value))
+    array_within n first (rows * columns) && (term_within n pair.value.left
+    && (term_within n pair.value.right && term_within n term.value))
 operation_within n loops (IfTrue there term) = term_within n term.value
-operation_within n loops (IfRelated relation there pair) = term_within n pair.value.left && term_within n pair.value.right
+operation_within n loops (IfRelated relation there pair) =
+    term_within n pair.value.left && term_within n pair.value.right
 operation_within n loops (Do variable counter body parameters) =
     nat_lt variable n
     && (nat_lt counter loops
-    && (term_within n parameters.value.first && (term_within n parameters.value.last && term_within n parameters.value.step)))
+    && (term_within n parameters.value.first
+    && (term_within n parameters.value.last && term_within n parameters.value.step)))
 operation_within n loops (Next variable counter body) = nat_lt variable n && nat_lt counter loops
 operation_within n loops (Sign negative middle positive term) = term_within n term.value
 operation_within n loops (Select term places) = term_within n term.value
-operation_within n loops (When' term p inner) = term_within n term.value && operation_within n loops inner
+operation_within n loops (When' term p inner) =
+    term_within n term.value && operation_within n loops inner
 operation_within n loops Continue = true
 operation_within n loops (Goto there) = true
 operation_within n loops Return = true
@@ -167,8 +210,10 @@ operation_within n loops (Move to from) = nat_lt to n && nat_lt from n
 operation_within n loops (Add to left right) = nat_lt to n && (nat_lt left n && nat_lt right n)
 operation_within n loops (Subtract to left right) = nat_lt to n && (nat_lt left n && nat_lt right n)
 operation_within n loops (Multiply to left right) = nat_lt to n && (nat_lt left n && nat_lt right n)
-operation_within n loops (Load to first bound subscript) = nat_lt to n && (array_within n first bound && nat_lt subscript n)
-operation_within n loops (Store first bound subscript from) = array_within n first bound && (nat_lt subscript n && nat_lt from n)
+operation_within n loops (Load to first bound subscript) =
+    nat_lt to n && (array_within n first bound && nat_lt subscript n)
+operation_within n loops (Store first bound subscript from) =
+    array_within n first bound && (nat_lt subscript n && nat_lt from n)
 operation_within n loops (StoreSum first bound subscript left right) =
     array_within n first bound && (nat_lt subscript n && (nat_lt left n && nat_lt right n))
 operation_within n loops (StoreDifference first bound subscript left right) =

@@ -5,24 +5,26 @@ use Rattle.f77_actions.specs.declared.resolved.Resolved.{Resolved}
 use Rattle.f77_code.specs.declared.control.Place.{Place}
 use Rattle.f77_code.specs.declared.control.Place.TheVariants.{Execute, Increment}
 use Rattle.f77_code.specs.declared.places.Places.{Places}
-use Rattle.f77_code.specs.Compiling.{is_small}
-use Rattle.f77_code.specs.Holds.{rank}
+use Rattle.f77_code.specs.Compiling.{is_of_32_bits}
+use Rattle.f77_code.specs.Holds.{do_rank}
 use Rattle.f77_code.specs.Moves.{are_below}
 
 -- the incrementation of each DO has the number of its place
 pub record ArePlaces (statements : List Resolved) (places : Places) : Type 0 where
   pub first : places.first ≡ length statements
   pub count : length places.increments.items ≡ length statements
-  pub each : (d k : ℕ) → slice_get places.increments.items d ≡ Some k → k ≡ length statements + rank statements d
+  pub each : (d k : ℕ)
+      → slice_get places.increments.items d ≡ Some k → k ≡ length statements + do_rank statements d
 
--- the statement behind has a number of 32 bits, and the DOs that end there are among so many statements
+-- the statement behind has a number of 32 bits, and
+-- the DOs that end there are among so many statements
 abbrev pub has_places : ℕ → Resolved → Bool
-has_places n r = is_small r.next && are_below n r.ends.items
+has_places n r = is_of_32_bits r.next && are_below n r.ends.items
 
 abbrev pub have_places : List Resolved → Bool
 have_places statements = list_all (has_places (length statements)) statements
 
 -- a place whose DO, if it is that of one, is among so many statements
-abbrev pub is_among : ℕ → Place → Bool
-is_among n (Execute i) = true
-is_among n (Increment d) = nat_lt d n
+abbrev pub is_place_among : ℕ → Place → Bool
+is_place_among n (Execute i) = true
+is_place_among n (Increment d) = nat_lt d n

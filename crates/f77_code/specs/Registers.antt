@@ -1,16 +1,17 @@
--- What registers hold: the value of a variable, an array element or a constant, a LOGICAL one as 0 or 1, or that there is none.
-use Rattle.std.specs.Prelude.{◌≡◌, ◌≤◌, ◌||◌, ◌==◌, ◌+◌, ◌∷◌, if◌then◌else◌, ℕ, zero, suc, Bool, List, [], Option, Some, None, slice_get}
+-- What registers hold: the value of a variable, an array element
+-- or a constant, a LOGICAL one as 0 or 1, or that there is none.
+use Rattle.std.specs.Prelude.{◌||◌, ◌==◌, ◌+◌, ◌∷◌, if◌then◌else◌, ℕ, Bool, List, [], Option, Some, None, slice_get}
 use Rattle.std.specs.Prelude.{ℤ, pos, negsuc, Result, Ok, Err}
 use Rattle.std.specs.List.{list_all}
 use Rattle.f77_values.specs.declared.finish.Fault.{Fault}
-use Rattle.f77_values.specs.declared.finish.Fault.TheVariants.{BadSubscript, Undefined}
+use Rattle.f77_values.specs.declared.finish.Fault.TheVariants.{Undefined}
 use Rattle.f77_values.specs.Number.{fits}
 use Rattle.f77_values.specs.Value.{given, both, element}
 
 -- what a number in a register tells
-abbrev pub told : ℤ → Result ℤ Fault
-told (pos n) = if n == 1099511627776 then Err Undefined else Ok (pos n)
-told (negsuc n) = Ok (negsuc n)
+abbrev pub told_by_register : ℤ → Result ℤ Fault
+told_by_register (pos n) = if n == 1099511627776 then Err Undefined else Ok (pos n)
+told_by_register (negsuc n) = Ok (negsuc n)
 
 -- a value, or that there is none
 abbrev pub is_held : ℤ → Bool
@@ -21,7 +22,7 @@ abbrev pub are_held : List ℤ → Bool
 are_held registers = list_all is_held registers
 
 abbrev pub told_at : Option ℤ → Result ℤ Fault
-told_at (Some z) = told z
+told_at (Some z) = told_by_register z
 told_at None = Err Undefined
 
 -- what a register tells
@@ -33,20 +34,9 @@ abbrev pub vector_place : ℕ → Result ℤ Fault → Result ℕ Fault
 vector_place bound subscript = given subscript (λ z. element (bound ∷ []) (z ∷ []))
 
 abbrev pub matrix_place : ℕ → ℕ → Result ℤ Fault → Result ℤ Fault → Result ℕ Fault
-matrix_place rows columns row column = both (λ z w. element (rows ∷ (columns ∷ [])) (z ∷ (w ∷ []))) row column
+matrix_place rows columns row column =
+    both (λ z w. element (rows ∷ (columns ∷ [])) (z ∷ (w ∷ []))) row column
 
 -- what the element at this place tells, where the array begins in the register first
 abbrev pub element_at : List ℤ → ℕ → Result ℕ Fault → Result ℤ Fault
 element_at registers first place = given place (λ k. register registers (first + k))
-
--- the fault of a reference by two subscripts to an element that is not there
-abbrev pub misplaced : Result ℤ Fault → Result ℤ Fault → Result ℤ Fault
-misplaced (Err fault) q = Err fault
-misplaced (Ok z) (Err fault) = Err fault
-misplaced (Ok z) (Ok w) = Err BadSubscript
-
--- how far a subscript is from the first element: beyond all bounds where it is below 1
-abbrev pub IsOffset : ℤ → ℕ → Type 0
-IsOffset (pos zero) k = 1099511627776 ≤ k
-IsOffset (pos (suc n)) k = k ≡ n
-IsOffset (negsuc n) k = 1099511627776 ≤ k

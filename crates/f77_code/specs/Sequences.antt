@@ -4,7 +4,7 @@ use Rattle.std.specs.Option.{option_and_then}
 use Rattle.f77_actions.specs.declared.resolved.Resolved.{Resolved}
 use Rattle.f77_values.specs.declared.finish.Finish.{Finish}
 use Rattle.f77_code.specs.declared.instruction.Instruction.{Instruction}
-use Rattle.f77_code.specs.Block.{after}
+use Rattle.f77_code.specs.Block.{code_after}
 use Rattle.f77_code.specs.Instructions.{AreCode}
 use Rattle.f77_code.specs.Holds.{Plan}
 use Rattle.f77_code.specs.Moves.{Cells, State, Move, Goes, Ends, moved}
@@ -19,20 +19,27 @@ then_moved next (Ends finish cells) = Some (Ends finish cells)
 -- what so many moves lead to, or fewer where the machine ends
 abbrev pub moved_by : List Resolved → ℕ → State → Option Move
 moved_by statements zero s = Some (Goes s)
-moved_by statements (suc n) s = option_and_then (then_moved (moved_by statements n)) (moved statements s)
+moved_by statements (suc n) s =
+    option_and_then (then_moved (moved_by statements n)) (moved statements s)
 
 -- the states from which these moves are made are nested
-abbrev pub AreNested : List Resolved → ℕ → State → Type 0
-AreNested statements n s = (k : ℕ) (t : State) → k < n → moved_by statements k s ≡ Some (Goes t) → IsNested statements t
+abbrev pub AreStatesNested : List Resolved → ℕ → State → Type 0
+AreStatesNested statements n s =
+    (k : ℕ) (t : State) → k < n → moved_by statements k s ≡ Some (Goes t) → IsNested statements t
 
 -- Where the code stands, so many instructions lead to where so many moves lead, or to the same end.
 abbrev pub BlocksAlike : Type 0
-BlocksAlike = (plan : Plan) (statements : List Resolved) (code : List Instruction) (p : Point) (s : State) (n : ℕ) (move : Move)
-    → AreCode plan statements code → IsAt plan statements p s → AreNested statements n s → moved_by statements n s ≡ Some move
-    → IsMove plan statements (after code n p) move
+BlocksAlike = (plan : Plan) (statements : List Resolved) (code : List Instruction) (p : Point)
+    (s : State) (n : ℕ) (move : Move)
+    → AreCode plan statements code → IsAt plan statements p s
+    → AreStatesNested statements n s → moved_by statements n s ≡ Some move
+    → IsMove plan statements (code_after code n p) move
 
--- Code that comes back to where it stood, at an instruction, never ends, and neither does the machine.
-abbrev pub ComesBack : Type 0
-ComesBack = (plan : Plan) (statements : List Resolved) (code : List Instruction) (p : Point) (s : State) (n m : ℕ) (finish : Finish) (cells : Cells)
-    → AreCode plan statements code → IsAt plan statements p s → p.place < length code → after code (suc n) p ≡ p → AreNested statements m s
+-- Code that comes back to where it stood, at an
+-- instruction, never ends, and neither does the machine.
+abbrev pub CodeComesBack : Type 0
+CodeComesBack = (plan : Plan) (statements : List Resolved) (code : List Instruction) (p : Point)
+    (s : State) (n m : ℕ) (finish : Finish) (cells : Cells)
+    → AreCode plan statements code → IsAt plan statements p s
+    → p.place < length code → code_after code (suc n) p ≡ p → AreStatesNested statements m s
     → moved_by statements m s ≢ Some (Ends finish cells)

@@ -2,9 +2,11 @@
 use Rattle.std.specs.Prelude.{◌*◌}
 use Rattle.f77_tree.specs.declared.tree.Kind.{Kind}
 use Rattle.f77_tree.specs.declared.tree.Kind.TheVariants.{Integer, Logical}
-use Rattle.f77_actions.specs.declared.action.Action.{Action, AssignNumber, AssignTruth, ComputedGoto, ArithmeticIf, LogicalIf', Branch, Loop}
+use Rattle.f77_actions.specs.declared.action.Action.{Action, AssignNumber, AssignTruth, ComputedGoto}
+use Rattle.f77_actions.specs.declared.action.Action.{ArithmeticIf, LogicalIf', Branch, Loop}
 use Rattle.f77_actions.specs.declared.expression.Element.{Element, Variable, Vector', Matrix'}
-use Rattle.f77_actions.specs.declared.expression.Number.{Number, Constant, TooLarge, Negated', Absolute', ZeroPush', Binary'}
+use Rattle.f77_actions.specs.declared.expression.Number.{Number, Constant, TooLarge, Negated'}
+use Rattle.f77_actions.specs.declared.expression.Number.{Absolute', ZeroPush', Binary'}
 use Rattle.f77_actions.specs.declared.expression.Number as number
 use Rattle.f77_actions.specs.declared.expression.Condition.{Condition, Not', Related, Connected'}
 use Rattle.f77_actions.specs.declared.expression.Condition as condition
@@ -41,5 +43,6 @@ HasAction plan (ComputedGoto x jumps) = HasNumbers plan x
 HasAction plan (ArithmeticIf x a b c) = HasNumbers plan x
 HasAction plan (LogicalIf' x p action) = HasTruths plan x × HasAction plan action
 HasAction plan (Branch x otherwise) = HasTruths plan x
-HasAction plan (Loop slot first last step t) = IsSlot plan Integer slot × HasNumbers plan first × HasNumbers plan last × HasNumbers plan step
+HasAction plan (Loop slot first last step t) =
+    IsSlot plan Integer slot × HasNumbers plan first × HasNumbers plan last × HasNumbers plan step
 HasAction plan _ = Unit {0}

@@ -8,7 +8,7 @@ ghost use Rattle.f77_code.specs.Operation as meaning;
 ghost use Rattle.f77_code.specs.Operation.{point, ran};
 ghost use Rattle.f77_code.specs.Registers.{are_held, vector_place, matrix_place};
 ghost use Rattle.f77_code.specs.Term.{term_value, term_within};
-ghost use Rattle.f77_values.specs.Told.{Tells, IsTold};
+ghost use Rattle.f77_values.specs.Told.{TellsResult, IsValueOrFault};
 
 use crate::ending::{failed, off_matrix, off_vector};
 use crate::evaluate::{difference_at, element_of, operand, product_at, sum_at};
@@ -29,10 +29,10 @@ pub(crate) fn write(registers: &mut [i64], to: usize, x: i64)
 #[tactic(auto, using(crate::proofs::Points::least_from))]
 fn put(to: usize, x: i64, next: u32, registers: &mut [i64]) -> usize
     requires to { to < length registers.old }
-    requires x { IsTold x }
+    requires x { IsValueOrFault x }
     requires held { are_held registers.old ≡ true }
-    ensures runs { (r : Result ℤ Fault) (turns : List Turn) → Tells x r
-        → point result registers.new turns ≡ meaning.put to r next registers.old turns }
+    ensures runs { (r : Result ℤ Fault) (turns : List Turn) → TellsResult x r
+        → point result registers.new turns ≡ meaning.put_in_register to r next registers.old turns }
     ensures held { are_held registers.new ≡ true }
 {
     if UNDEFINED <= x {
@@ -48,7 +48,7 @@ pub(crate) fn set(to: u32, term: &Term, next: u32, registers: &mut [i64]) -> usi
     requires to { to < length registers.old }
     requires within { term_within (length registers.old) term.now ≡ true }
     ensures runs { (turns : List Turn) → point result registers.new turns
-        ≡ meaning.put to (term_value registers.old term.now) next registers.old turns }
+        ≡ meaning.put_in_register to (term_value registers.old term.now) next registers.old turns }
     ensures held { are_held registers.new ≡ true }
 {
     let x = operand(term, registers);
@@ -144,7 +144,8 @@ pub(crate) fn set_element(
     requires left { term_within (length registers.old) pair.now.left ≡ true }
     requires right { term_within (length registers.old) pair.now.right ≡ true }
     ensures runs { (turns : List Turn) → point result registers.new turns
-        ≡ meaning.put_at first (vector_place bound (term_value registers.old pair.now.left)) (term_value registers.old pair.now.right) next
+        ≡ meaning.put_at first (vector_place bound (term_value registers.old pair.now.left))
+        (term_value registers.old pair.now.right) next
         registers.old turns }
     ensures held { are_held registers.new ≡ true }
 {
@@ -255,7 +256,8 @@ pub(crate) fn set_matrix(
     requires right { term_within (length registers.old) pair.now.right ≡ true }
     requires within { term_within (length registers.old) term.now ≡ true }
     ensures runs { (turns : List Turn) → point result registers.new turns
-        ≡ meaning.put_at first (matrix_place rows columns (term_value registers.old pair.now.left) (term_value registers.old pair.now.right))
+        ≡ meaning.put_at first
+        (matrix_place rows columns (term_value registers.old pair.now.left) (term_value registers.old pair.now.right))
         (term_value registers.old term.now) next registers.old turns }
     ensures held { are_held registers.new ≡ true }
 {

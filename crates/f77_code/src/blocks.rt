@@ -1,7 +1,7 @@
 //! Instructions one after another.
 
 ghost use Rattle.std.specs.Prelude.{◌≡◌, ◌≤◌, ◌<◌, true, length, ℕ};
-ghost use Rattle.f77_code.specs.Block.{after, code_within};
+ghost use Rattle.f77_code.specs.Block.{code_after, code_within};
 ghost use Rattle.f77_code.specs.Operation.{operation_within, point, ran};
 ghost use Rattle.f77_code.specs.Registers.{are_held};
 
@@ -30,10 +30,13 @@ pub fn block(
 ) -> Stand
     requires held { are_held registers.old ≡ true }
     requires within { code_within (length registers.old) (length turns.old) code.now ≡ true }
-    ensures after { point result.place registers.new turns.new ≡ after code.now steps (point start registers.old turns.old) }
-    ensures stands { point result.place registers.new turns.new ≡ after code.now result.made (point start registers.old turns.old) }
+    ensures after { point result.place registers.new turns.new
+        ≡ code_after code.now steps (point start registers.old turns.old) }
+    ensures stands { point result.place registers.new turns.new
+        ≡ code_after code.now result.made (point start registers.old turns.old) }
     ensures made { result.made ≤ steps }
-    ensures there { (k : ℕ) → k < result.made → (after code.now k (point start registers.old turns.old)).place < length code.now }
+    ensures there { (k : ℕ)
+        → k < result.made → (code_after code.now k (point start registers.old turns.old)).place < length code.now }
     ensures ends { result.made < steps → length code.now ≤ result.place }
     ensures held { are_held registers.new ≡ true }
 {
@@ -53,7 +56,8 @@ pub fn block(
 pub(crate) fn step(instruction: &Instruction, registers: &mut [i64], turns: &mut [Turn]) -> usize
     requires held { are_held registers.old ≡ true }
     requires within { operation_within (length registers.old) (length turns.old) instruction.now.operation ≡ true }
-    ensures runs { point result registers.new turns.new ≡ ran instruction.now.operation instruction.now.next registers.old turns.old }
+    ensures runs { point result registers.new turns.new
+        ≡ ran instruction.now.operation instruction.now.next registers.old turns.old }
     ensures held { are_held registers.new ≡ true }
 {
     perform(&instruction.operation, instruction.next, registers, turns)

@@ -5,10 +5,10 @@ ghost use Rattle.f77_values.specs.declared.finish.Fault.{Fault};
 ghost use Rattle.f77_code.specs.Choice as choice;
 ghost use Rattle.f77_code.specs.declared.control.Turn.{Turn};
 ghost use Rattle.f77_code.specs.Operation as meaning;
-ghost use Rattle.f77_code.specs.Operation.{point, used};
+ghost use Rattle.f77_code.specs.Operation.{point, used_in_code};
 ghost use Rattle.f77_code.specs.Registers.{are_held, register};
-ghost use Rattle.f77_code.specs.Term.{related, term_value, term_within};
-ghost use Rattle.f77_values.specs.Told.{Tells, IsTold};
+ghost use Rattle.f77_code.specs.Term.{related_number, term_value, term_within};
+ghost use Rattle.f77_values.specs.Told.{TellsResult, IsValueOrFault};
 ghost use Rattle.f77_values.specs.Value.{both};
 
 use crate::ending::failed;
@@ -22,8 +22,8 @@ use f77_values::told::UNDEFINED;
 #[inline(always)]
 #[tactic(auto, using(crate::proofs::Points::least_from))]
 fn branch(x: i64, there: u32, next: u32) -> usize
-    requires { IsTold x }
-    ensures { (r : Result ℤ Fault) (registers : List ℤ) (turns : List Turn) → Tells x r
+    requires { IsValueOrFault x }
+    ensures { (r : Result ℤ Fault) (registers : List ℤ) (turns : List Turn) → TellsResult x r
         → point result registers turns ≡ meaning.branch r there next registers turns }
 {
     if UNDEFINED <= x {
@@ -57,7 +57,8 @@ pub(crate) fn if_related(
     requires left { term_within (length registers.now) pair.now.left ≡ true }
     requires right { term_within (length registers.now) pair.now.right ≡ true }
     ensures { (turns : List Turn) → point result registers.now turns
-        ≡ meaning.branch (both (related relation) (term_value registers.now pair.now.left) (term_value registers.now pair.now.right)) there next
+        ≡ meaning.branch (both (related_number relation) (term_value registers.now pair.now.left)
+        (term_value registers.now pair.now.right)) there next
         registers.now turns }
 {
     let x = operand(&pair.left, registers);
@@ -78,7 +79,8 @@ pub(crate) fn compare(
     requires held { are_held registers.now ≡ true }
     requires left { left < length registers.now }
     requires right { right < length registers.now }
-    ensures { (turns : List Turn) → point result registers.now turns ≡ meaning.compares relation left right there next registers.now turns }
+    ensures { (turns : List Turn)
+        → point result registers.now turns ≡ meaning.compares relation left right there next registers.now turns }
 {
     branch(compared_at(registers, relation, left, right), there, next)
 }
@@ -102,7 +104,8 @@ fn by_sign(x: i64, negative: u32, zero: u32, positive: u32) -> usize
 pub(crate) fn sign(negative: u32, zero: u32, positive: u32, term: &Term, registers: &[i64]) -> usize
     requires held { are_held registers.now ≡ true }
     requires within { term_within (length registers.now) term.now ≡ true }
-    ensures { (turns : List Turn) → point result registers.now turns ≡ used (term_value registers.now term.now) registers.now turns
+    ensures { (turns : List Turn)
+        → point result registers.now turns ≡ used_in_code (term_value registers.now term.now) registers.now turns
         (λ z. point (choice.by_sign z negative zero positive) registers.now turns) }
 {
     let x = operand(term, registers);
@@ -124,7 +127,7 @@ fn before(number: i64) -> usize
 /// The place of this number, counted from 1, if there is one.
 #[inline(always)]
 fn numbered(places: &[u32], number: i64, next: u32) -> usize
-    ensures { result ≡ unwrap_or (choice.numbered places.now number) next }
+    ensures { result ≡ unwrap_or (choice.item_chosen places.now number) next }
 {
     if number < 1 {
         return next as usize;
@@ -141,8 +144,9 @@ fn numbered(places: &[u32], number: i64, next: u32) -> usize
 pub(crate) fn select(term: &Term, places: &[u32], next: u32, registers: &[i64]) -> usize
     requires held { are_held registers.now ≡ true }
     requires within { term_within (length registers.now) term.now ≡ true }
-    ensures { (turns : List Turn) → point result registers.now turns ≡ used (term_value registers.now term.now) registers.now turns
-        (λ z. point (unwrap_or (choice.numbered places.now z) next) registers.now turns) }
+    ensures { (turns : List Turn)
+        → point result registers.now turns ≡ used_in_code (term_value registers.now term.now) registers.now turns
+        (λ z. point (unwrap_or (choice.item_chosen places.now z) next) registers.now turns) }
 {
     let x = operand(term, registers);
     if UNDEFINED <= x {

@@ -1,13 +1,14 @@
 //! The code of programs.
 
 ghost use Rattle.std.specs.Prelude.{◌≡◌, ◌<◌, ◌+◌, List, length, true, Some, slice_get, IfOk};
-ghost use Rattle.f77_code.specs.Compiled.{is_ready, are_ready, AreExecuted, AreFollowed, IsExchanged, IsIncrementExchanged};
+ghost use Rattle.f77_code.specs.Compiled.{is_ready, are_ready, IsExchanged};
+ghost use Rattle.f77_code.specs.code.Compiled.{AreExecuted, AreFollowed, IsIncrementExchanged};
 ghost use Rattle.f77_code.specs.declared.constants.Constants.{Constants};
 ghost use Rattle.f77_actions.specs.declared.resolved.Resolved.{Resolved};
-ghost use Rattle.f77_code.specs.Constants.{Grows};
+ghost use Rattle.f77_code.specs.Constants.{GrowsPlan};
 ghost use Rattle.f77_code.specs.Holds.{loop_count};
 ghost use Rattle.f77_code.specs.Instructions.{place_at};
-ghost use Rattle.f77_code.specs.Places.{ArePlaces, have_places, is_among};
+ghost use Rattle.f77_code.specs.Places.{ArePlaces, have_places, is_place_among};
 ghost use Rattle.f77_code.specs.Program.{IsCode};
 
 use crate::compile::register_of;
@@ -21,8 +22,9 @@ use f77_actions::{Action, Resolved};
 use f77_tree::Shared;
 use std::alloc::Global;
 
-/// The code of a program: an instruction for each statement, behind them one for the incrementation of each DO, and the constants
-/// that they name. Its instructions and its places are shared with the code of programs that differ in one statement.
+/// The code of a program: an instruction for each statement, behind them one for the
+/// incrementation of each DO, and the constants that they name. Its instructions and
+/// its places are shared with the code of programs that differ in one statement.
 #[derive(Drop)]
 pub struct Code {
     instructions: Vec<Shared<Instruction>>,
@@ -41,7 +43,8 @@ fn executed(
     requires have { have_places statements.now ≡ true }
     requires few { length statements.now < 2147483648 }
     requires ready { are_ready constants.old.slots statements.now ≡ true }
-    ensures executed { IfOk result (λ list. AreExecuted constants.new statements.now (length statements.now) list.items) }
+    ensures executed { IfOk result
+        (λ list. AreExecuted constants.new statements.now (length statements.now) list.items) }
     ensures slots { IfOk result (λ list. constants.new.slots ≡ constants.old.slots) }
 {
     let mut list = Vec::with_capacity(alloc, statements.len())?;
@@ -69,7 +72,8 @@ fn add_increment(
     requires is { slice_get statements.now d ≡ Some resolved.now }
     requires ready { is_ready slots (length statements.now) resolved.now.action ≡ true }
     ensures { (table : Constants) → IfOk result
-        (λ _. AreFollowed table statements.now d list.old.items → AreFollowed table statements.now (d + 1) list.new.items) }
+        (λ _. AreFollowed table statements.now d list.old.items
+        → AreFollowed table statements.now (d + 1) list.new.items) }
 {
     match &resolved.action {
         Action::Loop {
@@ -169,10 +173,12 @@ impl Code {
         &self.constants
     }
 
-    /// The number of a place: that of its statement, or behind those of all statements that of the incrementation of its DO.
+    /// The number of a place: that of its statement, or behind those
+    /// of all statements that of the incrementation of its DO.
     pub fn place(&self, place: Place) -> usize
-        requires { is_among (length self.now.places.increments.items) place ≡ true }
-        ensures { (statements : List Resolved) → ArePlaces statements self.now.places → result ≡ place_at statements place }
+        requires { is_place_among (length self.now.places.increments.items) place ≡ true }
+        ensures { (statements : List Resolved)
+            → ArePlaces statements self.now.places → result ≡ place_at statements place }
     {
         match place {
             Place::Execute(i) => i,
@@ -180,8 +186,8 @@ impl Code {
         }
     }
 
-    /// The code of the statements that differ in the statement `i` alone: its instruction is compiled anew, and that of its
-    /// incrementation where it is a DO. All others are shared, and so are their constants.
+    /// The code of the statements that differ in the statement `i` alone: its instruction is compiled anew,
+    /// and that of its incrementation where it is a DO. All others are shared, and so are their constants.
     pub fn changed(
         &self,
         alloc: Global,
@@ -196,7 +202,7 @@ impl Code {
         requires few { length statements.now < 2147483648 }
         requires ready { are_ready self.now.constants.slots statements.now ≡ true }
         ensures code { IfOk result (λ code. IsCode statements.now code) }
-        ensures grown { IfOk result (λ code. Grows self.now.constants code.constants) }
+        ensures grown { IfOk result (λ code. GrowsPlan self.now.constants code.constants) }
     {
         let places: &Places = &self.places;
         let resolved: &Resolved = &statements[i];

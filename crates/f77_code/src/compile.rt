@@ -1,8 +1,9 @@
 //! Expressions are compiled: their slots and constants become registers.
 
 ghost use Rattle.std.specs.Prelude.{◌≡◌, ◌≤◌, true, IfOk, IfSome};
-ghost use Rattle.f77_code.specs.Compile.{IsReadTerm, IsNumberTerm, IsTestTerm, IsVectorOf, IsCalculationOf, IsRelationOf};
-ghost use Rattle.f77_code.specs.Constants.{Grows};
+ghost use Rattle.f77_code.specs.code.Compile.{IsReadTerm, IsNumberTerm, IsTestTerm};
+ghost use Rattle.f77_code.specs.code.Compile.{IsVectorOf, IsCalculationOf, IsRelationOf};
+ghost use Rattle.f77_code.specs.Constants.{GrowsPlan};
 ghost use Rattle.f77_code.specs.Evaluation.{element_within, number_within, condition_within};
 ghost use Rattle.f77_values.specs.Told as meaning;
 
@@ -14,7 +15,7 @@ use std::alloc::Global;
 
 /// A truth value as a number.
 fn truth(value: bool) -> i32
-    ensures { result ≡ meaning.truth value }
+    ensures { result ≡ meaning.truth_number value }
 {
     if value { 1 } else { 0 }
 }
@@ -139,7 +140,7 @@ impl Constants {
     pub(crate) fn element(&mut self, alloc: Global, element: &Element) -> Result<Term, CodeFault>
         requires { element_within self.old.slots element.now ≡ true }
         ensures reads { IfOk result (λ term. IsReadTerm self.new element.now term) }
-        ensures grown { IfOk result (λ term. Grows self.old self.new) }
+        ensures grown { IfOk result (λ term. GrowsPlan self.old self.new) }
     {
         match element {
             Element::Variable(slot) => Ok(Term::Register(register_of(*slot, self.slots()))),
@@ -177,7 +178,7 @@ impl Constants {
     pub(crate) fn number(&mut self, alloc: Global, number: &Number) -> Result<Term, CodeFault>
         requires { number_within self.old.slots number.now ≡ true }
         ensures stands { IfOk result (λ term. IsNumberTerm self.new number.now term) }
-        ensures grown { IfOk result (λ term. Grows self.old self.new) }
+        ensures grown { IfOk result (λ term. GrowsPlan self.old self.new) }
     {
         match number {
             Number::Constant(value) => Ok(Term::Register(self.register(*value)?)),
@@ -199,7 +200,7 @@ impl Constants {
     pub(crate) fn boxed(&mut self, alloc: Global, number: &Number) -> Result<Box<Term>, CodeFault>
         requires { number_within self.old.slots number.now ≡ true }
         ensures stands { IfOk result (λ term. IsNumberTerm self.new number.now term.value) }
-        ensures grown { IfOk result (λ term. Grows self.old self.new) }
+        ensures grown { IfOk result (λ term. GrowsPlan self.old self.new) }
     {
         Ok(Box::new(alloc, self.number(alloc, number)?)?)
     }
@@ -213,7 +214,7 @@ impl Constants {
     ) -> Result<Term, CodeFault>
         requires { condition_within self.old.slots condition.now ≡ true }
         ensures tests { IfOk result (λ term. IsTestTerm self.new condition.now term) }
-        ensures grown { IfOk result (λ term. Grows self.old self.new) }
+        ensures grown { IfOk result (λ term. GrowsPlan self.old self.new) }
     {
         match condition {
             Condition::Constant(value) => Ok(Term::Register(self.register(truth(*value))?)),
@@ -244,7 +245,7 @@ impl Constants {
     ) -> Result<Box<Term>, CodeFault>
         requires { condition_within self.old.slots condition.now ≡ true }
         ensures tests { IfOk result (λ term. IsTestTerm self.new condition.now term.value) }
-        ensures grown { IfOk result (λ term. Grows self.old self.new) }
+        ensures grown { IfOk result (λ term. GrowsPlan self.old self.new) }
     {
         Ok(Box::new(alloc, self.condition(alloc, condition)?)?)
     }

@@ -3,8 +3,9 @@
 ghost use Rattle.std.specs.Prelude.{◌≡◌, ◌<◌, ◌^◌, true, IfOk, map};
 ghost use Rattle.std.specs.List.{list_all};
 ghost use Rattle.f77_code.specs.Instructions.{comparing, registers_compared};
-ghost use Rattle.f77_code.specs.Compiling.{is_small, can_compile, IsGiving, IsStoring, IsTesting, IsAssigning, IsConditional, IsCompiled};
-ghost use Rattle.f77_code.specs.Constants.{Grows};
+ghost use Rattle.f77_code.specs.Compiling.{is_of_32_bits, can_compile};
+ghost use Rattle.f77_code.specs.code.Compiling.{IsGiving, IsStoring, IsTesting, IsAssigning, IsConditional, IsCompiled};
+ghost use Rattle.f77_code.specs.Constants.{GrowsPlan};
 ghost use Rattle.f77_code.specs.Evaluation.{element_within, condition_within};
 
 use crate::compile::{paired, register_of};
@@ -18,7 +19,7 @@ use std::alloc::Global;
 /// The place of a statement.
 #[inline]
 pub(crate) fn place_of(statement: usize) -> u32
-    requires { is_small statement ≡ true }
+    requires { is_of_32_bits statement ≡ true }
     ensures { result ≡ statement }
 {
     statement as u32
@@ -141,7 +142,7 @@ pub(crate) fn tested(alloc: Global, then: u32, term: Term) -> Result<Operation, 
 
 /// The places where jumps go, in order.
 fn targets(alloc: Global, jumps: &[Jump]) -> Result<Vec<u32>, CodeFault>
-    requires { list_all (λ jump. is_small jump.target) jumps.now ≡ true }
+    requires { list_all (λ jump. is_of_32_bits jump.target) jumps.now ≡ true }
     ensures { IfOk result (λ places. places.items ≡ map (λ jump. jump.target) jumps.now) }
 {
     let mut places = Vec::with_capacity(alloc, jumps.len())?;
@@ -161,7 +162,7 @@ impl Constants {
     ) -> Result<Operation, CodeFault>
         requires { element_within self.old.slots target.now ≡ true }
         ensures assigns { IfOk result (λ operation. IsAssigning self.new target.now term operation) }
-        ensures grown { IfOk result (λ operation. Grows self.old self.new) }
+        ensures grown { IfOk result (λ operation. GrowsPlan self.old self.new) }
     {
         match target {
             Element::Variable(slot) => given(alloc, register_of(*slot, self.slots()), term),
@@ -206,7 +207,7 @@ impl Constants {
         requires condition { condition_within self.old.slots condition.now ≡ true }
         requires action { can_compile self.old.slots action.now ≡ true }
         ensures stands { IfOk result (λ operation. IsConditional self.new condition.now action.now operation) }
-        ensures grown { IfOk result (λ operation. Grows self.old self.new) }
+        ensures grown { IfOk result (λ operation. GrowsPlan self.old self.new) }
     {
         let term = self.condition(alloc, condition)?;
         if let Action::Goto(jump) = action {
@@ -228,7 +229,7 @@ impl Constants {
     ) -> Result<Operation, CodeFault>
         requires { can_compile self.old.slots action.now ≡ true }
         ensures stands { IfOk result (λ operation. IsCompiled self.new action.now operation) }
-        ensures grown { IfOk result (λ operation. Grows self.old self.new) }
+        ensures grown { IfOk result (λ operation. GrowsPlan self.old self.new) }
     {
         match action {
             Action::AssignNumber(target, value) => {

@@ -26,7 +26,8 @@ fn place(values: &[i32], value: i32) -> usize
 }
 
 impl Constants {
-    ghost use Rattle.f77_code.specs.Constants.{IsKept, Grows};
+    ghost use Rattle.f77_code.specs.code.Constants.{HasRegister};
+    ghost use Rattle.f77_code.specs.Constants.{GrowsPlan};
 
     /// No constants behind so many slots.
     pub fn new(alloc: Global, slots: u32) -> Constants
@@ -67,8 +68,8 @@ impl Constants {
 
     /// The register of a constant, which is a new one where no register has it.
     pub(crate) fn register(&mut self, value: i32) -> Result<u32, CodeFault>
-        ensures kept { IfOk result (λ r. IsKept self.new r value) }
-        ensures grown { IfOk result (λ r. Grows self.old self.new) }
+        ensures kept { IfOk result (λ r. HasRegister self.new r value) }
+        ensures grown { IfOk result (λ r. GrowsPlan self.old self.new) }
     {
         let place = place(&self.values, value);
         if place == self.values.len() {

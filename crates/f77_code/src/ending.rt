@@ -6,7 +6,7 @@ ghost use Rattle.f77_values.specs.declared.finish.Finish.{Finish};
 ghost use Rattle.f77_values.specs.declared.finish.Finish.TheVariants.{Failed, StepLimit};
 ghost use Rattle.f77_code.specs.Operation as meaning;
 ghost use Rattle.f77_code.specs.Registers.{vector_place, matrix_place};
-ghost use Rattle.f77_values.specs.Told.{Tells, IsTold, number_of};
+ghost use Rattle.f77_values.specs.Told.{TellsResult, IsValueOrFault, fault_number};
 
 use f77_values::told::{BAD_SUBSCRIPT, UNDEFINED};
 use f77_values::{Fault, Finish};
@@ -24,9 +24,9 @@ pub const TRAPPED: usize = 4_294_967_300;
 #[cold]
 #[inline(never)]
 pub(crate) fn failed(x: i64) -> usize
-    requires told { IsTold x }
+    requires told { IsValueOrFault x }
     requires fault { pos 1099511627776 ≤ℤ x }
-    ensures { (fault : Fault) → Tells x (Err fault) → result ≡ meaning.ended (Failed fault) }
+    ensures { (fault : Fault) → TellsResult x (Err fault) → result ≡ meaning.ended_point (Failed fault) }
 {
     ENDS + (x - UNDEFINED) as usize
 }
@@ -36,9 +36,10 @@ pub(crate) fn failed(x: i64) -> usize
 #[inline(never)]
 #[tactic(auto, using(crate::proofs::Points::bad_told, crate::proofs::Points::least_from))]
 pub(crate) fn off_vector(subscript: i64) -> usize
-    requires { IsTold subscript }
-    ensures { (bound : ℕ) (r : Result ℤ Fault) (fault : Fault) → Tells subscript r → vector_place bound r ≡ Err fault
-        → result ≡ meaning.ended (Failed fault) }
+    requires { IsValueOrFault subscript }
+    ensures { (bound : ℕ) (r : Result ℤ Fault) (fault : Fault)
+        → TellsResult subscript r → vector_place bound r ≡ Err fault
+        → result ≡ meaning.ended_point (Failed fault) }
 {
     if UNDEFINED <= subscript {
         return failed(subscript);
@@ -51,10 +52,10 @@ pub(crate) fn off_vector(subscript: i64) -> usize
 #[inline(never)]
 #[tactic(auto, using(crate::proofs::Points::least_from))]
 pub(crate) fn off_matrix(row: i64, column: i64) -> usize
-    requires row { IsTold row }
-    requires column { IsTold column }
-    ensures { (rows columns : ℕ) (r q : Result ℤ Fault) (fault : Fault) → Tells row r → Tells column q
-        → matrix_place rows columns r q ≡ Err fault → result ≡ meaning.ended (Failed fault) }
+    requires row { IsValueOrFault row }
+    requires column { IsValueOrFault column }
+    ensures { (rows columns : ℕ) (r q : Result ℤ Fault) (fault : Fault) → TellsResult row r → TellsResult column q
+        → matrix_place rows columns r q ≡ Err fault → result ≡ meaning.ended_point (Failed fault) }
 {
     if UNDEFINED <= row {
         return failed(row);
@@ -64,7 +65,7 @@ pub(crate) fn off_matrix(row: i64, column: i64) -> usize
 
 /// The fault of this number.
 fn fault_of(number: usize) -> Fault
-    ensures { (fault : Fault) → number ≡ number_of fault → result ≡ fault }
+    ensures { (fault : Fault) → number ≡ fault_number fault → result ≡ fault }
 {
     match number {
         0 => Fault::Undefined,
@@ -79,7 +80,7 @@ fn fault_of(number: usize) -> Fault
 
 /// How a run ended, by the place where control is then: at its limit where that is the place of an instruction.
 pub fn finish_at(place: usize) -> Finish
-    ensures ended { (finish : Finish) → place ≡ meaning.ended finish → result ≡ finish }
+    ensures ended { (finish : Finish) → place ≡ meaning.ended_point finish → result ≡ finish }
     ensures limit { place < 4294967296 → result ≡ StepLimit }
 {
     if place == RETURNED {

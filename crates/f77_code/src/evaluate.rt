@@ -7,8 +7,8 @@ ghost use Rattle.f77_code.specs.Evaluation as meaning;
 ghost use Rattle.f77_code.specs.Registers.{are_held, register, vector_place, matrix_place, element_at};
 ghost use Rattle.f77_code.specs.Term as terms;
 ghost use Rattle.f77_code.specs.Term.{term_value, term_within};
-ghost use Rattle.f77_values.specs.Number.{fits, in_range, negated, size};
-ghost use Rattle.f77_values.specs.Told.{Tells, negation};
+ghost use Rattle.f77_values.specs.Number.{fits, in_range, negated, without_sign};
+ghost use Rattle.f77_values.specs.Told.{TellsResult, negation};
 ghost use Rattle.f77_values.specs.Value.{given, both, pushed};
 
 use crate::operators::{calculated, compared, connected};
@@ -22,7 +22,8 @@ pub(crate) fn element_of(registers: &[i64], first: u32, bound: u32, subscript: u
     requires held { are_held registers.now ≡ true }
     requires array { first + bound ≤ length registers.now }
     requires subscript { subscript < length registers.now }
-    ensures { Tells result (element_at registers.now first (vector_place bound (register registers.now subscript))) }
+    ensures { TellsResult result
+        (element_at registers.now first (vector_place bound (register registers.now subscript))) }
 {
     element(registers, first, bound, read(registers, subscript))
 }
@@ -32,7 +33,8 @@ pub(crate) fn sum_at(registers: &[i64], left: u32, right: u32) -> i64
     requires held { are_held registers.now ≡ true }
     requires left { left < length registers.now }
     requires right { right < length registers.now }
-    ensures { Tells result (both (meaning.calculated arithmetic.Add) (register registers.now left) (register registers.now right)) }
+    ensures { TellsResult result
+        (both (meaning.calculated arithmetic.Add) (register registers.now left) (register registers.now right)) }
 {
     told::sum(read(registers, left), read(registers, right))
 }
@@ -42,7 +44,8 @@ pub(crate) fn difference_at(registers: &[i64], left: u32, right: u32) -> i64
     requires held { are_held registers.now ≡ true }
     requires left { left < length registers.now }
     requires right { right < length registers.now }
-    ensures { Tells result (both (meaning.calculated arithmetic.Subtract) (register registers.now left) (register registers.now right)) }
+    ensures { TellsResult result
+        (both (meaning.calculated arithmetic.Subtract) (register registers.now left) (register registers.now right)) }
 {
     told::difference(read(registers, left), read(registers, right))
 }
@@ -55,15 +58,15 @@ fn is_value(x: i64) -> bool
     i32::try_from(x).is_ok()
 }
 
-/// An element by the sum of two registers. A sum without a value is left to a function of its own: `evaluated` then ends
-/// with each call that it makes, and saves no register for one.
+/// An element by the sum of two registers. A sum without a value is left to a function of its
+/// own: `evaluated` then ends with each call that it makes, and saves no register for one.
 #[inline(always)]
 fn element_at_sum(registers: &[i64], first: u32, bound: u32, left: u32, right: u32) -> i64
     requires held { are_held registers.now ≡ true }
     requires array { first + bound ≤ length registers.now }
     requires left { left < length registers.now }
     requires right { right < length registers.now }
-    ensures { Tells result (element_at registers.now first (vector_place bound
+    ensures { TellsResult result (element_at registers.now first (vector_place bound
         (both (meaning.calculated arithmetic.Add) (register registers.now left) (register registers.now right)))) }
 {
     if !is_value(read(registers, left) + read(registers, right)) {
@@ -80,7 +83,7 @@ fn element_at_no_sum(registers: &[i64], first: u32, bound: u32, left: u32, right
     requires array { first + bound ≤ length registers.now }
     requires left { left < length registers.now }
     requires right { right < length registers.now }
-    ensures { Tells result (element_at registers.now first (vector_place bound
+    ensures { TellsResult result (element_at registers.now first (vector_place bound
         (both (meaning.calculated arithmetic.Add) (register registers.now left) (register registers.now right)))) }
 {
     element(registers, first, bound, sum_at(registers, left, right))
@@ -93,7 +96,7 @@ fn element_at_difference(registers: &[i64], first: u32, bound: u32, left: u32, r
     requires array { first + bound ≤ length registers.now }
     requires left { left < length registers.now }
     requires right { right < length registers.now }
-    ensures { Tells result (element_at registers.now first (vector_place bound
+    ensures { TellsResult result (element_at registers.now first (vector_place bound
         (both (meaning.calculated arithmetic.Subtract) (register registers.now left) (register registers.now right)))) }
 {
     let x = read(registers, left);
@@ -112,7 +115,7 @@ fn element_at_no_difference(registers: &[i64], first: u32, bound: u32, left: u32
     requires array { first + bound ≤ length registers.now }
     requires left { left < length registers.now }
     requires right { right < length registers.now }
-    ensures { Tells result (element_at registers.now first (vector_place bound
+    ensures { TellsResult result (element_at registers.now first (vector_place bound
         (both (meaning.calculated arithmetic.Subtract) (register registers.now left) (register registers.now right)))) }
 {
     element(
@@ -128,7 +131,8 @@ pub(crate) fn product_at(registers: &[i64], left: u32, right: u32) -> i64
     requires held { are_held registers.now ≡ true }
     requires left { left < length registers.now }
     requires right { right < length registers.now }
-    ensures { Tells result (both (meaning.calculated arithmetic.Multiply) (register registers.now left) (register registers.now right)) }
+    ensures { TellsResult result
+        (both (meaning.calculated arithmetic.Multiply) (register registers.now left) (register registers.now right)) }
 {
     told::product(read(registers, left), read(registers, right))
 }
@@ -138,7 +142,8 @@ pub(crate) fn compared_at(registers: &[i64], relation: Relation, left: u32, righ
     requires held { are_held registers.now ≡ true }
     requires left { left < length registers.now }
     requires right { right < length registers.now }
-    ensures { Tells result (both (terms.related relation) (register registers.now left) (register registers.now right)) }
+    ensures { TellsResult result
+        (both (terms.related_number relation) (register registers.now left) (register registers.now right)) }
 {
     compared(relation, read(registers, left), read(registers, right))
 }
@@ -150,7 +155,7 @@ pub(crate) fn compared_at(registers: &[i64], relation: Relation, left: u32, righ
 pub(crate) fn evaluated(term: &Term, registers: &[i64]) -> i64
     requires held { are_held registers.now ≡ true }
     requires within { term_within (length registers.now) term.now ≡ true }
-    ensures { Tells result (term_value registers.now term.now) }
+    ensures { TellsResult result (term_value registers.now term.now) }
 {
     match term {
         Term::Register(r) => read(registers, *r),
@@ -210,7 +215,7 @@ pub(crate) fn evaluated(term: &Term, registers: &[i64]) -> i64
 pub(crate) fn operand(term: &Term, registers: &[i64]) -> i64
     requires held { are_held registers.now ≡ true }
     requires within { term_within (length registers.now) term.now ≡ true }
-    ensures { Tells result (term_value registers.now term.now) }
+    ensures { TellsResult result (term_value registers.now term.now) }
 {
     match term {
         Term::Register(r) => read(registers, *r),
@@ -229,7 +234,8 @@ fn vector_of(registers: &[i64], first: u32, bound: u32, subscript: &Term) -> i64
     requires held { are_held registers.now ≡ true }
     requires array { first + bound ≤ length registers.now }
     requires within { term_within (length registers.now) subscript.now ≡ true }
-    ensures { Tells result (element_at registers.now first (vector_place bound (term_value registers.now subscript.now))) }
+    ensures { TellsResult result
+        (element_at registers.now first (vector_place bound (term_value registers.now subscript.now))) }
 {
     element(registers, first, bound, operand(subscript, registers))
 }
@@ -241,8 +247,9 @@ fn matrix_of(registers: &[i64], first: u32, rows: u32, columns: u32, pair: &Pair
     requires array { first + rows * columns ≤ length registers.now }
     requires row { term_within (length registers.now) pair.now.left ≡ true }
     requires column { term_within (length registers.now) pair.now.right ≡ true }
-    ensures { Tells result
-        (element_at registers.now first (matrix_place rows columns (term_value registers.now pair.now.left) (term_value registers.now pair.now.right))) }
+    ensures { TellsResult result
+        (element_at registers.now first (matrix_place rows columns (term_value registers.now pair.now.left)
+        (term_value registers.now pair.now.right))) }
 {
     let row = operand(&pair.left, registers);
     let column = operand(&pair.right, registers);
@@ -255,7 +262,7 @@ fn sum_of(pair: &Pair, registers: &[i64]) -> i64
     requires held { are_held registers.now ≡ true }
     requires left { term_within (length registers.now) pair.now.left ≡ true }
     requires right { term_within (length registers.now) pair.now.right ≡ true }
-    ensures { Tells result (both (meaning.calculated arithmetic.Add)
+    ensures { TellsResult result (both (meaning.calculated arithmetic.Add)
         (term_value registers.now pair.now.left) (term_value registers.now pair.now.right)) }
 {
     let left = operand(&pair.left, registers);
@@ -269,7 +276,7 @@ fn difference_of(pair: &Pair, registers: &[i64]) -> i64
     requires held { are_held registers.now ≡ true }
     requires left { term_within (length registers.now) pair.now.left ≡ true }
     requires right { term_within (length registers.now) pair.now.right ≡ true }
-    ensures { Tells result (both (meaning.calculated arithmetic.Subtract)
+    ensures { TellsResult result (both (meaning.calculated arithmetic.Subtract)
         (term_value registers.now pair.now.left) (term_value registers.now pair.now.right)) }
 {
     let left = operand(&pair.left, registers);
@@ -283,7 +290,7 @@ fn product_of(pair: &Pair, registers: &[i64]) -> i64
     requires held { are_held registers.now ≡ true }
     requires left { term_within (length registers.now) pair.now.left ≡ true }
     requires right { term_within (length registers.now) pair.now.right ≡ true }
-    ensures { Tells result (both (meaning.calculated arithmetic.Multiply)
+    ensures { TellsResult result (both (meaning.calculated arithmetic.Multiply)
         (term_value registers.now pair.now.left) (term_value registers.now pair.now.right)) }
 {
     let left = operand(&pair.left, registers);
@@ -297,7 +304,8 @@ fn calculated_of(operation: Arithmetic, pair: &Pair, registers: &[i64]) -> i64
     requires held { are_held registers.now ≡ true }
     requires left { term_within (length registers.now) pair.now.left ≡ true }
     requires right { term_within (length registers.now) pair.now.right ≡ true }
-    ensures { Tells result (both (meaning.calculated operation) (term_value registers.now pair.now.left) (term_value registers.now pair.now.right)) }
+    ensures { TellsResult result (both (meaning.calculated operation) (term_value registers.now pair.now.left)
+        (term_value registers.now pair.now.right)) }
 {
     let left = operand(&pair.left, registers);
     let right = operand(&pair.right, registers);
@@ -310,7 +318,8 @@ fn related_of(relation: Relation, pair: &Pair, registers: &[i64]) -> i64
     requires held { are_held registers.now ≡ true }
     requires left { term_within (length registers.now) pair.now.left ≡ true }
     requires right { term_within (length registers.now) pair.now.right ≡ true }
-    ensures { Tells result (both (terms.related relation) (term_value registers.now pair.now.left) (term_value registers.now pair.now.right)) }
+    ensures { TellsResult result (both (terms.related_number relation) (term_value registers.now pair.now.left)
+        (term_value registers.now pair.now.right)) }
 {
     let left = operand(&pair.left, registers);
     let right = operand(&pair.right, registers);
@@ -323,7 +332,8 @@ fn connected_of(connective: Connective, pair: &Pair, registers: &[i64]) -> i64
     requires held { are_held registers.now ≡ true }
     requires left { term_within (length registers.now) pair.now.left ≡ true }
     requires right { term_within (length registers.now) pair.now.right ≡ true }
-    ensures { Tells result (both (terms.connected connective) (term_value registers.now pair.now.left) (term_value registers.now pair.now.right)) }
+    ensures { TellsResult result (both (terms.connected_number connective) (term_value registers.now pair.now.left)
+        (term_value registers.now pair.now.right)) }
 {
     let left = operand(&pair.left, registers);
     let right = operand(&pair.right, registers);
@@ -335,7 +345,7 @@ fn connected_of(connective: Connective, pair: &Pair, registers: &[i64]) -> i64
 fn negated_of(term: &Term, registers: &[i64]) -> i64
     requires held { are_held registers.now ≡ true }
     requires within { term_within (length registers.now) term.now ≡ true }
-    ensures { Tells result (given (term_value registers.now term.now) (λ z. in_range (negated z))) }
+    ensures { TellsResult result (given (term_value registers.now term.now) (λ z. in_range (negated z))) }
 {
     told::negated(operand(term, registers))
 }
@@ -345,7 +355,7 @@ fn negated_of(term: &Term, registers: &[i64]) -> i64
 fn absolute_of(term: &Term, registers: &[i64]) -> i64
     requires held { are_held registers.now ≡ true }
     requires within { term_within (length registers.now) term.now ≡ true }
-    ensures { Tells result (given (term_value registers.now term.now) (λ z. in_range (size z))) }
+    ensures { TellsResult result (given (term_value registers.now term.now) (λ z. in_range (without_sign z))) }
 {
     told::absolute(operand(term, registers))
 }
@@ -355,7 +365,7 @@ fn absolute_of(term: &Term, registers: &[i64]) -> i64
 fn pushed_of(term: &Term, registers: &[i64]) -> i64
     requires held { are_held registers.now ≡ true }
     requires within { term_within (length registers.now) term.now ≡ true }
-    ensures { Tells result (given (term_value registers.now term.now) pushed) }
+    ensures { TellsResult result (given (term_value registers.now term.now) pushed) }
 {
     told::pushed(operand(term, registers))
 }
@@ -365,7 +375,7 @@ fn pushed_of(term: &Term, registers: &[i64]) -> i64
 fn not_of(term: &Term, registers: &[i64]) -> i64
     requires held { are_held registers.now ≡ true }
     requires within { term_within (length registers.now) term.now ≡ true }
-    ensures { Tells result (given (term_value registers.now term.now) (λ z. Ok (negation z))) }
+    ensures { TellsResult result (given (term_value registers.now term.now) (λ z. Ok (negation z))) }
 {
     told::negation(operand(term, registers))
 }

@@ -3,7 +3,8 @@
 use crate::term::{Pair, Term};
 use f77_actions::Relation;
 
-/// What an instruction does. Places are numbers: those of statements come first, then one for the incrementation of each DO.
+/// What an instruction does. Places are numbers: those of statements
+/// come first, then one for the incrementation of each DO.
 #[derive(Drop)]
 pub enum Operation {
     /// A register is given the value of a term (10.1, 10.2).

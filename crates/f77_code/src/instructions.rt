@@ -1,8 +1,9 @@
 //! Statements are compiled to instructions.
 
 ghost use Rattle.std.specs.Prelude.{◌≡◌, ◌<◌, ◌≤◌, ◌+◌, length, true, Some, slice_get, IfOk};
-ghost use Rattle.f77_code.specs.Compiled.{is_ready, HaveParameters, IsNext, IsInstruction};
-ghost use Rattle.f77_code.specs.Constants.{Grows};
+ghost use Rattle.f77_code.specs.Compiled.{is_ready, IsInstruction};
+ghost use Rattle.f77_code.specs.code.Compiled.{HaveParameters, IsNext};
+ghost use Rattle.f77_code.specs.Constants.{GrowsPlan};
 ghost use Rattle.f77_code.specs.Evaluation.{number_within};
 ghost use Rattle.f77_code.specs.Places.{ArePlaces, has_places, have_places};
 
@@ -53,8 +54,9 @@ impl Constants {
         requires first { number_within self.old.slots first.now ≡ true }
         requires last { number_within self.old.slots last.now ≡ true }
         requires step { number_within self.old.slots step.now ≡ true }
-        ensures stand { IfOk result (λ parameters. HaveParameters self.new first.now last.now step.now parameters.value) }
-        ensures grown { IfOk result (λ parameters. Grows self.old self.new) }
+        ensures stand { IfOk result
+            (λ parameters. HaveParameters self.new first.now last.now step.now parameters.value) }
+        ensures grown { IfOk result (λ parameters. GrowsPlan self.old self.new) }
     {
         let first = self.number(alloc, first)?;
         let last = self.number(alloc, last)?;
@@ -79,7 +81,7 @@ impl Constants {
         requires here { has_places (length statements.now) resolved.now ≡ true }
         requires ready { is_ready self.old.slots (length statements.now) resolved.now.action ≡ true }
         ensures stands { IfOk result (λ instruction. IsInstruction self.new statements.now i instruction) }
-        ensures grown { IfOk result (λ instruction. Grows self.old self.new) }
+        ensures grown { IfOk result (λ instruction. GrowsPlan self.old self.new) }
     {
         let onward = places.onward(&resolved.ends, resolved.next);
         match &resolved.action {

@@ -5,11 +5,11 @@ ghost use Rattle.f77_values.specs.declared.finish.Fault.{Fault};
 ghost use Rattle.f77_code.specs.declared.control.Turn.{Turn};
 ghost use Rattle.f77_code.specs.declared.instruction.Operation as operation;
 ghost use Rattle.f77_code.specs.Operation as meaning;
-ghost use Rattle.f77_code.specs.Operation.{point, ran, used};
+ghost use Rattle.f77_code.specs.Operation.{point, ran, used_in_code};
 ghost use Rattle.f77_code.specs.Registers.{are_held};
 ghost use Rattle.f77_code.specs.Term.{term_value, term_within};
 ghost use Rattle.f77_values.specs.Number as exact;
-ghost use Rattle.f77_values.specs.Told.{Tells, IsTold, HasValue};
+ghost use Rattle.f77_values.specs.Told.{TellsResult, IsValueOrFault, HasValue};
 ghost use Rattle.f77_values.specs.Value.{given};
 
 use crate::assignment::write;
@@ -26,7 +26,8 @@ use f77_values::told::{UNDEFINED, ZERO_STEP, sum};
 #[tactic(auto, using(crate::proofs::Points::pass_none, crate::proofs::Points::pass_some))]
 fn pass(counter: u32, body: u32, next: u32, passes: u64, step: i32, turns: &mut [Turn]) -> usize
     requires { counter < length turns.old }
-    ensures { (registers : List ℤ) → point result registers turns.new ≡ meaning.passed counter body next passes step registers turns.old }
+    ensures { (registers : List ℤ)
+        → point result registers turns.new ≡ meaning.passed counter body next passes step registers turns.old }
 {
     turns[counter as usize] = Turn { passes, step };
     if passes == 0 {
@@ -38,7 +39,7 @@ fn pass(counter: u32, body: u32, next: u32, passes: u64, step: i32, turns: &mut 
 /// A number that tells no fault, in 32 bits.
 #[inline(always)]
 fn value(x: i64) -> i32
-    requires told { IsTold x }
+    requires told { IsValueOrFault x }
     requires value { HasValue x }
     ensures { result ≡ x }
 {
@@ -48,9 +49,9 @@ fn value(x: i64) -> i32
 /// The number of passes of a DO whose parameters have these values.
 #[inline(always)]
 fn passes_within(first: i64, last: i64, step: i64) -> u64
-    requires first { IsTold first }
-    requires last { IsTold last }
-    requires step { IsTold step }
+    requires first { IsValueOrFault first }
+    requires last { IsValueOrFault last }
+    requires step { IsValueOrFault step }
     requires begins { HasValue first }
     requires ends { HasValue last }
     requires goes { HasValue step }
@@ -81,10 +82,10 @@ pub(crate) fn begin(
     requires last { term_within (length registers.old) parameters.now.last ≡ true }
     requires step { term_within (length registers.old) parameters.now.step ≡ true }
     ensures runs { let before = registers.old in let counters = turns.old in point result registers.new turns.new
-        ≡ used (term_value before parameters.now.first) before counters
-        (λ a. used (term_value before parameters.now.last) before counters
-        (λ b. used (term_value before parameters.now.step) before counters
-        (λ c. meaning.begun variable counter body next a b c before counters))) }
+        ≡ used_in_code (term_value before parameters.now.first) before counters
+        (λ a. used_in_code (term_value before parameters.now.last) before counters
+        (λ b. used_in_code (term_value before parameters.now.step) before counters
+        (λ c. meaning.begun_in_code variable counter body next a b c before counters))) }
     ensures held { are_held registers.new ≡ true }
 {
     let first = operand(&parameters.first, registers);
@@ -121,8 +122,9 @@ fn one_less(passes: u64) -> u64
 #[inline(always)]
 #[tactic(auto, using(crate::proofs::Points::narrow_told))]
 fn advanced(value: i64, step: i32) -> i64
-    requires { IsTold value }
-    ensures { (r : Result ℤ Fault) → Tells value r → Tells result (given r (λ z. exact.in_range (z +ℤ step))) }
+    requires { IsValueOrFault value }
+    ensures { (r : Result ℤ Fault)
+        → TellsResult value r → TellsResult result (given r (λ z. exact.in_range (z +ℤ step))) }
 {
     sum(value, i64::from(step))
 }
@@ -140,7 +142,8 @@ pub(crate) fn increment(
     requires held { are_held registers.old ≡ true }
     requires variable { variable < length registers.old }
     requires counter { counter < length turns.old }
-    ensures runs { point result registers.new turns.new ≡ ran (operation.Next variable counter body) next registers.old turns.old }
+    ensures runs { point result registers.new turns.new
+        ≡ ran (operation.Next variable counter body) next registers.old turns.old }
     ensures held { are_held registers.new ≡ true }
 {
     let turn = turns[counter as usize];

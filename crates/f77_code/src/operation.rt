@@ -2,7 +2,7 @@
 
 ghost use Rattle.std.specs.Prelude.{◌≡◌, ◌==◌, true, length, if◌then◌else◌, pos, List, ℕ};
 ghost use Rattle.f77_code.specs.Operation as meaning;
-ghost use Rattle.f77_code.specs.Operation.{operation_within, point, used};
+ghost use Rattle.f77_code.specs.Operation.{operation_within, point, used_in_code};
 ghost use Rattle.f77_code.specs.Registers.{are_held};
 ghost use Rattle.f77_code.specs.Term.{term_value, term_within};
 ghost use Rattle.f77_values.specs.Number.{is_same};
@@ -176,7 +176,7 @@ fn when(
     requires term { term_within (length registers.old) term.now ≡ true }
     requires inner { operation_within (length registers.old) (length turns.old) inner.now ≡ true }
     ensures runs { let before = registers.old in let counters = turns.old in point result registers.new turns.new
-        ≡ used (term_value before term.now) before counters
+        ≡ used_in_code (term_value before term.now) before counters
         (λ z. if is_same z (pos 0) then point next before counters else meaning.ran inner.now next before counters) }
     ensures held { are_held registers.new ≡ true }
 {
@@ -190,7 +190,8 @@ fn when(
     perform_inner(inner, next, registers, turns)
 }
 
-/// An operation in a logical IF. It has code of its own, so that the other operations are in place where instructions follow one another.
+/// An operation in a logical IF. It has code of its own, so that the
+/// other operations are in place where instructions follow one another.
 #[cycle(operations)]
 #[inline(never)]
 fn perform_inner(

@@ -4,7 +4,7 @@ ghost use Rattle.std.specs.Prelude.{◌≡◌, ℤ, Result, Ok};
 ghost use Rattle.f77_values.specs.declared.finish.Fault.{Fault};
 ghost use Rattle.f77_code.specs.Evaluation as meaning;
 ghost use Rattle.f77_code.specs.Term as terms;
-ghost use Rattle.f77_values.specs.Told.{Tells, IsTold};
+ghost use Rattle.f77_values.specs.Told.{TellsResult, IsValueOrFault};
 ghost use Rattle.f77_values.specs.Value.{both};
 
 use f77_actions::{Arithmetic, Connective, Relation};
@@ -12,9 +12,10 @@ use f77_values::told;
 
 #[inline(always)]
 pub(crate) fn calculated(operation: Arithmetic, x: i64, y: i64) -> i64
-    requires x { IsTold x }
-    requires y { IsTold y }
-    ensures { (r q : Result ℤ Fault) → Tells x r → Tells y q → Tells result (both (meaning.calculated operation) r q) }
+    requires x { IsValueOrFault x }
+    requires y { IsValueOrFault y }
+    ensures { (r q : Result ℤ Fault)
+        → TellsResult x r → TellsResult y q → TellsResult result (both (meaning.calculated operation) r q) }
 {
     match operation {
         Arithmetic::Add => told::sum(x, y),
@@ -44,14 +45,15 @@ fn holds(relation: Relation, x: i64, y: i64) -> bool
 
 #[inline(always)]
 pub(crate) fn compared(relation: Relation, x: i64, y: i64) -> i64
-    ensures { (r q : Result ℤ Fault) → Tells x r → Tells y q → Tells result (both (terms.related relation) r q) }
+    ensures { (r q : Result ℤ Fault)
+        → TellsResult x r → TellsResult y q → TellsResult result (both (terms.related_number relation) r q) }
 {
     told::settled(x, y, told::truth(holds(relation, x, y)))
 }
 
 #[inline(always)]
 fn joined(connective: Connective, x: i64, y: i64) -> i64
-    ensures { terms.connected connective x y ≡ Ok result }
+    ensures { terms.connected_number connective x y ≡ Ok result }
 {
     match connective {
         Connective::And => if x == 0 { x } else { y },
@@ -64,9 +66,10 @@ fn joined(connective: Connective, x: i64, y: i64) -> i64
 /// A logical operator on truth values as numbers.
 #[inline(always)]
 pub(crate) fn connected(connective: Connective, x: i64, y: i64) -> i64
-    requires x { IsTold x }
-    requires y { IsTold y }
-    ensures { (r q : Result ℤ Fault) → Tells x r → Tells y q → Tells result (both (terms.connected connective) r q) }
+    requires x { IsValueOrFault x }
+    requires y { IsValueOrFault y }
+    ensures { (r q : Result ℤ Fault)
+        → TellsResult x r → TellsResult y q → TellsResult result (both (terms.connected_number connective) r q) }
 {
     told::settled(x, y, joined(connective, x, y))
 }

@@ -3,8 +3,8 @@
 ghost use Rattle.std.specs.Prelude.{◌≡◌, ◌<◌, ◌≤◌, ◌+◌, if◌then◌else◌, List, length, true, IfOk};
 ghost use Rattle.f77_actions.specs.declared.resolved.Resolved.{Resolved};
 ghost use Rattle.f77_code.specs.Instructions as meaning;
-ghost use Rattle.f77_code.specs.Instructions.{IsLeft};
-ghost use Rattle.f77_code.specs.Compiling.{is_small};
+ghost use Rattle.f77_code.specs.Instructions.{IsLeftDone};
+ghost use Rattle.f77_code.specs.Compiling.{is_of_32_bits};
 ghost use Rattle.f77_code.specs.Holds as counts;
 ghost use Rattle.f77_code.specs.Moves as moves;
 ghost use Rattle.f77_code.specs.Moves.{are_below};
@@ -15,8 +15,8 @@ use f77_actions::{Action, Resolved};
 use f77_tree::Shared;
 use std::alloc::Global;
 
-/// Where the incrementations of DOs stand, by the numbers of the statements: how many statements stand before the first one, and
-/// the place of each.
+/// Where the incrementations of DOs stand, by the numbers of the statements:
+/// how many statements stand before the first one, and the place of each.
 #[derive(Drop)]
 pub struct Places {
     first: u32,
@@ -67,7 +67,8 @@ impl Places {
     /// The place of the incrementation of the DO `d`.
     pub(crate) fn increment(&self, d: usize) -> u32
         requires { d < length self.now.increments.items }
-        ensures { (statements : List Resolved) → ArePlaces statements self.now → result ≡ length statements + counts.rank statements d }
+        ensures { (statements : List Resolved)
+            → ArePlaces statements self.now → result ≡ length statements + counts.do_rank statements d }
     {
         self.increments[d]
     }
@@ -75,16 +76,18 @@ impl Places {
     /// The number of the counter of the DO `d`.
     pub(crate) fn counter(&self, d: usize) -> u32
         requires { d < length self.now.increments.items }
-        ensures { (statements : List Resolved) → ArePlaces statements self.now → result ≡ counts.rank statements d }
+        ensures { (statements : List Resolved) → ArePlaces statements self.now → result ≡ counts.do_rank statements d }
     {
         self.increments[d].saturating_sub(self.first)
     }
 
-    /// Where control goes on behind a statement that ends these DOs, the innermost first: to its incrementation, or to what follows.
+    /// Where control goes on behind a statement that ends these DOs,
+    /// the innermost first: to its incrementation, or to what follows.
     pub(crate) fn onward(&self, ends: &[usize], next: usize) -> u32
         requires ends { are_below (length self.now.increments.items) ends.now ≡ true }
-        requires next { is_small next ≡ true }
-        ensures { (statements : List Resolved) → ArePlaces statements self.now → result ≡ meaning.onward statements ends.now next }
+        requires next { is_of_32_bits next ≡ true }
+        ensures { (statements : List Resolved)
+            → ArePlaces statements self.now → result ≡ meaning.onward statements ends.now next }
     {
         match ends {
             [] => place_of(next),
@@ -92,12 +95,13 @@ impl Places {
         }
     }
 
-    /// Where control goes on from the DO `d`, which ends at the statement `terminal`, when its passes are made (11.10.7).
+    /// Where control goes on from the DO `d`, which ends at the
+    /// statement `terminal`, when its passes are made (11.10.7).
     pub(crate) fn left(&self, statements: &[Shared<Resolved>], d: usize, terminal: usize) -> u32
         requires places { ArePlaces statements.now self.now }
         requires have { have_places statements.now ≡ true }
         requires terminal { terminal < length statements.now }
-        ensures { IsLeft statements.now d terminal result }
+        ensures { IsLeftDone statements.now d terminal result }
     {
         let end = &statements[terminal];
         self.onward(round(&end.ends, d), end.next)

@@ -2,9 +2,10 @@
 
 ghost use Rattle.std.specs.Prelude.{◌≡◌, ◌≤◌, ◌<◌, ◌+◌, ◌*◌, true, length, ℤ, Result};
 ghost use Rattle.f77_values.specs.declared.finish.Fault.{Fault};
-ghost use Rattle.f77_code.specs.Registers as meaning;
-ghost use Rattle.f77_code.specs.Registers.{are_held, register, vector_place, matrix_place, element_at, IsOffset};
-ghost use Rattle.f77_values.specs.Told.{Tells, IsTold};
+ghost use Rattle.f77_code.specs.code.Registers as meaning;
+ghost use Rattle.f77_code.specs.Registers.{are_held, register, vector_place, matrix_place, element_at};
+ghost use Rattle.f77_code.specs.code.Registers.{IsOffset};
+ghost use Rattle.f77_values.specs.Told.{TellsResult, IsValueOrFault};
 
 use f77_values::told::{BAD_SUBSCRIPT, UNDEFINED};
 
@@ -13,7 +14,7 @@ use f77_values::told::{BAD_SUBSCRIPT, UNDEFINED};
 pub(crate) fn read(registers: &[i64], r: u32) -> i64
     requires held { are_held registers.now ≡ true }
     requires within { r < length registers.now }
-    ensures { Tells result (register registers.now r) }
+    ensures { TellsResult result (register registers.now r) }
 {
     registers[r as usize]
 }
@@ -23,7 +24,7 @@ pub(crate) fn read(registers: &[i64], r: u32) -> i64
 fn read_at(registers: &[i64], first: u32, place: usize) -> i64
     requires held { are_held registers.now ≡ true }
     requires within { first + place < length registers.now }
-    ensures { Tells result (register registers.now (first + place)) }
+    ensures { TellsResult result (register registers.now (first + place)) }
 {
     registers[first as usize + place]
 }
@@ -32,7 +33,7 @@ fn read_at(registers: &[i64], first: u32, place: usize) -> i64
 #[inline(always)]
 #[tactic(auto, using(crate::proofs::Reading::offset_is))]
 pub(crate) fn offset(subscript: i64) -> u64
-    requires { IsTold subscript }
+    requires { IsValueOrFault subscript }
     ensures { IsOffset subscript result }
 {
     (subscript - 1).cast_unsigned()
@@ -43,8 +44,9 @@ pub(crate) fn offset(subscript: i64) -> u64
 pub(crate) fn element(registers: &[i64], first: u32, bound: u32, subscript: i64) -> i64
     requires held { are_held registers.now ≡ true }
     requires within { first + bound ≤ length registers.now }
-    requires subscript { IsTold subscript }
-    ensures { (r : Result ℤ Fault) → Tells subscript r → Tells result (element_at registers.now first (vector_place bound r)) }
+    requires subscript { IsValueOrFault subscript }
+    ensures { (r : Result ℤ Fault)
+        → TellsResult subscript r → TellsResult result (element_at registers.now first (vector_place bound r)) }
 {
     let offset = offset(subscript);
     if offset < u64::from(bound) {
@@ -73,7 +75,8 @@ pub(crate) fn matrix_offset(rows: u32, columns: u32, row: u64, column: u64) -> u
 #[inline(never)]
 #[tactic(auto, using(crate::proofs::Reading::bad_row, crate::proofs::Reading::bad_column, crate::proofs::Reading::bad_neither))]
 pub(crate) fn misplaced(row: i64, column: i64) -> i64
-    ensures { (r q : Result ℤ Fault) → Tells row r → Tells column q → Tells result (meaning.misplaced r q) }
+    ensures { (r q : Result ℤ Fault)
+        → TellsResult row r → TellsResult column q → TellsResult result (meaning.misplaced_in_matrix r q) }
 {
     if UNDEFINED <= row {
         return row;
@@ -96,10 +99,10 @@ pub(crate) fn matrix_element(
 ) -> i64
     requires held { are_held registers.now ≡ true }
     requires within { first + rows * columns ≤ length registers.now }
-    requires row { IsTold row }
-    requires column { IsTold column }
-    ensures { (r q : Result ℤ Fault) → Tells row r → Tells column q
-        → Tells result (element_at registers.now first (matrix_place rows columns r q)) }
+    requires row { IsValueOrFault row }
+    requires column { IsValueOrFault column }
+    ensures { (r q : Result ℤ Fault) → TellsResult row r → TellsResult column q
+        → TellsResult result (element_at registers.now first (matrix_place rows columns r q)) }
 {
     let down = offset(row);
     if u64::from(rows) <= down {

@@ -8,7 +8,8 @@ use f77_actions::{Arithmetic, Connective, Relation};
 pub enum Term {
     /// A variable or a constant, in this register.
     Register(u32),
-    /// An element of an array of one dimension, whose first element is in the register `first`, by the subscript in a register.
+    /// An element of an array of one dimension, whose first element
+    /// is in the register `first`, by the subscript in a register.
     Element {
         first: u32,
         bound: u32,

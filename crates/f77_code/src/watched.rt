@@ -1,7 +1,7 @@
 //! Instructions one after another, up to a place.
 
 ghost use Rattle.std.specs.Prelude.{◌≡◌, ◌≤◌, ◌<◌, true, length};
-ghost use Rattle.f77_code.specs.Block.{after, code_within};
+ghost use Rattle.f77_code.specs.Block.{code_after, code_within};
 ghost use Rattle.f77_code.specs.Operation.{point};
 ghost use Rattle.f77_code.specs.Registers.{are_held};
 
@@ -22,7 +22,8 @@ pub fn block_to(
 ) -> Stand
     requires held { are_held registers.old ≡ true }
     requires within { code_within (length registers.old) (length turns.old) code.now ≡ true }
-    ensures stands { point result.place registers.new turns.new ≡ after code.now result.made (point start registers.old turns.old) }
+    ensures stands { point result.place registers.new turns.new
+        ≡ code_after code.now result.made (point start registers.old turns.old) }
     ensures made { result.made ≤ steps }
     ensures some { start < length code.now → 0 < steps → 0 < result.made }
     ensures held { are_held registers.new ≡ true }

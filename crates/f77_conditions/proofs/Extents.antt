@@ -9,10 +9,10 @@ use Rattle.f77_values.specs.declared.value.Value.{Value}
 use Rattle.f77_values.specs.Value.{given, element}
 use Rattle.f77_code.specs.Moves.{Cells}
 use Rattle.f77_facts.specs.declared.reaching.Reach.{Reach}
-use Rattle.f77_facts.specs.Reaching.{IsReached}
+use Rattle.f77_facts.specs.Reaching.{IsSlotReached}
 use Rattle.f77_facts.proofs.Slots.{got_other}
 use Rattle.f77_facts.proofs.Used.{used_for}
-use Rattle.f77_conditions.specs.Reading.{KeepsOthers}
+use Rattle.f77_conditions.specs.code.Reading.{KeepsOthers}
 
 -- the place of an element is below the bound
 place_below : (bound : ℕ) (z : ℤ) (k : ℕ) → element (bound ∷ []) (z ∷ []) ≡ Ok k → k < bound
@@ -42,7 +42,7 @@ places_below rows columns (pos (suc n)) w k e = by (nat_lt n rows) refl
 -- so are the slots
 pub matrix_slots : (first rows columns : ℕ) (x y : Result ℤ Fault) (k : ℕ)
     → given x (λ z. given y (λ w. given (element (rows ∷ (columns ∷ [])) (z ∷ (w ∷ []))) (λ n. Ok (first + n)))) ≡ Ok k
-    → IsReached first (rows * columns) k
+    → IsSlotReached first (rows * columns) k
 matrix_slots first rows columns x y k e =
     let row = used_for x (λ z. given y (λ w. given (element (rows ∷ (columns ∷ [])) (z ∷ (w ∷ []))) (λ n. Ok (first + n)))) k e in
     let column = used_for y (λ w. given (element (rows ∷ (columns ∷ [])) (row.0 ∷ (w ∷ []))) (λ n. Ok (first + n))) k row.2 in
@@ -52,7 +52,7 @@ matrix_slots first rows columns x y k e =
     record { above = omega (arith, same); below = omega (arith, same, below) }
 
 -- where a slot is set, the others hold the same
-pub others_kept : (set : Reach) (cells : Cells) (k : ℕ) (value : Value) → IsReached set.first set.count k
+pub others_kept : (set : Reach) (cells : Cells) (k : ℕ) (value : Value) → IsSlotReached set.first set.count k
     → KeepsOthers set cells (slice_set cells k (Some value))
 others_kept set cells k value is j apart =
-    ap (option_and_then (λ cell. cell)) (got_other cells k j (Some value) (λ same. apart (subst (IsReached set.first set.count) (sym same) is)))
+    ap (option_and_then (λ cell. cell)) (got_other cells k j (Some value) (λ same. apart (subst (IsSlotReached set.first set.count) (sym same) is)))

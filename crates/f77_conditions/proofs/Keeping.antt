@@ -5,11 +5,12 @@ use Rattle.std.proofs.lemmas.Option.{slice_get_past}
 use Rattle.f77_actions.specs.declared.resolved.Resolved.{Resolved}
 use Rattle.f77_code.specs.declared.control.Place.{Place}
 use Rattle.f77_code.specs.declared.control.Place.TheVariants.{Execute, Increment}
-use Rattle.f77_code.specs.Moves.{Cells, Turns, Move, Goes, Ends, state, moved}
+use Rattle.f77_code.specs.Moves.{Cells, TurnList, Move, Goes, Ends, state, moved}
 use Rattle.f77_conditions.specs.declared.table.Table.{Table}
 use Rattle.f77_conditions.specs.declared.edges.Edge.{Edge}
-use Rattle.f77_conditions.specs.Table.{TellsBehind, Allows, KeepsTold, IsKept}
-use Rattle.f77_conditions.specs.Edges.{IsAlong}
+use Rattle.f77_conditions.specs.Table.{TellsBehind, IsToldKept}
+use Rattle.f77_conditions.specs.code.Table.{Allows, KeepsTold}
+use Rattle.f77_conditions.specs.code.Edges.{IsAlong}
 
 pub allowed_behind : (statements : List Resolved) (table : Table) (edges : List Edge) (move : Move) → Allows table edges → IsAlong statements edges move
     → TellsBehind statements table move
@@ -17,7 +18,7 @@ allowed_behind statements table edges (Goes s) allows lands = allows statements 
 allowed_behind statements table edges (Ends finish cells) allows lands = tt
 
 -- no step is made where there is no statement
-past_kept : (statements : List Resolved) (table : Table) (place : Place) → ((cells : Cells) (turns : Turns) → moved statements (state place cells turns) ≡ None)
+past_kept : (statements : List Resolved) (table : Table) (place : Place) → ((cells : Cells) (turns : TurnList) → moved statements (state place cells turns) ≡ None)
     → KeepsTold statements table place
 past_kept statements table place none cells turns move row e = let never : None ≡ Some move = cc (none cells turns, e) in absurd (cc (never))
 
@@ -33,5 +34,5 @@ module _ (statements : List Resolved) (table : Table) (n : ℕ) (all : length st
     | inr past ↦ past_kept statements table (Increment d) (λ cells turns. rw (slice_get_past statements d past) refl)
   ]
 
-  pub all_kept : IsKept statements table
+  pub all_kept : IsToldKept statements table
   all_kept s move tells e = place_kept s.place s.cells s.turns move tells e

@@ -7,7 +7,7 @@ use Rattle.f77_code.specs.Moves.{Cells, State, Move, Goes, Ends}
 use Rattle.f77_conditions.specs.declared.told.Told.{Told}
 use Rattle.f77_conditions.specs.declared.edges.Edge.{Edge}
 use Rattle.f77_conditions.specs.Told.{AreTold}
-use Rattle.f77_conditions.specs.Edges.{Stays, IsLed, IsAlong}
+use Rattle.f77_conditions.specs.code.Edges.{Stays, IsLed, IsAlong}
 
 -- what a list has at its places is still there behind it, and then comes what was added
 got_before : {A : Type 0} (xs ys : List A) (n : ℕ) (x : A) → slice_get xs n ≡ Some x → slice_get (xs ++ ys) n ≡ Some x

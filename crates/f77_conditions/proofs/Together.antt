@@ -15,7 +15,7 @@ use Rattle.f77_values.specs.declared.finish.Finish.{Finish}
 use Rattle.f77_values.specs.declared.finish.Finish.TheVariants.{Returned, Stopped, Failed, StepLimit}
 use Rattle.f77_code.specs.declared.control.Place.{Place}
 use Rattle.f77_code.specs.declared.control.Place.TheVariants.{Execute, Increment}
-use Rattle.f77_code.specs.Moves.{Cells, Turns, Move, Goes, Ends, state, acted, moved, is_executed, is_loop}
+use Rattle.f77_code.specs.Moves.{Cells, TurnList, Move, Goes, Ends, state, acted, moved, is_executed, is_loop}
 use Rattle.f77_code.specs.Sequences.{then_moved, moved_by}
 use Rattle.f77_facts.specs.declared.entries.Entry.{Entry}
 use Rattle.f77_facts.specs.Entries.{IsAmong, IsInductive}
@@ -35,8 +35,8 @@ use Rattle.f77_equivalence.proofs.Moving.{if_done, moved_same, passes_same}
 use Rattle.f77_conditions.specs.declared.table.Table.{Table}
 use Rattle.f77_conditions.specs.declared.told.Told.{Told}
 use Rattle.f77_conditions.specs.Conditions.{ConditionsFields, AreThroughout}
-use Rattle.f77_conditions.specs.Same.{AllActWhereTold}
-use Rattle.f77_conditions.specs.Table.{row_at, IsRow, IsKept}
+use Rattle.f77_conditions.specs.code.Same.{AllActWhereTold}
+use Rattle.f77_conditions.specs.Table.{told_row, IsRow, IsToldKept}
 use Rattle.f77_conditions.specs.Told.{IsTold, AreTold}
 
 -- an end that is no fault is followed by the same
@@ -47,21 +47,21 @@ followed_end StepLimit cells other is follows = absurd is
 followed_end (Failed fault) cells other is follows = absurd is
 
 -- a step of the changed program is that of the program, unless that is a fault
-abbrev pub MovesSo : List Resolved → List Resolved → Place → Cells → Turns → Move → Type 0
+abbrev pub MovesSo : List Resolved → List Resolved → Place → Cells → TurnList → Move → Type 0
 MovesSo statements changed place cells turns move =
     moved statements (state place cells turns) ≡ Some move
     → (other : Move) × (moved changed (state place cells turns) ≡ Some other) × Follows move other
 
 module _ (statements changed : List Resolved) (i : ℕ) (own other : Resolved) (entries : List Entry) (table : Table) (told : List Told)
     (own_is : slice_get statements i ≡ Some own) (other_is : slice_get changed i ≡ Some other) (agree : AgreeBut i statements changed)
-    (on : GoOnAlike own other) (row : row_at table (Execute i) ≡ Some told) (executed : is_executed other.action ≡ true)
+    (on : GoOnAlike own other) (row : told_row table (Execute i) ≡ Some told) (executed : is_executed other.action ≡ true)
     (no_loop : is_loop own.action ≡ false)
     (alike : AllActWhereTold statements entries (length entries) i told own.action other.action) where
   pass : PassAlike statements changed i
   pass = pass_same statements changed i own other own_is other_is on
 
   -- where control is at the changed statement
-  moves_there : (cells : Cells) (turns : Turns) (move : Move) → IsAmong entries (Execute i) cells turns → AreTold statements cells told
+  moves_there : (cells : Cells) (turns : TurnList) (move : Move) → IsAmong entries (Execute i) cells turns → AreTold statements cells told
       → MovesSo statements changed (Execute i) cells turns move
   moves_there cells turns move among is e =
       let same = if_done (is_executed own.action) (acted statements i own own.action cells turns) move (rw own_is at e) in
@@ -74,21 +74,21 @@ module _ (statements changed : List Resolved) (i : ℕ) (own other : Resolved) (
       )
 
   -- elsewhere
-  moves_else : (place : Place) (cells : Cells) (turns : Turns) (move : Move) → moved changed (state place cells turns) ≡ moved statements (state place cells turns)
+  moves_else : (place : Place) (cells : Cells) (turns : TurnList) (move : Move) → moved changed (state place cells turns) ≡ moved statements (state place cells turns)
       → MovesSo statements changed place cells turns move
   moves_else place cells turns move same e = (move, same ∙ e, one_follows move move refl)
 
   -- it is no DO
-  no_increment : (cells : Cells) (turns : Turns) (move : Move) → MovesSo statements changed (Increment i) cells turns move
+  no_increment : (cells : Cells) (turns : TurnList) (move : Move) → MovesSo statements changed (Increment i) cells turns move
   no_increment cells turns move e = let none : None ≡ Some move = rw (own_is, no_loop) at e in absurd (cc (none))
 
-  step : (place : Place) (cells : Cells) (turns : Turns) (move : Move) → IsAmong entries place cells turns → IsRow statements cells (row_at table place)
+  step : (place : Place) (cells : Cells) (turns : TurnList) (move : Move) → IsAmong entries place cells turns → IsRow statements cells (told_row table place)
       → MovesSo statements changed place cells turns move
   step (Execute j) cells turns move among tells = by (same_or_not j i)
     where
       by : (j ≡ i) ⊎ (j ≢ i) → MovesSo statements changed (Execute j) cells turns move
       by (inl same) =
-          subst (λ n. IsAmong entries (Execute n) cells turns → IsRow statements cells (row_at table (Execute n))
+          subst (λ n. IsAmong entries (Execute n) cells turns → IsRow statements cells (told_row table (Execute n))
           → MovesSo statements changed (Execute n) cells turns move) (sym same)
           (λ a t. moves_there cells turns move a (subst (IsRow statements cells) row t)) among tells
       by (inr differ) = moves_else (Execute j) cells turns move (moved_same statements changed i agree pass (Execute j) cells turns differ)
@@ -99,9 +99,9 @@ module _ (statements changed : List Resolved) (i : ℕ) (own other : Resolved) (
       by (inr differ) = moves_else (Increment d) cells turns move (moved_same statements changed i agree pass (Increment d) cells turns differ)
 
   -- so many moves end alike
-  module _ (inductive : IsInductive statements entries) (kept : IsKept statements table) where
-    pub ends_alike : (n : ℕ) (place : Place) (cells : Cells) (turns : Turns) (finish : Finish) (end : Cells) → IsEnding finish
-        → IsAmong entries place cells turns → IsRow statements cells (row_at table place)
+  module _ (inductive : IsInductive statements entries) (kept : IsToldKept statements table) where
+    pub ends_alike : (n : ℕ) (place : Place) (cells : Cells) (turns : TurnList) (finish : Finish) (end : Cells) → IsEnding finish
+        → IsAmong entries place cells turns → IsRow statements cells (told_row table place)
         → moved_by statements n (state place cells turns) ≡ Some (Ends finish end) → moved_by changed n (state place cells turns) ≡ Some (Ends finish end)
     ends_alike zero place cells turns finish end is among tells e =
         let same : Goes (state place cells turns) ≡ Ends finish end = cc (e) in absurd (cc (same))
@@ -109,7 +109,7 @@ module _ (statements changed : List Resolved) (i : ℕ) (own other : Resolved) (
         by (moved statements (state place cells turns)) refl (λ place cells turns. ends_alike n place cells turns finish end is) e
       where
         by : (o : Option Move) → moved statements (state place cells turns) ≡ o
-            → ((place : Place) (cells : Cells) (turns : Turns) → IsAmong entries place cells turns → IsRow statements cells (row_at table place)
+            → ((place : Place) (cells : Cells) (turns : TurnList) → IsAmong entries place cells turns → IsRow statements cells (told_row table place)
             → moved_by statements n (state place cells turns) ≡ Some (Ends finish end) → moved_by changed n (state place cells turns) ≡ Some (Ends finish end))
             → option_and_then (then_moved (moved_by statements n)) o ≡ Some (Ends finish end)
             → moved_by changed (suc n) (state place cells turns) ≡ Some (Ends finish end)
@@ -128,8 +128,8 @@ module _ (statements changed : List Resolved) (i : ℕ) (own other : Resolved) (
 told_in_place : (checked : CheckedFields) (number : ℕ) (statement : Statement) (own new : Resolved) (entries : List Entry) (table : Table)
     (told : List Told) → IsChecked checked → IsLegal (patched (map line_of checked.program) number statement)
     → IsInPlace checked number statement new → HoldsStart checked entries → IsInductive checked.statements entries
-    → row_at table (Execute checked.start.entry) ≡ Some [] → IsKept checked.statements table
-    → slice_get checked.statements (number - 1) ≡ Some own → GoOnAlike own new → row_at table (Execute (number - 1)) ≡ Some told
+    → told_row table (Execute checked.start.entry) ≡ Some [] → IsToldKept checked.statements table
+    → slice_get checked.statements (number - 1) ≡ Some own → GoOnAlike own new → told_row table (Execute (number - 1)) ≡ Some told
     → is_executed new.action ≡ true → is_loop own.action ≡ false
     → AllActWhereTold checked.statements entries (length entries) (number - 1) told own.action new.action
     → IsEquivalent (map line_of checked.program) (patched (map line_of checked.program) number statement)
@@ -143,7 +143,7 @@ told_in_place checked number statement own new entries table told is legal in_pl
         let here = checked.statements in
         let there = Execute checked.start.entry in
         let first = start_cells checked arguments in
-        let untold : IsRow here first (row_at table there) = subst (IsRow here first) (sym start) (All-nil (IsTold here first)) in
+        let untold : IsRow here first (told_row table there) = subst (IsRow here first) (sym start) (All-nil (IsTold here first)) in
         let put = got_same here (number - 1) new (slice_get_within here (number - 1) own own_is) in
         let same =
         ends_alike here (slice_set here (number - 1) new) (number - 1) own new entries table told own_is put (agree_but here (number - 1) new) on
@@ -155,14 +155,14 @@ pub told_there : (invariant : InvariantFields) (conditions : ConditionsFields) (
     (told : List Told) (statements : List Resolved) → conditions.checked ≡ invariant.checked → IsChecked invariant.checked
     → IsLegal (patched (map line_of invariant.checked.program) number statement) → IsInPlace invariant.checked number statement new
     → HoldsThroughout invariant → AreThroughout conditions → statements ≡ invariant.checked.statements
-    → slice_get statements (number - 1) ≡ Some own → GoOnAlike own new → row_at conditions.table (Execute (number - 1)) ≡ Some told
+    → slice_get statements (number - 1) ≡ Some own → GoOnAlike own new → told_row conditions.table (Execute (number - 1)) ≡ Some told
     → is_executed new.action ≡ true → is_loop own.action ≡ false
     → AllActWhereTold statements invariant.entries (length invariant.entries) (number - 1) told own.action new.action
     → IsEquivalent (map line_of invariant.checked.program) (patched (map line_of invariant.checked.program) number statement)
 told_there invariant conditions number statement own new told statements one is legal in_place holds throughout same own_is on row executed no_loop
     alike =
     told_in_place invariant.checked number statement own new invariant.entries conditions.table told is legal in_place holds.start holds.inductive
-    (subst (λ (k : CheckedFields). row_at conditions.table (Execute k.start.entry) ≡ Some []) one throughout.start)
-    (subst (λ (k : CheckedFields). IsKept k.statements conditions.table) one throughout.kept)
+    (subst (λ (k : CheckedFields). told_row conditions.table (Execute k.start.entry) ≡ Some []) one throughout.start)
+    (subst (λ (k : CheckedFields). IsToldKept k.statements conditions.table) one throughout.kept)
     (subst (λ list. slice_get list (number - 1) ≡ Some own) same own_is) on row executed no_loop
     (subst (λ list. AllActWhereTold list invariant.entries (length invariant.entries) (number - 1) told own.action new.action) same alike)

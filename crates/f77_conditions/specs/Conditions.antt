@@ -3,7 +3,7 @@ use Rattle.std.specs.Prelude.{◌≡◌, [], Some}
 use Rattle.f77_check.specs.Checked.{CheckedFields}
 use Rattle.f77_code.specs.declared.control.Place.TheVariants.{Execute}
 use Rattle.f77_conditions.specs.declared.table.Table.{Table}
-use Rattle.f77_conditions.specs.Table.{row_at, IsKept}
+use Rattle.f77_conditions.specs.Table.{told_row, IsToldKept}
 
 -- a program, and what is told at the places where control may be
 pub record ConditionsFields : Type 0 where
@@ -12,5 +12,5 @@ pub record ConditionsFields : Type 0 where
 
 -- nothing is told where runs start, and what is told is so behind each step
 pub record AreThroughout (conditions : ConditionsFields) : Type 0 where
-  pub start : row_at conditions.table (Execute conditions.checked.start.entry) ≡ Some []
-  pub kept : IsKept conditions.checked.statements conditions.table
+  pub start : told_row conditions.table (Execute conditions.checked.start.entry) ≡ Some []
+  pub kept : IsToldKept conditions.checked.statements conditions.table

@@ -1,6 +1,5 @@
 pub mod Told
-pub mod Reading
-pub mod Edges
 pub mod Table
 pub mod Conditions
 pub mod Same
+pub mod code

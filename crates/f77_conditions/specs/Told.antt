@@ -15,13 +15,15 @@ condition_of (Branch c otherwise) = Some c
 condition_of _ = None
 
 -- the condition of the statement of this number
-abbrev pub condition_at : List Resolved → ℕ → Option Condition
-condition_at statements i = option_and_then (λ r. condition_of r.action) (slice_get statements i)
+abbrev pub statement_condition : List Resolved → ℕ → Option Condition
+statement_condition statements i =
+    option_and_then (λ r. condition_of r.action) (slice_get statements i)
 
 -- the statement has a condition, with the truth value that is told
 abbrev pub IsTold : List Resolved → Cells → Told → Type 0
 IsTold statements cells told =
-    option_map (truth_in cells) (condition_at statements told.statement) ≡ Some (Ok told.holds)
+    option_map (truth_in cells) (statement_condition statements told.statement)
+    ≡ Some (Ok told.holds)
 
 -- so it is with each of these
 abbrev pub AreTold : List Resolved → Cells → List Told → Type 0

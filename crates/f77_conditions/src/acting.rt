@@ -3,7 +3,7 @@
 ghost use Rattle.std.specs.Prelude.{◌≡◌, ◌<◌, false, true, length, IfOk};
 ghost use Rattle.f77_code.specs.declared.control.Place.TheVariants as place;
 ghost use Rattle.f77_code.specs.Moves as moves;
-ghost use Rattle.f77_conditions.specs.Same.{ActsWhereTold, AllActWhereTold};
+ghost use Rattle.f77_conditions.specs.code.Same.{ActsWhereTold, AllActWhereTold};
 
 use crate::same::is_same_where_told;
 use crate::told::Told;

@@ -3,7 +3,7 @@
 ghost use Rattle.std.specs.Prelude.{◌≡◌, [], true, Some, IfOk, IfSome};
 ghost use Rattle.f77_code.specs.declared.control.Place.TheVariants as place;
 ghost use Rattle.f77_conditions.specs.Conditions.{ConditionsFields, AreThroughout};
-ghost use Rattle.f77_conditions.specs.Table.{row_at};
+ghost use Rattle.f77_conditions.specs.Table.{told_row};
 
 use crate::finding::table_of;
 use crate::table::{Table, is_kept, told_at};
@@ -51,7 +51,7 @@ impl<'a> Model for Conditions<'a> {
 
 /// Control may be at the statement, and nothing is told there.
 fn is_untold(table: &Table, entry: usize) -> bool
-    ensures { result ≡ true → row_at table.now (place.Execute entry) ≡ Some [] }
+    ensures { result ≡ true → told_row table.now (place.Execute entry) ≡ Some [] }
 {
     match told_at(table, Place::Execute(entry)) {
         Some(told) => told.is_empty(),

@@ -6,8 +6,8 @@ ghost use Rattle.f77_actions.specs.declared.resolved.Resolved.{Resolved};
 ghost use Rattle.f77_code.specs.declared.control.Place.TheVariants as place;
 ghost use Rattle.f77_code.specs.Moves.{Cells, State, Move};
 ghost use Rattle.f77_conditions.specs.Told.{AreTold};
-ghost use Rattle.f77_conditions.specs.Edges.{Stays, IsLed, IsAlong, GoesOnAlong, SetsAlong, ActsAlong, PassesAlong};
-ghost use Rattle.f77_conditions.specs.Edges.{LeadsAlong};
+ghost use Rattle.f77_conditions.specs.code.Edges.{Stays, IsLed, IsAlong, GoesOnAlong, SetsAlong};
+ghost use Rattle.f77_conditions.specs.code.Edges.{ActsAlong, PassesAlong, LeadsAlong};
 
 use crate::places::{places_behind, places_of_passes, with_place, with_targets};
 use crate::reading::extent_of;

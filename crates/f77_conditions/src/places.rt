@@ -5,8 +5,8 @@ ghost use Rattle.std.specs.Prelude.{IfOk};
 ghost use Rattle.f77_actions.specs.declared.action.Jump.{Jump};
 ghost use Rattle.f77_code.specs.declared.control.Place.{Place};
 ghost use Rattle.f77_code.specs.declared.control.Place.TheVariants as place;
-ghost use Rattle.f77_code.specs.Moves.{Turns, place_behind};
-ghost use Rattle.f77_conditions.specs.Edges.{PassesTo};
+ghost use Rattle.f77_code.specs.Moves.{TurnList, place_behind};
+ghost use Rattle.f77_conditions.specs.code.Edges.{PassesTo};
 
 use f77_actions::{Jump, Resolved};
 use f77_code::Place;
@@ -39,7 +39,7 @@ fn with_ends(places: Vec<Place>, ends: &[usize]) -> Result<Vec<Place>, AllocErro
 
 /// Where control may go on from the statement, if it does not jump.
 pub(crate) fn places_behind(alloc: Global, resolved: &Resolved) -> Result<Vec<Place>, AllocError>
-    ensures { IfOk result (λ places. (turns : Turns) → Contains places.items (place_behind resolved.now turns)) }
+    ensures { IfOk result (λ places. (turns : TurnList) → Contains places.items (place_behind resolved.now turns)) }
 {
     let next = with_place(Vec::new(alloc), Place::Execute(resolved.next))?;
     with_ends(next, &resolved.ends)

@@ -6,8 +6,8 @@ ghost use Rattle.f77_values.specs.declared.finish.Fault.{Fault};
 ghost use Rattle.f77_values.specs.Value.{given, element};
 ghost use Rattle.f77_code.specs.Evaluation.{slot_in, number_in};
 ghost use Rattle.f77_code.specs.Moves.{Cells};
-ghost use Rattle.f77_facts.specs.Reaching.{IsReached};
-ghost use Rattle.f77_conditions.specs.Reading.{KeepsSlot, KeepsNumber, KeepsTruth};
+ghost use Rattle.f77_facts.specs.Reaching.{IsSlotReached};
+ghost use Rattle.f77_conditions.specs.code.Reading.{KeepsSlot, KeepsNumber, KeepsTruth};
 
 use f77_actions::{Condition, Element, Number};
 use f77_facts::known::Known;
@@ -15,7 +15,7 @@ use f77_facts::reaching::{Reach, one_slot, vector_reach};
 
 /// No slot is among both.
 fn are_apart(a: Reach, b: Reach) -> bool
-    ensures { result ≡ true → (k : ℕ) → IsReached b.first b.count k → ¬ (IsReached a.first a.count k) }
+    ensures { result ≡ true → (k : ℕ) → IsSlotReached b.first b.count k → ¬ (IsSlotReached a.first a.count k) }
 {
     if a.first <= b.first {
         b.first - a.first >= a.count
@@ -28,7 +28,7 @@ fn are_apart(a: Reach, b: Reach) -> bool
 fn vector_extent(first: usize, bound: u32, subscript: &Number) -> Reach
     ensures { (cells : Cells) (k : ℕ) → given (number_in cells subscript.now)
         (λ z. given (element (bound ∷ []) (z ∷ [])) (λ n. Ok (first + n))) ≡ Ok k
-        → IsReached result.first result.count k }
+        → IsSlotReached result.first result.count k }
 {
     match subscript {
         Number::Constant(value) => vector_reach(first, bound, Known::exactly(*value)),
@@ -43,7 +43,7 @@ fn vector_extent(first: usize, bound: u32, subscript: &Number) -> Reach
 /// The slots that a variable or an array element may be in, whatever slots hold.
 pub(crate) fn extent_of(element: &Element) -> Reach
     ensures { (cells : Cells) (k : ℕ) → slot_in cells element.now ≡ Ok k
-        → IsReached result.first result.count k }
+        → IsSlotReached result.first result.count k }
 {
     match element {
         Element::Variable(slot) => one_slot(*slot),

@@ -4,7 +4,8 @@ ghost use Rattle.std.specs.Prelude.{◌≡◌, ◌<◌, All, Contains, List, Som
 ghost use Rattle.std.specs.Prelude.{IfOk};
 ghost use Rattle.f77_actions.specs.declared.resolved.Resolved.{Resolved};
 ghost use Rattle.f77_code.specs.Moves.{Cells, State};
-ghost use Rattle.f77_conditions.specs.Table.{row_in, row_at, IsRow, Tells, Allows, KeepsTold, IsKept};
+ghost use Rattle.f77_conditions.specs.Table.{row_in, told_row, IsRow, TellsOfState, IsToldKept};
+ghost use Rattle.f77_conditions.specs.code.Table.{Allows, KeepsTold};
 ghost use Rattle.f77_conditions.specs.Told.{AreTold};
 
 use crate::edges::{Edge, edges_of};
@@ -38,7 +39,7 @@ fn told_in(rows: &[Option<Vec<Told>>], k: usize) -> Option<&[Told]>
 
 /// What is told at the place, if control may be there.
 pub(crate) fn told_at(table: &Table, place: Place) -> Option<&[Told]>
-    ensures { option_map (λ told. told.now) result ≡ row_at table.now place }
+    ensures { option_map (λ told. told.now) result ≡ told_row table.now place }
 {
     match place {
         Place::Execute(i) => told_in(&table.executing, i),
@@ -61,7 +62,7 @@ pub(crate) fn are_among(few: &[Told], told: &[Told]) -> bool
 /// What is told at the place is so where this is told.
 fn allows_at(table: &Table, place: Place, told: &[Told]) -> bool
     ensures { result ≡ true → (statements : List Resolved) (cells : Cells) → AreTold statements cells told.now
-        → IsRow statements cells (row_at table.now place) }
+        → IsRow statements cells (told_row table.now place) }
 {
     match told_at(table, place) {
         Some(row) => are_among(row, told),
@@ -79,7 +80,7 @@ fn place_at(places: &[Place], k: usize) -> Place
 /// What the edge tells is so wherever it leads.
 fn allows_edge(table: &Table, edge: &Edge) -> bool
     ensures { result ≡ true → (statements : List Resolved) (s : State) → Contains edge.now.places.items s.place
-        → AreTold statements s.cells edge.now.told.items → Tells statements table.now s }
+        → AreTold statements s.cells edge.now.told.items → TellsOfState statements table.now s }
 {
     for k in 0..edge.places.len() {
         if !allows_at(table, place_at(&edge.places, k), &edge.told) {
@@ -132,7 +133,7 @@ pub fn is_kept(
     statements: &[Shared<Resolved>],
     table: &Table,
 ) -> Result<bool, AllocError>
-    ensures { IfOk result (λ yes. yes ≡ true → IsKept statements.now table.now) }
+    ensures { IfOk result (λ yes. yes ≡ true → IsToldKept statements.now table.now) }
 {
     for i in 0..statements.len() {
         let executed = is_place_kept(alloc, statements, table, Place::Execute(i))?;

@@ -5,7 +5,7 @@ ghost use Rattle.std.specs.Prelude.{option_map};
 ghost use Rattle.f77_actions.specs.declared.resolved.Resolved.{Resolved};
 ghost use Rattle.f77_code.specs.Evaluation.{truth_in};
 ghost use Rattle.f77_code.specs.Moves.{Cells};
-ghost use Rattle.f77_conditions.specs.Reading.{KeepsOthers};
+ghost use Rattle.f77_conditions.specs.code.Reading.{KeepsOthers};
 ghost use Rattle.f77_conditions.specs.Told as spec;
 ghost use Rattle.f77_conditions.specs.Told.{IsTold, AreTold};
 
@@ -48,7 +48,7 @@ fn condition_of(action: &Action) -> Option<&Condition>
 
 /// The condition of the statement of this number.
 pub(crate) fn condition_at(statements: &[Shared<Resolved>], i: usize) -> Option<&Condition>
-    ensures { option_map (λ c. c.now) result ≡ spec.condition_at statements.now i }
+    ensures { option_map (λ c. c.now) result ≡ spec.statement_condition statements.now i }
 {
     if i >= statements.len() {
         return None;
@@ -118,7 +118,7 @@ pub(crate) fn with_told(
     holds: bool,
 ) -> Result<Vec<Told>, AllocError>
     ensures { IfOk result (λ more. (statements : List Resolved) (cells : Cells) → AreTold statements cells told.now
-        → option_map (truth_in cells) (spec.condition_at statements statement) ≡ Some (Ok holds)
+        → option_map (truth_in cells) (spec.statement_condition statements statement) ≡ Some (Ok holds)
         → AreTold statements cells more.items) }
 {
     let mut more = Vec::from_slice(alloc, told)?;

@@ -8,7 +8,7 @@ use Rattle.f77_facts.specs.declared.truths.Truths.{Truths}
 use Rattle.f77_facts.specs.Known.{Suits}
 use Rattle.f77_facts.specs.Truths.{SuitsTruth}
 use Rattle.f77_equivalence.specs.Same.{Agrees}
-use Rattle.f77_continuations.specs.Exits.{exit_numbered}
+use Rattle.f77_continuations.specs.code.Exits.{exit_numbered}
 
 -- what cannot lack has a value
 not_both : (b : Bool) → not b ≡ true → b ≡ true → ⊥

@@ -7,7 +7,7 @@ use Rattle.f77_values.specs.declared.finish.Finish.TheVariants.{Returned, Stoppe
 use Rattle.f77_code.specs.Moves.{Cells, State, Move, Goes, Ends, moved}
 use Rattle.f77_code.specs.Sequences.{moved_by, then_moved}
 use Rattle.f77_facts.specs.declared.entries.Entry.{Entry}
-use Rattle.f77_facts.specs.Entries.{IsAmong, IsInductive, Lands}
+use Rattle.f77_facts.specs.Entries.{IsAmong, IsInductive, LandsInEntries}
 use Rattle.f77_facts.proofs.Slots.{same_or_not}
 use Rattle.f77_equivalence.specs.Alike.{AgreeBut, PassAlike, site}
 use Rattle.f77_equivalence.specs.Changed.{IsEnding}
@@ -76,8 +76,8 @@ module _ (finish : Finish) (cells : Cells) where
       (agree : AgreeBut i statements changed) (pass : PassAlike statements changed i)
       (continues : ContinuesWhereChanged statements changed spare entries i) where
     -- moves lead from entries into entries
-    lands : (n : ℕ) (first last : Move) → LeadsBy statements n first last → Lands entries first → Lands entries last
-    lands zero first last here known = subst (Lands entries) here known
+    lands : (n : ℕ) (first last : Move) → LeadsBy statements n first last → LandsInEntries entries first → LandsInEntries entries last
+    lands zero first last here known = subst (LandsInEntries entries) here known
     lands (suc n) (Goes s) last on known = lands n on.0 last on.2 (inductive s on.0 known on.1)
     lands (suc n) (Ends end kept) last on known = absurd on
 
@@ -90,7 +90,7 @@ module _ (finish : Finish) (cells : Cells) where
     module _ (most : ℕ) (rest : EndsFrom most) (n : ℕ) (within : n ≤ most) where
       -- behind the place where both come
       behind : (steps others : ℕ) (move other last : Move) → LeadsBy statements steps move last → LeadsBy changed others other last
-          → others ≤ steps + spared spare last → Lands entries move → EndsBy statements n move → EndsBy changed (n + spare) other
+          → others ≤ steps + spared spare last → LandsInEntries entries move → EndsBy statements n move → EndsBy changed (n + spare) other
       behind steps others move other (Goes t) own there sooner known e =
           let it = left statements steps n move (Goes t) own e in
           let count = it.1 in

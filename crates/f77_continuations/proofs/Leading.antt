@@ -5,7 +5,8 @@ use Rattle.f77_code.specs.declared.control.Place.TheVariants.{Execute}
 use Rattle.f77_code.specs.Moves.{State, Move, Goes, Ends, state, moved}
 use Rattle.f77_continuations.specs.declared.paths.Destination.{Destination}
 use Rattle.f77_continuations.specs.declared.paths.Destination.TheVariants.{Statement}
-use Rattle.f77_continuations.specs.Paths.{LeadsBy, StepsTo, IsPath, come}
+use Rattle.f77_continuations.specs.Paths.{LeadsBy}
+use Rattle.f77_continuations.specs.code.Paths.{StepsTo, IsPath, come}
 
 -- one move more
 pub leads_further : (statements : List Resolved) (n : ℕ) (first : Move) (s : State) (next : Move) → LeadsBy statements n first (Goes s)

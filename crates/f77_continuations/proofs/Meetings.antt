@@ -1,22 +1,24 @@
 -- Where two exits lead to one place.
 use Rattle.std.proofs.Common.{arith, ◌≡◌, ◌≤◌, ◌+◌, ◌∙◌, ℕ, List, refl, sym, ap, subst}
 use Rattle.f77_actions.specs.declared.resolved.Resolved.{Resolved}
-use Rattle.f77_code.specs.Moves.{Cells, Turns, acted, without}
+use Rattle.f77_code.specs.Moves.{Cells, TurnList, acted, without}
 use Rattle.f77_continuations.specs.declared.exits.Exit.{Exit}
 use Rattle.f77_continuations.specs.declared.paths.Destination.{Destination}
 use Rattle.f77_continuations.specs.declared.paths.Destination.TheVariants.{Statement, Returned, Stopped}
 use Rattle.f77_continuations.specs.declared.paths.Path.{Path}
-use Rattle.f77_continuations.specs.Continuing.{ComesNoLater, Meet, MeetAt, spared}
-use Rattle.f77_continuations.specs.Exits.{LeavesBy, leave}
-use Rattle.f77_continuations.specs.Paths.{EndsRun, IsPath, LeadsBy, come}
+use Rattle.f77_continuations.specs.Continuing.{ComesNoLater, spared}
+use Rattle.f77_continuations.specs.code.Continuing.{Meet, MeetAt}
+use Rattle.f77_continuations.specs.code.Exits.{LeavesBy, leave}
+use Rattle.f77_continuations.specs.code.Paths.{EndsRun, IsPath, come}
+use Rattle.f77_continuations.specs.Paths.{LeadsBy}
 
 -- an end is one whatever DOs are active
-end_same : (to : Destination) → EndsRun to → (cells : Cells) (turns others : Turns) → come to cells turns ≡ come to cells others
+end_same : (to : Destination) → EndsRun to → (cells : Cells) (turns others : TurnList) → come to cells turns ≡ come to cells others
 end_same (Statement place) end cells turns others = absurd end
 end_same Returned end cells turns others = refl
 end_same Stopped end cells turns others = refl
 
-end_spares : (to : Destination) → EndsRun to → (spare : ℕ) (cells : Cells) (turns : Turns) → spared spare (come to cells turns) ≡ spare
+end_spares : (to : Destination) → EndsRun to → (spare : ℕ) (cells : Cells) (turns : TurnList) → spared spare (come to cells turns) ≡ spare
 end_spares (Statement place) end spare cells turns = absurd end
 end_spares Returned end spare cells turns = refl
 end_spares Stopped end spare cells turns = refl

@@ -19,7 +19,8 @@ use Rattle.f77_equivalence.specs.Start.{HoldsStart}
 use Rattle.f77_equivalence.proofs.Alike.{pass_same}
 use Rattle.f77_equivalence.proofs.InPlace.{agree_but, change_in_place}
 use Rattle.f77_equivalence.proofs.Moving.{if_done}
-use Rattle.f77_continuations.specs.Continuing.{Continues, ContinuesFrom, ContinuesInAll, ContinuesWhere, ContinuesWhereChanged}
+use Rattle.f77_continuations.specs.Continuing.{Continues, ContinuesFrom, ContinuesWhereChanged}
+use Rattle.f77_continuations.specs.code.Continuing.{ContinuesInAll, ContinuesWhere}
 use Rattle.f77_continuations.specs.Within.{IsEquivalentWithin}
 use Rattle.f77_continuations.proofs.Lifting.{equivalent_where_continues}
 

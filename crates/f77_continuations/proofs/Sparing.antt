@@ -8,9 +8,10 @@ use Rattle.f77_code.specs.Moves.{Cells, Move, Goes, Ends, acted}
 use Rattle.f77_facts.specs.declared.entries.Entry.{Entry}
 use Rattle.f77_facts.specs.declared.facts.Fact.{Fact}
 use Rattle.f77_equivalence.specs.Same.{Agrees}
-use Rattle.f77_continuations.specs.Choosing.{ChooseAlike, SurelyLeaves}
-use Rattle.f77_continuations.specs.Continuing.{ComesNoLater, Continues, ContinuesAt, ContinuesInAll, ContinuesWhere, MeetAll, MeetAt, MeetEach, MeetInPairs, spared}
-use Rattle.f77_continuations.specs.Exits.{exit_of}
+use Rattle.f77_continuations.specs.code.Choosing.{ChooseAlike, SurelyLeaves}
+use Rattle.f77_continuations.specs.Continuing.{ComesNoLater, Continues, spared}
+use Rattle.f77_continuations.specs.code.Continuing.{ContinuesAt, ContinuesInAll, ContinuesWhere, MeetAll, MeetAt, MeetEach, MeetInPairs}
+use Rattle.f77_continuations.specs.code.Exits.{exit_of}
 use Rattle.f77_continuations.proofs.Left.{faults}
 
 -- more steps may be spared

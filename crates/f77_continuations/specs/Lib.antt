@@ -1,5 +1,4 @@
 pub mod Paths
-pub mod Exits
-pub mod Choosing
 pub mod Continuing
 pub mod Within
+pub mod code

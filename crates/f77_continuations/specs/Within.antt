@@ -15,8 +15,8 @@ use Rattle.f77_equivalence.specs.Start.{HoldsStart}
 use Rattle.f77_equivalence.specs.Storable.{AreStorable}
 use Rattle.f77_continuations.specs.Continuing.{ContinuesWhereChanged}
 
--- with these arguments, and whatever the limit on steps, where the first program returns or stops, the second comes to
--- the same under a limit that spares so many steps
+-- with these arguments, and whatever the limit on steps, where the first program returns
+-- or stops, the second comes to the same under a limit that spares so many steps
 abbrev pub KeepsEndsWithin : ℕ → List LineFields → List LineFields → List Arg → Type 0
 KeepsEndsWithin spare p q arguments =
     (limit : ℕ) (outcome : Outcome) → IsOutcomeOf p arguments limit outcome → IsEnd outcome
@@ -28,13 +28,15 @@ IsEquivalentWithin spare p q =
     (arguments : List Arg) → AreFitting (shapes p) arguments → AreStorable arguments
     → KeepsEndsWithin spare p q arguments
 
--- A changed program is equivalent, with so many steps to spare, where entries that say what is known at the start and
--- behind each step tell that it continues from the changed statement as the program does.
+-- A changed program is equivalent, with so many steps to spare, where
+-- entries that say what is known at the start and behind each step tell
+-- that it continues from the changed statement as the program does.
 abbrev pub EquivalentWhereContinues : Type 0
 EquivalentWhereContinues =
     (checked : CheckedFields) (i : ℕ) (program : List LineFields) (changed : List Resolved)
     (entries : List Entry) (spare : ℕ)
     → IsChange checked i program changed → AgreeBut i checked.statements changed
-    → PassAlike checked.statements changed i → HoldsStart checked entries → IsInductive checked.statements entries
+    → PassAlike checked.statements changed i
+    → HoldsStart checked entries → IsInductive checked.statements entries
     → ContinuesWhereChanged checked.statements changed spare entries i
     → IsEquivalentWithin spare (map line_of checked.program) program

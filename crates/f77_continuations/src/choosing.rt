@@ -5,7 +5,7 @@ ghost use Rattle.f77_code.specs.Evaluation.{number_in, truth_in};
 ghost use Rattle.f77_code.specs.Moves as moves;
 ghost use Rattle.f77_code.specs.Moves.{Cells};
 ghost use Rattle.f77_facts.specs.Facts.{AreIn};
-ghost use Rattle.f77_continuations.specs.Choosing.{ChooseAlike, SurelyLeaves};
+ghost use Rattle.f77_continuations.specs.code.Choosing.{ChooseAlike, SurelyLeaves};
 
 use f77_actions::{Action, Condition, Number};
 use f77_equivalence::conditions::is_same_condition;

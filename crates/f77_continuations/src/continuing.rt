@@ -4,8 +4,8 @@ ghost use Rattle.std.specs.Prelude.{◌≡◌, ◌≤◌, false, true, length, I
 ghost use Rattle.f77_actions.specs.declared.resolved.Resolved as resolved;
 ghost use Rattle.f77_code.specs.declared.control.Place.TheVariants as places;
 ghost use Rattle.f77_equivalence.specs.Alike.{site};
-ghost use Rattle.f77_continuations.specs.Continuing.{ContinuesAt, ContinuesInAll, ContinuesWhere, MeetAll, MeetEach};
-ghost use Rattle.f77_continuations.specs.Continuing.{MeetInPairs};
+ghost use Rattle.f77_continuations.specs.code.Continuing.{ContinuesAt, ContinuesInAll, ContinuesWhere};
+ghost use Rattle.f77_continuations.specs.code.Continuing.{MeetAll, MeetEach, MeetInPairs};
 
 use crate::choosing::{choose_alike, surely_leaves};
 use crate::exits::exit_count;

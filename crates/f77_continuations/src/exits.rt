@@ -5,8 +5,8 @@ ghost use Rattle.std.specs.Prelude.{IfSome};
 ghost use Rattle.std.specs.Option.{option_map_or};
 ghost use Rattle.f77_actions.specs.declared.resolved.Resolved.{Resolved};
 ghost use Rattle.f77_code.specs.Choice as choice;
-ghost use Rattle.f77_code.specs.Moves.{Cells, Turns, acted, chosen, go_on, is_executed, jump_to};
-ghost use Rattle.f77_continuations.specs.Exits.{LeavesBy, LeavesPlainly, exit_of, exit_numbered, leave};
+ghost use Rattle.f77_code.specs.Moves.{Cells, TurnList, acted, jump_chosen, go_on, is_executed, jump_to};
+ghost use Rattle.f77_continuations.specs.code.Exits.{LeavesBy, LeavesPlainly, exit_of, exit_numbered, leave};
 
 use crate::paths::Destination;
 use f77_actions::{Action, Jump, Resolved};
@@ -20,7 +20,7 @@ pub(crate) struct Exit<'a> {
 }
 
 fn jump_exit(jump: &Jump) -> Exit<'_>
-    ensures { (cells : Cells) (turns : Turns) → jump_to jump.now cells turns ≡ leave result cells turns }
+    ensures { (cells : Cells) (turns : TurnList) → jump_to jump.now cells turns ≡ leave result cells turns }
 {
     Exit {
         leaves: &jump.leaves,
@@ -30,7 +30,7 @@ fn jump_exit(jump: &Jump) -> Exit<'_>
 
 /// Where control goes on from the statement; told where no DO ends there.
 fn onward_exit(resolved: &Resolved) -> Option<Exit<'_>>
-    ensures { IfSome result (λ exit. (cells : Cells) (turns : Turns)
+    ensures { IfSome result (λ exit. (cells : Cells) (turns : TurnList)
         → go_on resolved.now cells turns ≡ leave exit cells turns) }
 {
     if !resolved.ends.is_empty() {
@@ -64,7 +64,7 @@ pub(crate) fn plain_exit<'a>(resolved: &'a Resolved, action: &'a Action) -> Opti
 
 /// The jump of an arithmetic IF for a negative, a zero or a positive number.
 fn sign_exit<'a>(negative: &'a Jump, zero: &'a Jump, positive: &'a Jump, k: usize) -> Exit<'a>
-    ensures { (z : ℤ) (cells : Cells) (turns : Turns) → choice.by_sign z 0 1 2 ≡ k
+    ensures { (z : ℤ) (cells : Cells) (turns : TurnList) → choice.by_sign z 0 1 2 ≡ k
         → jump_to (choice.by_sign z negative.now zero.now positive.now) cells turns ≡ leave result cells turns }
 {
     match k {
@@ -76,9 +76,9 @@ fn sign_exit<'a>(negative: &'a Jump, zero: &'a Jump, positive: &'a Jump, k: usiz
 
 /// The jump of this number of a computed GO TO, from 0; behind the last one, where control goes on.
 fn numbered_exit<'a>(resolved: &'a Resolved, jumps: &'a [Jump], k: usize) -> Option<Exit<'a>>
-    ensures { IfSome result (λ exit. (z : ℤ) (cells : Cells) (turns : Turns)
+    ensures { IfSome result (λ exit. (z : ℤ) (cells : Cells) (turns : TurnList)
         → exit_numbered (length jumps.now) z ≡ k
-        → option_map_or (λ jump. jump_to jump cells turns) (choice.numbered jumps.now z)
+        → option_map_or (λ jump. jump_to jump cells turns) (choice.item_chosen jumps.now z)
         (go_on resolved.now cells turns) ≡ leave exit cells turns) }
 {
     if k < jumps.len() {
@@ -89,9 +89,9 @@ fn numbered_exit<'a>(resolved: &'a Resolved, jumps: &'a [Jump], k: usize) -> Opt
 
 /// The exit of a logical IF where its condition holds, with what it executes, and where it does not.
 fn guarded_exit<'a>(resolved: &'a Resolved, action: &'a Action, k: usize) -> Option<Exit<'a>>
-    ensures { IfSome result (λ exit. (statements : List Resolved) (i : ℕ) (b : Bool) (cells : Cells) (turns : Turns)
-        → chosen b 0 1 ≡ k
-        → chosen b (acted statements i resolved.now action.now cells turns) (go_on resolved.now cells turns)
+    ensures { IfSome result (λ exit. (statements : List Resolved) (i : ℕ) (b : Bool) (cells : Cells) (turns : TurnList)
+        → jump_chosen b 0 1 ≡ k
+        → jump_chosen b (acted statements i resolved.now action.now cells turns) (go_on resolved.now cells turns)
         ≡ leave exit cells turns) }
 {
     if k == 0 {

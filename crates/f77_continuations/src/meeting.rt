@@ -1,8 +1,8 @@
 //! Where two exits lead to one place.
 
 ghost use Rattle.std.specs.Prelude.{◌≡◌, ◌≤◌, true, IfSome};
-ghost use Rattle.f77_continuations.specs.Continuing.{Meet, MeetAt};
-ghost use Rattle.f77_continuations.specs.Paths.{EndsRun, IsPath};
+ghost use Rattle.f77_continuations.specs.code.Continuing.{Meet, MeetAt};
+ghost use Rattle.f77_continuations.specs.code.Paths.{EndsRun, IsPath};
 
 use crate::exits::{Exit, exit_at};
 use crate::paths::{Destination, Path, path_from};

@@ -17,18 +17,18 @@ use Rattle.f77_values.specs.Number.{in_range, trip_count}
 use Rattle.f77_values.specs.Value.{whole}
 use Rattle.f77_code.specs.declared.control.Place.TheVariants.{Execute}
 use Rattle.f77_code.specs.declared.control.Turn.{Turn}
-use Rattle.f77_code.specs.Choice.{by_sign, numbered}
+use Rattle.f77_code.specs.Choice.{by_sign, item_chosen}
 use Rattle.f77_code.specs.Evaluation.{held_in, slot_in, number_in, truth_in}
-use Rattle.f77_code.specs.Moves.{Cells, Turns, Move, Goes, state, used, chosen, acted, begun, go_on, jump_to, passing_at, incremented}
+use Rattle.f77_code.specs.Moves.{Cells, TurnList, Move, Goes, state, used, jump_chosen, acted, begun, go_on, jump_to, passing_at, incremented}
 use Rattle.f77_facts.specs.declared.facts.Fact.{Fact}
 use Rattle.f77_facts.specs.declared.reaching.Reach.{Reach}
 use Rattle.f77_facts.specs.Bounds.{CoversSlot}
 use Rattle.f77_facts.specs.Reaching.{SuitsSlot}
 use Rattle.f77_differences.specs.declared.differences.Differences.{Differences}
-use Rattle.f77_differences.specs.Acting.{GoesOnAlike, JumpsAlike, AllJumpAlike, PassesAlike, ActsAlike, ActsAnywhere, AdvancesAlike}
-use Rattle.f77_differences.specs.Differences.{Alike, marks_at}
-use Rattle.f77_differences.specs.Marks.{AgreeOutside, AreMarkedIn, AreUnmarked, IsSetAlike}
-use Rattle.f77_differences.specs.Reading.{OneSlot, OneNumber, OneTruth}
+use Rattle.f77_differences.specs.code.Acting.{GoesOnAlike, JumpsAlike, AllJumpAlike, PassesWithinMarks, ActsWithinMarks, ActsAnywhereWithinMarks, AdvancesAlike}
+use Rattle.f77_differences.specs.code.Differences.{Alike, marks_at}
+use Rattle.f77_differences.specs.code.Marks.{AgreeOutsideMarks, AreMarkedIn, AreUnmarked, IsSetAlike}
+use Rattle.f77_differences.specs.code.Reading.{OneSlot, OneNumber, OneTruth}
 use Rattle.f77_differences.proofs.Agreeing.{agree_within}
 
 module _ (differences : Differences) where
@@ -40,7 +40,7 @@ module _ (differences : Differences) where
 
   pub numbers_assigned : (r : Resolved) (facts : List Fact) (marks behind : List Bool) (e : Element) (x : Number) (reach : Reach)
       → OneSlot facts marks e → OneNumber facts marks x → CoversSlot facts e reach → IsSetAlike marks behind reach → GoesOnAlike differences behind r
-      → ActsAnywhere differences r facts marks (AssignNumber e x)
+      → ActsAnywhereWithinMarks differences r facts marks (AssignNumber e x)
   numbers_assigned r facts marks behind e x reach slot value covers set on statements i cells others turns inside agree =
       used_alike (slot_in cells e) (slot_in others e) cells others
       (λ k. used (number_in cells x) cells (λ z. go_on r (slice_set cells k (Some (held.Number z))) turns))
@@ -53,7 +53,7 @@ module _ (differences : Differences) where
 
   pub truths_assigned : (r : Resolved) (facts : List Fact) (marks behind : List Bool) (e : Element) (x : Condition) (reach : Reach)
       → OneSlot facts marks e → OneTruth facts marks x → CoversSlot facts e reach → IsSetAlike marks behind reach → GoesOnAlike differences behind r
-      → ActsAnywhere differences r facts marks (AssignTruth e x)
+      → ActsAnywhereWithinMarks differences r facts marks (AssignTruth e x)
   truths_assigned r facts marks behind e x reach slot value covers set on statements i cells others turns inside agree =
       used_alike (slot_in cells e) (slot_in others e) cells others
       (λ k. used (truth_in cells x) cells (λ b. go_on r (slice_set cells k (Some (held.Truth b))) turns))
@@ -72,50 +72,50 @@ module _ (differences : Differences) where
 
   pub jumped_by_sign : (r : Resolved) (facts : List Fact) (marks : List Bool) (x : Number) (a b c : Jump) → OneNumber facts marks x
       → JumpsAlike differences marks a → JumpsAlike differences marks b → JumpsAlike differences marks c
-      → ActsAnywhere differences r facts marks (ArithmeticIf x a b c)
+      → ActsAnywhereWithinMarks differences r facts marks (ArithmeticIf x a b c)
   jumped_by_sign r facts marks x a b c same p q t statements i cells others turns inside agree =
       used_alike (number_in cells x) (number_in others x) cells others (λ z. jump_to (by_sign z a b c) cells turns) (λ z. jump_to (by_sign z a b c) others turns)
       (same cells others inside agree) (λ z _. signed marks z a b c p q t cells others turns agree)
 
   -- the jump of a number, if there is one
   jumped_or_on : (r : Resolved) (marks : List Bool) (o : Option Jump) → ((jump : Jump) → o ≡ Some jump → JumpsAlike differences marks jump)
-      → GoesOnAlike differences marks r → (cells others : Cells) (turns : Turns) → AgreeOutside marks cells others
+      → GoesOnAlike differences marks r → (cells others : Cells) (turns : TurnList) → AgreeOutsideMarks marks cells others
       → Alike differences (option_map_or (λ jump. jump_to jump cells turns) o (go_on r cells turns))
       (option_map_or (λ jump. jump_to jump others turns) o (go_on r others turns))
   jumped_or_on r marks None each on cells others turns agree = on cells others turns agree
   jumped_or_on r marks (Some jump) each on cells others turns agree = each jump refl cells others turns agree
 
   numbered_alike : (marks : List Bool) (jumps : List Jump) → AllJumpAlike differences marks jumps (length jumps)
-      → (z : ℤ) (jump : Jump) → numbered jumps z ≡ Some jump → JumpsAlike differences marks jump
+      → (z : ℤ) (jump : Jump) → item_chosen jumps z ≡ Some jump → JumpsAlike differences marks jump
   numbered_alike marks jumps each (pos zero) jump e = absurd (cc (e))
   numbered_alike marks jumps each (pos (suc n)) jump e = each n (slice_get_within jumps n jump e) jump e
   numbered_alike marks jumps each (negsuc n) jump e = absurd (cc (e))
 
   pub jumped_by_number : (r : Resolved) (facts : List Fact) (marks : List Bool) (x : Number) (jumps : Vec Jump Global) → OneNumber facts marks x
       → GoesOnAlike differences marks r → AllJumpAlike differences marks jumps.items (length jumps.items)
-      → ActsAnywhere differences r facts marks (ComputedGoto x jumps)
+      → ActsAnywhereWithinMarks differences r facts marks (ComputedGoto x jumps)
   jumped_by_number r facts marks x jumps same on each statements i cells others turns inside agree =
       used_alike (number_in cells x) (number_in others x) cells others
-      (λ z. option_map_or (λ jump. jump_to jump cells turns) (numbered jumps.items z) (go_on r cells turns))
-      (λ z. option_map_or (λ jump. jump_to jump others turns) (numbered jumps.items z) (go_on r others turns)) (same cells others inside agree)
-      (λ z _. jumped_or_on r marks (numbered jumps.items z) (numbered_alike marks jumps.items each z) on cells others turns agree)
+      (λ z. option_map_or (λ jump. jump_to jump cells turns) (item_chosen jumps.items z) (go_on r cells turns))
+      (λ z. option_map_or (λ jump. jump_to jump others turns) (item_chosen jumps.items z) (go_on r others turns)) (same cells others inside agree)
+      (λ z _. jumped_or_on r marks (item_chosen jumps.items z) (numbered_alike marks jumps.items each z) on cells others turns agree)
 
   pub branched : (r : Resolved) (facts : List Fact) (marks : List Bool) (c : Condition) (t : ℕ) → OneTruth facts marks c → GoesOnAlike differences marks r
-      → AreMarkedIn marks (marks_at differences (Execute t)) → ActsAnywhere differences r facts marks (Branch c t)
+      → AreMarkedIn marks (marks_at differences (Execute t)) → ActsAnywhereWithinMarks differences r facts marks (Branch c t)
   branched r facts marks c t same on there statements i cells others turns inside agree =
       used_alike (truth_in cells c) (truth_in others c) cells others
-      (λ b. chosen b (go_on r cells turns) (Goes (state (Execute t) cells turns)))
-      (λ b. chosen b (go_on r others turns) (Goes (state (Execute t) others turns))) (same cells others inside agree) (λ b _. by b)
+      (λ b. jump_chosen b (go_on r cells turns) (Goes (state (Execute t) cells turns)))
+      (λ b. jump_chosen b (go_on r others turns) (Goes (state (Execute t) others turns))) (same cells others inside agree) (λ b _. by b)
     where
-      by : (b : Bool) → Alike differences (chosen b (go_on r cells turns) (Goes (state (Execute t) cells turns)))
-          (chosen b (go_on r others turns) (Goes (state (Execute t) others turns)))
+      by : (b : Bool) → Alike differences (jump_chosen b (go_on r cells turns) (Goes (state (Execute t) cells turns)))
+          (jump_chosen b (go_on r others turns) (Goes (state (Execute t) others turns)))
       by true = on cells others turns agree
       by false = (others, refl, agree_within marks (marks_at differences (Execute t)) cells others there agree)
 
   -- a DO begins
   begun_alike : (statements : List Resolved) (d variable t : ℕ) (marks behind : List Bool) (reach : Reach) → IsSetAlike marks behind reach
-      → SuitsSlot reach (Ok variable) → PassesAlike differences behind statements d t → (a b step : ℤ) (cells others : Cells) (turns : Turns)
-      → AgreeOutside marks cells others
+      → SuitsSlot reach (Ok variable) → PassesWithinMarks differences behind statements d t → (a b step : ℤ) (cells others : Cells) (turns : TurnList)
+      → AgreeOutsideMarks marks cells others
       → Alike differences (begun statements d variable t a b step cells turns) (begun statements d variable t a b step others turns)
   begun_alike statements d variable t marks behind reach set is pass a b (pos zero) cells others turns agree = tt
   begun_alike statements d variable t marks behind reach set is pass a b (pos (suc m)) cells others turns agree =
@@ -127,7 +127,7 @@ module _ (differences : Differences) where
 
   pub begun_from : (statements : List Resolved) (d variable t : ℕ) (r : Resolved) (facts : List Fact) (marks behind : List Bool) (reach : Reach) (x y z : Number)
       → OneNumber facts marks x → OneNumber facts marks y → OneNumber facts marks z → IsSetAlike marks behind reach → SuitsSlot reach (Ok variable)
-      → PassesAlike differences behind statements d t → ActsAlike differences statements d r facts marks (Loop variable x y z t)
+      → PassesWithinMarks differences behind statements d t → ActsWithinMarks differences statements d r facts marks (Loop variable x y z t)
   begun_from statements d variable t r facts marks behind reach x y z first last step set is pass cells others turns inside agree =
       used_alike (number_in cells x) (number_in others x) cells others
       (λ a. used (number_in cells y) cells (λ b. used (number_in cells z) cells (λ c. begun statements d variable t a b c cells turns)))
@@ -143,30 +143,30 @@ module _ (differences : Differences) where
   -- a logical IF
   pub guarded : (statements : List Resolved) (i : ℕ) (r : Resolved) (facts : List Fact) (marks : List Bool) (c : Condition) (a : Box Action Global)
       (action : Action) → action ≡ a.value → OneTruth facts marks c → GoesOnAlike differences marks r
-      → ActsAlike differences statements i r facts marks action → ActsAlike differences statements i r facts marks (actions.LogicalIf c a)
+      → ActsWithinMarks differences statements i r facts marks action → ActsWithinMarks differences statements i r facts marks (actions.LogicalIf c a)
   guarded statements i r facts marks c a action is same on acts cells others turns inside agree =
       used_alike (truth_in cells c) (truth_in others c) cells others
-      (λ b. chosen b (acted statements i r a.value cells turns) (go_on r cells turns))
-      (λ b. chosen b (acted statements i r a.value others turns) (go_on r others turns)) (same cells others inside agree) (λ b _. by b)
+      (λ b. jump_chosen b (acted statements i r a.value cells turns) (go_on r cells turns))
+      (λ b. jump_chosen b (acted statements i r a.value others turns) (go_on r others turns)) (same cells others inside agree) (λ b _. by b)
     where
-      by : (b : Bool) → Alike differences (chosen b (acted statements i r a.value cells turns) (go_on r cells turns))
-          (chosen b (acted statements i r a.value others turns) (go_on r others turns))
+      by : (b : Bool) → Alike differences (jump_chosen b (acted statements i r a.value cells turns) (go_on r cells turns))
+          (jump_chosen b (acted statements i r a.value others turns) (go_on r others turns))
       by true = subst (λ v. Alike differences (acted statements i r v cells turns) (acted statements i r v others turns)) is (acts cells others turns inside agree)
       by false = on cells others turns agree
 
   -- the end of a run
-  pub returned : (r : Resolved) (facts : List Fact) (marks : List Bool) → AreMarkedIn marks differences.ending.items → ActsAnywhere differences r facts marks Return
+  pub returned : (r : Resolved) (facts : List Fact) (marks : List Bool) → AreMarkedIn marks differences.ending.items → ActsAnywhereWithinMarks differences r facts marks Return
   returned r facts marks there statements i cells others turns inside agree =
       (others, refl, agree_within marks differences.ending.items cells others there agree)
 
-  pub stopped : (r : Resolved) (facts : List Fact) (marks : List Bool) → AreMarkedIn marks differences.ending.items → ActsAnywhere differences r facts marks Stop
+  pub stopped : (r : Resolved) (facts : List Fact) (marks : List Bool) → AreMarkedIn marks differences.ending.items → ActsAnywhereWithinMarks differences r facts marks Stop
   stopped r facts marks there statements i cells others turns inside agree =
       (others, refl, agree_within marks differences.ending.items cells others there agree)
 
   -- a DO that is incremented
   pub incremented_alike : (statements : List Resolved) (d variable t : ℕ) (first last step : Number) (marks behind : List Bool) (reach : Reach)
-      → AreUnmarked marks reach → IsSetAlike marks behind reach → SuitsSlot reach (Ok variable) → PassesAlike differences behind statements d t
-      → (turn : Turn) (cells others : Cells) (turns : Turns) → AgreeOutside marks cells others
+      → AreUnmarked marks reach → IsSetAlike marks behind reach → SuitsSlot reach (Ok variable) → PassesWithinMarks differences behind statements d t
+      → (turn : Turn) (cells others : Cells) (turns : TurnList) → AgreeOutsideMarks marks cells others
       → Alike differences (incremented statements d (Loop variable first last step t) turn cells turns)
       (incremented statements d (Loop variable first last step t) turn others turns)
   incremented_alike statements d variable t first last step marks behind reach none set is pass turn cells others turns agree =
@@ -184,7 +184,7 @@ module _ (differences : Differences) where
 
   pub advances_alike : (statements : List Resolved) (d variable t : ℕ) (first last step : Number) (marks behind : List Bool) (reach : Reach) (action : Action)
       → action ≡ Loop variable first last step t → AreUnmarked marks reach → IsSetAlike marks behind reach → SuitsSlot reach (Ok variable)
-      → PassesAlike differences behind statements d t → AdvancesAlike differences statements d marks action
+      → PassesWithinMarks differences behind statements d t → AdvancesAlike differences statements d marks action
   advances_alike statements d variable t first last step marks behind reach action is none set suits pass =
       subst (AdvancesAlike differences statements d marks) (sym is)
       (incremented_alike statements d variable t first last step marks behind reach none set suits pass)

@@ -10,7 +10,7 @@ use Rattle.f77_code.specs.Evaluation.{held_in}
 use Rattle.f77_code.specs.Moves.{Cells}
 use Rattle.f77_facts.specs.declared.reaching.Reach.{Reach}
 use Rattle.f77_facts.proofs.Slots.{got_other, got_same, set_past, none_held, same_or_not}
-use Rattle.f77_differences.specs.Marks.{is_marked, AgreeOutside, AreMarkedIn, AreUnmarked, IsSetAlike}
+use Rattle.f77_differences.specs.code.Marks.{is_marked, AgreeOutsideMarks, AreMarkedIn, AreUnmarked, IsSetAlike}
 
 -- a slot past the marks is not marked
 pub unmarked_past : (marks : List Bool) (k : ℕ) → length marks ≤ k → is_marked marks k ≡ false
@@ -32,17 +32,17 @@ all_unmarked marks reach end within each k is = elim (cases_lt k (length marks))
   | inr past ↦ unmarked_past marks k past
 ]
 
-pub agree_refl : (marks : List Bool) (cells : Cells) → AgreeOutside marks cells cells
+pub agree_refl : (marks : List Bool) (cells : Cells) → AgreeOutsideMarks marks cells cells
 agree_refl marks cells = record { count = refl; each = λ k f. refl }
 
-pub agree_sym : (marks : List Bool) (cells others : Cells) → AgreeOutside marks cells others → AgreeOutside marks others cells
+pub agree_sym : (marks : List Bool) (cells others : Cells) → AgreeOutsideMarks marks cells others → AgreeOutsideMarks marks others cells
 agree_sym marks cells others agree = record { count = sym agree.count; each = λ k f. sym (agree.each k f) }
 
-pub agree_trans : (marks : List Bool) (a b c : Cells) → AgreeOutside marks a b → AgreeOutside marks b c → AgreeOutside marks a c
+pub agree_trans : (marks : List Bool) (a b c : Cells) → AgreeOutsideMarks marks a b → AgreeOutsideMarks marks b c → AgreeOutsideMarks marks a c
 agree_trans marks a b c one other = record { count = other.count ∙ one.count; each = λ k f. other.each k f ∙ one.each k f }
 
-pub agree_within : (marks behind : List Bool) (cells others : Cells) → AreMarkedIn marks behind → AgreeOutside marks cells others
-    → AgreeOutside behind cells others
+pub agree_within : (marks behind : List Bool) (cells others : Cells) → AreMarkedIn marks behind → AgreeOutsideMarks marks cells others
+    → AgreeOutsideMarks behind cells others
 agree_within marks behind cells others within agree = record { count = agree.count; each = λ k f. agree.each k (within k f) }
 
 -- what a slot holds that was set in both
@@ -58,8 +58,8 @@ set_alike cells others k value same = elim (cases_lt k (length cells)) [
 ]
 
 -- one slot has its mark taken and is set in both
-pub set_cleared : (marks : List Bool) (cells others : Cells) (k : ℕ) (value : Value) → AgreeOutside marks cells others
-    → AgreeOutside (slice_set marks k false) (slice_set cells k (Some value)) (slice_set others k (Some value))
+pub set_cleared : (marks : List Bool) (cells others : Cells) (k : ℕ) (value : Value) → AgreeOutsideMarks marks cells others
+    → AgreeOutsideMarks (slice_set marks k false) (slice_set cells k (Some value)) (slice_set others k (Some value))
 set_cleared marks cells others k value agree = record {
   count = length-set others k (Some value) ∙ agree.count ∙ sym (length-set cells k (Some value));
   each = λ j f. by j f (same_or_not j k);
@@ -74,8 +74,8 @@ set_cleared marks cells others k value agree = record {
         ∙ sym (ap (option_and_then (λ cell. cell)) (got_other cells k j (Some value) differ))
 
 -- one slot is set in both
-pub set_kept : (marks : List Bool) (cells others : Cells) (k : ℕ) (value : Value) → AgreeOutside marks cells others
-    → AgreeOutside marks (slice_set cells k (Some value)) (slice_set others k (Some value))
+pub set_kept : (marks : List Bool) (cells others : Cells) (k : ℕ) (value : Value) → AgreeOutsideMarks marks cells others
+    → AgreeOutsideMarks marks (slice_set cells k (Some value)) (slice_set others k (Some value))
 set_kept marks cells others k value agree = record {
   count = length-set others k (Some value) ∙ agree.count ∙ sym (length-set cells k (Some value));
   each = λ j f. by j f (same_or_not j k);
@@ -90,16 +90,16 @@ set_kept marks cells others k value agree = record {
 
 pub kept_alike : (marks behind : List Bool) (reach : Reach) → behind ≡ marks → IsSetAlike marks behind reach
 kept_alike marks behind reach same cells others k value is agree =
-    subst (λ list. AgreeOutside list (slice_set cells k (Some value)) (slice_set others k (Some value))) (sym same) (set_kept marks cells others k value agree)
+    subst (λ list. AgreeOutsideMarks list (slice_set cells k (Some value)) (slice_set others k (Some value))) (sym same) (set_kept marks cells others k value agree)
 
 pub cleared_alike : (marks behind : List Bool) (reach : Reach) → reach.count ≡ 1 → behind ≡ slice_set marks reach.first false → IsSetAlike marks behind reach
 cleared_alike marks behind reach one same cells others k value is agree =
     let here : k ≡ reach.first = omega (arith, is.above, is.below, one) in
-    subst (λ list. AgreeOutside list (slice_set cells k (Some value)) (slice_set others k (Some value)))
+    subst (λ list. AgreeOutsideMarks list (slice_set cells k (Some value)) (slice_set others k (Some value)))
     (ap (λ j. slice_set marks j false) here ∙ sym same) (set_cleared marks cells others k value agree)
 
 -- a marked slot is set in one
-pub set_marked : (marks : List Bool) (cells : Cells) (k : ℕ) (value : Value) → is_marked marks k ≡ true → AgreeOutside marks cells (slice_set cells k (Some value))
+pub set_marked : (marks : List Bool) (cells : Cells) (k : ℕ) (value : Value) → is_marked marks k ≡ true → AgreeOutsideMarks marks cells (slice_set cells k (Some value))
 set_marked marks cells k value marked = record {
   count = length-set cells k (Some value);
   each = λ j f. by j f (same_or_not j k);

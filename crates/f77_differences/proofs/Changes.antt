@@ -13,7 +13,7 @@ use Rattle.f77_values.specs.declared.finish.Finish.TheVariants.{Returned, Stoppe
 use Rattle.f77_values.specs.declared.value.Value.{Value}
 use Rattle.f77_values.specs.declared.value.Value.TheVariants as held
 use Rattle.f77_code.specs.Evaluation.{slot_in, number_in, truth_in}
-use Rattle.f77_code.specs.Moves.{Cells, Turns, Move, Goes, Ends, used, chosen, acted, go_on}
+use Rattle.f77_code.specs.Moves.{Cells, TurnList, Move, Goes, Ends, used, jump_chosen, acted, go_on}
 use Rattle.f77_facts.specs.declared.facts.Fact.{Fact}
 use Rattle.f77_facts.specs.declared.known.Known.{Known}
 use Rattle.f77_facts.specs.declared.reaching.Reach.{Reach}
@@ -25,15 +25,15 @@ use Rattle.f77_facts.specs.Reaching.{SuitsSlot}
 use Rattle.f77_facts.specs.Truths.{SuitsTruth}
 use Rattle.f77_equivalence.specs.Alike.{GoOnAlike}
 use Rattle.f77_differences.specs.declared.differences.Differences.{Differences}
-use Rattle.f77_differences.specs.Acting.{GoesOnAlike}
-use Rattle.f77_differences.specs.Changing.{GoesOnBut, MayGoOnBut, NamesMarked, SetsMarked, SurelySetsSlot, SurelyHasNumber, SurelyHasTruth, SurelySetsMarked}
-use Rattle.f77_differences.specs.Differences.{Alike}
-use Rattle.f77_differences.specs.Marks.{AgreeOutside, AreMarkedIn, AreMarked, is_marked}
-use Rattle.f77_differences.specs.Reading.{OneSlot, OneNumber, OneTruth}
+use Rattle.f77_differences.specs.code.Acting.{GoesOnAlike}
+use Rattle.f77_differences.specs.code.Changing.{GoesOnBut, MayGoOnBut, NamesMarked, SetsMarked, SurelySetsSlot, SurelyHasNumber, SurelyHasTruth, SurelySetsMarked}
+use Rattle.f77_differences.specs.code.Differences.{Alike}
+use Rattle.f77_differences.specs.code.Marks.{AgreeOutsideMarks, AreMarkedIn, AreMarked, is_marked}
+use Rattle.f77_differences.specs.code.Reading.{OneSlot, OneNumber, OneTruth}
 use Rattle.f77_differences.proofs.Agreeing.{agree_refl, agree_sym, agree_trans, agree_within, set_marked}
 
 -- the program itself
-module _ (marks : List Bool) (r : Resolved) (turns : Turns) (cells : Cells) where
+module _ (marks : List Bool) (r : Resolved) (turns : TurnList) (cells : Cells) where
   may_use : {A : Type 0} (x : Result A Fault) (f : A → Move) → ((v : A) → x ≡ Ok v → MayGoOnBut marks r turns cells (f v))
       → MayGoOnBut marks r turns cells (used x cells f)
   may_use (Ok v) f each = each v refl
@@ -75,9 +75,9 @@ none_set facts marks statements i r cells turns inside = goes_where_it_was marks
 pub set_if : (facts : List Fact) (marks : List Bool) (c : Condition) (a : Box Action Global) (action : Action) → action ≡ a.value
     → SetsMarked facts marks action → SetsMarked facts marks (actions.LogicalIf c a)
 set_if facts marks c a action is sets statements i r cells turns inside =
-    may_use marks r turns cells (truth_in cells c) (λ b. chosen b (acted statements i r a.value cells turns) (go_on r cells turns)) (λ b _. by b)
+    may_use marks r turns cells (truth_in cells c) (λ b. jump_chosen b (acted statements i r a.value cells turns) (go_on r cells turns)) (λ b _. by b)
   where
-    by : (b : Bool) → MayGoOnBut marks r turns cells (chosen b (acted statements i r a.value cells turns) (go_on r cells turns))
+    by : (b : Bool) → MayGoOnBut marks r turns cells (jump_chosen b (acted statements i r a.value cells turns) (go_on r cells turns))
     by true = subst (λ v. MayGoOnBut marks r turns cells (acted statements i r v cells turns)) is (sets statements i r cells turns inside)
     by false = goes_where_it_was marks r turns cells
 
@@ -140,14 +140,14 @@ surely_set_if facts marks behind c a action is truth sets statements i r cells o
     let it_is = it.1 in
     rw it_is (by it.0)
   where
-    by : (b : Bool) → GoesOnBut behind r turns others (chosen b (acted statements i r a.value others turns) (go_on r others turns))
+    by : (b : Bool) → GoesOnBut behind r turns others (jump_chosen b (acted statements i r a.value others turns) (go_on r others turns))
     by true = subst (λ v. GoesOnBut behind r turns others (acted statements i r v others turns)) is (sets statements i r cells others turns inside agree)
     by false = goes_where_it_was behind r turns others
 
 -- both
 pub changed_alike : (differences : Differences) (facts : List Fact) (marks behind : List Bool) (r s : Resolved) → AreMarkedIn marks behind
     → GoesOnAlike differences behind r → GoOnAlike r s → SetsMarked facts behind r.action → SurelySetsMarked facts marks behind s.action
-    → (statements changed : List Resolved) (i : ℕ) (cells others : Cells) (turns : Turns) → AreIn facts cells → AgreeOutside marks cells others
+    → (statements changed : List Resolved) (i : ℕ) (cells others : Cells) (turns : TurnList) → AreIn facts cells → AgreeOutsideMarks marks cells others
     → Alike differences (acted statements i r r.action cells turns) (acted changed i s s.action others turns)
 changed_alike differences facts marks behind r s within on alike sets surely statements changed i cells others turns inside agree =
     by (acted statements i r r.action cells turns) (sets statements i r cells turns inside)
@@ -157,7 +157,7 @@ changed_alike differences facts marks behind r s within on alike sets surely sta
 
     by : (move : Move) → MayGoOnBut behind r turns cells move → Alike differences move (acted changed i s s.action others turns)
     by (Goes u) own =
-        let chain : AgreeOutside behind own.0 other.0
+        let chain : AgreeOutsideMarks behind own.0 other.0
         = agree_trans behind own.0 cells other.0 (agree_sym behind cells own.0 own.2)
         (agree_trans behind cells others other.0 (agree_within marks behind cells others within agree) other.2) in
         subst (λ m. Alike differences m (acted changed i s s.action others turns)) (sym own.1)

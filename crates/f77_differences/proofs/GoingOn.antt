@@ -5,12 +5,12 @@ use Rattle.std.specs.Option.{option_map_or}
 use Rattle.f77_actions.specs.declared.action.Jump.{Jump}
 use Rattle.f77_actions.specs.declared.resolved.Resolved.{Resolved}
 use Rattle.f77_code.specs.declared.control.Place.TheVariants.{Execute, Increment}
-use Rattle.f77_code.specs.Moves.{Cells, Turns, innermost, place_behind, turn_at, passing}
+use Rattle.f77_code.specs.Moves.{Cells, TurnList, innermost, place_behind, turn_at, passing}
 use Rattle.f77_equivalence.proofs.Lists.{found_among}
 use Rattle.f77_differences.specs.declared.differences.Differences.{Differences}
-use Rattle.f77_differences.specs.Acting.{GoesOnAlike, JumpsAlike, PassesAlike}
-use Rattle.f77_differences.specs.Differences.{Alike, marks_at}
-use Rattle.f77_differences.specs.Marks.{AgreeOutside, AreMarkedIn}
+use Rattle.f77_differences.specs.code.Acting.{GoesOnAlike, JumpsAlike, PassesWithinMarks}
+use Rattle.f77_differences.specs.code.Differences.{Alike, marks_at}
+use Rattle.f77_differences.specs.code.Marks.{AgreeOutsideMarks, AreMarkedIn}
 use Rattle.f77_differences.proofs.Agreeing.{agree_within}
 
 -- what is marked may differ where one of these DOs is incremented
@@ -25,7 +25,7 @@ one_end differences marks ends k d is in_row e there =
 
 module _ (differences : Differences) (marks : List Bool) where
   -- wherever control goes on from the statement
-  behind_marked : (r : Resolved) (turns : Turns) → AreMarkedIn marks (marks_at differences (Execute r.next)) → MayDifferAtEnds differences marks r.ends.items
+  behind_marked : (r : Resolved) (turns : TurnList) → AreMarkedIn marks (marks_at differences (Execute r.next)) → MayDifferAtEnds differences marks r.ends.items
       → AreMarkedIn marks (marks_at differences (place_behind r turns))
   behind_marked r turns next ends = by (innermost turns r.ends.items) refl
     where
@@ -46,13 +46,13 @@ module _ (differences : Differences) (marks : List Bool) where
 
   -- a DO makes its next pass, or has none left
   passing_alike : (end : Resolved) (d : ℕ) → GoesOnAlike differences marks end → AreMarkedIn marks (marks_at differences (Execute (d + 1)))
-      → (passes : ℕ) (step : ℤ) (cells others : Cells) (turns : Turns) → AgreeOutside marks cells others
+      → (passes : ℕ) (step : ℤ) (cells others : Cells) (turns : TurnList) → AgreeOutsideMarks marks cells others
       → Alike differences (passing end d passes step cells turns) (passing end d passes step others turns)
   passing_alike end d on first zero step cells others turns agree = on cells others (slice_set turns d None) agree
   passing_alike end d on first (suc k) step cells others turns agree =
       (others, refl, agree_within marks (marks_at differences (Execute (d + 1))) cells others first agree)
 
   pub passes_alike : (statements : List Resolved) (d t : ℕ) (end : Resolved) → slice_get statements t ≡ Some end → GoesOnAlike differences marks end
-      → AreMarkedIn marks (marks_at differences (Execute (d + 1))) → PassesAlike differences marks statements d t
+      → AreMarkedIn marks (marks_at differences (Execute (d + 1))) → PassesWithinMarks differences marks statements d t
   passes_alike statements d t end is on first passes step cells others turns agree =
       rw is (passing_alike end d on first passes step cells others turns agree)

@@ -13,38 +13,39 @@ use Rattle.f77_values.specs.declared.finish.Finish.TheVariants.{Returned, Stoppe
 use Rattle.f77_code.specs.declared.control.Place.{Place}
 use Rattle.f77_code.specs.declared.control.Place.TheVariants.{Execute}
 use Rattle.f77_code.specs.Evaluation.{held_in}
-use Rattle.f77_code.specs.Moves.{Cells, Turns, state, Move, Goes, Ends, moved}
+use Rattle.f77_code.specs.Moves.{Cells, TurnList, state, Move, Goes, Ends, moved}
 use Rattle.f77_code.specs.Sequences.{moved_by, then_moved}
 use Rattle.f77_facts.specs.declared.entries.Entry.{Entry}
 use Rattle.f77_facts.specs.declared.facts.Fact.{Fact}
-use Rattle.f77_facts.specs.Reaching.{IsReached}
+use Rattle.f77_facts.specs.Reaching.{IsSlotReached}
 use Rattle.f77_facts.specs.Entries.{IsAmong, IsInductive}
 use Rattle.std.proofs.lemmas.Option.{slice_get_within}
 use Rattle.f77_run.specs.declared.argument.Arg.{Arg}
-use Rattle.f77_run.specs.Spans.{size_of, span}
+use Rattle.f77_run.specs.Spans.{size_of}
+use Rattle.f77_run.specs.code.Spans.{span}
 use Rattle.f77_equivalence.specs.Alike.{AgreeBut, PassAlike, site}
 use Rattle.f77_equivalence.specs.Changed.{IsEnding, HoldAlike, EndsAlike}
 use Rattle.f77_equivalence.specs.Start.{start_cells, start_turns, StartsIn}
 use Rattle.f77_equivalence.proofs.Moving.{moved_same}
 use Rattle.f77_differences.specs.declared.differences.Differences.{Differences}
-use Rattle.f77_differences.specs.Acting.{MovesAlike, AllMoveAlike}
-use Rattle.f77_differences.specs.Differences.{Alike, marks_at}
-use Rattle.f77_differences.specs.Dummies.{IsDummyUnmarked}
-use Rattle.f77_differences.specs.Marks.{AgreeOutside, is_marked}
+use Rattle.f77_differences.specs.code.Acting.{MovesWithinMarks, AllMoveAlike}
+use Rattle.f77_differences.specs.code.Differences.{Alike, marks_at}
+use Rattle.f77_differences.specs.code.Dummies.{IsDummyUnmarked}
+use Rattle.f77_differences.specs.code.Marks.{AgreeOutsideMarks, is_marked}
 use Rattle.f77_differences.proofs.Agreeing.{agree_refl}
 use Rattle.f77_differences.proofs.Holding.{same_table, spans_read}
 
 -- at a statement that is the same in both programs
 pub moves_elsewhere : (statements changed : List Resolved) (i : ℕ) → AgreeBut i statements changed → PassAlike statements changed i
-    → (differences : Differences) (place : Place) (facts : List Fact) → site place ≢ i → MovesAlike statements statements differences place facts
-    → MovesAlike statements changed differences place facts
+    → (differences : Differences) (place : Place) (facts : List Fact) → site place ≢ i → MovesWithinMarks statements statements differences place facts
+    → MovesWithinMarks statements changed differences place facts
 moves_elsewhere statements changed i agree pass differences place facts differ alike cells others turns move inside same e =
     let made = alike cells others turns move inside same e in
     (made.0, moved_same statements changed i agree pass place others turns differ ∙ made.1, made.2)
 
 -- an end is led to alike
 ended : (differences : Differences) (finish : Finish) (cells : Cells) (other : Move) → IsEnding finish → Alike differences (Ends finish cells) other
-    → (others : Cells) × (other ≡ Ends finish others) × AgreeOutside differences.ending.items cells others
+    → (others : Cells) × (other ≡ Ends finish others) × AgreeOutsideMarks differences.ending.items cells others
 ended differences Returned cells other is alike = alike
 ended differences Stopped cells other is alike = alike
 ended differences StepLimit cells other is alike = absurd is
@@ -53,30 +54,30 @@ ended differences (Failed fault) cells other is alike = absurd is
 module _ (statements changed : List Resolved) (differences : Differences) (entries : List Entry) (inductive : IsInductive statements entries)
     (alike : AllMoveAlike statements changed differences entries (length entries)) where
   -- from states that an entry tells of
-  step : (place : Place) (cells others : Cells) (turns : Turns) (move : Move) → IsAmong entries place cells turns
-      → AgreeOutside (marks_at differences place) cells others → moved statements (state place cells turns) ≡ Some move
+  step : (place : Place) (cells others : Cells) (turns : TurnList) (move : Move) → IsAmong entries place cells turns
+      → AgreeOutsideMarks (marks_at differences place) cells others → moved statements (state place cells turns) ≡ Some move
       → (other : Move) × (moved changed (state place others turns) ≡ Some other) × Alike differences move other
   step place cells others turns move among agree e =
-      let here : MovesAlike statements changed differences among.entry.place among.entry.facts.items
+      let here : MovesWithinMarks statements changed differences among.entry.place among.entry.facts.items
       = alike among.number (slice_get_within entries among.number among.entry among.is) among.entry among.is in
-      subst (λ place. MovesAlike statements changed differences place among.entry.facts.items) among.there here cells others turns move among.inside agree e
+      subst (λ place. MovesWithinMarks statements changed differences place among.entry.facts.items) among.there here cells others turns move among.inside agree e
 
   -- so many moves end alike
-  pub ends_alike : (n : ℕ) (place : Place) (cells others : Cells) (turns : Turns) (finish : Finish) (end : Cells) → IsEnding finish
-      → IsAmong entries place cells turns → AgreeOutside (marks_at differences place) cells others
+  pub ends_alike : (n : ℕ) (place : Place) (cells others : Cells) (turns : TurnList) (finish : Finish) (end : Cells) → IsEnding finish
+      → IsAmong entries place cells turns → AgreeOutsideMarks (marks_at differences place) cells others
       → moved_by statements n (state place cells turns) ≡ Some (Ends finish end)
-      → (last : Cells) × (moved_by changed n (state place others turns) ≡ Some (Ends finish last)) × AgreeOutside differences.ending.items end last
+      → (last : Cells) × (moved_by changed n (state place others turns) ≡ Some (Ends finish last)) × AgreeOutsideMarks differences.ending.items end last
   ends_alike zero place cells others turns finish end is among agree e =
       let same : Goes (state place cells turns) ≡ Ends finish end = cc (e) in absurd (cc (same))
   ends_alike (suc n) place cells others turns finish end is among agree e =
       by (moved statements (state place cells turns)) refl (λ place cells others turns. ends_alike n place cells others turns finish end is) e
     where
       by : (o : Option Move) → moved statements (state place cells turns) ≡ o
-          → ((place : Place) (cells others : Cells) (turns : Turns) → IsAmong entries place cells turns → AgreeOutside (marks_at differences place) cells others
+          → ((place : Place) (cells others : Cells) (turns : TurnList) → IsAmong entries place cells turns → AgreeOutsideMarks (marks_at differences place) cells others
           → moved_by statements n (state place cells turns) ≡ Some (Ends finish end)
-          → (last : Cells) × (moved_by changed n (state place others turns) ≡ Some (Ends finish last)) × AgreeOutside differences.ending.items end last)
+          → (last : Cells) × (moved_by changed n (state place others turns) ≡ Some (Ends finish last)) × AgreeOutsideMarks differences.ending.items end last)
           → option_and_then (then_moved (moved_by statements n)) o ≡ Some (Ends finish end)
-          → (last : Cells) × (moved_by changed (suc n) (state place others turns) ≡ Some (Ends finish last)) × AgreeOutside differences.ending.items end last
+          → (last : Cells) × (moved_by changed (suc n) (state place others turns) ≡ Some (Ends finish last)) × AgreeOutsideMarks differences.ending.items end last
       by None f rest e = absurd (cc (e))
       by (Some (Goes t)) f rest e =
           let made = step place cells others turns (Goes t) among agree f in
@@ -111,7 +112,7 @@ spans_alike cells others (shape ∷ shapes) (first ∷ dummies) each =
     = spans_alike cells others shapes dummies (λ n slot other at shaped j below. each (suc n) slot other at shaped j below) in
     λ i. here i ∷ later i
 
-pub hold_alike : (checked : CheckedFields) (marks : List Bool) (cells others : Cells) → IsChecked checked → AgreeOutside marks cells others
+pub hold_alike : (checked : CheckedFields) (marks : List Bool) (cells others : Cells) → IsChecked checked → AgreeOutsideMarks marks cells others
     → ((n : ℕ) → IsDummyUnmarked marks checked.start.dummies.items checked.arguments n) → HoldAlike checked cells others
 hold_alike checked marks cells others is agree unmarked =
     let p = map line_of checked.program in
@@ -137,7 +138,7 @@ ends_from_start checked changed differences entries arguments is inductive alike
 -- a dummy argument of which no slot is marked
 pub dummy_unmarked : (marks : List Bool) (dummies : List ℕ) (shapes : List Shape) (n start count : ℕ) (shape : Shape)
     → slice_get dummies n ≡ Some start → slice_get shapes n ≡ Some shape → count ≡ size_of shape
-    → ((k : ℕ) → IsReached start count k → is_marked marks k ≡ false) → IsDummyUnmarked marks dummies shapes n
+    → ((k : ℕ) → IsSlotReached start count k → is_marked marks k ≡ false) → IsDummyUnmarked marks dummies shapes n
 dummy_unmarked marks dummies shapes n start count shape at shaped sized none first other is_at is_shaped j below =
     let here : start ≡ first = cc (at, is_at) in
     let same : shape ≡ other = cc (shaped, is_shaped) in

@@ -19,8 +19,8 @@ use Rattle.f77_equivalence.proofs.Alike.{pass_same}
 use Rattle.f77_equivalence.proofs.Ending.{equivalent_where_ends_alike}
 use Rattle.f77_equivalence.proofs.InPlace.{agree_but, change_in_place}
 use Rattle.f77_differences.specs.declared.differences.Differences.{Differences}
-use Rattle.f77_differences.specs.Acting.{AllMoveAlike}
-use Rattle.f77_differences.specs.Dummies.{IsDummyUnmarked}
+use Rattle.f77_differences.specs.code.Acting.{AllMoveAlike}
+use Rattle.f77_differences.specs.code.Dummies.{IsDummyUnmarked}
 use Rattle.f77_differences.proofs.Lockstep.{ends_from_start}
 
 -- what is told of the program with the statement in its place

@@ -4,13 +4,13 @@ use Rattle.std.specs.Prelude.{slice_get, option_map, if◌then◌else◌}
 use Rattle.f77_actions.specs.declared.resolved.Resolved.{Resolved}
 use Rattle.f77_code.specs.declared.control.Place.TheVariants.{Execute, Increment}
 use Rattle.f77_code.specs.declared.control.Turn.{Turn}
-use Rattle.f77_code.specs.Moves.{Cells, Turns, Move, state, acted, incremented, moved, turn_at, is_executed, is_loop}
+use Rattle.f77_code.specs.Moves.{Cells, TurnList, Move, state, acted, incremented, moved, turn_at, is_executed, is_loop}
 use Rattle.f77_facts.specs.declared.facts.Fact.{Fact}
 use Rattle.f77_facts.specs.Facts.{AreIn}
 use Rattle.f77_differences.specs.declared.differences.Differences.{Differences}
-use Rattle.f77_differences.specs.Acting.{MovesAlike, AdvancesAlike}
-use Rattle.f77_differences.specs.Differences.{Alike, marks_at}
-use Rattle.f77_differences.specs.Marks.{AgreeOutside}
+use Rattle.f77_differences.specs.code.Acting.{MovesWithinMarks, AdvancesAlike}
+use Rattle.f77_differences.specs.code.Differences.{Alike, marks_at}
+use Rattle.f77_differences.specs.code.Marks.{AgreeOutsideMarks}
 
 -- what is done at all is done, and is this
 if_done : (b : Bool) (m n : Move) → (if b then Some m else None) ≡ Some n → (b ≡ true) × (m ≡ n)
@@ -27,9 +27,9 @@ turned None f m e = absurd (cc (e))
 
 pub executed : (statements changed : List Resolved) (differences : Differences) (i : ℕ) (r s : Resolved) (facts : List Fact)
     → slice_get statements i ≡ Some r → slice_get changed i ≡ Some s → (is_executed r.action ≡ true → is_executed s.action ≡ true)
-    → ((cells others : Cells) (turns : Turns) → AreIn facts cells → AgreeOutside (marks_at differences (Execute i)) cells others
+    → ((cells others : Cells) (turns : TurnList) → AreIn facts cells → AgreeOutsideMarks (marks_at differences (Execute i)) cells others
     → Alike differences (acted statements i r r.action cells turns) (acted changed i s s.action others turns))
-    → MovesAlike statements changed differences (Execute i) facts
+    → MovesWithinMarks statements changed differences (Execute i) facts
 executed statements changed differences i r s facts own other too alike cells others turns move inside agree e =
     let done : (is_executed r.action ≡ true) × (acted statements i r r.action cells turns ≡ move)
     = if_done (is_executed r.action) (acted statements i r r.action cells turns) move (rw own at e) in
@@ -41,7 +41,7 @@ executed statements changed differences i r s facts own other too alike cells ot
 
 pub advanced : (statements : List Resolved) (differences : Differences) (d : ℕ) (r : Resolved) → slice_get statements d ≡ Some r
     → AdvancesAlike differences statements d (marks_at differences (Increment d)) r.action
-    → (facts : List Fact) → MovesAlike statements statements differences (Increment d) facts
+    → (facts : List Fact) → MovesWithinMarks statements statements differences (Increment d) facts
 advanced statements differences d r own alike facts cells others turns move inside agree e = by it.0 it.1 it.2
   where
     there : (is_loop r.action ≡ true) × (option_map (λ turn. incremented statements d r.action turn cells turns) (turn_at turns d) ≡ Some move)

@@ -2,7 +2,7 @@
 
 ghost use Rattle.std.specs.Prelude.{◌≡◌, ℕ, List, true, IfOk};
 ghost use Rattle.f77_actions.specs.declared.resolved.Resolved.{Resolved};
-ghost use Rattle.f77_differences.specs.Acting.{ActsAlike, ActsAnywhere};
+ghost use Rattle.f77_differences.specs.code.Acting.{ActsWithinMarks, ActsAnywhereWithinMarks};
 
 use crate::differences::{Differences, may_differ, may_differ_at_end};
 use crate::marks::marks_behind;
@@ -26,7 +26,7 @@ fn assigns_number(
     element: &Element,
     number: &Number,
 ) -> Result<bool, AllocError>
-    ensures { IfOk result (λ yes. yes ≡ true → ActsAnywhere differences.now resolved.now facts.now marks.now
+    ensures { IfOk result (λ yes. yes ≡ true → ActsAnywhereWithinMarks differences.now resolved.now facts.now marks.now
         (Action.AssignNumber element.now number.now)) }
 {
     if !names_one_slot(facts, marks, element) {
@@ -49,7 +49,7 @@ fn assigns_truth(
     element: &Element,
     condition: &Condition,
 ) -> Result<bool, AllocError>
-    ensures { IfOk result (λ yes. yes ≡ true → ActsAnywhere differences.now resolved.now facts.now marks.now
+    ensures { IfOk result (λ yes. yes ≡ true → ActsAnywhereWithinMarks differences.now resolved.now facts.now marks.now
         (Action.AssignTruth element.now condition.now)) }
 {
     if !names_one_slot(facts, marks, element) {
@@ -73,7 +73,8 @@ fn jumps_by_sign(
     zero: &Jump,
     positive: &Jump,
 ) -> bool
-    ensures { result ≡ true → (resolved : Resolved) → ActsAnywhere differences.now resolved facts.now marks.now
+    ensures { result ≡ true
+        → (resolved : Resolved) → ActsAnywhereWithinMarks differences.now resolved facts.now marks.now
         (Action.ArithmeticIf value.now negative.now zero.now positive.now) }
 {
     if !has_one_number(facts, marks, value) {
@@ -97,7 +98,7 @@ fn jumps_by_number(
     value: &Number,
     each: &Vec<Jump>,
 ) -> bool
-    ensures { result ≡ true → ActsAnywhere differences.now resolved.now facts.now marks.now
+    ensures { result ≡ true → ActsAnywhereWithinMarks differences.now resolved.now facts.now marks.now
         (Action.ComputedGoto value.now each.now) }
 {
     if !has_one_number(facts, marks, value) {
@@ -118,7 +119,7 @@ fn branches(
     condition: &Condition,
     otherwise: usize,
 ) -> bool
-    ensures { result ≡ true → ActsAnywhere differences.now resolved.now facts.now marks.now
+    ensures { result ≡ true → ActsAnywhereWithinMarks differences.now resolved.now facts.now marks.now
         (Action.Branch condition.now otherwise) }
 {
     if !has_one_truth(facts, marks, condition) {
@@ -140,7 +141,7 @@ fn plainly_acts(
     action: &Action,
 ) -> Result<bool, AllocError>
     ensures { IfOk result (λ yes. yes ≡ true
-        → ActsAnywhere differences.now resolved.now facts.now marks.now action.now) }
+        → ActsAnywhereWithinMarks differences.now resolved.now facts.now marks.now action.now) }
 {
     match action {
         Action::AssignNumber(element, number) => assigns_number(
@@ -199,7 +200,7 @@ fn begins(
     action: &Action,
 ) -> Result<bool, AllocError>
     ensures { IfOk result (λ yes. yes ≡ true → (resolved : Resolved)
-        → ActsAlike differences.now statements.now d resolved facts.now marks.now action.now) }
+        → ActsWithinMarks differences.now statements.now d resolved facts.now marks.now action.now) }
 {
     let Action::Loop {
         variable,
@@ -236,7 +237,7 @@ pub(crate) fn acts(
     action: &Action,
 ) -> Result<bool, AllocError>
     ensures { IfOk result (λ yes. yes ≡ true
-        → ActsAlike differences.now statements.now i resolved.now facts.now marks.now action.now) }
+        → ActsWithinMarks differences.now statements.now i resolved.now facts.now marks.now action.now) }
 {
     match action {
         Action::LogicalIf { condition, action } => {

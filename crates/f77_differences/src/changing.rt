@@ -2,8 +2,8 @@
 
 ghost use Rattle.std.specs.Prelude.{◌≡◌, true};
 ghost use Rattle.f77_code.specs.Moves as moves;
-ghost use Rattle.f77_differences.specs.Changing.{NamesMarked, SetsMarked, SurelySetsSlot, SurelyHasNumber};
-ghost use Rattle.f77_differences.specs.Changing.{SurelyHasTruth, SurelySetsMarked};
+ghost use Rattle.f77_differences.specs.code.Changing.{NamesMarked, SetsMarked, SurelySetsSlot, SurelyHasNumber};
+ghost use Rattle.f77_differences.specs.code.Changing.{SurelyHasTruth, SurelySetsMarked};
 
 use crate::marks::{are_marked, are_marked_in};
 use crate::reading::{has_one_number, has_one_truth, names_one_slot};

@@ -2,14 +2,14 @@
 
 ghost use Rattle.std.specs.Prelude.{◌≡◌, ◌<◌, true, length};
 ghost use Rattle.f77_code.specs.declared.control.Place.TheVariants as place;
-ghost use Rattle.f77_differences.specs.Differences.{marks_in, marks_at};
-ghost use Rattle.f77_differences.specs.Marks.{AreMarkedIn};
+ghost use Rattle.f77_differences.specs.code.Differences.{marks_in, marks_at};
+ghost use Rattle.f77_differences.specs.code.Marks.{AreMarkedIn};
 
 use crate::marks::are_marked_in;
 use f77_code::Place;
 
-/// For each place, a mark for each slot that may hold something else in a changed program than in the program. Statements and slots
-/// are numbered from 0.
+/// For each place, a mark for each slot that may hold something else in a changed
+/// program than in the program. Statements and slots are numbered from 0.
 #[derive(Drop)]
 pub struct Differences {
     /// Where control is at a statement that is to be executed, by its number.

@@ -2,7 +2,7 @@
 
 ghost use Rattle.std.specs.Prelude.{◌≡◌, ◌<◌, ℕ, true, length, slice_get, Some};
 ghost use Rattle.f77_run.specs.Spans.{size_of};
-ghost use Rattle.f77_differences.specs.Dummies.{IsDummyUnmarked};
+ghost use Rattle.f77_differences.specs.code.Dummies.{IsDummyUnmarked};
 
 use crate::differences::{Differences, ending_of};
 use crate::marks::are_unmarked;

@@ -1,7 +1,7 @@
 //! Marks of the slots that may differ in two programs.
 
 ghost use Rattle.std.specs.Prelude.{◌≡◌, true, false, slice_set, IfOk};
-ghost use Rattle.f77_differences.specs.Marks.{is_marked, AreMarkedIn, AreUnmarked, AreMarked, IsSetAlike};
+ghost use Rattle.f77_differences.specs.code.Marks.{is_marked, AreMarkedIn, AreUnmarked, AreMarked, IsSetAlike};
 
 use f77_facts::reaching::{Reach, end_of};
 use std::alloc::{AllocError, Global};

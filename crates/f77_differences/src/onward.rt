@@ -2,9 +2,9 @@
 
 ghost use Rattle.std.specs.Prelude.{◌≡◌, ◌<◌, ℕ, true, length, slice_get, Some};
 ghost use Rattle.f77_code.specs.declared.control.Place.TheVariants as place;
-ghost use Rattle.f77_differences.specs.Acting.{GoesOnAlike, JumpsAlike, AllJumpAlike, PassesAlike};
-ghost use Rattle.f77_differences.specs.Differences.{marks_at};
-ghost use Rattle.f77_differences.specs.Marks.{AreMarkedIn};
+ghost use Rattle.f77_differences.specs.code.Acting.{GoesOnAlike, JumpsAlike, AllJumpAlike, PassesWithinMarks};
+ghost use Rattle.f77_differences.specs.code.Differences.{marks_at};
+ghost use Rattle.f77_differences.specs.code.Marks.{AreMarkedIn};
 
 use crate::differences::{Differences, may_differ};
 use f77_actions::{Jump, Resolved};
@@ -62,7 +62,7 @@ pub(crate) fn passes(
     d: usize,
     terminal: usize,
 ) -> bool
-    ensures { result ≡ true → PassesAlike differences.now marks.now statements.now d terminal }
+    ensures { result ≡ true → PassesWithinMarks differences.now marks.now statements.now d terminal }
 {
     if statements.len() <= d || statements.len() <= terminal {
         return false;

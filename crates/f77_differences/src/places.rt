@@ -4,7 +4,7 @@ ghost use Rattle.std.specs.Prelude.{◌≡◌, ℕ, List, true, slice_get, Some,
 ghost use Rattle.f77_actions.specs.declared.resolved.Resolved.{Resolved};
 ghost use Rattle.f77_code.specs.declared.control.Place.TheVariants as place;
 ghost use Rattle.f77_facts.specs.declared.facts.Fact.{Fact};
-ghost use Rattle.f77_differences.specs.Acting.{AdvancesAlike, MovesAlike};
+ghost use Rattle.f77_differences.specs.code.Acting.{AdvancesAlike, MovesWithinMarks};
 
 use crate::acting::acts;
 use crate::changing::{sets_marked, surely_sets_marked};
@@ -18,7 +18,8 @@ use f77_facts::reaching::one_slot;
 use f77_tree::Shared;
 use std::alloc::{AllocError, Global};
 
-/// From states where control is at the statement, of which the facts tell, it leads to states that differ no more than allowed.
+/// From states where control is at the statement, of which the
+/// facts tell, it leads to states that differ no more than allowed.
 pub(crate) fn executes_alike(
     alloc: Global,
     differences: &Differences,
@@ -27,7 +28,7 @@ pub(crate) fn executes_alike(
     facts: &[Fact],
 ) -> Result<bool, AllocError>
     ensures { IfOk result (λ yes. yes ≡ true
-        → MovesAlike statements.now statements.now differences.now (place.Execute i) facts.now) }
+        → MovesWithinMarks statements.now statements.now differences.now (place.Execute i) facts.now) }
 {
     if statements.len() <= i || differences.executing.len() <= i {
         return Ok(false);
@@ -82,7 +83,7 @@ pub(crate) fn increments_alike(
     d: usize,
 ) -> Result<bool, AllocError>
     ensures { IfOk result (λ yes. yes ≡ true → (facts : List Fact)
-        → MovesAlike statements.now statements.now differences.now (place.Increment d) facts) }
+        → MovesWithinMarks statements.now statements.now differences.now (place.Increment d) facts) }
 {
     if statements.len() <= d || differences.incrementing.len() <= d {
         return Ok(false);
@@ -102,7 +103,8 @@ pub(crate) fn changes_alike(
     facts: &[Fact],
 ) -> bool
     ensures { result ≡ true → (statements changed : List Resolved) → slice_get statements i ≡ Some own.now
-        → slice_get changed i ≡ Some other.now → MovesAlike statements changed differences.now (place.Execute i) facts.now }
+        → slice_get changed i ≡ Some other.now
+        → MovesWithinMarks statements changed differences.now (place.Execute i) facts.now }
 {
     if differences.executing.len() <= i {
         return false;

@@ -6,7 +6,7 @@ ghost use Rattle.f77_values.specs.Value.{given, whole, logic};
 ghost use Rattle.f77_code.specs.Evaluation.{held_in};
 ghost use Rattle.f77_code.specs.Moves.{Cells};
 ghost use Rattle.f77_facts.specs.Facts.{AreIn};
-ghost use Rattle.f77_differences.specs.Reading.{OneSlot, OneNumber, OneTruth};
+ghost use Rattle.f77_differences.specs.code.Reading.{OneSlot, OneNumber, OneTruth};
 
 use crate::marks::are_unmarked;
 use f77_actions::{Condition, Element, Number};

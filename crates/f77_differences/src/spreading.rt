@@ -1,5 +1,5 @@
-//! Finds which slots may differ where control is, from those that the changed statement sets on. Nothing is claimed of what is found:
-//! it is to be checked.
+//! Finds which slots may differ where control is, from those that the changed
+//! statement sets on. Nothing is claimed of what is found: it is to be checked.
 
 use crate::differences::Differences;
 use crate::marking::{mark_all, mark_set};
@@ -290,7 +290,8 @@ fn marks_at_end(alloc: Global, checked: &Checked) -> Result<Vec<bool>, AllocErro
     Ok(marks)
 }
 
-/// Which slots may differ where control is, in the program with another statement in the place of the statement `changed`.
+/// Which slots may differ where control is, in the program with
+/// another statement in the place of the statement `changed`.
 pub(crate) fn differences_of(
     alloc: Global,
     checked: &Checked,

@@ -5,7 +5,7 @@ ghost use Rattle.f77_actions.specs.declared.resolved.Resolved.{Resolved};
 ghost use Rattle.f77_code.specs.declared.control.Place.TheVariants as places;
 ghost use Rattle.f77_facts.specs.declared.facts.Fact.{Fact};
 ghost use Rattle.f77_equivalence.specs.Alike.{AgreeBut, PassAlike};
-ghost use Rattle.f77_differences.specs.Acting.{MovesAlike, AllMoveAlike};
+ghost use Rattle.f77_differences.specs.code.Acting.{MovesWithinMarks, AllMoveAlike};
 
 use crate::differences::Differences;
 use crate::places::{changes_alike, executes_alike, increments_alike};
@@ -17,8 +17,8 @@ use f77_facts::facts::Fact;
 use f77_tree::Shared;
 use std::alloc::{AllocError, Global};
 
-/// From states where control is at the statement `place`, of which the facts tell, both programs make like steps. Only the statement `i`
-/// may be another one in the changed program.
+/// From states where control is at the statement `place`, of which the facts tell, both
+/// programs make like steps. Only the statement `i` may be another one in the changed program.
 fn executes(
     alloc: Global,
     differences: &Differences,
@@ -31,7 +31,7 @@ fn executes(
     requires { i < length statements.now }
     ensures { IfOk result (λ yes. yes ≡ true → (changed : List Resolved) → AgreeBut i statements.now changed
         → PassAlike statements.now changed i → slice_get changed i ≡ Some other.now
-        → MovesAlike statements.now changed differences.now (places.Execute place) facts.now) }
+        → MovesWithinMarks statements.now changed differences.now (places.Execute place) facts.now) }
 {
     if place == i {
         let own = statement_at(statements, i);
@@ -51,7 +51,7 @@ fn increments(
 ) -> Result<bool, AllocError>
     ensures { IfOk result (λ yes. yes ≡ true → (changed : List Resolved) → AgreeBut i statements.now changed
         → PassAlike statements.now changed i → (facts : List Fact)
-        → MovesAlike statements.now changed differences.now (places.Increment place) facts) }
+        → MovesWithinMarks statements.now changed differences.now (places.Increment place) facts) }
 {
     if place == i {
         return Ok(false);
@@ -71,7 +71,7 @@ fn moves_alike(
     requires { i < length statements.now }
     ensures { IfOk result (λ yes. yes ≡ true → (changed : List Resolved) → AgreeBut i statements.now changed
         → PassAlike statements.now changed i → slice_get changed i ≡ Some other.now
-        → MovesAlike statements.now changed differences.now entry.now.place entry.now.facts.items) }
+        → MovesWithinMarks statements.now changed differences.now entry.now.place entry.now.facts.items) }
 {
     match entry.place {
         Place::Execute(place) => executes(

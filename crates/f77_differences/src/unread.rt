@@ -20,8 +20,9 @@ use f77_facts::entries::Entry;
 use f77_tree::{Shared, Stmt};
 use std::alloc::{AllocError, Global};
 
-/// Whether the program with this statement in the place of the one of this number, from 1, differs in no more than what slots hold that
-/// are not read before they are set, and does not fault where the program does not. The entries are those of the program.
+/// Whether the program with this statement in the place of the one of this number, from
+/// 1, differs in no more than what slots hold that are not read before they are set,
+/// and does not fault where the program does not. The entries are those of the program.
 pub fn is_unread(
     alloc: Global,
     checked: &Checked,
@@ -35,7 +36,8 @@ pub fn is_unread(
     requires in_place { IsInPlace checked.now number (statement_of stmt.now) resolved.now }
     ensures { IfOk result (λ yes. yes ≡ true → HoldsStart checked.now entries.now
         → IsInductive checked.now.statements entries.now
-        → IsEquivalent (map line_of checked.now.program) (patched (map line_of checked.now.program) number (statement_of stmt.now))) }
+        → IsEquivalent (map line_of checked.now.program)
+        (patched (map line_of checked.now.program) number (statement_of stmt.now))) }
 {
     let statements = checked.statements();
     let i = number - 1;

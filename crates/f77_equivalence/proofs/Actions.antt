@@ -14,14 +14,15 @@ use Rattle.f77_values.specs.declared.finish.Finish.TheVariants.{Returned, Stoppe
 use Rattle.f77_values.specs.declared.value.Value.TheVariants as held
 use Rattle.f77_values.specs.Number.{trip_count}
 use Rattle.f77_code.specs.declared.control.Place.TheVariants.{Execute}
-use Rattle.f77_code.specs.Choice.{numbered}
+use Rattle.f77_code.specs.Choice.{item_chosen}
 use Rattle.f77_code.specs.Evaluation.{slot_in, number_in, truth_in}
-use Rattle.f77_code.specs.Moves.{Cells, Turns, Move, Goes, Ends, state, used, chosen, acted, begun, go_on, jump_to}
+use Rattle.f77_code.specs.Moves.{Cells, TurnList, Move, Goes, Ends, state, used, jump_chosen, acted, begun, go_on, jump_to}
 use Rattle.f77_facts.specs.declared.facts.Fact.{Fact}
 use Rattle.f77_facts.specs.Facts.{AreIn}
 use Rattle.f77_facts.specs.Refining.{Refines}
 use Rattle.f77_equivalence.specs.Same.{Agrees, SameSlot, SameNumber, SameTruth, Follows}
-use Rattle.f77_equivalence.specs.Alike.{JumpAlike, PassAlike, ActsAlike, GuardedAlike, GuardedActsAs, ActsAsGuarded}
+use Rattle.f77_equivalence.specs.Alike.{JumpAlike, PassAlike, ActsAlike}
+use Rattle.f77_equivalence.specs.code.Alike.{GuardedAlike, GuardedActsAs, ActsAsGuarded}
 
 pub one_follows : (m n : Move) → n ≡ m → Follows m n
 one_follows (Goes s) n e = e
@@ -67,31 +68,31 @@ pub gone_to : (facts : List Fact) (one other : Jump) → JumpAlike one other →
 gone_to facts one other alike statements others i r s cells turns on pass inside = alike cells turns
 
 pub gone_to_numbered : (facts : List Fact) (x y : Number) (ones others : Vec Jump Global) → SameNumber facts x y
-    → ((z : ℤ) (move : Move) (cells : Cells) (turns : Turns) → option_map_or (λ jump. jump_to jump cells turns) (numbered others.items z) move
-    ≡ option_map_or (λ jump. jump_to jump cells turns) (numbered ones.items z) move)
+    → ((z : ℤ) (move : Move) (cells : Cells) (turns : TurnList) → option_map_or (λ jump. jump_to jump cells turns) (item_chosen others.items z) move
+    ≡ option_map_or (λ jump. jump_to jump cells turns) (item_chosen ones.items z) move)
     → ActsAlike facts (ComputedGoto x ones) (ComputedGoto y others)
 gone_to_numbered facts x y ones twos same each statements others i r s cells turns on pass inside =
     used_follows (number_in cells x) (number_in cells y) cells
-    (λ z. option_map_or (λ jump. jump_to jump cells turns) (numbered ones.items z) (go_on r cells turns))
-    (λ z. option_map_or (λ jump. jump_to jump cells turns) (numbered twos.items z) (go_on s cells turns)) (same cells inside)
-    (λ z _. one_follows (option_map_or (λ jump. jump_to jump cells turns) (numbered ones.items z) (go_on r cells turns))
-    (option_map_or (λ jump. jump_to jump cells turns) (numbered twos.items z) (go_on s cells turns))
-    (ap (λ move. option_map_or (λ jump. jump_to jump cells turns) (numbered twos.items z) move) (on cells turns) ∙ each z (go_on r cells turns) cells turns))
+    (λ z. option_map_or (λ jump. jump_to jump cells turns) (item_chosen ones.items z) (go_on r cells turns))
+    (λ z. option_map_or (λ jump. jump_to jump cells turns) (item_chosen twos.items z) (go_on s cells turns)) (same cells inside)
+    (λ z _. one_follows (option_map_or (λ jump. jump_to jump cells turns) (item_chosen ones.items z) (go_on r cells turns))
+    (option_map_or (λ jump. jump_to jump cells turns) (item_chosen twos.items z) (go_on s cells turns))
+    (ap (λ move. option_map_or (λ jump. jump_to jump cells turns) (item_chosen twos.items z) move) (on cells turns) ∙ each z (go_on r cells turns) cells turns))
 
 -- branches
 pub branched : (facts : List Fact) (c d : Condition) (t u : ℕ) → t ≡ u → SameTruth facts c d → ActsAlike facts (Branch c t) (Branch d u)
 branched facts c d t u e same statements others i r s cells turns on pass inside =
     used_follows (truth_in cells c) (truth_in cells d) cells
-    (λ b. chosen b (go_on r cells turns) (Goes (state (Execute t) cells turns)))
-    (λ b. chosen b (go_on s cells turns) (Goes (state (Execute u) cells turns))) (same cells inside) (λ b _. by b)
+    (λ b. jump_chosen b (go_on r cells turns) (Goes (state (Execute t) cells turns)))
+    (λ b. jump_chosen b (go_on s cells turns) (Goes (state (Execute u) cells turns))) (same cells inside) (λ b _. by b)
   where
-    by : (b : Bool) → Follows (chosen b (go_on r cells turns) (Goes (state (Execute t) cells turns)))
-        (chosen b (go_on s cells turns) (Goes (state (Execute u) cells turns)))
+    by : (b : Bool) → Follows (jump_chosen b (go_on r cells turns) (Goes (state (Execute t) cells turns)))
+        (jump_chosen b (go_on s cells turns) (Goes (state (Execute u) cells turns)))
     by true = on cells turns
     by false = ap (λ n. Goes (state (Execute n) cells turns)) (sym e)
 
 -- DOs
-pub begun_alike : (statements others : List Resolved) (d variable t : ℕ) (a b step : ℤ) (cells : Cells) (turns : Turns) → PassAlike statements others t
+pub begun_alike : (statements others : List Resolved) (d variable t : ℕ) (a b step : ℤ) (cells : Cells) (turns : TurnList) → PassAlike statements others t
     → begun others d variable t a b step cells turns ≡ begun statements d variable t a b step cells turns
 begun_alike statements others d variable t a b (pos zero) cells turns alike = refl
 begun_alike statements others d variable t a b (pos (suc m)) cells turns alike =
@@ -121,11 +122,11 @@ pub guards_same : (facts within : List Fact) (c d : Condition) (one other : Acti
     → GuardedAlike facts c one d other
 guards_same facts within c d one other same refines acts statements others i r s cells turns on pass inside =
     used_follows (truth_in cells c) (truth_in cells d) cells
-    (λ b. chosen b (acted statements i r one cells turns) (go_on r cells turns))
-    (λ b. chosen b (acted others i s other cells turns) (go_on s cells turns)) (same cells inside) by
+    (λ b. jump_chosen b (acted statements i r one cells turns) (go_on r cells turns))
+    (λ b. jump_chosen b (acted others i s other cells turns) (go_on s cells turns)) (same cells inside) by
   where
-    by : (b : Bool) → truth_in cells c ≡ Ok b → Follows (chosen b (acted statements i r one cells turns) (go_on r cells turns))
-        (chosen b (acted others i s other cells turns) (go_on s cells turns))
+    by : (b : Bool) → truth_in cells c ≡ Ok b → Follows (jump_chosen b (acted statements i r one cells turns) (go_on r cells turns))
+        (jump_chosen b (acted others i s other cells turns) (go_on s cells turns))
     by true e = acts statements others i r s cells turns on pass (refines cells inside e)
     by false e = on cells turns
 

@@ -6,12 +6,12 @@ use Rattle.std.proofs.lemmas.Bool.{cases_lt}
 use Rattle.std.proofs.lemmas.Option.{slice_get_past}
 use Rattle.f77_actions.specs.declared.action.Jump.{Jump}
 use Rattle.f77_actions.specs.declared.resolved.Resolved.{Resolved}
-use Rattle.f77_code.specs.Choice.{numbered}
-use Rattle.f77_code.specs.Moves.{Cells, Turns, Move, jump_to, passing}
+use Rattle.f77_code.specs.Choice.{item_chosen}
+use Rattle.f77_code.specs.Moves.{Cells, TurnList, Move, jump_to, passing}
 use Rattle.f77_facts.proofs.Slots.{got_within}
 use Rattle.f77_equivalence.specs.Alike.{GoOnAlike, JumpAlike, PassAlike}
 
-passing_same : (r s : Resolved) → GoOnAlike r s → (d passes : ℕ) (step : ℤ) (cells : Cells) (turns : Turns)
+passing_same : (r s : Resolved) → GoOnAlike r s → (d passes : ℕ) (step : ℤ) (cells : Cells) (turns : TurnList)
     → passing s d passes step cells turns ≡ passing r d passes step cells turns
 passing_same r s alike d zero step cells turns = alike cells (slice_set turns d None)
 passing_same r s alike d (suc k) step cells turns = refl
@@ -32,8 +32,8 @@ one_pair ones others k a b e f alike one other g h =
     subst (λ j. JumpAlike one j) q (subst (λ j. JumpAlike j b) p alike)
 
 pub all_pairs : (ones others : List Jump) → length ones ≡ length others → ((k : ℕ) → k < length ones → PairAlike ones others k)
-    → (z : ℤ) (move : Move) (cells : Cells) (turns : Turns)
-    → option_map_or (λ jump. jump_to jump cells turns) (numbered others z) move ≡ option_map_or (λ jump. jump_to jump cells turns) (numbered ones z) move
+    → (z : ℤ) (move : Move) (cells : Cells) (turns : TurnList)
+    → option_map_or (λ jump. jump_to jump cells turns) (item_chosen others z) move ≡ option_map_or (λ jump. jump_to jump cells turns) (item_chosen ones z) move
 all_pairs ones others same each (pos zero) move cells turns = refl
 all_pairs ones others same each (negsuc m) move cells turns = refl
 all_pairs ones others same each (pos (suc n)) move cells turns = by (cases_lt n (length ones))

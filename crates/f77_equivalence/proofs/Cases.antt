@@ -10,7 +10,7 @@ use Rattle.f77_facts.specs.declared.facts.Fact.{Fact}
 use Rattle.f77_facts.specs.Facts.{AreIn}
 use Rattle.f77_facts.proofs.Used.{used_for, both_used}
 use Rattle.f77_linear.specs.Conditions.{HasTruthOf}
-use Rattle.f77_equivalence.specs.Cases.{SameWhere}
+use Rattle.f77_equivalence.specs.code.Cases.{SameWhere}
 use Rattle.f77_equivalence.specs.Same.{Agrees, SameTruth}
 
 pub both_cases : (facts : List Fact) (part c d : Condition)

@@ -18,10 +18,11 @@ use Rattle.f77_run.specs.declared.outcome.Outcome.{Outcome}
 use Rattle.f77_run.specs.declared.outcome.Outcome.TheVariants as outcome
 use Rattle.f77_run.specs.Control.{Comes}
 use Rattle.f77_run.specs.Endless.{Reaches}
-use Rattle.f77_run.specs.Interpreter.{AreFitting, AreArguments, IsOutcomeOf, Tells, told, values_in}
+use Rattle.f77_run.specs.Interpreter.{AreFitting, AreArguments, IsOutcomeOf, Tells, told_outcome, values_in}
 use Rattle.f77_run.specs.Machine.{config_of, values_of}
 use Rattle.f77_run.specs.Outcome.{IsOutcome}
-use Rattle.f77_run.specs.Running.{Site, values_at}
+use Rattle.f77_run.specs.Running.{RunSite}
+use Rattle.f77_run.specs.code.Running.{values_at}
 use Rattle.f77_run.specs.Site.{site_of}
 use Rattle.f77_run.specs.Start.{IsStart, argument_values}
 use Rattle.f77_run.specs.Step.{Config}
@@ -31,14 +32,15 @@ use Rattle.f77_run.proofs.OneAnswer.{one_start}
 use Rattle.f77_run.proofs.OneWay.{one_outcome}
 use Rattle.f77_run.proofs.Runs.{stands_for}
 use Rattle.f77_run.proofs.Unreached.{starts_same, tells_same}
-use Rattle.f77_equivalence.specs.Changed.{EndsAlike, EndsAlikeWithin, EquivalentWhereEndsAlike, HoldAlike, IsChange, IsEnding}
+use Rattle.f77_equivalence.specs.Changed.{EndsAlike, EquivalentWhereEndsAlike, HoldAlike, IsChange, IsEnding}
+use Rattle.f77_equivalence.proofs.Changed.{EndsAlikeWithin}
 use Rattle.f77_equivalence.specs.Equivalent.{IsEnd}
 use Rattle.f77_equivalence.specs.Start.{start_state}
 use Rattle.f77_equivalence.specs.Storable.{AreStorable}
 use Rattle.f77_equivalence.proofs.Throughout.{runs_there, starts_there}
 
 -- no fault is told as an end
-told_otherwise : (fault : Fault) → IsEnd (told fault) → ⊥
+told_otherwise : (fault : Fault) → IsEnd (told_outcome fault) → ⊥
 told_otherwise fault.Overflow end = end
 told_otherwise fault.DivideByZero end = end
 told_otherwise fault.ZeroPower end = end
@@ -78,10 +80,10 @@ module _ (checked : CheckedFields) (i : ℕ) (program : List LineFields) (change
   p = map line_of checked.program
 
   -- the site of the program, and that of the changed one
-  abbrev at : Site
+  abbrev at : RunSite
   at = site_of checked arguments
 
-  abbrev there : Site
+  abbrev there : RunSite
   there = record { program = program; names = checked.names; given = map values_in arguments }
 
   abbrev start : State

@@ -13,3 +13,4 @@ pub mod Ending
 pub mod Equivalence
 pub mod StartSlots
 pub mod InPlace
+pub mod Changed

@@ -15,10 +15,11 @@ use Rattle.f77_code.specs.Moves.{State, state, Move, Goes, Ends, moved}
 use Rattle.f77_facts.specs.declared.entries.Entry.{Entry}
 use Rattle.f77_facts.specs.Entries.{IsAmong, IsInductive}
 use Rattle.f77_run.specs.declared.argument.Arg.{Arg}
-use Rattle.f77_run.specs.Machine.{config_of, next_of, placed}
+use Rattle.f77_run.specs.Machine.{config_of, placed_in_run}
+use Rattle.f77_run.specs.code.Machine.{next_of}
 use Rattle.f77_run.specs.Outcome.{IsOutcome}
-use Rattle.f77_run.specs.Reached.{number_of}
-use Rattle.f77_run.specs.Running.{Site}
+use Rattle.f77_run.specs.Reached.{statement_number}
+use Rattle.f77_run.specs.Running.{RunSite}
 use Rattle.f77_run.specs.Site.{site_of}
 use Rattle.f77_run.specs.Step as run
 use Rattle.f77_run.specs.Step.{Config, Next, Step}
@@ -57,7 +58,7 @@ module _ (checked : CheckedFields) (i : ℕ) (program : List LineFields) (change
   abbrev p : List LineFields
   p = map line_of checked.program
 
-  abbrev at : Site
+  abbrev at : RunSite
   at = site_of checked arguments
 
   bounds : bounds_of program ≡ bounds_of p
@@ -73,7 +74,7 @@ module _ (checked : CheckedFields) (i : ℕ) (program : List LineFields) (change
 
   -- where control is at the changed statement
   same_there : (t : State) (n : Next) → IsRunningIn at checked.statements t → IsAmong entries t.place t.cells t.turns → LeadsSafely n
-      → number_of (placed t.place) ≡ i → Step p (stands_for at t) n → Step program (stands_for at t) n
+      → statement_number (placed_in_run t.place) ≡ i → Step p (stands_for at t) n → Step program (stands_for at t) n
   same_there t n running among safe here step = by (moved checked.statements t) refl (moves_in at checked.statements t running)
     where
       by : (o : Option Move) → moved checked.statements t ≡ o → IsSome o → Step program (stands_for at t) n
@@ -81,7 +82,7 @@ module _ (checked : CheckedFields) (i : ℕ) (program : List LineFields) (change
       by (Some move) e some =
           let one : n ≡ next_of (bounds_of p) checked.names move
           = one_successor p (stands_for at t) n (next_of (bounds_of p) checked.names move) step (step_in at checked.statements t move running e) in
-          let made = same among.number among.entry among.is (ap (λ place. number_of (placed place)) among.there ∙ here) t.cells t.turns move
+          let made = same among.number among.entry among.is (ap (λ place. statement_number (placed_in_run place)) among.there ∙ here) t.cells t.turns move
           among.inside among.left
           (subst (λ place. moved checked.statements (state place t.cells t.turns) ≡ Some move) (sym among.there) e) in
           let other : moved changed t ≡ Some made.0
@@ -92,7 +93,7 @@ module _ (checked : CheckedFields) (i : ℕ) (program : List LineFields) (change
   -- wherever it is
   pub same_step : (t : State) (n : Next) → IsRunningIn at checked.statements t → IsAmong entries t.place t.cells t.turns → LeadsSafely n
       → Step p (stands_for at t) n → Step program (stands_for at t) n
-  same_step t n running among safe step = elim (eqb_tells (number_of (placed t.place)) i) [
+  same_step t n running among safe step = elim (eqb_tells (statement_number (placed_in_run t.place)) i) [
     | inl here ↦ same_there t n running among safe here.1 step
     | inr apart ↦ step_same p program change.frame i change.others (stands_for at t) n apart.1 step
   ]

@@ -12,7 +12,7 @@ use Rattle.f77_code.specs.declared.control.Place.{Place}
 use Rattle.f77_code.specs.declared.control.Place.TheVariants.{Execute, Increment}
 use Rattle.f77_code.specs.declared.control.Turn.{Turn}
 use Rattle.f77_code.specs.Evaluation.{held_in, number_in, truth_in}
-use Rattle.f77_code.specs.Moves.{Cells, Turns, Move, Goes, state, used, chosen, acted, begun, incremented, go_on, passing, passing_at, moved, turn_at, is_executed, is_loop}
+use Rattle.f77_code.specs.Moves.{Cells, TurnList, Move, Goes, state, used, jump_chosen, acted, begun, incremented, go_on, passing, passing_at, moved, turn_at, is_executed, is_loop}
 use Rattle.f77_facts.specs.declared.facts.Fact.{Fact}
 use Rattle.f77_facts.specs.declared.loops.LoopFact.{LoopFact}
 use Rattle.f77_facts.proofs.Slots.{same_or_not}
@@ -54,7 +54,7 @@ if_there false o n e = absurd (cc (e))
 
 pub incremented_alike : (statements others : List Resolved) (d : ℕ) (r s : Resolved) → slice_get statements d ≡ Some r → slice_get others d ≡ Some s
     → is_loop s.action ≡ true
-    → ((turn : Turn) (cells : Cells) (turns : Turns) → incremented others d s.action turn cells turns ≡ incremented statements d r.action turn cells turns)
+    → ((turn : Turn) (cells : Cells) (turns : TurnList) → incremented others d s.action turn cells turns ≡ incremented statements d r.action turn cells turns)
     → (facts : List Fact) (loops : List LoopFact) → SameMoves statements others (Increment d) facts loops
 incremented_alike statements others d r s own other is_do alike facts loops cells turns move inside left e = by it.0 it.1 it.2
   where
@@ -94,12 +94,12 @@ module _ (statements others : List Resolved) (changed : ℕ) (agree : AgreeBut c
   passes_same (Loop variable first last step t) = every_pass t
   passes_same _ = tt
 
-  acted_same : (i : ℕ) (r : Resolved) (action : Action) (cells : Cells) (turns : Turns)
+  acted_same : (i : ℕ) (r : Resolved) (action : Action) (cells : Cells) (turns : TurnList)
       → acted others i r action cells turns ≡ acted statements i r action cells turns
   acted_same i r (LogicalIf' x p action) cells turns =
-      used_same (truth_in cells x) cells (λ b. chosen b (acted statements i r action cells turns) (go_on r cells turns))
-      (λ b. chosen b (acted others i r action cells turns) (go_on r cells turns))
-      (λ b. ap (λ m. chosen b m (go_on r cells turns)) (acted_same i r action cells turns))
+      used_same (truth_in cells x) cells (λ b. jump_chosen b (acted statements i r action cells turns) (go_on r cells turns))
+      (λ b. jump_chosen b (acted others i r action cells turns) (go_on r cells turns))
+      (λ b. ap (λ m. jump_chosen b m (go_on r cells turns)) (acted_same i r action cells turns))
   acted_same i r (Loop variable first last step t) cells turns =
       used_same (number_in cells first) cells
       (λ a. used (number_in cells last) cells (λ b. used (number_in cells step) cells (λ c. begun statements i variable t a b c cells turns)))
@@ -112,7 +112,7 @@ module _ (statements others : List Resolved) (changed : ℕ) (agree : AgreeBut c
       (λ c. begun_alike statements others i variable t a b c cells turns (every_pass t))))
   acted_same i r _ cells turns = refl
 
-  incremented_same : (d : ℕ) (action : Action) (turn : Turn) (cells : Cells) (turns : Turns)
+  incremented_same : (d : ℕ) (action : Action) (turn : Turn) (cells : Cells) (turns : TurnList)
       → incremented others d action turn cells turns ≡ incremented statements d action turn cells turns
   incremented_same d (Loop variable first last step t) turn cells turns =
       used_same (whole (held_in cells variable)) cells
@@ -126,26 +126,26 @@ module _ (statements others : List Resolved) (changed : ℕ) (agree : AgreeBut c
       (λ next. every_pass t d (turn.passes - 1) turn.step (slice_set cells variable (Some (held.Number next))) turns))
   incremented_same d _ turn cells turns = refl
 
-  executed_same : (i : ℕ) (o : Option Resolved) (cells : Cells) (turns : Turns)
+  executed_same : (i : ℕ) (o : Option Resolved) (cells : Cells) (turns : TurnList)
       → option_and_then (λ r. if is_executed r.action then Some (acted others i r r.action cells turns) else None) o
       ≡ option_and_then (λ r. if is_executed r.action then Some (acted statements i r r.action cells turns) else None) o
   executed_same i None cells turns = refl
   executed_same i (Some r) cells turns =
       ap (λ m. if is_executed r.action then Some m else None) (acted_same i r r.action cells turns)
 
-  turned_same : (d : ℕ) (r : Resolved) (cells : Cells) (turns : Turns) (o : Option Turn)
+  turned_same : (d : ℕ) (r : Resolved) (cells : Cells) (turns : TurnList) (o : Option Turn)
       → option_map (λ turn. incremented others d r.action turn cells turns) o ≡ option_map (λ turn. incremented statements d r.action turn cells turns) o
   turned_same d r cells turns None = refl
   turned_same d r cells turns (Some turn) = ap (λ m. Some m) (incremented_same d r.action turn cells turns)
 
-  advanced_same : (d : ℕ) (o : Option Resolved) (cells : Cells) (turns : Turns)
+  advanced_same : (d : ℕ) (o : Option Resolved) (cells : Cells) (turns : TurnList)
       → option_and_then (λ r. if is_loop r.action then option_map (λ turn. incremented others d r.action turn cells turns) (turn_at turns d) else None) o
       ≡ option_and_then (λ r. if is_loop r.action then option_map (λ turn. incremented statements d r.action turn cells turns) (turn_at turns d) else None) o
   advanced_same d None cells turns = refl
   advanced_same d (Some r) cells turns =
       ap (λ (m : Option Move). if is_loop r.action then m else None) (turned_same d r cells turns (turn_at turns d))
 
-  pub moved_same : (place : Place) (cells : Cells) (turns : Turns) → site place ≢ changed
+  pub moved_same : (place : Place) (cells : Cells) (turns : TurnList) → site place ≢ changed
       → moved others (state place cells turns) ≡ moved statements (state place cells turns)
   moved_same (Execute i) cells turns differ = rw (agree i differ) (executed_same i (slice_get others i) cells turns)
   moved_same (Increment d) cells turns differ = rw (agree d differ) (advanced_same d (slice_get others d) cells turns)

@@ -1,5 +1,6 @@
 -- What slots hold where a run starts.
-use Rattle.std.proofs.Common.{arith, ◌≡◌, ◌≢◌, ◌⊎◌, ◌+◌, ◌≤◌, ◌<◌, ◌&&◌, ℕ, zero, suc, Bool, true, false, true≢false, min, inl, inr, List, [], ◌∷◌, length, map, Option, Some, None, refl, sym, ap, subst, ◌∙◌, ℤ}
+use Rattle.std.proofs.Common.{arith, ◌≡◌, ◌≢◌, ◌⊎◌, ◌+◌, ◌≤◌, ◌<◌, ◌&&◌, ℕ, zero, suc, Bool, true, false, true≢false, min}
+use Rattle.std.proofs.Common.{inl, inr, List, [], ◌∷◌, length, map, Option, Some, None, refl, sym, ap, subst, ◌∙◌, ℤ}
 use Rattle.std.specs.Prelude.{Ok, option_map, replicate, slice_get, slice_set}
 use Rattle.std.specs.List.{list_all, zip}
 use Rattle.std.specs.Option.{option_and_then}
@@ -33,12 +34,13 @@ use Rattle.f77_facts.proofs.Slots.{got_other, got_same, got_within, same_or_not}
 use Rattle.f77_run.specs.declared.argument.Arg.{Arg}
 use Rattle.f77_run.specs.declared.argument.Arg.TheVariants.{Int, Truth, Ints, Truths as TruthList}
 use Rattle.f77_run.specs.Interpreter.{AreFitting, has_shape, values_in}
-use Rattle.f77_run.specs.Spans.{HaveRoom, all_filled, filled, size_of}
+use Rattle.f77_run.specs.code.Spans.{HaveRoom}
+use Rattle.f77_run.specs.Spans.{all_filled, filled, size_of}
 use Rattle.f77_run.specs.Start.{constant_value}
-use Rattle.f77_run.specs.Typed.{has_kind}
+use Rattle.f77_run.specs.code.Typed.{has_kind}
 use Rattle.f77_run.proofs.Beginning.{empty_size, filled_size, room}
 use Rattle.f77_equivalence.specs.Start.{start_cells, StartsIn}
-use Rattle.f77_equivalence.specs.StartSlots.{is_argument, IsOfDummy, MayHold, AllowsArgument, AllowsSlot, AllowSlots, AreInactive, AllowsStart}
+use Rattle.f77_equivalence.specs.code.StartSlots.{is_argument, IsOfDummy, MayHold, AllowsArgument, AllowsSlot, AllowSlots, AreInactive, AllowsStart}
 use Rattle.f77_equivalence.specs.Storable.{is_storable, AreStorable}
 use Rattle.f77_equivalence.proofs.Throughout.{none_at}
 

@@ -13,8 +13,10 @@ use Rattle.f77_run.specs.declared.argument.Arg.{Arg}
 use Rattle.f77_run.specs.Control.{Comes}
 use Rattle.f77_run.specs.Endless.{Reaches}
 use Rattle.f77_run.specs.Interpreter.{AreFitting, values_in}
-use Rattle.f77_run.specs.Machine.{next_of, turn_of, turns_of}
-use Rattle.f77_run.specs.Running.{Site, values_at}
+use Rattle.f77_run.specs.code.Machine.{next_of}
+use Rattle.f77_run.specs.Machine.{turn_of, turns_of}
+use Rattle.f77_run.specs.Running.{RunSite}
+use Rattle.f77_run.specs.code.Running.{values_at}
 use Rattle.f77_run.specs.Site.{site_of}
 use Rattle.f77_run.specs.Start.{IsStart}
 use Rattle.f77_run.specs.Step as run
@@ -56,13 +58,13 @@ module _ (checked : CheckedFields) (is : IsChecked checked) (arguments : List Ar
   }
 
 -- a configuration is what a state in a run stands for, and an entry says what is there
-pub record IsKnown (at : Site) (statements : List Resolved) (entries : List Entry) (c : Config) : Type 0 where
+pub record IsKnown (at : RunSite) (statements : List Resolved) (entries : List Entry) (c : Config) : Type 0 where
   pub now : State
   pub is : c ≡ stands_for at now
   pub running : IsRunningIn at statements now
   pub among : IsAmong entries now.place now.cells now.turns
 
-module _ (at : Site) (statements : List Resolved) (entries : List Entry) (inductive : IsInductive statements entries) where
+module _ (at : RunSite) (statements : List Resolved) (entries : List Entry) (inductive : IsInductive statements entries) where
   -- a step leads from one to another
   pub known_next : (s : State) (b : Config) → IsRunningIn at statements s → IsAmong entries s.place s.cells s.turns
       → Step at.program (stands_for at s) (run.Goes b) → IsKnown at statements entries b

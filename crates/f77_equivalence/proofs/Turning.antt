@@ -5,7 +5,7 @@ use Rattle.f77_actions.specs.declared.action.Action.{ArithmeticIf}
 use Rattle.f77_actions.specs.declared.action.Jump.{Jump}
 use Rattle.f77_actions.specs.declared.expression.Number.{Number}
 use Rattle.f77_values.specs.declared.finish.Fault.{Fault}
-use Rattle.f77_values.specs.Number.{size}
+use Rattle.f77_values.specs.Number.{without_sign}
 use Rattle.f77_code.specs.Choice.{by_sign}
 use Rattle.f77_code.specs.Evaluation.{number_in}
 use Rattle.f77_code.specs.Moves.{Cells, Move, used, jump_to}
@@ -29,7 +29,7 @@ chosen_alike known negative null positive a b c d e f below equal above p q r (p
 chosen_alike known negative null positive a b c d e f below equal above p q r (pos (suc n)) within = r (above n within)
 
 -- a number of this size chooses as the other does, or as that with the other sign would
-flipped : (z w : ℤ) (d e f : Jump) → size w ≡ size z → (by_sign w d e f ≡ by_sign z d e f) ⊎ (by_sign w d e f ≡ by_sign z f e d)
+flipped : (z w : ℤ) (d e f : Jump) → without_sign w ≡ without_sign z → (by_sign w d e f ≡ by_sign z d e f) ⊎ (by_sign w d e f ≡ by_sign z f e d)
 flipped (pos zero) (pos zero) d e f same = inl refl
 flipped (pos zero) (pos (suc m)) d e f same = absurd (cc (same))
 flipped (pos zero) (negsuc m) d e f same = absurd (cc (same))
@@ -40,7 +40,7 @@ flipped (negsuc n) (pos zero) d e f same = absurd (cc (same))
 flipped (negsuc n) (pos (suc m)) d e f same = inr refl
 flipped (negsuc n) (negsuc m) d e f same = inl refl
 
-pub either_alike : (z w : ℤ) (one d e f : Jump) → size w ≡ size z → JumpAlike one (by_sign z d e f) → JumpAlike one (by_sign z f e d)
+pub either_alike : (z w : ℤ) (one d e f : Jump) → without_sign w ≡ without_sign z → JumpAlike one (by_sign z d e f) → JumpAlike one (by_sign z f e d)
     → JumpAlike one (by_sign w d e f)
 either_alike z w one d e f same first second =
     elim (flipped z w d e f same) [
@@ -56,13 +56,13 @@ module _ (facts : List Fact) (x y : Number) (known : Known) (a b c d e f : Jump)
       (same cells inside) (λ z is. each z (subst (λ q. Suits known q) is (covers cells inside)) cells turns)
 
   sized : (v w : Result ℤ Fault) (cells : Cells) (g h : ℤ → Move) → AgreesInSize v w
-      → ((z u : ℤ) → v ≡ Ok z → size u ≡ size z → Follows (g z) (h u)) → Follows (used v cells g) (used w cells h)
-  sized (Ok z) (Ok u) cells g h agrees each = let same : size u ≡ size z = cc (agrees) in each z u refl same
+      → ((z u : ℤ) → v ≡ Ok z → without_sign u ≡ without_sign z → Follows (g z) (h u)) → Follows (used v cells g) (used w cells h)
+  sized (Ok z) (Ok u) cells g h agrees each = let same : without_sign u ≡ without_sign z = cc (agrees) in each z u refl same
   sized (Ok z) (Err fault) cells g h agrees each = absurd (cc (agrees))
   sized (Err fault) w cells g h agrees each = tt
 
   pub turned_in_size : ((cells : Cells) → AreIn facts cells → AgreesInSize (number_in cells x) (number_in cells y))
-      → ((z w : ℤ) → IsBetween known.low z known.high → size w ≡ size z → JumpAlike (by_sign z a b c) (by_sign w d e f))
+      → ((z w : ℤ) → IsBetween known.low z known.high → without_sign w ≡ without_sign z → JumpAlike (by_sign z a b c) (by_sign w d e f))
       → ActsAlike facts (ArithmeticIf x a b c) (ArithmeticIf y d e f)
   turned_in_size same each statements others i r s cells turns on pass inside =
       sized (number_in cells x) (number_in cells y) cells (λ z. jump_to (by_sign z a b c) cells turns) (λ z. jump_to (by_sign z d e f) cells turns)

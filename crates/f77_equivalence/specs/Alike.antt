@@ -2,12 +2,10 @@
 use Rattle.std.specs.Prelude.{◌≡◌, ◌≢◌, ℕ, ℤ, List, slice_get}
 use Rattle.f77_actions.specs.declared.action.Action.{Action, LogicalIf', Loop}
 use Rattle.f77_actions.specs.declared.action.Jump.{Jump}
-use Rattle.f77_actions.specs.declared.expression.Condition.{Condition}
 use Rattle.f77_actions.specs.declared.resolved.Resolved.{Resolved}
 use Rattle.f77_code.specs.declared.control.Place.{Place}
 use Rattle.f77_code.specs.declared.control.Place.TheVariants.{Execute, Increment}
-use Rattle.f77_code.specs.Evaluation.{truth_in}
-use Rattle.f77_code.specs.Moves.{Cells, Turns, Move, acted, chosen, go_on, jump_to, passing_at, used}
+use Rattle.f77_code.specs.Moves.{Cells, TurnList, acted, go_on, jump_to, passing_at}
 use Rattle.f77_facts.specs.declared.facts.Fact.{Fact}
 use Rattle.f77_facts.specs.Facts.{AreIn}
 use Rattle.f77_equivalence.specs.Same.{Follows}
@@ -18,17 +16,19 @@ AgreeBut i statements others = (j : ℕ) → j ≢ i → slice_get statements j 
 
 -- control goes on from the second statement as from the first
 abbrev pub GoOnAlike : Resolved → Resolved → Type 0
-GoOnAlike r s = (cells : Cells) (turns : Turns) → go_on s cells turns ≡ go_on r cells turns
+GoOnAlike r s = (cells : Cells) (turns : TurnList) → go_on s cells turns ≡ go_on r cells turns
 
 -- the second jump does what the first does
 abbrev pub JumpAlike : Jump → Jump → Type 0
-JumpAlike one other = (cells : Cells) (turns : Turns) → jump_to other cells turns ≡ jump_to one cells turns
+JumpAlike one other =
+    (cells : Cells) (turns : TurnList) → jump_to other cells turns ≡ jump_to one cells turns
 
 -- the DOs that end at this statement make their passes in the second program as in the first
 abbrev pub PassAlike : List Resolved → List Resolved → ℕ → Type 0
 PassAlike statements others t =
-    (d passes : ℕ) (step : ℤ) (cells : Cells) (turns : Turns)
-    → passing_at others t d passes step cells turns ≡ passing_at statements t d passes step cells turns
+    (d passes : ℕ) (step : ℤ) (cells : Cells) (turns : TurnList)
+    → passing_at others t d passes step cells turns
+    ≡ passing_at statements t d passes step cells turns
 
 -- the same of the DO that an action is
 abbrev pub PassesAlike : List Resolved → List Resolved → Action → Type 0
@@ -36,39 +36,15 @@ PassesAlike statements others (LogicalIf' x p action) = PassesAlike statements o
 PassesAlike statements others (Loop variable first last step t) = PassAlike statements others t
 PassesAlike statements others _ = Unit {0}
 
--- In a statement, where slots hold what suits the facts, the second action does what the first does in a statement from
--- which control goes on alike, unless that faults.
+-- In a statement, where slots hold what suits the facts, the second action does what
+-- the first does in a statement from which control goes on alike, unless that faults.
 abbrev pub ActsAlike : List Fact → Action → Action → Type 0
 ActsAlike facts one other =
-    (statements others : List Resolved) (i : ℕ) (r s : Resolved) (cells : Cells) (turns : Turns) → GoOnAlike r s
+    (statements others : List Resolved) (i : ℕ) (r s : Resolved) (cells : Cells) (turns : TurnList)
+    → GoOnAlike r s
     → PassesAlike statements others one
-    → AreIn facts cells → Follows (acted statements i r one cells turns) (acted others i s other cells turns)
-
--- what a logical IF does, with this condition and this action
-abbrev pub guarded : Condition → Action → List Resolved → ℕ → Resolved → Cells → Turns → Move
-guarded c action statements i r cells turns =
-    used (truth_in cells c) cells (λ b. chosen b (acted statements i r action cells turns) (go_on r cells turns))
-
--- the same of two logical IFs
-abbrev pub GuardedAlike : List Fact → Condition → Action → Condition → Action → Type 0
-GuardedAlike facts c one d other =
-    (statements others : List Resolved) (i : ℕ) (r s : Resolved) (cells : Cells) (turns : Turns) → GoOnAlike r s
-    → PassesAlike statements others one → AreIn facts cells
-    → Follows (guarded c one statements i r cells turns) (guarded d other others i s cells turns)
-
--- the same of a logical IF and another action
-abbrev pub GuardedActsAs : List Fact → Condition → Action → Action → Type 0
-GuardedActsAs facts c one other =
-    (statements others : List Resolved) (i : ℕ) (r s : Resolved) (cells : Cells) (turns : Turns) → GoOnAlike r s
-    → PassesAlike statements others one
-    → AreIn facts cells → Follows (guarded c one statements i r cells turns) (acted others i s other cells turns)
-
--- the same of another action and a logical IF
-abbrev pub ActsAsGuarded : List Fact → Action → Condition → Action → Type 0
-ActsAsGuarded facts one d other =
-    (statements others : List Resolved) (i : ℕ) (r s : Resolved) (cells : Cells) (turns : Turns) → GoOnAlike r s
-    → PassesAlike statements others one
-    → AreIn facts cells → Follows (acted statements i r one cells turns) (guarded d other others i s cells turns)
+    → AreIn facts cells
+    → Follows (acted statements i r one cells turns) (acted others i s other cells turns)
 
 -- the statement where control is
 abbrev pub site : Place → ℕ

@@ -14,8 +14,8 @@ IsEnd (Returned arguments) = Unit {0}
 IsEnd (Stopped arguments) = Unit {0}
 IsEnd _ = ⊥
 
--- with these arguments, and whatever the limit on steps, where the first program returns or stops, the second comes to
--- the same
+-- with these arguments, and whatever the limit on steps, where the
+-- first program returns or stops, the second comes to the same
 abbrev pub KeepsEnds : List LineFields → List LineFields → List Arg → Type 0
 KeepsEnds p q arguments =
     (limit : ℕ) (outcome : Outcome) → IsOutcomeOf p arguments limit outcome → IsEnd outcome
@@ -24,4 +24,5 @@ KeepsEnds p q arguments =
 -- so it does whatever arguments fit whose numbers INTEGER holds
 abbrev pub IsEquivalent : List LineFields → List LineFields → Type 0
 IsEquivalent p q =
-    (arguments : List Arg) → AreFitting (shapes p) arguments → AreStorable arguments → KeepsEnds p q arguments
+    (arguments : List Arg)
+    → AreFitting (shapes p) arguments → AreStorable arguments → KeepsEnds p q arguments

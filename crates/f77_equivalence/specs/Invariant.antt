@@ -18,4 +18,5 @@ pub record HoldsThroughout (invariant : InvariantFields) : Type 0 where
 
 -- no entry says that control is at the statement i
 abbrev pub IsUnreached : List Entry → ℕ → Type 0
-IsUnreached entries i = (k : ℕ) (entry : Entry) → slice_get entries k ≡ Some entry → site entry.place ≢ i
+IsUnreached entries i =
+    (k : ℕ) (entry : Entry) → slice_get entries k ≡ Some entry → site entry.place ≢ i

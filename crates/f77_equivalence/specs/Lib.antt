@@ -1,11 +1,10 @@
 pub mod Same
 pub mod Alike
 pub mod Ways
-pub mod Cases
 pub mod Sizes
 pub mod Storable
 pub mod Equivalent
 pub mod Start
-pub mod StartSlots
 pub mod Changed
 pub mod Invariant
+pub mod code

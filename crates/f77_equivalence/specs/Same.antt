@@ -8,7 +8,7 @@ use Rattle.f77_values.specs.declared.finish.Fault.{Fault}
 use Rattle.f77_values.specs.declared.finish.Finish.TheVariants.{Failed}
 use Rattle.f77_code.specs.declared.control.Place.{Place}
 use Rattle.f77_code.specs.Evaluation.{slot_in, number_in, truth_in}
-use Rattle.f77_code.specs.Moves.{Cells, Turns, Move, Ends, moved}
+use Rattle.f77_code.specs.Moves.{Cells, TurnList, Move, Ends, moved}
 use Rattle.f77_facts.specs.declared.entries.Entry.{Entry}
 use Rattle.f77_facts.specs.declared.facts.Fact.{Fact}
 use Rattle.f77_facts.specs.declared.loops.LoopFact.{LoopFact}
@@ -21,26 +21,30 @@ Agrees (Ok x) r = r ≡ Ok x
 Agrees (Err fault) r = Unit {0}
 
 abbrev pub SameSlot : List Fact → Element → Element → Type 0
-SameSlot facts e f = (cells : Cells) → AreIn facts cells → Agrees (slot_in cells e) (slot_in cells f)
+SameSlot facts e f =
+    (cells : Cells) → AreIn facts cells → Agrees (slot_in cells e) (slot_in cells f)
 
 abbrev pub SameNumber : List Fact → Number → Number → Type 0
-SameNumber facts x y = (cells : Cells) → AreIn facts cells → Agrees (number_in cells x) (number_in cells y)
+SameNumber facts x y =
+    (cells : Cells) → AreIn facts cells → Agrees (number_in cells x) (number_in cells y)
 
 abbrev pub SameTruth : List Fact → Condition → Condition → Type 0
-SameTruth facts c d = (cells : Cells) → AreIn facts cells → Agrees (truth_in cells c) (truth_in cells d)
+SameTruth facts c d =
+    (cells : Cells) → AreIn facts cells → Agrees (truth_in cells c) (truth_in cells d)
 
 -- the same move, unless the first is a fault
 abbrev pub Follows : Move → Move → Type 0
 Follows (Ends (Failed fault) cells) other = Unit {0}
 Follows move other = other ≡ move
 
--- From a state of the place of which this is known, the second program makes the move of the first, unless that is a
--- fault.
+-- From a state of the place of which this is known, the second
+-- program makes the move of the first, unless that is a fault.
 abbrev pub SameMoves : List Resolved → List Resolved → Place → List Fact → List LoopFact → Type 0
 SameMoves statements others place facts loops =
-    (cells : Cells) (turns : Turns) (move : Move) → AreIn facts cells → AreLeft loops turns
+    (cells : Cells) (turns : TurnList) (move : Move) → AreIn facts cells → AreLeft loops turns
     → moved statements (record { place = place; cells = cells; turns = turns }) ≡ Some move
-    → (other : Move) × (moved others (record { place = place; cells = cells; turns = turns }) ≡ Some other)
+    → (other : Move)
+    × (moved others (record { place = place; cells = cells; turns = turns }) ≡ Some other)
     × Follows move other
 
 -- so it does from each of the first n entries

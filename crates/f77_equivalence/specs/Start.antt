@@ -3,7 +3,7 @@ use Rattle.std.specs.Prelude.{List, None, length, map, option_map, replicate}
 use Rattle.std.specs.List.{zip}
 use Rattle.f77_check.specs.Checked.{CheckedFields}
 use Rattle.f77_code.specs.declared.control.Place.TheVariants.{Execute}
-use Rattle.f77_code.specs.Moves.{Cells, Turns, State, state}
+use Rattle.f77_code.specs.Moves.{Cells, TurnList, State, state}
 use Rattle.f77_facts.specs.declared.entries.Entry.{Entry}
 use Rattle.f77_facts.specs.Entries.{IsAmong}
 use Rattle.f77_run.specs.declared.argument.Arg.{Arg}
@@ -15,10 +15,11 @@ use Rattle.f77_equivalence.specs.Storable.{AreStorable}
 -- the slots hold what DATA gives them, and those of the dummy arguments the arguments
 abbrev pub start_cells : CheckedFields → List Arg → Cells
 start_cells checked arguments =
-    all_filled (map (option_map constant_value) checked.start.initial.items) (zip checked.start.dummies.items arguments)
+    all_filled (map (option_map constant_value) checked.start.initial.items)
+    (zip checked.start.dummies.items arguments)
 
 -- no DO is active
-abbrev pub start_turns : CheckedFields → Turns
+abbrev pub start_turns : CheckedFields → TurnList
 start_turns checked = replicate (length checked.program) None
 
 -- control is at the first executable statement
@@ -29,7 +30,8 @@ start_state checked arguments =
 -- an entry says what is there where the run with these arguments starts
 abbrev pub StartsIn : CheckedFields → List Entry → List Arg → Type 0
 StartsIn checked entries arguments =
-    IsAmong entries (Execute checked.start.entry) (start_cells checked arguments) (start_turns checked)
+    IsAmong entries (Execute checked.start.entry) (start_cells checked arguments)
+    (start_turns checked)
 
 -- whatever arguments fit whose numbers INTEGER holds
 abbrev pub HoldsStart : CheckedFields → List Entry → Type 0

@@ -13,4 +13,5 @@ is_storable (held.Truth b) = true
 
 -- so is each number in them
 abbrev pub AreStorable : List Arg → Type 0
-AreStorable arguments = list_all (λ argument. list_all is_storable (values_in argument)) arguments ≡ true
+AreStorable arguments =
+    list_all (λ argument. list_all is_storable (values_in argument)) arguments ≡ true

@@ -3,7 +3,8 @@
 ghost use Rattle.std.specs.Prelude.{◌≡◌, List, true, IfOk};
 ghost use Rattle.f77_code.specs.Moves as moves;
 ghost use Rattle.f77_facts.specs.declared.facts.Fact.{Fact};
-ghost use Rattle.f77_equivalence.specs.Alike.{ActsAlike, ActsAsGuarded, GuardedActsAs, GuardedAlike};
+ghost use Rattle.f77_equivalence.specs.Alike.{ActsAlike};
+ghost use Rattle.f77_equivalence.specs.code.Alike.{ActsAsGuarded, GuardedActsAs, GuardedAlike};
 
 use crate::conditions::{is_forced, is_same_condition, refined};
 use crate::same::is_same_number;

@@ -5,7 +5,7 @@ ghost use Rattle.f77_code.specs.Evaluation.{truth_in};
 ghost use Rattle.f77_code.specs.Moves.{Cells};
 ghost use Rattle.f77_facts.specs.Facts.{AreIn};
 ghost use Rattle.f77_facts.specs.Refining.{Refines};
-ghost use Rattle.f77_equivalence.specs.Cases.{SameWhere};
+ghost use Rattle.f77_equivalence.specs.code.Cases.{SameWhere};
 ghost use Rattle.f77_equivalence.specs.Same.{Agrees, SameTruth};
 
 use crate::relating::is_truth;

@@ -2,7 +2,7 @@
 
 ghost use Rattle.std.specs.Prelude.{◌≡◌, ℤ, true, Result, Ok, IfSome};
 ghost use Rattle.f77_values.specs.declared.finish.Fault.{Fault};
-ghost use Rattle.f77_values.specs.Number.{in_range, negated, size};
+ghost use Rattle.f77_values.specs.Number.{in_range, negated, without_sign};
 ghost use Rattle.f77_values.specs.Value.{given, both, pushed};
 ghost use Rattle.f77_code.specs.Evaluation.{calculated, number_in};
 ghost use Rattle.f77_code.specs.Moves.{Cells};
@@ -23,7 +23,7 @@ pub fn is_number(known: Known, number: i32) -> bool
 
 /// IABS leaves such a number as it is.
 pub fn absolute_keeps(known: Known) -> bool
-    ensures { result ≡ true → (x : Result ℤ Fault) → Suits known x → given x (λ z. in_range (size z)) ≡ x }
+    ensures { result ≡ true → (x : Result ℤ Fault) → Suits known x → given x (λ z. in_range (without_sign z)) ≡ x }
 {
     known.low >= 0
 }
@@ -38,7 +38,7 @@ pub fn push_keeps(known: Known) -> bool
 /// A minus before IABS leaves such a number as it is.
 pub fn minus_absolute_keeps(known: Known) -> bool
     ensures { result ≡ true → (x : Result ℤ Fault) → Suits known x
-        → given (given x (λ z. in_range (size z))) (λ z. in_range (negated z)) ≡ x }
+        → given (given x (λ z. in_range (without_sign z))) (λ z. in_range (negated z)) ≡ x }
 {
     known.low > i32::MIN && known.high <= 0
 }

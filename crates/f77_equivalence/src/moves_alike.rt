@@ -3,7 +3,7 @@
 ghost use Rattle.std.specs.Prelude.{◌≡◌, ℕ, List, true, IfOk};
 ghost use Rattle.f77_code.specs.declared.control.Turn.{Turn};
 ghost use Rattle.f77_code.specs.Moves as moves;
-ghost use Rattle.f77_code.specs.Moves.{Cells, Turns, incremented};
+ghost use Rattle.f77_code.specs.Moves.{Cells, TurnList, incremented};
 ghost use Rattle.f77_facts.specs.declared.facts.Fact.{Fact};
 ghost use Rattle.f77_facts.specs.declared.loops.LoopFact.{LoopFact};
 ghost use Rattle.f77_equivalence.specs.Same.{SameMoves};
@@ -52,7 +52,7 @@ fn advances_alike(
     other: &Action,
 ) -> bool
     ensures loops { result ≡ true → moves.is_loop other.now ≡ true }
-    ensures alike { result ≡ true → (d : ℕ) (turn : Turn) (cells : Cells) (turns : Turns)
+    ensures alike { result ≡ true → (d : ℕ) (turn : Turn) (cells : Cells) (turns : TurnList)
         → incremented others.now d other.now turn cells turns
         ≡ incremented statements.now d one.now turn cells turns }
 {

@@ -2,7 +2,7 @@
 
 ghost use Rattle.std.specs.Prelude.{◌≡◌, ℤ, pos, true, Result};
 ghost use Rattle.f77_values.specs.declared.finish.Fault.{Fault};
-ghost use Rattle.f77_values.specs.Number.{in_range, negated, size};
+ghost use Rattle.f77_values.specs.Number.{in_range, negated, without_sign};
 ghost use Rattle.f77_values.specs.Value.{given};
 ghost use Rattle.f77_code.specs.Evaluation.{compared, number_in};
 ghost use Rattle.f77_code.specs.Moves.{Cells};
@@ -26,7 +26,7 @@ fn minus_measures(known: Known) -> bool
 /// IABS of such a number changes its sign alone.
 fn absolute_measures(known: Known) -> bool
     ensures { result ≡ true → (x : Result ℤ Fault) → Suits known x
-        → measured (given x (λ z. in_range (size z))) ≡ measured x }
+        → measured (given x (λ z. in_range (without_sign z))) ≡ measured x }
 {
     known.low > i32::MIN
 }
@@ -56,7 +56,7 @@ pub fn unsigned<'a>(facts: &[Fact], number: &'a Number) -> &'a Number
 /// The relation to zero of a number does not depend on its sign.
 #[tactic(auto, using(crate::proofs::Sizes::same_zero))]
 pub fn is_of_size(relation: Relation) -> bool
-    ensures { result ≡ true → (u v : ℤ) → size u ≡ size v
+    ensures { result ≡ true → (u v : ℤ) → without_sign u ≡ without_sign v
         → compared relation v (pos 0) ≡ compared relation u (pos 0) }
 {
     match relation {

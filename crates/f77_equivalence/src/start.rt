@@ -10,8 +10,8 @@ ghost use Rattle.f77_check.specs.declared.checked.Shape.{Shape};
 ghost use Rattle.f77_run.specs.Spans.{size_of};
 ghost use Rattle.f77_run.specs.Start.{constant_value};
 ghost use Rattle.f77_equivalence.specs.Start.{HoldsStart};
-ghost use Rattle.f77_equivalence.specs.StartSlots.{IsOfDummy, is_argument, AllowsArgument, AllowsSlot, AllowSlots};
-ghost use Rattle.f77_equivalence.specs.StartSlots.{AreInactive, AllowsStart};
+ghost use Rattle.f77_equivalence.specs.code.StartSlots.{IsOfDummy, is_argument, AllowsArgument, AllowsSlot, AllowSlots};
+ghost use Rattle.f77_equivalence.specs.code.StartSlots.{AreInactive, AllowsStart};
 
 use f77_check::{Checked, Shape};
 use f77_code::Place;

@@ -2,7 +2,7 @@
 
 ghost use Rattle.std.specs.Prelude.{◌≡◌, ℕ, suc, ℤ, pos, negsuc, true};
 ghost use Rattle.f77_actions.specs.declared.action.Action.{ArithmeticIf};
-ghost use Rattle.f77_values.specs.Number.{size};
+ghost use Rattle.f77_values.specs.Number.{without_sign};
 ghost use Rattle.f77_code.specs.Choice.{by_sign};
 ghost use Rattle.f77_facts.specs.Known.{IsBetween};
 ghost use Rattle.f77_equivalence.specs.Alike.{ActsAlike, JumpAlike};
@@ -61,7 +61,7 @@ fn signs_alike(known: Known, a: &Jump, b: &Jump, c: &Jump, d: &Jump, e: &Jump, f
 
 /// The same of numbers with other signs on the other side.
 fn sizes_alike(known: Known, a: &Jump, b: &Jump, c: &Jump, d: &Jump, e: &Jump, f: &Jump) -> bool
-    ensures { result ≡ true → (z w : ℤ) → IsBetween known.low z known.high → size w ≡ size z
+    ensures { result ≡ true → (z w : ℤ) → IsBetween known.low z known.high → without_sign w ≡ without_sign z
         → JumpAlike (by_sign z a.now b.now c.now) (by_sign w d.now e.now f.now) }
 {
     if !signs_alike(known, a, b, c, d, e, f) {

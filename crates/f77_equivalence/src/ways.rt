@@ -3,7 +3,7 @@
 ghost use Rattle.std.specs.Prelude.{◌≡◌, ◌<◌, ◌↔◌, ℤ, IsTrue, true, length, slice_get, Some};
 ghost use Rattle.std.specs.Option.{option_map_or};
 ghost use Rattle.f77_code.specs.Choice as choice;
-ghost use Rattle.f77_code.specs.Moves.{Cells, Turns, Move, jump_to};
+ghost use Rattle.f77_code.specs.Moves.{Cells, TurnList, Move, jump_to};
 ghost use Rattle.f77_equivalence.specs.Alike.{GoOnAlike, JumpAlike, PassAlike, PassesAlike};
 ghost use Rattle.f77_equivalence.specs.Ways.{HaveOneTarget, HaveOneWayOn};
 
@@ -66,9 +66,9 @@ pub fn jumps_alike(one: &Jump, other: &Jump) -> bool
 
 /// The jumps of two computed GO TOs do the same, in order.
 pub fn all_jump_alike(one: &[Jump], other: &[Jump]) -> bool
-    ensures { result ≡ true → (z : ℤ) (move : Move) (cells : Cells) (turns : Turns)
-        → option_map_or (λ jump. jump_to jump cells turns) (choice.numbered other.now z) move
-        ≡ option_map_or (λ jump. jump_to jump cells turns) (choice.numbered one.now z) move }
+    ensures { result ≡ true → (z : ℤ) (move : Move) (cells : Cells) (turns : TurnList)
+        → option_map_or (λ jump. jump_to jump cells turns) (choice.item_chosen other.now z) move
+        ≡ option_map_or (λ jump. jump_to jump cells turns) (choice.item_chosen one.now z) move }
 {
     if one.len() != other.len() {
         return false;

@@ -13,8 +13,8 @@ use Rattle.f77_facts.specs.declared.entries.Entry.{Entry}
 use Rattle.f77_facts.specs.declared.facts.Fact.{Fact}
 use Rattle.f77_facts.specs.declared.known.Known.{Known}
 use Rattle.f77_facts.specs.declared.loops.LoopFact.{LoopFact}
-use Rattle.f77_facts.specs.Entries.{Grows, Adds, Lands, AreCovered, Keeps}
-use Rattle.f77_facts.specs.Keeping.{GoesOn, JumpsWithin, JumpsEach, EndsInto, AssignsTruth}
+use Rattle.f77_facts.specs.Entries.{GrowsEntries, AddsEntries, LandsInEntries, AreCovered, KeepsEntries}
+use Rattle.f77_facts.specs.code.Keeping.{KeepsGoingOn, JumpsWithin, JumpsEach, EndsInto, AssignsTruth}
 use Rattle.f77_facts.proofs.Slots.{same_or_not}
 
 -- what a list has at its places is still there behind it, and then comes what was added
@@ -27,16 +27,16 @@ got_last : {A : Type 0} (xs : List A) (x : A) → slice_get (xs ++ x ∷ []) (le
 got_last [] x = refl
 got_last (y ∷ xs) x = got_last xs x
 
-pub grows_on : (old mid new : List Entry) → Grows old mid → Grows mid new → Grows old new
+pub grows_on : (old mid new : List Entry) → GrowsEntries old mid → GrowsEntries mid new → GrowsEntries old new
 grows_on old mid new first second place cells turns among = second place cells turns (first place cells turns among)
 
 -- an entry was added
 pub entry_added : (old new : List Entry) (entry : Entry) → new ≡ old ++ entry ∷ []
-    → Adds old new (AreCovered new entry.place entry.facts.items entry.loops.items)
+    → AddsEntries old new (AreCovered new entry.place entry.facts.items entry.loops.items)
 entry_added old new entry is =
-    subst (λ list. Adds old list (AreCovered list entry.place entry.facts.items entry.loops.items)) (sym is) (before, here)
+    subst (λ list. AddsEntries old list (AreCovered list entry.place entry.facts.items entry.loops.items)) (sym is) (before, here)
   where
-    before : Grows old (old ++ entry ∷ [])
+    before : GrowsEntries old (old ++ entry ∷ [])
     before place cells turns among = record {
       number = among.number;
       entry = among.entry;
@@ -66,12 +66,12 @@ covers_more entries covered n entry before at covers k below other is = by (same
     by (inr differ) = before k (omega (arith, below, differ)) other is
 
 -- what led into the old entries leads into the new ones
-module _ (old new : List Entry) (grows : Grows old new) where
-  pub lands_more : (move : Move) → Lands old move → Lands new move
+module _ (old new : List Entry) (grows : GrowsEntries old new) where
+  pub lands_more : (move : Move) → LandsInEntries old move → LandsInEntries new move
   lands_more (Goes s) among = grows s.place s.cells s.turns among
   lands_more (Ends finish cells) landed = tt
 
-  pub goes_more : (r : Resolved) (facts : List Fact) (loops : List LoopFact) → GoesOn old r facts loops → GoesOn new r facts loops
+  pub goes_more : (r : Resolved) (facts : List Fact) (loops : List LoopFact) → KeepsGoingOn old r facts loops → KeepsGoingOn new r facts loops
   goes_more r facts loops claim cells turns inside left = lands_more (go_on r cells turns) (claim cells turns inside left)
 
   pub assigns_more : (r : Resolved) (e : Element) (x : Condition) {truth : Bool} (facts : List Fact) (loops : List LoopFact)
@@ -91,6 +91,6 @@ module _ (old new : List Entry) (grows : Grows old new) where
   pub ends_more : (end : Resolved) (d : ℕ) (facts : List Fact) (loops : List LoopFact) → EndsInto old end d facts loops → EndsInto new end d facts loops
   ends_more end d facts loops claim cells turns inside left = lands_more (go_on end cells (slice_set turns d None)) (claim cells turns inside left)
 
-  pub keeps_more : (statements : List Resolved) (place : Place) (facts : List Fact) (loops : List LoopFact) → Keeps statements old place facts loops
-      → Keeps statements new place facts loops
+  pub keeps_more : (statements : List Resolved) (place : Place) (facts : List Fact) (loops : List LoopFact) → KeepsEntries statements old place facts loops
+      → KeepsEntries statements new place facts loops
   keeps_more statements place facts loops claim cells turns move inside left is = lands_more move (claim cells turns move inside left is)

@@ -2,7 +2,7 @@
 use Rattle.std.proofs.Common.{arith, ◌≡◌, ◌≢◌, ◌⊎◌, inl, inr, zero, suc, Bool, true, false, refl, subst, ℤ, pos, negsuc}
 use Rattle.std.specs.Prelude.{Ok, if◌then◌else◌, ◌≤ℤ◌, ◌<ℤ◌}
 use Rattle.std.proofs.lemmas.Int.{ints}
-use Rattle.f77_values.specs.Number.{negated, size, quotient, modulus, is_below}
+use Rattle.f77_values.specs.Number.{negated, without_sign, quotient, modulus, is_below}
 use Rattle.f77_values.specs.Value.{pushed}
 use Rattle.f77_facts.proofs.Comparisons.{below_lt, not_below_le}
 
@@ -68,10 +68,10 @@ greatest_swapped u v = by (is_below u v) (is_below v u) refl refl
     by false false e f = let p = not_below_le u v e in let q = not_below_le v u f in rw (e, f) (omega (arith, ints, p, q))
 
 -- a number is its size, or that with the other sign
-pub of_size : (z : ℤ) → ((size z ≡ z) × (pos 0 ≤ℤ z)) ⊎ ((size z ≡ negated z) × (z <ℤ pos 0))
+pub of_size : (z : ℤ) → ((without_sign z ≡ z) × (pos 0 ≤ℤ z)) ⊎ ((without_sign z ≡ negated z) × (z <ℤ pos 0))
 of_size (pos n) = inl (refl, omega (arith, ints))
 of_size (negsuc n) = inr (omega (arith, ints), omega (arith, ints))
 
-pub size_above : (z w h : ℤ) → size z ≡ w → w ≤ℤ h → (z ≤ℤ h) × (negated z ≤ℤ h)
+pub size_above : (z w h : ℤ) → without_sign z ≡ w → w ≤ℤ h → (z ≤ℤ h) × (negated z ≤ℤ h)
 size_above (pos n) w h e l = (omega (arith, ints, e, l), omega (arith, ints, e, l))
 size_above (negsuc n) w h e l = (omega (arith, ints, e, l), omega (arith, ints, e, l))

@@ -6,7 +6,7 @@ use Rattle.std.specs.Option.{option_and_then}
 use Rattle.std.proofs.lemmas.List.{length-set}
 use Rattle.std.proofs.lemmas.Option.{slice_get_within, slice_get_past}
 use Rattle.f77_code.specs.declared.control.Turn.{Turn}
-use Rattle.f77_code.specs.Moves.{Turns, turn_at, innermost, without}
+use Rattle.f77_code.specs.Moves.{TurnList, turn_at, innermost, without}
 use Rattle.f77_facts.specs.declared.loops.LoopFact.{LoopFact}
 use Rattle.f77_facts.specs.declared.loops.LoopFact.TheVariants.{Inactive, Active}
 use Rattle.f77_facts.specs.declared.known.Known.{Known}
@@ -23,7 +23,7 @@ active_is fewest most step (Some turn) s = refl
 active_is fewest most step None s = absurd s
 
 -- there is no DO behind the last statement
-pub inactive_past : (loops : List LoopFact) (turns : Turns) (d : ℕ) → length loops ≤ d → AreLeft loops turns → is_some (turn_at turns d) ≡ false
+pub inactive_past : (loops : List LoopFact) (turns : TurnList) (d : ℕ) → length loops ≤ d → AreLeft loops turns → is_some (turn_at turns d) ≡ false
 inactive_past loops turns d past left =
     ap (λ o. is_some (option_and_then (λ (turn : Option Turn). turn) o)) (slice_get_past turns d (omega (arith, past, left.count)))
 
@@ -44,10 +44,10 @@ find_first test (y ∷ xs) (suc k) x at is each =
 
 -- what a search of the first n of these DOs found: none is active
 abbrev pub AreInactive : List LoopFact → List ℕ → ℕ → Type 0
-AreInactive loops ends n = (turns : Turns) → AreLeft loops turns → (j : ℕ) → j < n → (d : ℕ) → slice_get ends j ≡ Some d → is_some (turn_at turns d) ≡ false
+AreInactive loops ends n = (turns : TurnList) → AreLeft loops turns → (j : ℕ) → j < n → (d : ℕ) → slice_get ends j ≡ Some d → is_some (turn_at turns d) ≡ false
 
 pub more_inactive : (loops : List LoopFact) (ends : List ℕ) (n d : ℕ) → AreInactive loops ends n → slice_get ends n ≡ Some d
-    → ((turns : Turns) → AreLeft loops turns → is_some (turn_at turns d) ≡ false) → AreInactive loops ends (n + 1)
+    → ((turns : TurnList) → AreLeft loops turns → is_some (turn_at turns d) ≡ false) → AreInactive loops ends (n + 1)
 more_inactive loops ends n d before at is turns left j h e f = by (same_or_not j n)
   where
     by : (j ≡ n) ⊎ (j ≢ n) → is_some (turn_at turns e) ≡ false
@@ -57,13 +57,13 @@ more_inactive loops ends n d before at is turns left j h e f = by (same_or_not j
         subst (λ k. is_some (turn_at turns k) ≡ false) one (is turns left)
     by (inr differ) = before turns left j (omega (arith, h, differ)) e f
 
-pub none_innermost : (loops : List LoopFact) (ends : List ℕ) (n : ℕ) → AreInactive loops ends n → length ends ≤ n → (turns : Turns) → AreLeft loops turns
+pub none_innermost : (loops : List LoopFact) (ends : List ℕ) (n : ℕ) → AreInactive loops ends n → length ends ≤ n → (turns : TurnList) → AreLeft loops turns
     → innermost turns ends ≡ None
 none_innermost loops ends n before last turns left =
     find_none (λ d. is_some (turn_at turns d)) ends (λ j d e. before turns left j (omega (arith, last, slice_get_within ends j d e)) d e)
 
 pub one_innermost : (loops : List LoopFact) (ends : List ℕ) (n d : ℕ) → AreInactive loops ends n → slice_get ends n ≡ Some d
-    → ((turns : Turns) → AreLeft loops turns → is_some (turn_at turns d) ≡ true) → (turns : Turns) → AreLeft loops turns → innermost turns ends ≡ Some d
+    → ((turns : TurnList) → AreLeft loops turns → is_some (turn_at turns d) ≡ true) → (turns : TurnList) → AreLeft loops turns → innermost turns ends ≡ Some d
 one_innermost loops ends n d before at is turns left =
     find_first (λ d. is_some (turn_at turns d)) ends n d at (is turns left) (λ j e h f. before turns left j h e f)
 
@@ -75,7 +75,7 @@ set_there loops k fact other e =
     (below, cc)
 
 -- a DO's fact is set, and so is what it has left
-pub set_turn : (loops : List LoopFact) (turns : Turns) (k : ℕ) (fact : LoopFact) (turn : Option Turn) → AreLeft loops turns → SuitsTurn fact turn
+pub set_turn : (loops : List LoopFact) (turns : TurnList) (k : ℕ) (fact : LoopFact) (turn : Option Turn) → AreLeft loops turns → SuitsTurn fact turn
     → AreLeft (slice_set loops k fact) (slice_set turns k turn)
 set_turn loops turns k fact turn left suits = record {
   count = length-set turns k turn ∙ left.count ∙ sym (length-set loops k fact);
@@ -91,17 +91,17 @@ set_turn loops turns k fact turn left suits = record {
     by j other (inr differ) e = rw (got_other turns k j turn differ) (left.each j other (sym (got_other loops k j fact differ) ∙ e))
 
 -- the first n of these DOs are left
-abbrev pub without_first : Turns → List ℕ → ℕ → Turns
+abbrev pub without_first : TurnList → List ℕ → ℕ → TurnList
 without_first turns ds zero = turns
 without_first turns [] (suc n) = turns
 without_first turns (d ∷ ds) (suc n) = without_first (slice_set turns d None) ds n
 
-without_next : (turns : Turns) (ds : List ℕ) (n d : ℕ) → slice_get ds n ≡ Some d → without_first turns ds (suc n) ≡ slice_set (without_first turns ds n) d None
+without_next : (turns : TurnList) (ds : List ℕ) (n d : ℕ) → slice_get ds n ≡ Some d → without_first turns ds (suc n) ≡ slice_set (without_first turns ds n) d None
 without_next turns [] n d e = absurd (cc (e))
 without_next turns (c ∷ ds) zero d e = let same : c ≡ d = cc (e) in ap (λ k. slice_set turns k None) same
 without_next turns (c ∷ ds) (suc n) d e = without_next (slice_set turns c None) ds n d e
 
-without_all : (turns : Turns) (ds : List ℕ) (n : ℕ) → length ds ≤ n → without_first turns ds n ≡ without turns ds
+without_all : (turns : TurnList) (ds : List ℕ) (n : ℕ) → length ds ≤ n → without_first turns ds n ≡ without turns ds
 without_all turns [] zero h = refl
 without_all turns [] (suc n) h = refl
 without_all turns (d ∷ ds) zero h = absurd (omega arith)
@@ -109,7 +109,7 @@ without_all turns (d ∷ ds) (suc n) h = without_all (slice_set turns d None) ds
 
 -- what suits the old facts suits the new ones where the first n of these DOs are left
 abbrev pub Leaves : List LoopFact → List LoopFact → List ℕ → ℕ → Type 0
-Leaves old new ds n = (turns : Turns) → AreLeft old turns → AreLeft new (without_first turns ds n)
+Leaves old new ds n = (turns : TurnList) → AreLeft old turns → AreLeft new (without_first turns ds n)
 
 pub leaves_more : (old new : List LoopFact) (ds : List ℕ) (n d : ℕ) → Leaves old new ds n → slice_get ds n ≡ Some d
     → Leaves old (slice_set new d Inactive) ds (n + 1)
@@ -118,6 +118,6 @@ leaves_more old new ds n d before at turns left =
     subst (λ t. AreLeft (slice_set new d Inactive) t) (sym (ap (without_first turns ds) next ∙ without_next turns ds n d at))
     (set_turn new (without_first turns ds n) d Inactive None (before turns left) tt)
 
-pub leaves_all : (old new : List LoopFact) (ds : List ℕ) (n : ℕ) → Leaves old new ds n → length ds ≤ n → (turns : Turns) → AreLeft old turns
+pub leaves_all : (old new : List LoopFact) (ds : List ℕ) (n : ℕ) → Leaves old new ds n → length ds ≤ n → (turns : TurnList) → AreLeft old turns
     → AreLeft new (without turns ds)
 leaves_all old new ds n before last turns left = subst (λ t. AreLeft new t) (without_all turns ds n last) (before turns left)

@@ -17,9 +17,10 @@ use Rattle.f77_facts.specs.declared.truths.Truths.{Truths}
 use Rattle.f77_facts.specs.Facts.{AreIn}
 use Rattle.f77_facts.specs.Known.{IsBetween, Suits}
 use Rattle.f77_facts.specs.Truths.{SuitsTruth}
-use Rattle.f77_facts.specs.Reaching.{IsReached, SuitsSlot}
+use Rattle.f77_facts.specs.Reaching.{IsSlotReached, SuitsSlot}
 use Rattle.f77_facts.specs.Bounds.{CoversSlot, Covers, CoversTruth}
-use Rattle.f77_facts.specs.Refining.{Limits, Refines, RefinesTo}
+use Rattle.f77_facts.specs.Refining.{Limits, Refines}
+use Rattle.f77_facts.specs.code.Refining.{RefinesTo}
 use Rattle.f77_facts.proofs.Slots.{set_one, truth_there}
 use Rattle.f77_facts.proofs.Used.{used_for, both_used}
 
@@ -39,17 +40,17 @@ ranged (negsuc n) w e = by (nat_lt n (2 ^ 31)) refl
     by true f = let whole = rw f at e in cc (whole)
     by false f = let whole = rw f at e in absurd (cc (whole))
 
-only_one : (first k : ℕ) → IsReached first 1 k → k ≡ first
+only_one : (first k : ℕ) → IsSlotReached first 1 k → k ≡ first
 only_one first k r = omega (arith, r.above, r.below)
 
 -- the one slot that is reached has a number between bounds, or a truth value
 pub slot_limited : (facts : List Fact) (first count : ℕ) (known own to : Known) → count ≡ 1
     → ((cells : Cells) → AreIn facts cells → Suits known (whole (held_in cells first)))
     → ((z : ℤ) → IsBetween known.low z known.high → IsBetween to.low z to.high → IsBetween own.low z own.high)
-    → (cells : Cells) (k : ℕ) (z : ℤ) → AreIn facts cells → IsReached first count k → whole (held_in cells k) ≡ Ok z → IsBetween to.low z to.high
+    → (cells : Cells) (k : ℕ) (z : ℤ) → AreIn facts cells → IsSlotReached first count k → whole (held_in cells k) ≡ Ok z → IsBetween to.low z to.high
     → AreIn (slice_set facts first (kind.Number own)) cells
 slot_limited facts first count known own to one knows each cells k z inside reached e between =
-    let here = only_one first k (subst (λ n. IsReached first n k) one reached) in
+    let here = only_one first k (subst (λ n. IsSlotReached first n k) one reached) in
     let holds : whole (held_in cells first) ≡ Ok z = subst (λ j. whole (held_in cells j) ≡ Ok z) here e in
     set_one facts cells first (kind.Number own) inside
     (subst (λ r. Suits own r) (sym holds) (each z (subst (λ r. Suits known r) holds (knows cells inside)) between))
@@ -57,10 +58,10 @@ slot_limited facts first count known own to one knows each cells k z inside reac
 pub slot_refined : (facts : List Fact) (first count : ℕ) (truths own : Truths) (truth : Bool) → count ≡ 1
     → ((cells : Cells) → AreIn facts cells → SuitsTruth truths (logic (held_in cells first)))
     → (SuitsTruth truths (Ok truth) → SuitsTruth own (Ok truth))
-    → (cells : Cells) (k : ℕ) → AreIn facts cells → IsReached first count k → logic (held_in cells k) ≡ Ok truth
+    → (cells : Cells) (k : ℕ) → AreIn facts cells → IsSlotReached first count k → logic (held_in cells k) ≡ Ok truth
     → AreIn (slice_set facts first (kind.Truth own)) cells
 slot_refined facts first count truths own truth one knows each cells k inside reached e =
-    let here = only_one first k (subst (λ n. IsReached first n k) one reached) in
+    let here = only_one first k (subst (λ n. IsSlotReached first n k) one reached) in
     let holds : logic (held_in cells first) ≡ Ok truth = subst (λ j. logic (held_in cells j) ≡ Ok truth) here e in
     set_one facts cells first (kind.Truth own) inside
     (truth_there own truth (held_in cells first) holds (each (subst (λ r. SuitsTruth truths r) holds (knows cells inside))))
@@ -68,7 +69,7 @@ slot_refined facts first count truths own truth one knows each cells k inside re
 -- the slot of an element that has a value is among those that are reached
 pub element_limited : (old mid new : List Fact) (e : Element) (reach : Reach) (to : Known)
     → ((cells : Cells) (k : ℕ) → AreIn old cells → slot_in cells e ≡ Ok k → AreIn mid cells) → CoversSlot mid e reach
-    → ((cells : Cells) (k : ℕ) (z : ℤ) → AreIn mid cells → IsReached reach.first reach.count k → whole (held_in cells k) ≡ Ok z
+    → ((cells : Cells) (k : ℕ) (z : ℤ) → AreIn mid cells → IsSlotReached reach.first reach.count k → whole (held_in cells k) ≡ Ok z
     → IsBetween to.low z to.high → AreIn new cells)
     → (cells : Cells) (z : ℤ) → AreIn old cells → given (slot_in cells e) (λ k. whole (held_in cells k)) ≡ Ok z → IsBetween to.low z to.high → AreIn new cells
 element_limited old mid new e reach to named covers each cells z inside is between =
@@ -78,7 +79,7 @@ element_limited old mid new e reach to named covers each cells z inside is betwe
 
 pub element_settled : (old mid new : List Fact) (e : Element) (reach : Reach)
     → ((cells : Cells) (k : ℕ) → AreIn old cells → slot_in cells e ≡ Ok k → AreIn mid cells) → CoversSlot mid e reach
-    → ((cells : Cells) (k : ℕ) (b : Bool) → AreIn mid cells → IsReached reach.first reach.count k → logic (held_in cells k) ≡ Ok b → AreIn new cells)
+    → ((cells : Cells) (k : ℕ) (b : Bool) → AreIn mid cells → IsSlotReached reach.first reach.count k → logic (held_in cells k) ≡ Ok b → AreIn new cells)
     → (cells : Cells) (b : Bool) → AreIn old cells → given (slot_in cells e) (λ k. logic (held_in cells k)) ≡ Ok b → AreIn new cells
 element_settled old mid new e reach named covers each cells b inside is =
     let it = used_for (slot_in cells e) (λ k. logic (held_in cells k)) b is in
@@ -87,7 +88,7 @@ element_settled old mid new e reach named covers each cells b inside is =
 
 pub element_refined : (old mid new : List Fact) (e : Element) (reach : Reach) (truth : Bool)
     → ((cells : Cells) (k : ℕ) → AreIn old cells → slot_in cells e ≡ Ok k → AreIn mid cells) → CoversSlot mid e reach
-    → ((cells : Cells) (k : ℕ) → AreIn mid cells → IsReached reach.first reach.count k → logic (held_in cells k) ≡ Ok truth → AreIn new cells)
+    → ((cells : Cells) (k : ℕ) → AreIn mid cells → IsSlotReached reach.first reach.count k → logic (held_in cells k) ≡ Ok truth → AreIn new cells)
     → (cells : Cells) → AreIn old cells → given (slot_in cells e) (λ k. logic (held_in cells k)) ≡ Ok truth → AreIn new cells
 element_refined old mid new e reach truth named covers each cells inside is =
     let it = used_for (slot_in cells e) (λ k. logic (held_in cells k)) truth is in

@@ -3,7 +3,7 @@ use Rattle.std.proofs.Common.{arith, ◌≡◌, ◌≢◌, ◌≤◌, ◌<◌, �
 use Rattle.std.specs.Prelude.{◌<ℤ◌}
 use Rattle.std.proofs.Math.Nat.{mod-le, mod-lt}
 use Rattle.std.proofs.lemmas.Int.{ints}
-use Rattle.f77_values.specs.Number.{size}
+use Rattle.f77_values.specs.Number.{without_sign}
 use borrow.Author.Differences.{up, down}
 
 pub one_sided : (z : ℤ) → min (up z) (down z) ≡ 0
@@ -13,14 +13,14 @@ one_sided (negsuc n) = omega arith
 pub record IsRemainder (u v r : ℤ) : Type 0 where
   pub most : up r ≤ up u
   pub least : down r ≤ down u
-  pub small : pos (up r + down r) <ℤ size v
+  pub small : pos (up r + down r) <ℤ without_sign v
 
 positive : (v : ℤ) → v ≢ pos 0 → 0 < unsigned_abs v
 positive (pos zero) n = absurd (n refl)
 positive (pos (suc m)) n = omega arith
 positive (negsuc m) n = omega arith
 
-sized : (v : ℤ) → size v ≡ pos (unsigned_abs v)
+sized : (v : ℤ) → without_sign v ≡ pos (unsigned_abs v)
 sized (pos n) = refl
 sized (negsuc n) = refl
 

@@ -8,7 +8,7 @@ use Rattle.f77_code.specs.Moves.{Cells}
 use Rattle.f77_facts.specs.declared.facts.Fact.{Fact}
 use Rattle.f77_facts.specs.declared.reaching.Reach.{Reach}
 use Rattle.f77_facts.specs.Facts.{SuitsFact, AreIn}
-use Rattle.f77_facts.specs.Assigning.{Widens, Assigns}
+use Rattle.f77_facts.specs.code.Assigning.{Widens, Assigns}
 use Rattle.f77_facts.proofs.Slots.{set_one, set_both, set_past}
 
 pub widens_none : (facts : List Fact) (from : ℕ) (fact : Fact) → Widens facts facts from from fact

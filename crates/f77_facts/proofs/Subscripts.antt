@@ -15,13 +15,14 @@ use Rattle.f77_facts.specs.declared.reaching.Reach.{Reach}
 use Rattle.f77_facts.specs.declared.truths.Truths.{Truths}
 use Rattle.f77_facts.specs.Facts.{SuitsFact, AreIn}
 use Rattle.f77_facts.specs.Known.{IsBetween, Suits}
-use Rattle.f77_facts.specs.Reaching.{IsReached, SuitsSlot, found_in}
+use Rattle.f77_facts.specs.Reaching.{IsSlotReached, SuitsSlot}
+use Rattle.f77_facts.specs.code.Reaching.{found_in}
 use Rattle.f77_facts.specs.Truths.{SuitsTruth}
 use Rattle.f77_facts.proofs.Used.{used_for}
 use Rattle.f77_facts.proofs.Slots.{none_held}
 
 -- the place of an element by one subscript
-one_place : (reach : Reach) (bound : ℕ) (z : ℤ) → ((n : ℕ) → z ≡ pos (suc n) → n < bound → IsReached reach.first reach.count n)
+one_place : (reach : Reach) (bound : ℕ) (z : ℤ) → ((n : ℕ) → z ≡ pos (suc n) → n < bound → IsSlotReached reach.first reach.count n)
     → (z ≤ℤ pos 0 → reach.may_lack ≡ true) → (pos bound <ℤ z → reach.may_lack ≡ true) → SuitsSlot reach (element (bound ∷ []) (z ∷ []))
 one_place reach bound (pos zero) each low high = low (omega (arith, ints))
 one_place reach bound (negsuc n) each low high = low (omega (arith, ints))
@@ -31,11 +32,11 @@ one_place reach bound (pos (suc n)) each low high = by (nat_lt n bound) refl
     by true e =
         let it = each n refl (ltb-true n bound e) in
         let same : n ≡ n + bound * 0 = omega arith in
-        rw e (subst (λ k. IsReached reach.first reach.count k) same it)
+        rw e (subst (λ k. IsSlotReached reach.first reach.count k) same it)
     by false e = let past = ltb-false n bound e in rw e (high (omega (arith, ints, past)))
 
 pub places : (subscript : Known) (reach : Reach) (bound : ℕ) → (subscript.may_lack ≡ true → reach.may_lack ≡ true)
-    → ((n : ℕ) → IsBetween subscript.low (pos (suc n)) subscript.high → n < bound → IsReached reach.first reach.count n)
+    → ((n : ℕ) → IsBetween subscript.low (pos (suc n)) subscript.high → n < bound → IsSlotReached reach.first reach.count n)
     → ((z : ℤ) → IsBetween subscript.low z subscript.high → z ≤ℤ pos 0 → reach.may_lack ≡ true)
     → ((z : ℤ) → IsBetween subscript.low z subscript.high → pos bound <ℤ z → reach.may_lack ≡ true)
     → (x : Result ℤ Fault) → Suits subscript x → SuitsSlot reach (given x (λ z. element (bound ∷ []) (z ∷ [])))
@@ -57,13 +58,13 @@ in_vector reach f g (Err fault) s = s
 
 -- the places in an array of two dimensions
 pub pairs : (row column reach : Reach) (rows : ℕ) → (row.may_lack ≡ true → reach.may_lack ≡ true) → (column.may_lack ≡ true → reach.may_lack ≡ true)
-    → ((n m : ℕ) → IsReached row.first row.count n → IsReached column.first column.count m → IsReached reach.first reach.count (n + rows * m))
+    → ((n m : ℕ) → IsSlotReached row.first row.count n → IsSlotReached column.first column.count m → IsSlotReached reach.first reach.count (n + rows * m))
     → (r s : Result ℕ Fault) → SuitsSlot row r → SuitsSlot column s → SuitsSlot reach (given r (λ n. given s (λ m. Ok (n + rows * m))))
 pairs row column reach rows lacks fails each (Ok n) (Ok m) p q = each n m p q
 pairs row column reach rows lacks fails each (Ok n) (Err fault) p q = fails q
 pairs row column reach rows lacks fails each (Err fault) s p q = lacks p
 
-pub pair_reached : (rows a c b d n m : ℕ) → IsReached a c n → IsReached b d m → IsReached (a + rows * b) (c + rows * (d - 1)) (n + rows * m)
+pub pair_reached : (rows a c b d n m : ℕ) → IsSlotReached a c n → IsSlotReached b d m → IsSlotReached (a + rows * b) (c + rows * (d - 1)) (n + rows * m)
 pair_reached rows a c b d n m p q =
     let low : rows * b ≤ rows * m = mul-le-mul_left rows q.above in
     let last : m ≤ b + (d - 1) = omega (arith, q.above, q.below) in

@@ -12,7 +12,7 @@ use Rattle.f77_values.specs.Number.{is_below, trip_count}
 use Rattle.f77_code.specs.Evaluation.{compared, number_in, truth_in}
 use Rattle.f77_code.specs.Moves.{Cells}
 use Rattle.f77_facts.specs.Known.{IsBetween}
-use Rattle.f77_facts.specs.Keeping.{makes_pass}
+use Rattle.f77_facts.specs.code.Keeping.{makes_pass}
 use Rattle.f77_facts.proofs.Comparisons.{below_lt, not_below_le}
 
 abbrev above_zero : ℤ → ℕ

@@ -4,7 +4,7 @@ use Rattle.std.specs.Prelude.{Result, Ok, slice_get}
 use Rattle.std.proofs.lemmas.Option.{slice_get_within}
 use Rattle.f77_values.specs.declared.finish.Fault.{Fault}
 use Rattle.f77_code.specs.declared.control.Turn.{Turn}
-use Rattle.f77_code.specs.Moves.{Turns, turn_at}
+use Rattle.f77_code.specs.Moves.{TurnList, turn_at}
 use Rattle.f77_facts.specs.declared.known.Known.{Known}
 use Rattle.f77_facts.specs.declared.loops.LoopFact.{LoopFact}
 use Rattle.f77_facts.specs.declared.loops.LoopFact.TheVariants.{Active}
@@ -31,7 +31,7 @@ one_loop_within inner outer k a b e f each c d g h turn s =
     subst (λ r. SuitsTurn r turn) q (each turn (subst (λ r. SuitsTurn r turn) (sym p) s))
 
 pub all_loops_within : (inner outer : List LoopFact) → length inner ≡ length outer → ((k : ℕ) → k < length inner → IsLoopWithin inner outer k)
-    → (turns : Turns) → AreLeft inner turns → AreLeft outer turns
+    → (turns : TurnList) → AreLeft inner turns → AreLeft outer turns
 all_loops_within inner outer same each turns left = record {
   count = left.count ∙ same;
   each = λ k fact e.

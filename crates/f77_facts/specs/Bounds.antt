@@ -24,4 +24,5 @@ Covers facts x known = (cells : Cells) → AreIn facts cells → Suits known (nu
 
 -- the same of a truth value
 abbrev pub CoversTruth : List Fact → Condition → Truths → Type 0
-CoversTruth facts c truths = (cells : Cells) → AreIn facts cells → SuitsTruth truths (truth_in cells c)
+CoversTruth facts c truths =
+    (cells : Cells) → AreIn facts cells → SuitsTruth truths (truth_in cells c)

@@ -1,8 +1,8 @@
 -- Invariants: for each place of control what is known there, by one or more entries.
-use Rattle.std.specs.Prelude.{◌≡◌, ◌<◌, ℕ, List, Some, slice_get}
+use Rattle.std.specs.Prelude.{◌≡◌, ℕ, List, Some, slice_get}
 use Rattle.f77_actions.specs.declared.resolved.Resolved.{Resolved}
 use Rattle.f77_code.specs.declared.control.Place.{Place}
-use Rattle.f77_code.specs.Moves.{Cells, Turns, State, Move, Goes, Ends, moved}
+use Rattle.f77_code.specs.Moves.{Cells, TurnList, State, Move, Goes, Ends, moved}
 use Rattle.f77_facts.specs.declared.entries.Entry.{Entry}
 use Rattle.f77_facts.specs.declared.facts.Fact.{Fact}
 use Rattle.f77_facts.specs.declared.loops.LoopFact.{LoopFact}
@@ -10,7 +10,8 @@ use Rattle.f77_facts.specs.Facts.{AreIn}
 use Rattle.f77_facts.specs.Loops.{AreLeft}
 
 -- some entry of the place says what slots hold and DOs have left
-pub record IsAmong (entries : List Entry) (place : Place) (cells : Cells) (turns : Turns) : Type 0 where
+pub record IsAmong (entries : List Entry) (place : Place) (cells : Cells)
+    (turns : TurnList) : Type 0 where
   pub number : ℕ
   pub entry : Entry
   pub is : slice_get entries number ≡ Some entry
@@ -19,34 +20,33 @@ pub record IsAmong (entries : List Entry) (place : Place) (cells : Cells) (turns
   pub left : AreLeft entry.loops.items turns
 
 -- what is among the old entries is among the new ones
-abbrev pub Grows : List Entry → List Entry → Type 0
-Grows old new = (place : Place) (cells : Cells) (turns : Turns) → IsAmong old place cells turns → IsAmong new place cells turns
+abbrev pub GrowsEntries : List Entry → List Entry → Type 0
+GrowsEntries old new = (place : Place) (cells : Cells) (turns : TurnList)
+    → IsAmong old place cells turns → IsAmong new place cells turns
 
 -- entries were added, so that this holds
-abbrev pub Adds : List Entry → List Entry → Type 0 → Type 0
-Adds old new claim = Grows old new × claim
+abbrev pub AddsEntries : List Entry → List Entry → Type 0 → Type 0
+AddsEntries old new claim = GrowsEntries old new × claim
 
 -- where control goes on, an entry says what is there
-abbrev pub Lands : List Entry → Move → Type 0
-Lands entries (Goes s) = IsAmong entries s.place s.cells s.turns
-Lands entries (Ends finish cells) = Unit {0}
+abbrev pub LandsInEntries : List Entry → Move → Type 0
+LandsInEntries entries (Goes s) = IsAmong entries s.place s.cells s.turns
+LandsInEntries entries (Ends finish cells) = Unit {0}
 
 -- all states of the place of which this is known are in entries
 abbrev pub AreCovered : List Entry → Place → List Fact → List LoopFact → Type 0
-AreCovered entries place facts loops = (cells : Cells) (turns : Turns) → AreIn facts cells → AreLeft loops turns → IsAmong entries place cells turns
+AreCovered entries place facts loops = (cells : Cells) (turns : TurnList)
+    → AreIn facts cells → AreLeft loops turns → IsAmong entries place cells turns
 
 -- a step from a state of which this is known leads into entries
-abbrev pub Keeps : List Resolved → List Entry → Place → List Fact → List LoopFact → Type 0
-Keeps statements entries place facts loops =
-    (cells : Cells) (turns : Turns) (move : Move) → AreIn facts cells → AreLeft loops turns
-    → moved statements (record { place = place; cells = cells; turns = turns }) ≡ Some move → Lands entries move
-
--- so does one from each of the first n entries
-abbrev pub KeepAll : List Resolved → List Entry → ℕ → Type 0
-KeepAll statements entries n =
-    (k : ℕ) → k < n → (entry : Entry) → slice_get entries k ≡ Some entry → Keeps statements entries entry.place entry.facts.items entry.loops.items
+abbrev pub KeepsEntries : List Resolved → List Entry → Place → List Fact → List LoopFact → Type 0
+KeepsEntries statements entries place facts loops =
+    (cells : Cells) (turns : TurnList) (move : Move) → AreIn facts cells → AreLeft loops turns
+    → moved statements (record { place = place; cells = cells; turns = turns }) ≡ Some move
+    → LandsInEntries entries move
 
 -- a step from a state that is in an entry leads into entries
 abbrev pub IsInductive : List Resolved → List Entry → Type 0
 IsInductive statements entries =
-    (s : State) (move : Move) → IsAmong entries s.place s.cells s.turns → moved statements s ≡ Some move → Lands entries move
+    (s : State) (move : Move) → IsAmong entries s.place s.cells s.turns
+    → moved statements s ≡ Some move → LandsInEntries entries move

@@ -20,7 +20,8 @@ SuitsFact (kind.Truth truths) None = truths.may_lack ≡ true
 -- the slots are as many as the facts, and each suits its own
 pub record AreIn (facts : List Fact) (cells : Cells) : Type 0 where
   pub count : length cells ≡ length facts
-  pub each : (k : ℕ) (fact : Fact) → slice_get facts k ≡ Some fact → SuitsFact fact (held_in cells k)
+  pub each : (k : ℕ) (fact : Fact)
+      → slice_get facts k ≡ Some fact → SuitsFact fact (held_in cells k)
 
 -- the cells that suit these facts suit those
 abbrev pub Lies : List Fact → List Fact → Type 0

@@ -5,6 +5,5 @@ pub mod Loops
 pub mod Reaching
 pub mod Bounds
 pub mod Refining
-pub mod Assigning
 pub mod Entries
-pub mod Keeping
+pub mod code

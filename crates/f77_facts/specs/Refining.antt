@@ -6,20 +6,15 @@ use Rattle.f77_code.specs.Evaluation.{number_in, truth_in}
 use Rattle.f77_code.specs.Moves.{Cells}
 use Rattle.f77_facts.specs.declared.facts.Fact.{Fact}
 use Rattle.f77_facts.specs.declared.known.Known.{Known}
-use Rattle.f77_facts.specs.declared.truths.Truths.{Truths}
 use Rattle.f77_facts.specs.Facts.{AreIn}
 use Rattle.f77_facts.specs.Known.{IsBetween}
-use Rattle.f77_facts.specs.Truths.{SuitsTruth}
 
 -- what suits the old facts where the number is between these bounds suits the new ones
 abbrev pub Limits : List Fact → List Fact → Number → Known → Type 0
-Limits old new x to = (cells : Cells) (z : ℤ) → AreIn old cells → number_in cells x ≡ Ok z → IsBetween to.low z to.high → AreIn new cells
+Limits old new x to = (cells : Cells) (z : ℤ)
+    → AreIn old cells → number_in cells x ≡ Ok z → IsBetween to.low z to.high → AreIn new cells
 
 -- the same where the condition has this value
 abbrev pub Refines : List Fact → List Fact → Condition → Bool → Type 0
-Refines old new c truth = (cells : Cells) → AreIn old cells → truth_in cells c ≡ Ok truth → AreIn new cells
-
--- the same where the condition has one of these values
-abbrev pub RefinesTo : List Fact → List Fact → Condition → Truths → Type 0
-RefinesTo old new c truths =
-    (cells : Cells) (b : Bool) → AreIn old cells → truth_in cells c ≡ Ok b → SuitsTruth truths (Ok b) → AreIn new cells
+Refines old new c truth =
+    (cells : Cells) → AreIn old cells → truth_in cells c ≡ Ok truth → AreIn new cells

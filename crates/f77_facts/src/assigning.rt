@@ -7,8 +7,8 @@ ghost use Rattle.f77_code.specs.Moves.{Cells};
 ghost use Rattle.f77_facts.specs.Known.{Suits};
 ghost use Rattle.f77_facts.specs.Truths.{SuitsTruth};
 ghost use Rattle.f77_facts.specs.Facts.{SuitsFact, AreIn};
-ghost use Rattle.f77_facts.specs.Reaching.{IsReached};
-ghost use Rattle.f77_facts.specs.Assigning.{Assigns, Widens};
+ghost use Rattle.f77_facts.specs.Reaching.{IsSlotReached};
+ghost use Rattle.f77_facts.specs.code.Assigning.{Assigns, Widens};
 
 use crate::facts::{Fact, fact_at, hull_of, set};
 use crate::known::{Known, limited};
@@ -41,7 +41,7 @@ fn assign(facts: &mut [Fact], reach: Reach, fact: Fact)
 /// One of the slots that a reference may name is given an INTEGER value of which this is known.
 pub fn assign_number(facts: &mut [Fact], reach: Reach, known: Known)
     ensures { (cells : Cells) (k : ℕ) (z : ℤ) → AreIn facts.old cells
-        → IsReached reach.first reach.count k → Suits known (Ok z)
+        → IsSlotReached reach.first reach.count k → Suits known (Ok z)
         → AreIn facts.new (slice_set cells k (Some (held.Number z))) }
 {
     assign(facts, reach, Fact::Number(limited(known, known)));
@@ -50,7 +50,7 @@ pub fn assign_number(facts: &mut [Fact], reach: Reach, known: Known)
 /// One of the slots that a reference may name is given a LOGICAL value of which this is known.
 pub fn assign_truth(facts: &mut [Fact], reach: Reach, truths: Truths)
     ensures { (cells : Cells) (k : ℕ) (b : Bool) → AreIn facts.old cells
-        → IsReached reach.first reach.count k → SuitsTruth truths (Ok b)
+        → IsSlotReached reach.first reach.count k → SuitsTruth truths (Ok b)
         → AreIn facts.new (slice_set cells k (Some (held.Truth b))) }
 {
     let kept = Truths {

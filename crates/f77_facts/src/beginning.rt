@@ -4,8 +4,8 @@ ghost use Rattle.std.specs.Prelude.{◌≡◌, ◌≢◌, ◌+◌, ◌<◌, ◌�
 ghost use Rattle.f77_actions.specs.declared.resolved.Resolved.{Resolved};
 ghost use Rattle.f77_values.specs.Number.{trip_count};
 ghost use Rattle.f77_facts.specs.Known.{IsBetween};
-ghost use Rattle.f77_facts.specs.Entries.{Adds};
-ghost use Rattle.f77_facts.specs.Keeping.{Acts, Begins, RefinesPasses};
+ghost use Rattle.f77_facts.specs.Entries.{AddsEntries};
+ghost use Rattle.f77_facts.specs.code.Keeping.{KeepsActing, KeepsBegun, RefinesPasses};
 
 use crate::bounds::known_of;
 use crate::copying::given_number;
@@ -85,7 +85,7 @@ fn begun(
     step: Known,
     makes: bool,
 ) -> Result<Vec<Fact>, AllocError>
-    ensures { IfOk result (λ v. Begins facts.now v.items variable first.now last.now step makes) }
+    ensures { IfOk result (λ v. KeepsBegun facts.now v.items variable first.now last.now step makes) }
 {
     let refined = refined_passes(alloc, facts, first, last, step, makes)?;
     let from = known_of(&refined, first);
@@ -107,8 +107,8 @@ pub(crate) fn is_begin_kept(
     loops: &[LoopFact],
 ) -> Result<bool, AllocError>
     requires { d + 1 < 2 ^ 64 }
-    ensures { IfOk result (λ yes. yes ≡ true → Adds moves.old.items moves.new.items
-        ((r : Resolved) → Acts statements.now moves.new.items d r
+    ensures { IfOk result (λ yes. yes ≡ true → AddsEntries moves.old.items moves.new.items
+        ((r : Resolved) → KeepsActing statements.now moves.new.items d r
         (Action.Loop variable first.now last.now step.now terminal) facts.now loops.now)) }
 {
     if terminal >= statements.len() {

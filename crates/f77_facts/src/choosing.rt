@@ -3,8 +3,8 @@
 ghost use Rattle.std.specs.Prelude.{◌≡◌, ◌<◌, ◌≤◌, ℕ, suc, pos, negsuc, true, length, slice_get, Some, IfOk};
 ghost use Rattle.f77_actions.specs.declared.resolved.Resolved.{Resolved};
 ghost use Rattle.f77_facts.specs.Known.{IsBetween};
-ghost use Rattle.f77_facts.specs.Entries.{Adds};
-ghost use Rattle.f77_facts.specs.Keeping.{ActsAnywhere, JumpsEach};
+ghost use Rattle.f77_facts.specs.Entries.{AddsEntries};
+ghost use Rattle.f77_facts.specs.code.Keeping.{ActsAnywhere, JumpsEach};
 
 use crate::bounds::known_of;
 use crate::copying::refined;
@@ -93,7 +93,8 @@ fn is_sign_kept(
     facts: &[Fact],
     loops: &[LoopFact],
 ) -> Result<(), AllocError>
-    ensures { IfOk result (λ _. Adds moves.old.items moves.new.items ((r : Resolved) → ActsAnywhere moves.new.items r
+    ensures { IfOk result
+        (λ _. AddsEntries moves.old.items moves.new.items ((r : Resolved) → ActsAnywhere moves.new.items r
         (Action.ArithmeticIf value.now negative.now zero.now positive.now) facts.now loops.now)) }
 {
     let known = known_of(facts, value);
@@ -121,7 +122,7 @@ fn is_each_kept(
     facts: &[Fact],
     loops: &[LoopFact],
 ) -> Result<(), AllocError>
-    ensures { IfOk result (λ _. Adds moves.old.items moves.new.items
+    ensures { IfOk result (λ _. AddsEntries moves.old.items moves.new.items
         (JumpsEach moves.new.items jumps.now value.now (length jumps.now) facts.now loops.now)) }
 {
     let known = known_of(facts, value);
@@ -143,7 +144,7 @@ fn is_selection_kept(
     facts: &[Fact],
     loops: &[LoopFact],
 ) -> Result<(), AllocError>
-    ensures { IfOk result (λ _. Adds moves.old.items moves.new.items (ActsAnywhere moves.new.items resolved.now
+    ensures { IfOk result (λ _. AddsEntries moves.old.items moves.new.items (ActsAnywhere moves.new.items resolved.now
         (Action.ComputedGoto value.now jumps.now) facts.now loops.now)) }
 {
     is_each_kept(alloc, moves, value, jumps, facts, loops)?;
@@ -162,7 +163,7 @@ fn is_branch_kept(
     facts: &[Fact],
     loops: &[LoopFact],
 ) -> Result<(), AllocError>
-    ensures { IfOk result (λ _. Adds moves.old.items moves.new.items (ActsAnywhere moves.new.items resolved.now
+    ensures { IfOk result (λ _. AddsEntries moves.old.items moves.new.items (ActsAnywhere moves.new.items resolved.now
         (Action.Branch condition.now otherwise) facts.now loops.now)) }
 {
     let holds = refined(alloc, facts, condition, true)?;
@@ -182,7 +183,7 @@ fn is_choice_kept(
     facts: &[Fact],
     loops: &[LoopFact],
 ) -> Result<bool, AllocError>
-    ensures { IfOk result (λ yes. yes ≡ true → Adds moves.old.items moves.new.items
+    ensures { IfOk result (λ yes. yes ≡ true → AddsEntries moves.old.items moves.new.items
         (ActsAnywhere moves.new.items resolved.now action.now facts.now loops.now)) }
 {
     match action {
@@ -215,7 +216,7 @@ pub(crate) fn is_jump_kept(
     facts: &[Fact],
     loops: &[LoopFact],
 ) -> Result<bool, AllocError>
-    ensures { IfOk result (λ yes. yes ≡ true → Adds moves.old.items moves.new.items
+    ensures { IfOk result (λ yes. yes ≡ true → AddsEntries moves.old.items moves.new.items
         (ActsAnywhere moves.new.items resolved.now action.now facts.now loops.now)) }
 {
     match action {

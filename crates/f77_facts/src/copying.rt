@@ -3,12 +3,12 @@
 ghost use Rattle.std.specs.Prelude.{◌≡◌, ◌<◌, ℕ, ℤ, Bool, length, slice_get, slice_set, Some, Ok, IfOk};
 ghost use Rattle.f77_values.specs.declared.value.Value.TheVariants as held;
 ghost use Rattle.f77_code.specs.Evaluation.{slot_in, number_in, truth_in};
-ghost use Rattle.f77_code.specs.Moves.{Cells, Turns, without};
+ghost use Rattle.f77_code.specs.Moves.{Cells, TurnList, without};
 ghost use Rattle.f77_facts.specs.Known.{Suits};
 ghost use Rattle.f77_facts.specs.Truths.{SuitsTruth};
 ghost use Rattle.f77_facts.specs.Facts.{AreIn};
 ghost use Rattle.f77_facts.specs.Loops.{AreLeft};
-ghost use Rattle.f77_facts.specs.Reaching.{IsReached};
+ghost use Rattle.f77_facts.specs.Reaching.{IsSlotReached};
 ghost use Rattle.f77_facts.specs.Refining.{Limits, Refines};
 
 use crate::assigning::{assign_number, assign_truth};
@@ -84,7 +84,7 @@ pub(crate) fn with_outcome(
 
 /// The facts where a slot that a reference may name is given an INTEGER value.
 pub(crate) fn given_number(mut facts: Vec<Fact>, reach: Reach, known: Known) -> Vec<Fact>
-    ensures { (cells : Cells) (k : ℕ) (z : ℤ) → AreIn facts.items cells → IsReached reach.first reach.count k
+    ensures { (cells : Cells) (k : ℕ) (z : ℤ) → AreIn facts.items cells → IsSlotReached reach.first reach.count k
         → Suits known (Ok z) → AreIn result.items (slice_set cells k (Some (held.Number z))) }
 {
     assign_number(&mut facts, reach, known);
@@ -99,7 +99,7 @@ pub(crate) fn with_number(
     known: Known,
 ) -> Result<Vec<Fact>, AllocError>
     ensures { IfOk result (λ v. (cells : Cells) (k : ℕ) (z : ℤ) → AreIn facts.now cells
-        → IsReached reach.first reach.count k → Suits known (Ok z)
+        → IsSlotReached reach.first reach.count k → Suits known (Ok z)
         → AreIn v.items (slice_set cells k (Some (held.Number z)))) }
 {
     let mut after = facts::copy(alloc, facts)?;
@@ -109,7 +109,7 @@ pub(crate) fn with_number(
 
 /// The facts where a slot that a reference may name is given a LOGICAL value.
 pub(crate) fn given_truth(mut facts: Vec<Fact>, reach: Reach, truths: Truths) -> Vec<Fact>
-    ensures { (cells : Cells) (k : ℕ) (b : Bool) → AreIn facts.items cells → IsReached reach.first reach.count k
+    ensures { (cells : Cells) (k : ℕ) (b : Bool) → AreIn facts.items cells → IsSlotReached reach.first reach.count k
         → SuitsTruth truths (Ok b) → AreIn result.items (slice_set cells k (Some (held.Truth b))) }
 {
     assign_truth(&mut facts, reach, truths);
@@ -126,7 +126,7 @@ pub(crate) fn number_at(numbers: &[usize], k: usize) -> usize
 
 /// These DOs are not active any more.
 fn leave(loops: &mut [LoopFact], leaves: &[usize])
-    ensures { (turns : Turns) → AreLeft loops.old turns → AreLeft loops.new (without turns leaves.now) }
+    ensures { (turns : TurnList) → AreLeft loops.old turns → AreLeft loops.new (without turns leaves.now) }
 {
     for k in 0..leaves.len() {
         let d = number_at(leaves, k);
@@ -140,7 +140,7 @@ pub(crate) fn left(
     loops: &[LoopFact],
     leaves: &[usize],
 ) -> Result<Vec<LoopFact>, AllocError>
-    ensures { IfOk result (λ v. (turns : Turns) → AreLeft loops.now turns
+    ensures { IfOk result (λ v. (turns : TurnList) → AreLeft loops.now turns
         → AreLeft v.items (without turns leaves.now)) }
 {
     let mut after = loops::copy(alloc, loops)?;

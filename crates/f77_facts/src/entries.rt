@@ -1,7 +1,7 @@
 //! What is known at the places where control may be.
 
 ghost use Rattle.std.specs.Prelude.{◌≡◌, ◌<◌, true, length, slice_get, Some, IfOk};
-ghost use Rattle.f77_facts.specs.Entries.{AreCovered, Grows, Adds};
+ghost use Rattle.f77_facts.specs.Entries.{AreCovered, GrowsEntries, AddsEntries};
 
 use crate::facts::{Fact, is_empty, is_inside};
 use crate::loops::{LoopFact, is_loops_inside};
@@ -45,7 +45,7 @@ pub fn is_covered(entries: &[Entry], place: Place, facts: &[Fact], loops: &[Loop
 
 /// Each of these entries is covered.
 pub fn are_covered(entries: &[Entry], covered: &[Entry]) -> bool
-    ensures { result ≡ true → Grows covered.now entries.now }
+    ensures { result ≡ true → GrowsEntries covered.now entries.now }
 {
     for number in 0..covered.len() {
         let entry = entry_at(covered, number);
@@ -63,7 +63,7 @@ pub fn add_move(
     facts: Vec<Fact>,
     loops: Vec<LoopFact>,
 ) -> Result<(), AllocError>
-    ensures { IfOk result (λ _. Adds moves.old.items moves.new.items
+    ensures { IfOk result (λ _. AddsEntries moves.old.items moves.new.items
         (AreCovered moves.new.items place facts.items loops.items)) }
 {
     if is_empty(&facts) {

@@ -1,7 +1,8 @@
 //! Invariants are checked.
 
 ghost use Rattle.std.specs.Prelude.{◌≡◌, true, length, IfOk};
-ghost use Rattle.f77_facts.specs.Entries.{KeepAll, IsInductive};
+ghost use Rattle.f77_facts.specs.code.Entries.{KeepAll};
+ghost use Rattle.f77_facts.specs.Entries.{IsInductive};
 
 use crate::entries::{Entry, entry_at};
 use crate::moving::keeps;

@@ -1,10 +1,10 @@
 //! Where control goes on, which DOs a jump leaves, and what is known there.
 
 ghost use Rattle.std.specs.Prelude.{◌≡◌, is_some, IfOk};
-ghost use Rattle.f77_code.specs.Moves.{Turns, turn_at, innermost, place_behind};
-ghost use Rattle.f77_facts.specs.Entries.{Adds};
+ghost use Rattle.f77_code.specs.Moves.{TurnList, turn_at, innermost, place_behind};
+ghost use Rattle.f77_facts.specs.Entries.{AddsEntries};
 ghost use Rattle.f77_facts.specs.Loops.{AreLeft};
-ghost use Rattle.f77_facts.specs.Keeping.{GoesOn, GoesOnWithin, Jumps, JumpsWithin};
+ghost use Rattle.f77_facts.specs.code.Keeping.{KeepsGoingOn, GoesOnWithin, KeepsJumping, JumpsWithin};
 
 use crate::copying::{left, limited_to, number_at};
 use crate::entries::{Entry, add_move};
@@ -17,7 +17,7 @@ use std::alloc::{AllocError, Global};
 
 /// The DO is active, which the facts tell of each.
 fn is_active(loops: &[LoopFact], d: usize) -> bool
-    ensures { (turns : Turns) → AreLeft loops.now turns → is_some (turn_at turns d) ≡ result }
+    ensures { (turns : TurnList) → AreLeft loops.now turns → is_some (turn_at turns d) ≡ result }
 {
     if d >= loops.len() {
         return false;
@@ -30,7 +30,7 @@ fn is_active(loops: &[LoopFact], d: usize) -> bool
 
 /// The innermost of the DOs that end at a statement and are active.
 fn innermost_of(loops: &[LoopFact], ends: &[usize]) -> Option<usize>
-    ensures { (turns : Turns) → AreLeft loops.now turns → innermost turns ends.now ≡ result }
+    ensures { (turns : TurnList) → AreLeft loops.now turns → innermost turns ends.now ≡ result }
 {
     for k in 0..ends.len() {
         let d = number_at(ends, k);
@@ -43,7 +43,7 @@ fn innermost_of(loops: &[LoopFact], ends: &[usize]) -> Option<usize>
 
 /// Where control goes on from a statement that did not jump.
 fn place_after(loops: &[LoopFact], resolved: &Resolved) -> Place
-    ensures { (turns : Turns) → AreLeft loops.now turns → place_behind resolved.now turns ≡ result }
+    ensures { (turns : TurnList) → AreLeft loops.now turns → place_behind resolved.now turns ≡ result }
 {
     match innermost_of(loops, &resolved.ends) {
         Some(d) => Place::Increment(d),
@@ -59,8 +59,8 @@ pub(crate) fn goes_on(
     facts: Vec<Fact>,
     loops: &[LoopFact],
 ) -> Result<(), AllocError>
-    ensures { IfOk result (λ _. Adds moves.old.items moves.new.items
-        (GoesOn moves.new.items resolved.now facts.items loops.now)) }
+    ensures { IfOk result (λ _. AddsEntries moves.old.items moves.new.items
+        (KeepsGoingOn moves.new.items resolved.now facts.items loops.now)) }
 {
     let place = place_after(loops, resolved);
     let there = loops::copy(alloc, loops)?;
@@ -75,8 +75,8 @@ pub(crate) fn jumps(
     facts: Vec<Fact>,
     loops: &[LoopFact],
 ) -> Result<(), AllocError>
-    ensures { IfOk result (λ _. Adds moves.old.items moves.new.items
-        (Jumps moves.new.items jump.now facts.items loops.now)) }
+    ensures { IfOk result (λ _. AddsEntries moves.old.items moves.new.items
+        (KeepsJumping moves.new.items jump.now facts.items loops.now)) }
 {
     let after = left(alloc, loops, &jump.leaves)?;
     let place = Place::Execute(jump.target);
@@ -93,7 +93,7 @@ pub(crate) fn jumps_within(
     facts: &[Fact],
     loops: &[LoopFact],
 ) -> Result<(), AllocError>
-    ensures { IfOk result (λ _. Adds moves.old.items moves.new.items
+    ensures { IfOk result (λ _. AddsEntries moves.old.items moves.new.items
         (JumpsWithin moves.new.items jump.now number.now to facts.now loops.now)) }
 {
     if to.high < to.low {
@@ -113,7 +113,7 @@ pub(crate) fn goes_on_within(
     facts: &[Fact],
     loops: &[LoopFact],
 ) -> Result<(), AllocError>
-    ensures { IfOk result (λ _. Adds moves.old.items moves.new.items
+    ensures { IfOk result (λ _. AddsEntries moves.old.items moves.new.items
         (GoesOnWithin moves.new.items resolved.now number.now to facts.now loops.now)) }
 {
     if to.high < to.low {

@@ -3,7 +3,7 @@
 ghost use Rattle.std.specs.Prelude.{◌≡◌, ◌≢◌, ◌||◌, ◌+ℤ◌, ◌-ℤ◌, ◌*ℤ◌, ◌≤ℤ◌, ◌<ℤ◌, if◌then◌else◌};
 ghost use Rattle.std.specs.Prelude.{ℤ, pos, negsuc, true, false, Result, Ok, IfOk};
 ghost use Rattle.f77_values.specs.declared.finish.Fault.{Fault};
-ghost use Rattle.f77_values.specs.Number.{fits, in_range, quotient, modulus, power, negated, size, is_below};
+ghost use Rattle.f77_values.specs.Number.{fits, in_range, quotient, modulus, power, negated, without_sign, is_below};
 ghost use Rattle.f77_values.specs.Value.{given, both, pushed};
 ghost use Rattle.f77_facts.specs.Known.{IsBetween, Suits};
 ghost use Rattle.f77_code.specs.Evaluation.{calculated};
@@ -198,7 +198,7 @@ pub fn negation_of(a: Known) -> Known
 
 /// IABS.
 pub fn absolute_of(a: Known) -> Known
-    ensures { (x : Result ℤ Fault) → Suits a x → Suits result (given x (λ z. in_range (size z))) }
+    ensures { (x : Result ℤ Fault) → Suits a x → Suits result (given x (λ z. in_range (without_sign z))) }
 {
     let span = Span {
         low: least_size(a),
@@ -209,7 +209,7 @@ pub fn absolute_of(a: Known) -> Known
 
 /// The size of each number is at least this.
 fn least_size(a: Known) -> i64
-    ensures { (z : ℤ) → IsBetween a.low z a.high → result ≤ℤ size z }
+    ensures { (z : ℤ) → IsBetween a.low z a.high → result ≤ℤ without_sign z }
 {
     if a.low > 0 {
         return i64::from(a.low);

@@ -4,8 +4,8 @@ ghost use Rattle.std.specs.Prelude.{◌≡◌, ◌+◌, ◌<◌, ◌≤◌, ◌^
 ghost use Rattle.f77_actions.specs.declared.action.Action.{Loop};
 ghost use Rattle.f77_actions.specs.declared.resolved.Resolved.{Resolved};
 ghost use Rattle.f77_code.specs.declared.control.Place.TheVariants.{Increment};
-ghost use Rattle.f77_facts.specs.Entries.{Adds, Keeps};
-ghost use Rattle.f77_facts.specs.Keeping.{EndsInto, PassesInto, PassesAt};
+ghost use Rattle.f77_facts.specs.Entries.{AddsEntries, KeepsEntries};
+ghost use Rattle.f77_facts.specs.code.Keeping.{EndsInto, PassesInto, PassesAt};
 
 use crate::copying::{with_loop, with_number};
 use crate::entries::{Entry, add_move};
@@ -45,7 +45,7 @@ pub(crate) fn is_end_kept(
     facts: Vec<Fact>,
     loops: &[LoopFact],
 ) -> Result<(), AllocError>
-    ensures { IfOk result (λ _. Adds moves.old.items moves.new.items
+    ensures { IfOk result (λ _. AddsEntries moves.old.items moves.new.items
         (fewest ≤ 0 → EndsInto moves.new.items end.now d facts.items loops.now)) }
 {
     if fewest > 0 {
@@ -71,7 +71,7 @@ pub(crate) fn is_pass_kept(
     loops: &[LoopFact],
 ) -> Result<(), AllocError>
     requires { d + 1 < 2 ^ 64 }
-    ensures { IfOk result (λ _. Adds moves.old.items moves.new.items
+    ensures { IfOk result (λ _. AddsEntries moves.old.items moves.new.items
         (PassesInto moves.new.items d passes.fewest passes.most passes.step facts.items loops.now)) }
 {
     if passes.most == 0 {
@@ -99,7 +99,7 @@ fn are_passes_kept(
     loops: &[LoopFact],
 ) -> Result<bool, AllocError>
     requires { d + 1 < 2 ^ 64 }
-    ensures { IfOk result (λ yes. yes ≡ true → Adds moves.old.items moves.new.items
+    ensures { IfOk result (λ yes. yes ≡ true → AddsEntries moves.old.items moves.new.items
         (PassesAt statements.now moves.new.items terminal d
         passes.fewest passes.most passes.step facts.items loops.now)) }
 {
@@ -126,10 +126,11 @@ fn is_next_kept(
     loops: &[LoopFact],
 ) -> Result<bool, AllocError>
     requires { d + 1 < 2 ^ 64 }
-    ensures { IfOk result (λ yes. yes ≡ true → Adds moves.old.items moves.new.items
+    ensures { IfOk result (λ yes. yes ≡ true → AddsEntries moves.old.items moves.new.items
         ((r : Resolved) (first last step : _)
         → slice_get statements.now d ≡ Some r → r.action ≡ Loop variable first last step terminal
-        → slice_get loops.now d ≡ Some fact → Keeps statements.now moves.new.items (Increment d) facts.now loops.now)) }
+        → slice_get loops.now d ≡ Some fact
+        → KeepsEntries statements.now moves.new.items (Increment d) facts.now loops.now)) }
 {
     match fact {
         LoopFact::Inactive => Ok(false),
@@ -155,8 +156,8 @@ pub(crate) fn is_increment_kept(
     facts: &[Fact],
     loops: &[LoopFact],
 ) -> Result<bool, AllocError>
-    ensures { IfOk result (λ yes. yes ≡ true → Adds moves.old.items moves.new.items
-        (Keeps statements.now moves.new.items (Increment d) facts.now loops.now)) }
+    ensures { IfOk result (λ yes. yes ≡ true → AddsEntries moves.old.items moves.new.items
+        (KeepsEntries statements.now moves.new.items (Increment d) facts.now loops.now)) }
 {
     if d >= statements.len() || d >= loops.len() {
         return Ok(false);

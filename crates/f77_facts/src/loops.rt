@@ -2,7 +2,7 @@
 
 ghost use Rattle.std.specs.Prelude.{◌≡◌, ◌<◌, true, length, slice_get, slice_set, Option, Some, IfOk};
 ghost use Rattle.f77_code.specs.declared.control.Turn.{Turn};
-ghost use Rattle.f77_code.specs.Moves.{Turns};
+ghost use Rattle.f77_code.specs.Moves.{TurnList};
 ghost use Rattle.f77_facts.specs.Loops.{SuitsTurn, AreLeft};
 
 use crate::known::{self, Known};
@@ -75,7 +75,7 @@ fn is_loop_within(a: LoopFact, b: LoopFact) -> bool
 
 /// What suits the first facts suits the second.
 pub fn is_loops_inside(inner: &[LoopFact], outer: &[LoopFact]) -> bool
-    ensures { result ≡ true → (turns : Turns) → AreLeft inner.now turns → AreLeft outer.now turns }
+    ensures { result ≡ true → (turns : TurnList) → AreLeft inner.now turns → AreLeft outer.now turns }
 {
     if inner.len() != outer.len() {
         return false;

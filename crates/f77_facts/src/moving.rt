@@ -2,8 +2,8 @@
 
 ghost use Rattle.std.specs.Prelude.{◌≡◌, ◌+◌, ◌<◌, ◌^◌, true, IfOk, IfSome};
 ghost use Rattle.f77_code.specs.declared.control.Place.TheVariants.{Execute};
-ghost use Rattle.f77_facts.specs.Entries.{Adds, Keeps};
-ghost use Rattle.f77_facts.specs.Keeping.{Acts, ActsAnywhere, AssignsTruth};
+ghost use Rattle.f77_facts.specs.Entries.{AddsEntries, KeepsEntries};
+ghost use Rattle.f77_facts.specs.code.Keeping.{KeepsActing, ActsAnywhere, AssignsTruth};
 
 use crate::beginning::is_begin_kept;
 use crate::bounds::{known_of, reach_of};
@@ -30,7 +30,7 @@ fn is_number_kept(
     facts: &[Fact],
     loops: &[LoopFact],
 ) -> Result<(), AllocError>
-    ensures { IfOk result (λ _. Adds moves.old.items moves.new.items (ActsAnywhere moves.new.items resolved.now
+    ensures { IfOk result (λ _. AddsEntries moves.old.items moves.new.items (ActsAnywhere moves.new.items resolved.now
         (Action.AssignNumber element.now number.now) facts.now loops.now)) }
 {
     let there = with_value(alloc, facts, element, number)?;
@@ -51,7 +51,7 @@ fn is_outcome_kept(
     facts: &[Fact],
     loops: &[LoopFact],
 ) -> Result<(), AllocError>
-    ensures { IfOk result (λ _. Adds moves.old.items moves.new.items
+    ensures { IfOk result (λ _. AddsEntries moves.old.items moves.new.items
         (AssignsTruth moves.new.items resolved.now element.now condition.now truth facts.now loops.now)) }
 {
     let there = with_outcome(alloc, facts, element, condition, truth)?;
@@ -71,7 +71,7 @@ fn is_truth_kept(
     facts: &[Fact],
     loops: &[LoopFact],
 ) -> Result<(), AllocError>
-    ensures { IfOk result (λ _. Adds moves.old.items moves.new.items (ActsAnywhere moves.new.items resolved.now
+    ensures { IfOk result (λ _. AddsEntries moves.old.items moves.new.items (ActsAnywhere moves.new.items resolved.now
         (Action.AssignTruth element.now condition.now) facts.now loops.now)) }
 {
     is_outcome_kept(
@@ -91,7 +91,7 @@ fn is_plain_kept(
     facts: &[Fact],
     loops: &[LoopFact],
 ) -> Result<bool, AllocError>
-    ensures { IfOk result (λ yes. yes ≡ true → Adds moves.old.items moves.new.items
+    ensures { IfOk result (λ yes. yes ≡ true → AddsEntries moves.old.items moves.new.items
         (ActsAnywhere moves.new.items resolved.now action.now facts.now loops.now)) }
 {
     match action {
@@ -125,8 +125,8 @@ fn is_action_kept(
     loops: &[LoopFact],
 ) -> Result<bool, AllocError>
     requires { i + 1 < 2 ^ 64 }
-    ensures { IfOk result (λ yes. yes ≡ true → Adds moves.old.items moves.new.items
-        (Acts statements.now moves.new.items i resolved.now action.now facts.now loops.now)) }
+    ensures { IfOk result (λ yes. yes ≡ true → AddsEntries moves.old.items moves.new.items
+        (KeepsActing statements.now moves.new.items i resolved.now action.now facts.now loops.now)) }
 {
     match action {
         Action::LogicalIf { condition, action } => {
@@ -157,8 +157,8 @@ fn is_statement_kept(
     facts: &[Fact],
     loops: &[LoopFact],
 ) -> Result<bool, AllocError>
-    ensures { IfOk result (λ yes. yes ≡ true → Adds moves.old.items moves.new.items
-        (Keeps statements.now moves.new.items (Execute i) facts.now loops.now)) }
+    ensures { IfOk result (λ yes. yes ≡ true → AddsEntries moves.old.items moves.new.items
+        (KeepsEntries statements.now moves.new.items (Execute i) facts.now loops.now)) }
 {
     if i >= statements.len() {
         return Ok(false);
@@ -185,8 +185,8 @@ fn leads(
     facts: &[Fact],
     loops: &[LoopFact],
 ) -> Result<bool, AllocError>
-    ensures { IfOk result (λ yes. yes ≡ true → Adds moves.old.items moves.new.items
-        (Keeps statements.now moves.new.items place facts.now loops.now)) }
+    ensures { IfOk result (λ yes. yes ≡ true → AddsEntries moves.old.items moves.new.items
+        (KeepsEntries statements.now moves.new.items place facts.now loops.now)) }
 {
     match place {
         Place::Execute(i) => is_statement_kept(alloc, statements, moves, i, facts, loops),
@@ -203,7 +203,7 @@ pub fn moves_of(
     loops: &[LoopFact],
 ) -> Result<Option<Vec<Entry>>, AllocError>
     ensures { IfOk result (λ answer. IfSome answer
-        (λ moves. Keeps statements.now moves.items place facts.now loops.now)) }
+        (λ moves. KeepsEntries statements.now moves.items place facts.now loops.now)) }
 {
     let mut moves = Vec::new(alloc);
     if !leads(alloc, statements, &mut moves, place, facts, loops)? {
@@ -222,7 +222,7 @@ pub fn keeps(
     loops: &[LoopFact],
 ) -> Result<bool, AllocError>
     ensures { IfOk result (λ yes. yes ≡ true
-        → Keeps statements.now entries.now place facts.now loops.now) }
+        → KeepsEntries statements.now entries.now place facts.now loops.now) }
 {
     match moves_of(alloc, statements, place, facts, loops)? {
         Some(moves) => Ok(are_covered(entries, &moves)),

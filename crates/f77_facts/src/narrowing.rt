@@ -1,7 +1,7 @@
 //! What is left of the operands of an operation whose value is between bounds.
 
 ghost use Rattle.std.specs.Prelude.{◌≡◌, ◌+ℤ◌, ◌-ℤ◌, ◌≤ℤ◌, if◌then◌else◌, ℤ, pos, Ok};
-ghost use Rattle.f77_values.specs.Number.{in_range, negated, size, modulus, quotient, is_below};
+ghost use Rattle.f77_values.specs.Number.{in_range, negated, without_sign, modulus, quotient, is_below};
 ghost use Rattle.f77_values.specs.Value.{pushed};
 ghost use Rattle.f77_facts.specs.Known.{IsBetween};
 ghost use Rattle.f77_code.specs.Evaluation.{calculated};
@@ -228,7 +228,7 @@ fn no_larger(a: Known, to: Known) -> Known
 
 /// The values whose sizes are between these bounds.
 pub(crate) fn either_signs(a: Known, to: Known) -> Known
-    ensures { (z w : ℤ) → IsBetween a.low z a.high → in_range (size z) ≡ Ok w → IsBetween to.low w to.high
+    ensures { (z w : ℤ) → IsBetween a.low z a.high → in_range (without_sign z) ≡ Ok w → IsBetween to.low w to.high
         → IsBetween result.low z result.high }
 {
     if -i64::from(to.low) < i64::from(a.low) {

@@ -10,7 +10,8 @@ ghost use Rattle.f77_code.specs.Moves.{Cells};
 ghost use Rattle.f77_facts.specs.Known.{IsBetween, Suits};
 ghost use Rattle.f77_facts.specs.Truths.{SuitsTruth};
 ghost use Rattle.f77_facts.specs.Facts.{SuitsFact, AreIn};
-ghost use Rattle.f77_facts.specs.Reaching.{IsReached, SuitsSlot, found_in};
+ghost use Rattle.f77_facts.specs.Reaching.{IsSlotReached, SuitsSlot};
+ghost use Rattle.f77_facts.specs.code.Reaching.{found_in};
 
 use crate::facts::{Fact, fact_at, hull_of, known_from, lacking, truths_from};
 use crate::known::Known;
@@ -72,7 +73,7 @@ fn end_place(bound: u32, subscript: Known) -> usize
 
 /// The places from the first on, as far as the end.
 fn between(first: usize, end: usize, may_lack: bool) -> Reach
-    ensures each { (k : ℕ) → first ≤ k → k < end → IsReached result.first result.count k }
+    ensures each { (k : ℕ) → first ≤ k → k < end → IsSlotReached result.first result.count k }
     ensures within { result.first + result.count ≤ end }
     ensures lacks { result.may_lack ≡ may_lack }
 {

@@ -7,8 +7,9 @@ ghost use Rattle.f77_code.specs.Moves.{Cells};
 ghost use Rattle.f77_facts.specs.Known.{IsBetween};
 ghost use Rattle.f77_facts.specs.Truths.{SuitsTruth};
 ghost use Rattle.f77_facts.specs.Facts.{AreIn};
-ghost use Rattle.f77_facts.specs.Reaching.{IsReached};
-ghost use Rattle.f77_facts.specs.Refining.{Limits, Refines, RefinesTo};
+ghost use Rattle.f77_facts.specs.Reaching.{IsSlotReached};
+ghost use Rattle.f77_facts.specs.Refining.{Limits, Refines};
+ghost use Rattle.f77_facts.specs.code.Refining.{RefinesTo};
 
 use crate::bounds::{known_of, reach_of, truths_of};
 use crate::connectives;
@@ -22,7 +23,7 @@ use f77_actions::{Condition, Element, Number, Relation};
 
 /// The slot that a reference names, if it can be but one, has a number between these bounds.
 fn limit_slot(facts: &mut [Fact], reach: Reach, to: Known)
-    ensures { (cells : Cells) (k : ℕ) (z : ℤ) → AreIn facts.old cells → IsReached reach.first reach.count k
+    ensures { (cells : Cells) (k : ℕ) (z : ℤ) → AreIn facts.old cells → IsSlotReached reach.first reach.count k
         → whole (held_in cells k) ≡ Ok z → IsBetween to.low z to.high → AreIn facts.new cells }
 {
     if reach.count == 1 {
@@ -131,7 +132,7 @@ pub(crate) fn refine_related(
 
 /// The slot that a reference names, if it can be but one, has this truth value.
 fn refine_slot(facts: &mut [Fact], reach: Reach, truth: bool)
-    ensures { (cells : Cells) (k : ℕ) → AreIn facts.old cells → IsReached reach.first reach.count k
+    ensures { (cells : Cells) (k : ℕ) → AreIn facts.old cells → IsSlotReached reach.first reach.count k
         → logic (held_in cells k) ≡ Ok truth → AreIn facts.new cells }
 {
     if reach.count == 1 {
@@ -151,7 +152,7 @@ pub fn settle_number(facts: &mut [Fact], number: &Number)
 
 /// The slot that a reference names, if it can be but one, has a truth value.
 fn settle_slot(facts: &mut [Fact], reach: Reach)
-    ensures { (cells : Cells) (k : ℕ) (b : Bool) → AreIn facts.old cells → IsReached reach.first reach.count k
+    ensures { (cells : Cells) (k : ℕ) (b : Bool) → AreIn facts.old cells → IsSlotReached reach.first reach.count k
         → logic (held_in cells k) ≡ Ok b → AreIn facts.new cells }
 {
     if reach.count == 1 {

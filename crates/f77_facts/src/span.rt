@@ -1,7 +1,7 @@
 //! Exact results of operations between bounds, before the range of INTEGER is asked.
 
 ghost use Rattle.std.specs.Prelude.{◌≡◌, ◌≢◌, ◌*ℤ◌, ◌<ℤ◌, ◌≤ℤ◌, ℤ, pos, negsuc, int_div, int_rem};
-ghost use Rattle.f77_values.specs.Number.{size};
+ghost use Rattle.f77_values.specs.Number.{without_sign};
 ghost use Rattle.f77_facts.specs.Known.{IsBetween};
 
 use crate::known::Known;
@@ -135,7 +135,7 @@ pub fn quotients(a: Known, b: Known) -> Span
 
 /// The size of each number is between 0 and this.
 pub fn greatest_size(a: Known) -> i64
-    ensures most { (z : ℤ) → IsBetween a.low z a.high → size z ≤ℤ result }
+    ensures most { (z : ℤ) → IsBetween a.low z a.high → without_sign z ≤ℤ result }
     ensures small { IsBetween (negsuc 2147483647) result (pos 2147483648) }
 {
     if i64::from(a.high) < -i64::from(a.low) {

@@ -7,7 +7,7 @@ use Rattle.f77_tree.specs.StatementGrammar.{SpellsAction, SpellsStatement, IsFor
 use Rattle.f77_tree.specs.Tree.{Tree}
 use Rattle.f77_tree.specs.Statement.{Statement}
 use Rattle.f77_program.specs.declared.group.Group.{Group}
-use Rattle.f77_legal.specs.Labels.{statement_at}
+use Rattle.f77_legal.specs.Labels.{nth_statement}
 
 spelled_acts : {text : List ℕ} {s : Statement} → SpellsAction text s → is_action s ≡ true
 spelled_acts (SpellsAction.assign a b) = refl
@@ -42,10 +42,10 @@ text_acts Statement.Stop h = refl
 text_acts Statement.Trap h = refl
 text_acts _ h = absurd (cc (h))
 
-formed_at : (before : Option Group) (p : List LineFields) → IsProgram before p → (i : ℕ) (s : Statement) → statement_at p i ≡ Some s → IsFormed s
+formed_at : (before : Option Group) (p : List LineFields) → IsProgram before p → (i : ℕ) (s : Statement) → nth_statement p i ≡ Some s → IsFormed s
 formed_at before p IsProgram.finished i s at = absurd (cc (at))
 formed_at before p (IsProgram.next {line = line} may rest) zero s at = let same : line.stmt ≡ s = cc (at) in subst IsFormed same may.1
 formed_at before p (IsProgram.next {line = line} {lines = lines} may rest) (suc i) s at = formed_at (Some (group_of line.stmt)) lines rest i s at
 
-pub inner_acts : (p : List LineFields) → IsProgram None p → (i : ℕ) (t : Tree) (s : Statement) → statement_at p i ≡ Some (Statement.LogicalIf t s) → is_action s ≡ true
+pub inner_acts : (p : List LineFields) → IsProgram None p → (i : ℕ) (t : Tree) (s : Statement) → nth_statement p i ≡ Some (Statement.LogicalIf t s) → is_action s ≡ true
 inner_acts p program i t s at = let formed = formed_at None p program i (Statement.LogicalIf t s) at in text_acts s (spelled_holds formed.1)

@@ -6,11 +6,12 @@ use Rattle.f77_program.specs.Patching.{replaced}
 use Rattle.f77_tree.specs.Statement.{Statement}
 use Rattle.f77_legal.specs.declared.clause.Clause.{Clause}
 use Rattle.f77_legal.specs.declared.clause.Clause.TheVariants.{Kinds, Bounds, NamedLabels, Targets, Terminals, Jumps, Variables}
-use Rattle.f77_legal.specs.Clause.{breaks, fault_at}
+use Rattle.f77_legal.specs.Clause.{breaks, clause_fault}
 use Rattle.f77_legal.specs.Frames.{HaveOneFrame}
 use Rattle.f77_legal.specs.Legal.{IsLegal, first_fault}
 use Rattle.f77_legal.specs.Names.{Symbol}
-use Rattle.f77_legal.specs.Patches.{own_clauses, own_fault, IsStock, StandsAlone}
+use Rattle.f77_legal.specs.Patches.{own_clauses, own_statement_fault, IsStock}
+use Rattle.f77_legal.specs.code.Patches.{StandsAlone}
 use Rattle.f77_legal.proofs.Changed.{changed_fault}
 use Rattle.f77_legal.proofs.FrameNames.{is_real_same, is_twice_same, elements_same, is_array_same}
 use Rattle.f77_legal.proofs.PatchNames.{replaced_among}
@@ -30,9 +31,9 @@ module _ (names : List Symbol) (p : List LineFields) (i : ℕ) (s : Statement) (
       (replaced_among names p i s stock.covers alone.among)
 
   -- what the changed statement owes, it owes to the frame alone
-  own_fault_same : (line : ℕ) → own_fault (replaced p i s) i line s ≡ own_fault p i line s
+  own_fault_same : (line : ℕ) → own_statement_fault (replaced p i s) i line s ≡ own_statement_fault p i line s
   own_fault_same line =
-      ap (λ clauses. slice_get (map (λ clause. fault_at clause line) clauses) 0)
+      ap (λ clauses. slice_get (map (λ clause. clause_fault clause line) clauses) 0)
       (owed (λ clause. breaks clause (replaced p i s) i s) (λ clause. breaks clause p i s) (λ clause other. same_breaks (replaced p i s) p alone_frame clause other i s))
     where
       owed : (b c : Clause → Bool) → ((clause : Clause) → clause ≢ Terminals → b clause ≡ c clause) → filter b own_clauses ≡ filter c own_clauses
@@ -46,6 +47,6 @@ module _ (names : List Symbol) (p : List LineFields) (i : ℕ) (s : Statement) (
       ) refl
 
   -- the first fault of the changed program is what the tables of the program tell of the changed statement
-  pub alone_fault : IsLegal p → IsStock names p → first_fault (replaced p i s) ≡ own_fault p i alone.line.line s
+  pub alone_fault : IsLegal p → IsStock names p → first_fault (replaced p i s) ≡ own_statement_fault p i alone.line.line s
   alone_fault legal stock =
       changed_fault p i alone.line s names alone.at legal alone.frame alone.ends (alone_stock stock) ∙ own_fault_same alone.line.line

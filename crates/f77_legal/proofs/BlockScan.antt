@@ -10,9 +10,9 @@ use Rattle.std.proofs.lemmas.List.Filters.{length-filter_more}
 use Rattle.std.proofs.lemmas.Option.{slice_get_within, get_or_from_slice_get}
 use Rattle.f77_program.specs.Program.{LineFields}
 use Rattle.f77_tree.specs.Statement.{Statement}
-use Rattle.f77_legal.specs.Labels.{statement_at}
-use Rattle.f77_legal.specs.Blocks.{is_block_if, is_end_if, is_alternative, numbers, has_at, count_between, is_level, block_end, branch_end}
-use Rattle.f77_legal.specs.BlockTable.{stops, end_of, depth_behind}
+use Rattle.f77_legal.specs.Labels.{nth_statement}
+use Rattle.f77_legal.specs.Blocks.{is_block_if, is_end_if, is_alternative, statement_numbers, has_at, count_between, is_level, block_end, branch_end}
+use Rattle.f77_legal.specs.code.BlockTable.{stops, end_of, depth_behind}
 use Rattle.f77_legal.specs.declared.blocks.Extent.{Extent}
 use Rattle.f77_legal.specs.declared.blocks.Extent.TheVariants.{Block, Branch}
 use Rattle.f77_legal.proofs.FirstNumbers.{none_found, first_found, find_same}
@@ -30,7 +30,7 @@ line_more test p i j line h is =
     ∙ ap (λ l. count_between test p i j + cond (test l.stmt) 1 0) item)
 
 -- how the counts grow by a statement
-count_more : (test : Statement → Bool) (p : List LineFields) (i j : ℕ) (s : Statement) → i < j → statement_at p j ≡ Some s
+count_more : (test : Statement → Bool) (p : List LineFields) (i j : ℕ) (s : Statement) → i < j → nth_statement p j ≡ Some s
     → count_between test p i (j + 1) ≡ count_between test p i j + cond (test s) 1 0
 count_more test p i j s h is = by (slice_get p j) refl is
   where
@@ -60,7 +60,7 @@ scan_start p extent i = record {
   small = omega arith;
 }
 
-has_here : (test : Statement → Bool) (p : List LineFields) (j : ℕ) (s : Statement) → statement_at p j ≡ Some s → has_at test p j ≡ test s
+has_here : (test : Statement → Bool) (p : List LineFields) (j : ℕ) (s : Statement) → nth_statement p j ≡ Some s → has_at test p j ≡ test s
 has_here test p j s is = ap (λ o. option_map_or test o false) is
 
 -- the statement j ends it just where no block is open
@@ -71,7 +71,7 @@ level_here p i j depth h e = rw (lt-ltb i j h) (either (eqb_tells depth 0))
     either (inl a) = rw a.0 (eq-eqb _ _ (omega arith))
     either (inr b) = rw b.0 (grind (arith, nat_tests))
 
-ends_here : (p : List LineFields) (extent : Extent) (i j depth : ℕ) (s : Statement) → Scanning p extent i j depth → statement_at p j ≡ Some s
+ends_here : (p : List LineFields) (extent : Extent) (i j depth : ℕ) (s : Statement) → Scanning p extent i j depth → nth_statement p j ≡ Some s
     → (has_at (stops extent) p j && is_level p i j) ≡ (stops extent s && (depth == 0))
 ends_here p extent i j depth s scan is = rw (has_here (stops extent) p j s is) (rw (level_here p i j depth scan.behind scan.level) refl)
 
@@ -82,7 +82,7 @@ and_comm false true = refl
 and_comm false false = refl
 
 pub scan_found : (p : List LineFields) (extent : Extent) (i j depth : ℕ) (s : Statement) → Scanning p extent i j depth → j < length p
-    → statement_at p j ≡ Some s → ((depth == 0) && stops extent s) ≡ true → Some j ≡ end_of p extent i
+    → nth_statement p j ≡ Some s → ((depth == 0) && stops extent s) ≡ true → Some j ≡ end_of p extent i
 scan_found p extent i j depth s scan within is ends =
     first_found (λ k. has_at (stops extent) p k && is_level p i k) (length p) j within
     (ends_here p extent i j depth s scan is ∙ (and_comm (stops extent s) (depth == 0) ∙ ends)) scan.none
@@ -112,7 +112,7 @@ depth_small Statement.EndIf depth j h = omega arith
 depth_small _ depth j h = omega arith
 
 pub scan_on : (p : List LineFields) (extent : Extent) (i j depth : ℕ) (s : Statement) → Scanning p extent i j depth
-    → statement_at p j ≡ Some s → ((depth == 0) && stops extent s) ≡ false → Scanning p extent i (j + 1) (depth_behind s depth)
+    → nth_statement p j ≡ Some s → ((depth == 0) && stops extent s) ≡ false → Scanning p extent i (j + 1) (depth_behind s depth)
 scan_on p extent i j depth s scan is not_end = record {
   behind = let h : i < j = scan.behind in omega arith;
   level =
@@ -134,7 +134,7 @@ block_end_is p i = refl
 
 pub branch_end_is : (p : List LineFields) (i : ℕ) → end_of p Branch i ≡ branch_end p i
 branch_end_is p i =
-    find_same (λ j. has_at (stops Branch) p j && is_level p i j) (λ j. (has_at is_end_if p j || has_at is_alternative p j) && is_level p i j) (λ j. one j (statement_at p j)) (numbers p)
+    find_same (λ j. has_at (stops Branch) p j && is_level p i j) (λ j. (has_at is_end_if p j || has_at is_alternative p j) && is_level p i j) (λ j. one j (nth_statement p j)) (statement_numbers p)
   where
     one : (j : ℕ) (o : Option Statement)
         → (option_map_or (stops Branch) o false && is_level p i j) ≡ ((option_map_or is_end_if o false || option_map_or is_alternative o false) && is_level p i j)

@@ -9,25 +9,27 @@ use Rattle.std.proofs.lemmas.List.{get_or_past}
 use Rattle.std.proofs.lemmas.Option.{slice_get_past}
 use Rattle.f77_program.specs.Program.{LineFields}
 use Rattle.f77_tree.specs.Statement.{Statement}
-use Rattle.f77_legal.specs.Labels.{statement_at}
-use Rattle.f77_legal.specs.Blocks.{is_block_if, is_end_if, is_else, is_alternative, first_numbers, numbers, has_at, block_end, branch_end, is_in_block, is_closing, ends_else, begins_branch, branch_holds, breaks_block}
-use Rattle.f77_legal.specs.BlockTable.{block_end_at, else_end_at, branch_end_at, is_end_among, is_before_end, is_misplaced, IsBlockTable}
+use Rattle.f77_legal.specs.Labels.{nth_statement}
+use Rattle.f77_legal.specs.Blocks.{is_block_if, is_end_if, is_else, is_alternative, first_numbers, statement_numbers, has_at, block_end}
+use Rattle.f77_legal.specs.Blocks.{branch_end, is_in_block, is_end_of_block, ends_else, begins_branch, branch_holds, breaks_block}
+use Rattle.f77_legal.specs.BlockTable.{block_end_at, branch_end_at, IsBlockTable}
+use Rattle.f77_legal.specs.code.BlockTable.{else_end_at, is_end_among, is_before_end, is_misplaced}
 use Rattle.f77_legal.specs.declared.blocks.Blocks.{Blocks}
 use Rattle.f77_legal.proofs.FirstNumbers.{length-table, get_or-table, table_same, take-table, any_same, any_below, any_end, or_false}
 
 -- the marks of the ends of block IFs
-pub closing_table : (p : List LineFields) (ends : List (Option ℕ)) (marks : List Bool) → ends ≡ map (block_end_at p) (numbers p)
-    → marks ≡ map (is_end_among ends) (first_numbers (length ends)) → marks ≡ map (is_closing p) (numbers p)
+pub closing_table : (p : List LineFields) (ends : List (Option ℕ)) (marks : List Bool) → ends ≡ map (block_end_at p) (statement_numbers p)
+    → marks ≡ map (is_end_among ends) (first_numbers (length ends)) → marks ≡ map (is_end_of_block p) (statement_numbers p)
 closing_table p ends marks e h =
     h ∙ (ap (λ n. map (is_end_among ends) (first_numbers n)) (ap length e ∙ length-table (block_end_at p) (length p))
-    ∙ table_same (is_end_among ends) (is_closing p) (length p) (λ k b. ap (λ es. is_end_among es k) e ∙ any_end (λ e. e == k) (has_at is_block_if p) (block_end p) (numbers p)))
+    ∙ table_same (is_end_among ends) (is_end_of_block p) (length p) (λ k b. ap (λ es. is_end_among es k) e ∙ any_end (λ e. e == k) (has_at is_block_if p) (block_end p) (statement_numbers p)))
 
 -- the marks of the ends of branches that an ELSE begins
-pub after_else_table : (p : List LineFields) (ends : List (Option ℕ)) (marks : List Bool) → ends ≡ map (else_end_at p) (numbers p)
-    → marks ≡ map (is_end_among ends) (first_numbers (length ends)) → marks ≡ map (ends_else p) (numbers p)
+pub after_else_table : (p : List LineFields) (ends : List (Option ℕ)) (marks : List Bool) → ends ≡ map (else_end_at p) (statement_numbers p)
+    → marks ≡ map (is_end_among ends) (first_numbers (length ends)) → marks ≡ map (ends_else p) (statement_numbers p)
 after_else_table p ends marks e h =
     h ∙ (ap (λ n. map (is_end_among ends) (first_numbers n)) (ap length e ∙ length-table (else_end_at p) (length p))
-    ∙ table_same (is_end_among ends) (ends_else p) (length p) (λ k b. ap (λ es. is_end_among es k) e ∙ any_end (λ e. e == k) (has_at is_else p) (branch_end p) (numbers p)))
+    ∙ table_same (is_end_among ends) (ends_else p) (length p) (λ k b. ap (λ es. is_end_among es k) e ∙ any_end (λ e. e == k) (has_at is_else p) (branch_end p) (statement_numbers p)))
 
 -- only a block IF before k can have k in its block
 opened_before : (p : List LineFields) (k : ℕ) → k ≤ length p
@@ -40,8 +42,8 @@ opened_before p k within =
     before : (b : ℕ) (c q : Bool) → b < k → (c && q) ≡ (c && (nat_lt b k && q))
     before b c q h = let e : nat_lt b k ≡ true = grind (arith, nat_tests) in rw e refl
 
-pub inside_table : (p : List LineFields) (ends : List (Option ℕ)) (inside : List Bool) → ends ≡ map (block_end_at p) (numbers p)
-    → inside ≡ map (λ k. is_before_end (take k ends) k) (first_numbers (length ends)) → inside ≡ map (is_in_block p) (numbers p)
+pub inside_table : (p : List LineFields) (ends : List (Option ℕ)) (inside : List Bool) → ends ≡ map (block_end_at p) (statement_numbers p)
+    → inside ≡ map (λ k. is_before_end (take k ends) k) (first_numbers (length ends)) → inside ≡ map (is_in_block p) (statement_numbers p)
 inside_table p ends inside e h =
     h ∙ (ap (λ n. map (λ k. is_before_end (take k ends) k) (first_numbers n)) (ap length e ∙ length-table (block_end_at p) (length p))
     ∙ table_same (λ k. is_before_end (take k ends) k) (is_in_block p) (length p) (λ k b. one k (omega arith)))
@@ -59,20 +61,21 @@ breaks_by (Statement.BlockIf t) x y z = or_false x
 breaks_by Statement.EndIf x y z = or_false y
 breaks_by _ x y z = refl
 
-pub breaks_here : (t : Blocks) (p : List LineFields) (i : ℕ) (s : Statement) → i < length p → statement_at p i ≡ Some s → IsBlockTable t p
+pub breaks_here : (t : Blocks) (p : List LineFields) (i : ℕ) (s : Statement) → i < length p → nth_statement p i ≡ Some s → IsBlockTable t p
     → breaks_block p i ≡ is_misplaced t s i
 breaks_here t p i s within is table =
     let e : get_or t.ends.items i None ≡ block_end_at p i = ap (λ xs. get_or xs i None) table.ends ∙ get_or-table (block_end_at p) (length p) i None within in
-    let c : get_or t.closing.items i false ≡ is_closing p i = ap (λ xs. get_or xs i false) table.closing ∙ get_or-table (is_closing p) (length p) i false within in
+    let c : get_or t.closing.items i false ≡ is_end_of_block p i = ap (λ xs. get_or xs i false) table.closing ∙ get_or-table (is_end_of_block p) (length p) i false within in
     let n : get_or t.inside.items i false ≡ is_in_block p i = ap (λ xs. get_or xs i false) table.inside ∙ get_or-table (is_in_block p) (length p) i false within in
     let a : get_or t.after_else.items i false ≡ ends_else p i = ap (λ xs. get_or xs i false) table.after_else ∙ get_or-table (ends_else p) (length p) i false within in
-    by (statement_at p i) is
-    ∙ (breaks_by s (not (is_some (block_end p i))) (not (is_closing p i)) (not (is_in_block p i) || ends_else p i)
-    ∙ rw e (rw c (rw n (rw a (opened (statement_at p i) (is_closing p i) (is_in_block p i) (ends_else p i) is)))))
+    by (nth_statement p i) is
+    ∙ (breaks_by s (not (is_some (block_end p i))) (not (is_end_of_block p i)) (not (is_in_block p i) || ends_else p i)
+    ∙ rw e (rw c (rw n (rw a (opened (nth_statement p i) (is_end_of_block p i) (is_in_block p i) (ends_else p i) is)))))
   where
     by : (o : Option Statement) → o ≡ Some s
-        → ((option_map_or is_block_if o false && not (is_some (block_end p i))) || ((option_map_or is_end_if o false && not (is_closing p i)) || (option_map_or is_alternative o false && (not (is_in_block p i) || ends_else p i))))
-        ≡ ((is_block_if s && not (is_some (block_end p i))) || ((is_end_if s && not (is_closing p i)) || (is_alternative s && (not (is_in_block p i) || ends_else p i))))
+        → ((option_map_or is_block_if o false && not (is_some (block_end p i))) || ((option_map_or is_end_if o false && not (is_end_of_block p i))
+        || (option_map_or is_alternative o false && (not (is_in_block p i) || ends_else p i))))
+        ≡ ((is_block_if s && not (is_some (block_end p i))) || ((is_end_if s && not (is_end_of_block p i)) || (is_alternative s && (not (is_in_block p i) || ends_else p i))))
     by o is = rw is refl
 
     same_end : (b : Bool) (x : Option ℕ) (y : Bool) → cond b (not (is_some x)) y ≡ cond b (not (is_some (cond b x None))) y
@@ -90,10 +93,10 @@ branch_end_past p i past = let e : slice_get p i ≡ None = slice_get_past p i p
 pub branch_end_held : (t : Blocks) (p : List LineFields) (i : ℕ) → IsBlockTable t p → get_or t.branch_ends.items i None ≡ branch_end_at p i
 branch_end_held t p i table = ap (λ xs. get_or xs i None) table.branch_ends ∙ either (cases_lt i (length p))
   where
-    either : (i < length p) ⊎ (length p ≤ i) → get_or (map (branch_end_at p) (numbers p)) i None ≡ branch_end_at p i
+    either : (i < length p) ⊎ (length p ≤ i) → get_or (map (branch_end_at p) (statement_numbers p)) i None ≡ branch_end_at p i
     either (inl within) = get_or-table (branch_end_at p) (length p) i None within
     either (inr past) =
-        get_or_past (map (branch_end_at p) (numbers p)) i None (omega (arith, length-table (branch_end_at p) (length p))) ∙ branch_end_past p i past
+        get_or_past (map (branch_end_at p) (statement_numbers p)) i None (omega (arith, length-table (branch_end_at p) (length p))) ∙ branch_end_past p i past
 
 -- what stands in the branch that i begins
 pub branch_holds_at : (p : List LineFields) (i k : ℕ) → (nat_lt i k && option_map_or (nat_lt k) (branch_end_at p i) false) ≡ branch_holds p i k

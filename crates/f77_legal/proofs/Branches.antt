@@ -1,5 +1,6 @@
 -- Each further branch of a block that has its END IF has that END IF too.
-use Rattle.std.proofs.Common.{◌≡◌, inl, inr, ℕ, zero, suc, ◌+◌, ◌-◌, ◌<◌, ◌≤◌, Bool, true, false, cond, List, [], ◌∷◌, length, take, drop, get_or, Option, Some, None, refl, ap, sym, subst, ◌∙◌, arith, length-drop}
+use Rattle.std.proofs.Common.{◌≡◌, inl, inr, ℕ, zero, suc, ◌+◌, ◌-◌, ◌<◌, ◌≤◌, Bool, true, false, cond, List, [], ◌∷◌}
+use Rattle.std.proofs.Common.{length, take, drop, get_or, Option, Some, None, refl, ap, sym, subst, ◌∙◌, arith, length-drop}
 use Rattle.std.specs.Prelude.{◌&&◌, nat_lt, filter, option_map, IsSome}
 use Rattle.std.specs.List.{find, slice_get}
 use Rattle.std.specs.Option.{option_map_or, option_or}
@@ -10,7 +11,7 @@ use Rattle.std.proofs.lemmas.List.Folds.{find-append}
 use Rattle.std.proofs.lemmas.Option.{get_or_from_slice_get}
 use Rattle.f77_program.specs.Program.{LineFields}
 use Rattle.f77_tree.specs.Statement.{Statement}
-use Rattle.f77_legal.specs.Labels.{statement_at}
+use Rattle.f77_legal.specs.Labels.{nth_statement}
 use Rattle.f77_legal.specs.Blocks.{is_block_if, is_end_if, is_alternative, first_numbers, has_at, count_between, is_level, block_end}
 
 -- how a count grows by a statement
@@ -67,11 +68,13 @@ fell_here : (p : List LineFields) (i j : ℕ) (ends begins : Bool) → has_at is
     → count_between is_block_if p i (suc j) < count_between is_end_if p i (suc j) → Level p i (suc j) j
 fell_here p i j true begins e b h within above below =
     let more : count_between is_end_if p i (suc j) ≡ count_between is_end_if p i j + 1 = count_more is_end_if p i j h within ∙ ap (λ c. count_between is_end_if p i j + cond c 1 0) e in
-    let ifs : count_between is_block_if p i (suc j) ≡ count_between is_block_if p i j + cond begins 1 0 = count_more is_block_if p i j h within ∙ ap (λ c. count_between is_block_if p i j + cond c 1 0) b in
+    let ifs : count_between is_block_if p i (suc j) ≡ count_between is_block_if p i j + cond begins 1 0 =
+    count_more is_block_if p i j h within ∙ ap (λ c. count_between is_block_if p i j + cond c 1 0) b in
     record { behind = h; before = omega arith; ends = e; level = omega (arith, above, below, more, ifs) }
 fell_here p i j false begins e b h within above below =
     let more : count_between is_end_if p i (suc j) ≡ count_between is_end_if p i j + 0 = count_more is_end_if p i j h within ∙ ap (λ c. count_between is_end_if p i j + cond c 1 0) e in
-    let ifs : count_between is_block_if p i (suc j) ≡ count_between is_block_if p i j + cond begins 1 0 = count_more is_block_if p i j h within ∙ ap (λ c. count_between is_block_if p i j + cond c 1 0) b in
+    let ifs : count_between is_block_if p i (suc j) ≡ count_between is_block_if p i j + cond begins 1 0 =
+    count_more is_block_if p i j h within ∙ ap (λ c. count_between is_block_if p i j + cond c 1 0) b in
     absurd (omega (arith, above, below, more, ifs))
 
 fell : (p : List LineFields) (i m : ℕ) → i + m < length p → count_between is_block_if p i (suc (i + m)) < count_between is_end_if p i (suc (i + m))
@@ -188,7 +191,7 @@ closes_at p b i m h within alternative closes none =
     let parts = both_true (has_at is_end_if p (suc (i + m))) (is_level p b (suc (i + m))) closes in
     let level = eqb-true _ _ (both_true (nat_lt b (suc (i + m))) _ parts.1).1 in
     let enough = not_fewer p b i h (omega (arith, within)) (λ k below. none k (omega (arith, below))) in
-    let counts = no_count (statement_at p i) alternative in
+    let counts = no_count (nth_statement p i) alternative in
     let ifs : count_between is_block_if p b (suc (i + m)) ≡ count_between is_block_if p b i + 0 + count_between is_block_if p i (suc (i + m))
     = count_split is_block_if p b i m h (omega (arith, within)) ∙ ap (λ c. count_between is_block_if p b i + cond c 1 0 + count_between is_block_if p i (suc (i + m))) counts.0 in
     let ends : count_between is_end_if p b (suc (i + m)) ≡ count_between is_end_if p b i + 0 + count_between is_end_if p i (suc (i + m))

@@ -1,5 +1,6 @@
 -- What is told of a legal program with one statement changed: what that statement owes by itself.
-use Rattle.std.proofs.Common.{◌≡◌, ◌≢◌, ◌⊎◌, inl, inr, ◌∙◌, ◌+◌, ℕ, zero, suc, List, [], ◌∷◌, ◌++◌, Bool, true, false, cond, not, Option, Some, None, refl, sym, ap, subst, arith, map, filter, length, append_assoc, append-nil}
+use Rattle.std.proofs.Common.{◌≡◌, ◌≢◌, ◌⊎◌, inl, inr, ◌∙◌, ◌+◌, ℕ, zero, suc, List, [], ◌∷◌, ◌++◌, Bool, true, false, cond, not}
+use Rattle.std.proofs.Common.{Option, Some, None, refl, sym, ap, subst, arith, map, filter, length, append_assoc, append-nil}
 use Rattle.std.specs.Prelude.{◌≤◌, nat_lt, option_map}
 use Rattle.std.specs.List.{All, flat_map, enumerate_from, slice_get}
 use Rattle.std.specs.Option.{option_and_then, option_map_or}
@@ -13,13 +14,14 @@ use Rattle.f77_legal.specs.declared.clause.Clause.{Clause}
 use Rattle.f77_legal.specs.declared.clause.Clause.TheVariants.{Kinds, Bounds, NamedLabels, Targets, Terminals, Nests, Jumps, Variables}
 use Rattle.f77_legal.specs.declared.fault.CheckFault.{CheckFault}
 use Rattle.f77_legal.specs.declared.fault.CheckFault.TheVariants.{RealName, Twice, DoubleLabel, BadData, TooMany}
-use Rattle.f77_legal.specs.Clause.{breaks, fault_at, faults_of, lines_where}
+use Rattle.f77_legal.specs.Clause.{breaks, clause_fault, faults_of, lines_where}
 use Rattle.f77_legal.specs.Frames.{framed, HaveOneFrame}
-use Rattle.f77_legal.specs.Labels.{statement_at, statement_with, place_of, terminal_label, is_terminal, ends_badly}
-use Rattle.f77_legal.specs.Legal.{IsLegal, faults, first_fault, name_faults, label_faults, data_faults, size_faults}
+use Rattle.f77_legal.specs.Labels.{nth_statement, statement_with, label_place, terminal_label, is_terminal, ends_badly}
+use Rattle.f77_legal.specs.Legal.{IsLegal, faults, first_fault, name_faults, label_faults, data_faults, too_large_faults}
 use Rattle.f77_legal.specs.Loops.{terminal}
 use Rattle.f77_legal.specs.Names.{Symbol, symbols, is_real, is_twice}
-use Rattle.f77_legal.specs.Patches.{own_clauses, own_fault, MayStandAt, IsStock}
+use Rattle.f77_legal.specs.Patches.{own_clauses, own_statement_fault, IsStock}
+use Rattle.f77_legal.specs.code.Patches.{MayStandAt}
 use Rattle.f77_legal.specs.Presets.{groups_of, presets_badly}
 use Rattle.f77_legal.proofs.FrameNames.{presets_badly_same}
 use Rattle.f77_legal.proofs.Frames.{groups_of-framed}
@@ -60,7 +62,7 @@ told_if f false x = refl
 
 -- where the statement of each other line fails, at most this line is told
 one_line : (test : ℕ → Statement → Bool) (p : List LineFields) (i : ℕ) (line : LineFields) → slice_get p i ≡ Some line
-    → ((j : ℕ) (t : Statement) → i ≢ j → statement_at p j ≡ Some t → test j t ≡ false)
+    → ((j : ℕ) (t : Statement) → i ≢ j → nth_statement p j ≡ Some t → test j t ≡ false)
     → lines_where test p ≡ cond (test i line.stmt) (line.line ∷ []) []
 one_line test p i line at fail =
     ap (map (λ n. n.1.line)) (only_one passes (enumerate_from 0 p) i others)
@@ -104,48 +106,48 @@ regrouped a b c d e f = simp (append_assoc, append-nil)
 module _ (p q : List LineFields) (i : ℕ) (line : LineFields) (s : Statement) (legal : IsLegal p) (at : slice_get p i ≡ Some line)
     (here : slice_get q i ≡ Some (record (line) { stmt = s })) (elsewhere : (j : ℕ) → i ≢ j → slice_get q j ≡ slice_get p j)
     (same : HaveOneFrame q p) (kept : framed s ≡ framed line.stmt) (ends : MayStandAt p i s) where
-  elsewhere_in_p : (j : ℕ) (t : Statement) → i ≢ j → statement_at q j ≡ Some t → statement_at p j ≡ Some t
+  elsewhere_in_p : (j : ℕ) (t : Statement) → i ≢ j → nth_statement q j ≡ Some t → nth_statement p j ≡ Some t
   elsewhere_in_p j t apart is = ap (option_map (λ l. l.stmt)) (sym (elsewhere j apart)) ∙ is
 
-  line_in_p : statement_at p i ≡ Some line.stmt
+  line_in_p : nth_statement p i ≡ Some line.stmt
   line_in_p = ap (option_map (λ l. l.stmt)) at
 
   -- a clause tells of the changed statement alone
-  told : (c : Clause) → c ≢ Terminals → faults_of c q ≡ cond (breaks c q i s) (fault_at c line.line ∷ []) []
+  told : (c : Clause) → c ≢ Terminals → faults_of c q ≡ cond (breaks c q i s) (clause_fault c line.line ∷ []) []
   told c apart =
-      ap (map (fault_at c)) (one_line (breaks c q) q i (record (line) { stmt = s }) here
+      ap (map (clause_fault c)) (one_line (breaks c q) q i (record (line) { stmt = s }) here
       (λ j t other is. same_breaks q p same c apart j t ∙ (keeps_every_rule p legal).statements c j t (elsewhere_in_p j t other is)))
-      ∙ told_if (fault_at c) (breaks c q i s) line.line
+      ∙ told_if (clause_fault c) (breaks c q i s) line.line
 
   nests_kept : faults_of Nests q ≡ []
   nests_kept =
       told Nests (λ e. absurd (cc (e)))
-      ∙ ap (λ b. cond b (fault_at Nests line.line ∷ []) []) (same_breaks q p same Nests (λ e. absurd (cc (e))) i s ∙ (keeps_every_rule p legal).statements Nests i line.stmt line_in_p)
+      ∙ ap (λ b. cond b (clause_fault Nests line.line ∷ []) []) (same_breaks q p same Nests (λ e. absurd (cc (e))) i s ∙ (keeps_every_rule p legal).statements Nests i line.stmt line_in_p)
 
   -- no DO ends at a statement that may not end one: the DOs and their labels are those of p, and the changed statement may end those at it
-  ends_there : (j label k : ℕ) → option_and_then terminal_label (statement_at p j) ≡ Some label → place_of p label ≡ Some k → (k ≡ i) ⊎ (k ≢ i)
-      → option_map_or (λ last. not (is_terminal last)) (statement_at q k) false ≡ false
+  ends_there : (j label k : ℕ) → option_and_then terminal_label (nth_statement p j) ≡ Some label → label_place p label ≡ Some k → (k ≡ i) ⊎ (k ≢ i)
+      → option_map_or (λ last. not (is_terminal last)) (nth_statement q k) false ≡ false
   ends_there j label k names place (inl e) =
-      let end : terminal p j ≡ Some i = ap (option_and_then (place_of p)) names ∙ place ∙ ap {B = Option ℕ} Some e in
-      ap (λ n. option_map_or (λ last. not (is_terminal last)) (statement_at q n) false) e
+      let end : terminal p j ≡ Some i = ap (option_and_then (label_place p)) names ∙ place ∙ ap {B = Option ℕ} Some e in
+      ap (λ n. option_map_or (λ last. not (is_terminal last)) (nth_statement q n) false) e
       ∙ ap (λ o. option_map_or (λ last. not (is_terminal last)) (option_map (λ l. l.stmt) o) false) here
       ∙ ap not (ends j end)
   ends_there j label k names place (inr apart) =
       ap (λ o. option_map_or (λ last. not (is_terminal last)) (option_map (λ l. l.stmt) o) false) (elsewhere k (λ e. apart (sym e)))
-      ∙ ap (λ o. option_map_or (λ last. not (is_terminal last)) (option_and_then (statement_at p) o) false) (sym place)
-      ∙ option_and_then_some terminal_label (statement_at p j) label names (λ t is own. well t is own)
+      ∙ ap (λ o. option_map_or (λ last. not (is_terminal last)) (option_and_then (nth_statement p) o) false) (sym place)
+      ∙ option_and_then_some terminal_label (nth_statement p j) label names (λ t is own. well t is own)
     where
-      well : (t : Statement) → statement_at p j ≡ Some t → terminal_label t ≡ Some label
+      well : (t : Statement) → nth_statement p j ≡ Some t → terminal_label t ≡ Some label
           → option_map_or (λ last. not (is_terminal last)) (statement_with p label) false ≡ false
       well t is own =
           sym (ap (λ o. option_map_or (λ label. option_map_or (λ last. not (is_terminal last)) (statement_with p label) false) o false) own)
           ∙ (keeps_every_rule p legal).statements Terminals j t is
 
-  ends_kept : (j : ℕ) (t : Statement) → statement_at q j ≡ Some t → ends_badly q t ≡ false
+  ends_kept : (j : ℕ) (t : Statement) → nth_statement q j ≡ Some t → ends_badly q t ≡ false
   ends_kept j t is = by (terminal_label t) refl
     where
-      at_place : (label : ℕ) → terminal_label t ≡ Some label → (o : Option ℕ) → place_of q label ≡ o
-          → option_map_or (λ last. not (is_terminal last)) (option_and_then (statement_at q) o) false ≡ false
+      at_place : (label : ℕ) → terminal_label t ≡ Some label → (o : Option ℕ) → label_place q label ≡ o
+          → option_map_or (λ last. not (is_terminal last)) (option_and_then (nth_statement q) o) false ≡ false
       at_place label own None place = refl
       at_place label own (Some k) place =
           ends_there j label k (sym (terminal_label_same q p same j) ∙ ap (option_and_then terminal_label) is ∙ own)
@@ -154,11 +156,11 @@ module _ (p q : List LineFields) (i : ℕ) (line : LineFields) (s : Statement) (
       by : (o : Option ℕ) → terminal_label t ≡ o
           → option_map_or (λ label. option_map_or (λ last. not (is_terminal last)) (statement_with q label) false) o false ≡ false
       by None own = refl
-      by (Some label) own = at_place label own (place_of q label) refl
+      by (Some label) own = at_place label own (label_place q label) refl
 
   terminals_kept : faults_of Terminals q ≡ []
   terminals_kept =
-      ap (map (fault_at Terminals)) (one_line (breaks Terminals q) q i (record (line) { stmt = s }) here (λ j t other is. ends_kept j t is)
+      ap (map (clause_fault Terminals)) (one_line (breaks Terminals q) q i (record (line) { stmt = s }) here (λ j t other is. ends_kept j t is)
       ∙ ap (λ b. cond b (line.line ∷ []) []) (ends_kept i s (ap (option_map (λ l. l.stmt)) here)))
 
   labels_kept : label_faults q ≡ []
@@ -174,14 +176,14 @@ module _ (p q : List LineFields) (i : ℕ) (line : LineFields) (s : Statement) (
       groups = sym (groups_of-framed s) ∙ ap groups_of kept ∙ groups_of-framed line.stmt
 
   -- the names and the sizes kept, too, what is told is what the statement owes by itself
-  told_by_itself : name_faults q ≡ [] → size_faults q ≡ [] → first_fault q ≡ own_fault q i line.line s
+  told_by_itself : name_faults q ≡ [] → too_large_faults q ≡ [] → first_fault q ≡ own_statement_fault q i line.line s
   told_by_itself names sizes =
       ap (λ all. slice_get all 0)
       (whole ∙ regrouped (told_of Kinds) (told_of Bounds) (told_of NamedLabels) (told_of Targets) (told_of Jumps) (told_of Variables)
-      ∙ one_each (λ c. breaks c q i s) (λ c. fault_at c line.line) own_clauses)
+      ∙ one_each (λ c. breaks c q i s) (λ c. clause_fault c line.line) own_clauses)
     where
       told_of : Clause → List CheckFault
-      told_of c = cond (breaks c q i s) (fault_at c line.line ∷ []) []
+      told_of c = cond (breaks c q i s) (clause_fault c line.line ∷ []) []
 
       whole : faults q ≡ (told_of Kinds ++ (told_of Bounds ++ [])) ++ ((told_of NamedLabels ++ (told_of Targets ++ (told_of Jumps ++ (told_of Variables ++ [])))) ++ [])
       whole = λ k.
@@ -204,7 +206,7 @@ few_lines p legal = within (length p) (or_parts (nat_lt 500 (length p)) _ (not_l
 
 -- A statement of the same frame, where it may end the DOs that end there and all names may be the program's: the first fault is its own.
 pub changed_fault : (p : List LineFields) (i : ℕ) (line : LineFields) (s : Statement) (names : List Symbol) → slice_get p i ≡ Some line → IsLegal p
-    → framed s ≡ framed line.stmt → MayStandAt p i s → IsStock names (replaced p i s) → first_fault (replaced p i s) ≡ own_fault (replaced p i s) i line.line s
+    → framed s ≡ framed line.stmt → MayStandAt p i s → IsStock names (replaced p i s) → first_fault (replaced p i s) ≡ own_statement_fault (replaced p i s) i line.line s
 changed_fault p i line s names at legal kept ends stock =
     told_by_itself p q i line s legal at (changed_line p i line s at) (λ j apart. other_line p i j s apart) (replaced_frame p i line s at kept) kept ends
     no_name (ap (λ b. cond b (TooMany ∷ []) []) (stock_sizes names q stock short))

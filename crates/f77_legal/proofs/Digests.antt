@@ -7,43 +7,44 @@ use Rattle.std.proofs.lemmas.List.{append-nil}
 use Rattle.std.proofs.lemmas.List.Elements.{filter-append, filter_map-append}
 use Rattle.f77_tree.specs.declared.tree.Kind.{Kind}
 use Rattle.f77_tree.specs.declared.tree.Kind.TheVariants.{Integer}
-use Rattle.f77_legal.specs.Names.{Symbol, Mention, name_in, is_dummy, kind_in, bounds_in, some_items, first_or, mentions_with}
-use Rattle.f77_legal.specs.NameTable.{FactsFields, times, facts_of, once_more, first_said, with_kind, with_bounds, with_fact, no_facts}
+use Rattle.f77_legal.specs.Names.{Symbol, Mention, name_in, is_dummy, kind_in, bounds_in, some_items, first_item_or, mentions_with}
+use Rattle.f77_legal.specs.NameTable.{FactsFields, how_often, facts_of}
+use Rattle.f77_legal.specs.code.NameTable.{once_more, first_said, with_kind, facts_with_bounds, with_fact, no_facts}
 use Rattle.f77_legal.proofs.Symbols.{or_false, symbol_symm}
 
 module _ {X : Type 0} where
-  times_push : (xs : List X) (x : X) → times (xs ++ x ∷ []) ≡ once_more (times xs)
+  times_push : (xs : List X) (x : X) → how_often (xs ++ x ∷ []) ≡ once_more (how_often xs)
   times_push [] x = refl
   times_push (y ∷ []) x = refl
   times_push (y ∷ (z ∷ xs)) x = refl
 
-  first_push : (d : X) (xs : List X) (x : X) → first_or d (xs ++ x ∷ []) ≡ first_said (times xs) x (first_or d xs)
+  first_push : (d : X) (xs : List X) (x : X) → first_item_or d (xs ++ x ∷ []) ≡ first_said (how_often xs) x (first_item_or d xs)
   first_push d [] x = refl
   first_push d (y ∷ []) x = refl
   first_push d (y ∷ (z ∷ xs)) x = refl
 
 abbrev given : List Mention → List Kind → List (List ℕ) → FactsFields
-given ds ks bs = record { dummy = times ds; typed = times ks; kind = first_or Integer ks; dimensioned = times bs; bounds = first_or [] bs }
+given ds ks bs = record { dummy = how_often ds; typed = how_often ks; kind = first_item_or Integer ks; dimensioned = how_often bs; bounds = first_item_or [] bs }
 
 abbrev digest : List Mention → FactsFields
 digest ms = given (filter is_dummy ms) (filter_map kind_in ms) (filter_map bounds_in ms)
 
 with_kind_push : (ds : List Mention) (ks : List Kind) (bs : List (List ℕ)) (kind : Kind) → given ds (ks ++ kind ∷ []) bs ≡ with_kind (given ds ks bs) kind
 with_kind_push ds ks bs kind = λ i. record {
-  dummy = times ds;
+  dummy = how_often ds;
   typed = times_push ks kind i;
   kind = first_push Integer ks kind i;
-  dimensioned = times bs;
-  bounds = first_or [] bs;
+  dimensioned = how_often bs;
+  bounds = first_item_or [] bs;
 }
 
 with_bounds_push : (ds : List Mention) (ks : List Kind) (bs : List (List ℕ)) (bounds : List ℕ)
-    → given ds ks (bs ++ cons_option (some_items bounds) []) ≡ with_bounds (given ds ks bs) bounds
+    → given ds ks (bs ++ cons_option (some_items bounds) []) ≡ facts_with_bounds (given ds ks bs) bounds
 with_bounds_push ds ks bs [] = ap (given ds ks) (append-nil bs)
 with_bounds_push ds ks bs (b ∷ rest) = λ i. record {
-  dummy = times ds;
-  typed = times ks;
-  kind = first_or Integer ks;
+  dummy = how_often ds;
+  typed = how_often ks;
+  kind = first_item_or Integer ks;
   dimensioned = times_push bs (b ∷ rest) i;
   bounds = first_push [] bs (b ∷ rest) i;
 }
@@ -52,15 +53,15 @@ given_push : (ds : List Mention) (ks : List Kind) (bs : List (List ℕ)) (m : Me
     → given (ds ++ filter is_dummy (m ∷ [])) (ks ++ filter_map kind_in (m ∷ [])) (bs ++ filter_map bounds_in (m ∷ [])) ≡ with_fact (given ds ks bs) m
 given_push ds ks bs (Mention.Dummy name) = λ i. record {
   dummy = times_push ds (Mention.Dummy name) i;
-  typed = times (append-nil ks i);
-  kind = first_or Integer (append-nil ks i);
-  dimensioned = times (append-nil bs i);
-  bounds = first_or [] (append-nil bs i);
+  typed = how_often (append-nil ks i);
+  kind = first_item_or Integer (append-nil ks i);
+  dimensioned = how_often (append-nil bs i);
+  bounds = first_item_or [] (append-nil bs i);
 }
 given_push ds ks bs (Mention.Typed kind d) =
     (λ i. given (append-nil ds i) (ks ++ kind ∷ []) (bs ++ cons_option (some_items d.bounds) []))
     ∙ with_bounds_push ds (ks ++ kind ∷ []) bs d.bounds
-    ∙ ap (λ z. with_bounds z d.bounds) (with_kind_push ds ks bs kind)
+    ∙ ap (λ z. facts_with_bounds z d.bounds) (with_kind_push ds ks bs kind)
 given_push ds ks bs (Mention.Dimensioned d) =
     (λ i. given (append-nil ds i) (append-nil ks i) (bs ++ cons_option (some_items d.bounds) []))
     ∙ with_bounds_push ds ks bs d.bounds

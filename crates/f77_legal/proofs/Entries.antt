@@ -10,15 +10,15 @@ use Rattle.f77_program.specs.Program.{LineFields, line_of}
 use Rattle.f77_tree.specs.Statement.{statement_of}
 use Rattle.f77_program.specs.declared.program.Line.{Line}
 use Rattle.f77_legal.specs.Blocks.{first_numbers, begins_branch, branch_end}
-use Rattle.f77_legal.specs.Labels.{place_of, statement_at, terminal_label}
-use Rattle.f77_legal.specs.Holders.{entry}
+use Rattle.f77_legal.specs.Labels.{label_place, nth_statement, terminal_label}
+use Rattle.f77_legal.specs.Holders.{end_or_parent}
 use Rattle.f77_legal.specs.LoopTable.{IsTerminals, IsBranches}
 use Rattle.f77_legal.proofs.Nesting.{entry_number, entry_past}
-use Rattle.f77_legal.specs.Tables.{terminal_of, closed_branch_end}
+use Rattle.f77_legal.specs.code.Tables.{terminal_of, closed_branch_end}
 
 entry_terminal : (program : List LineFields) (lines : List Line) (d : ℕ)
-    → entry (map (λ line. terminal_of program (statement_of line.stmt)) lines) d
-    ≡ option_and_then (place_of program) (option_and_then terminal_label (statement_at (map line_of lines) d))
+    → end_or_parent (map (λ line. terminal_of program (statement_of line.stmt)) lines) d
+    ≡ option_and_then (label_place program) (option_and_then terminal_label (nth_statement (map line_of lines) d))
 entry_terminal program [] d = refl
 entry_terminal program (x ∷ lines) zero = refl
 entry_terminal program (x ∷ lines) (suc d) = entry_terminal program lines d

@@ -9,7 +9,7 @@ use Rattle.f77_program.specs.declared.program.Line.{Line}
 use Rattle.f77_tree.specs.Statement.{Statement}
 use Rattle.f77_legal.specs.declared.clause.Clause.{Clause}
 use Rattle.f77_legal.specs.declared.fault.CheckFault.{CheckFault}
-use Rattle.f77_legal.specs.Clause.{breaks, fault_at, lines_where}
+use Rattle.f77_legal.specs.Clause.{breaks, clause_fault, lines_where}
 use Rattle.f77_legal.specs.Legal.{clause_faults}
 
 -- the first line from the statement i on
@@ -54,8 +54,8 @@ pub clause_kept : (c : Clause) (cs : List Clause) (p : List LineFields) → slic
 clause_kept c cs p h = rw (empty_from (lines_where (breaks c p) p) h) refl
 
 pub clause_broken : (c : Clause) (cs : List Clause) (p : List LineFields) (line : ℕ) → slice_get (lines_where (breaks c p) p) 0 ≡ Some line
-    → slice_get (clause_faults (c ∷ cs) p) 0 ≡ Some (fault_at c line)
-clause_broken c cs p line h = first_of (fault_at c) (lines_where (breaks c p) p) (clause_faults cs p) line h
+    → slice_get (clause_faults (c ∷ cs) p) 0 ≡ Some (clause_fault c line)
+clause_broken c cs p line h = first_of (clause_fault c) (lines_where (breaks c p) p) (clause_faults cs p) line h
 
 -- the first fault of the clauses from the one with this number on
 pub clause_kept_at : (cs : List Clause) (i : ℕ) (c : Clause) (p : List LineFields) → slice_get cs i ≡ Some c → slice_get (lines_where (breaks c p) p) 0 ≡ None
@@ -64,7 +64,7 @@ clause_kept_at cs i c p at h = rw (drop_at cs i c at) (clause_kept c (drop (i + 
 
 pub clause_broken_at : (cs : List Clause) (i : ℕ) (c : Clause) (p : List LineFields) (line : ℕ) → slice_get cs i ≡ Some c
     → slice_get (lines_where (breaks c p) p) 0 ≡ Some line
-    → slice_get (clause_faults (drop i cs) p) 0 ≡ Some (fault_at c line)
+    → slice_get (clause_faults (drop i cs) p) 0 ≡ Some (clause_fault c line)
 clause_broken_at cs i c p line at h = rw (drop_at cs i c at) (clause_broken c (drop (i + 1) cs) p line h)
 
 pub no_clause_left : (cs : List Clause) (i : ℕ) (p : List LineFields) → length cs ≤ i → slice_get (clause_faults (drop i cs) p) 0 ≡ None

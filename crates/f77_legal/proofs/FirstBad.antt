@@ -1,5 +1,6 @@
 -- The first line that presets badly.
-use Rattle.std.proofs.Common.{arith, ◌≡◌, ℕ, zero, suc, ◌+◌, ◌<◌, ◌≤◌, List, [], ◌∷◌, ◌++◌, length, map, Bool, true, false, cond, refl, sym, ap, ◌∙◌, append_assoc, append-nil, take, drop, get_or, drop-cons, add-one, length-append}
+use Rattle.std.proofs.Common.{arith, ◌≡◌, ℕ, zero, suc, ◌+◌, ◌<◌, ◌≤◌, List, [], ◌∷◌, ◌++◌, length, map, Bool, true, false, cond}
+use Rattle.std.proofs.Common.{refl, sym, ap, ◌∙◌, append_assoc, append-nil, take, drop, get_or, drop-cons, add-one, length-append}
 use Rattle.std.specs.Prelude.{◌||◌, not, nat_le, filter, Option, Some, None, if◌then◌else◌}
 use Rattle.std.specs.List.{list_any, enumerate_from, slice_get}
 use Rattle.std.specs.Str.{bytes_eq}
@@ -12,9 +13,10 @@ use Rattle.f77_tree.specs.Statement.{statement_of}
 use Rattle.f77_legal.specs.Clause.{lines_where}
 use Rattle.f77_legal.specs.Names.{Symbol, kind_of, bounds_of}
 use Rattle.f77_legal.proofs.Lookups.{same_bounds, same_kinds, same_dummy_at}
-use Rattle.f77_legal.specs.NameTable.{kind_at, bounds_at, dummy_at, IsNameTable}
+use Rattle.f77_legal.specs.NameTable.{kind_at, array_bounds, IsNameTable}
+use Rattle.f77_legal.specs.code.NameTable.{dummy_at}
 use Rattle.f77_legal.specs.Presets.{presets_badly, groups_of, names_preset, is_dummy_name, is_filled}
-use Rattle.f77_legal.specs.Runs.{breaks_data, group_names}
+use Rattle.f77_legal.specs.code.Runs.{breaks_data, names_of_groups}
 use Rattle.f77_legal.specs.declared.names.Names.{Names}
 
 -- the line of the first statement that presets badly, behind these names of DATA
@@ -22,7 +24,7 @@ abbrev pub first_bad : (Symbol → List ℕ) → (Symbol → Kind) → (Symbol �
 first_bad bounds kinds dummy before [] = None
 first_bad bounds kinds dummy before (line ∷ rest) =
     if breaks_data bounds kinds dummy before line.stmt then Some line.line
-    else first_bad bounds kinds dummy (before ++ group_names (groups_of line.stmt)) rest
+    else first_bad bounds kinds dummy (before ++ names_of_groups (groups_of line.stmt)) rest
 
 drop_all : (lines : List Line) (i : ℕ) → length lines ≤ i → drop i lines ≡ []
 drop_all [] zero h = refl
@@ -34,15 +36,15 @@ take_front : (before : List LineFields) (line : LineFields) (rest : List LineFie
 take_front [] line rest = refl
 take_front (b ∷ bs) line rest = ap (λ xs. b ∷ xs) (take_front bs line rest)
 
-preset_more : (before : List LineFields) (line : LineFields) → names_preset (before ++ line ∷ []) ≡ names_preset before ++ group_names (groups_of line.stmt)
+preset_more : (before : List LineFields) (line : LineFields) → names_preset (before ++ line ∷ []) ≡ names_preset before ++ names_of_groups (groups_of line.stmt)
 preset_more before line =
-    flat_map-append (λ line. group_names (groups_of line.stmt)) before (line ∷ [])
-    ∙ ap (λ xs. names_preset before ++ xs) (append-nil (group_names (groups_of line.stmt)))
+    flat_map-append (λ line. names_of_groups (groups_of line.stmt)) before (line ∷ [])
+    ∙ ap (λ xs. names_preset before ++ xs) (append-nil (names_of_groups (groups_of line.stmt)))
 
 badly_is : (p before : List LineFields) (line : LineFields) (rest : List LineFields) (i : ℕ) → p ≡ before ++ line ∷ rest → i ≡ length before
     → presets_badly p i line.stmt ≡ breaks_data (bounds_of p) (kind_of p) (is_dummy_name p) (names_preset before) line.stmt
 badly_is p before line rest i e f =
-    ap (λ all. list_any (λ name. is_dummy_name p name || nat_le 2 (length (filter (bytes_eq name) all))) (group_names (groups_of line.stmt))
+    ap (λ all. list_any (λ name. is_dummy_name p name || nat_le 2 (length (filter (bytes_eq name) all))) (names_of_groups (groups_of line.stmt))
     || list_any (λ g. not (is_filled p g)) (groups_of line.stmt))
     (ap (λ n. names_preset (take (suc n) p)) f ∙ ap (λ q. names_preset (take (suc (length before)) q)) e ∙ ap names_preset (take_front before line rest) ∙ preset_more before line)
 
@@ -64,7 +66,7 @@ first_from p before (line ∷ rest) i e f =
     ∙ first_from p (before ++ line ∷ []) rest (i + 1) (e ∙ sym (append_assoc before (line ∷ []) rest)) (omega (arith, length-append before (line ∷ []))))
 
 pub first_is : (names : Names) (p : List LineFields) → IsNameTable names p
-    → first_bad (bounds_at names) (kind_at names) (dummy_at names) [] p ≡ slice_get (lines_where (presets_badly p) p) 0
+    → first_bad (array_bounds names) (kind_at names) (dummy_at names) [] p ≡ slice_get (lines_where (presets_badly p) p) 0
 first_is names p told =
     (λ j. first_bad (same_bounds names p told j) (same_kinds names p told j) (λ name. same_dummy_at names p told name j) [] p)
     ∙ first_from p [] p 0 refl refl
@@ -74,7 +76,7 @@ first_at : (bounds : Symbol → List ℕ) (kinds : Symbol → Kind) (dummy : Sym
     → i < length lines → line ≡ get_or lines i line
     → first_bad bounds kinds dummy before (map line_of (drop i lines))
     ≡ (if breaks_data bounds kinds dummy before (statement_of line.stmt) then Some line.line
-    else first_bad bounds kinds dummy (before ++ group_names (groups_of (statement_of line.stmt))) (map line_of (drop (i + 1) lines)))
+    else first_bad bounds kinds dummy (before ++ names_of_groups (groups_of (statement_of line.stmt))) (map line_of (drop (i + 1) lines)))
 first_at bounds kinds dummy before lines i line p e =
     let s : drop i lines ≡ line ∷ drop (i + 1) lines = rw add-one (drop-cons lines i line p ∙ ap (λ x. x ∷ drop (suc i) lines) (sym e)) in
     ap (λ xs. first_bad bounds kinds dummy before (map line_of xs)) s
@@ -85,7 +87,7 @@ module _ (bounds : Symbol → List ℕ) (kinds : Symbol → Kind) (dummy : Symbo
       → first_bad bounds kinds dummy before (map line_of (drop i lines)) ≡ Some line.line
   bad_here line b p e f t =
       first_at bounds kinds dummy before lines i line p e
-      ∙ ap (λ d. if d then Some line.line else first_bad bounds kinds dummy (before ++ group_names (groups_of (statement_of line.stmt))) (map line_of (drop (i + 1) lines))) (sym f ∙ t)
+      ∙ ap (λ d. if d then Some line.line else first_bad bounds kinds dummy (before ++ names_of_groups (groups_of (statement_of line.stmt))) (map line_of (drop (i + 1) lines))) (sym f ∙ t)
 
   pub none_bad : length lines ≤ i → first_bad bounds kinds dummy before (map line_of (drop i lines)) ≡ None
   none_bad p = ap (λ xs. first_bad bounds kinds dummy before (map line_of xs)) (drop_all lines i p)

@@ -8,9 +8,9 @@ use Rattle.f77_program.specs.Program.{LineFields}
 use Rattle.f77_tree.specs.Tree.{Tree}
 use Rattle.f77_tree.specs.Statement.{Statement, jumps_of}
 use Rattle.f77_legal.specs.declared.clause.Clause.TheVariants.{NamedLabels, Nests}
-use Rattle.f77_legal.specs.Blocks.{is_block_if, is_end_if, is_alternative, has_at, is_level, block_end, branch_end, behind, is_in_block, begins_branch}
+use Rattle.f77_legal.specs.Blocks.{is_block_if, is_end_if, is_alternative, has_at, is_level, block_end, branch_end, statement_behind, is_in_block, begins_branch}
 use Rattle.f77_legal.specs.BlockTable.{branch_end_at}
-use Rattle.f77_legal.specs.Labels.{place_of, statement_at, terminal_label}
+use Rattle.f77_legal.specs.Labels.{label_place, nth_statement, terminal_label}
 use Rattle.f77_legal.specs.Legal.{IsLegal}
 use Rattle.f77_legal.specs.Loops.{terminal, ends_outside, breaks_range, AreNested}
 use Rattle.f77_legal.proofs.Branches.{found_is, found_some}
@@ -18,18 +18,18 @@ use Rattle.f77_legal.proofs.LegalGives.{clause_kept, kept_by, any_false, some_of
 
 -- no DO breaks the nesting
 pub are_nested : (program : List LineFields) → IsLegal program → AreNested program
-are_nested program legal d = by (statement_at program d) refl
+are_nested program legal d = by (nth_statement program d) refl
   where
-    by : (o : Option Statement) → statement_at program d ≡ o → breaks_range program d ≡ false
+    by : (o : Option Statement) → nth_statement program d ≡ o → breaks_range program d ≡ false
     by None at =
-        let none : terminal program d ≡ None = ap (λ o. option_and_then (place_of program) (option_and_then terminal_label o)) at in
+        let none : terminal program d ≡ None = ap (λ o. option_and_then (label_place program) (option_and_then terminal_label o)) at in
         ap (λ o. option_map_or (ends_outside program d) o false) none
     by (Some s) at = (or_parts _ _ (clause_kept Nests program (kept_by program legal).nests d s at)).1
 
-pub some_behind : (program : List LineFields) → IsLegal program → (i : ℕ) → (j : ℕ) × (behind program i ≡ Some j)
+pub some_behind : (program : List LineFields) → IsLegal program → (i : ℕ) → (j : ℕ) × (statement_behind program i ≡ Some j)
 some_behind program legal i = by (has_at is_alternative program (i + 1)) refl
   where
-    by : (b : Bool) → has_at is_alternative program (i + 1) ≡ b → (j : ℕ) × (behind program i ≡ Some j)
+    by : (b : Bool) → has_at is_alternative program (i + 1) ≡ b → (j : ℕ) × (statement_behind program i ≡ Some j)
     by true is =
         let end = some_of (block_end program (i + 1)) (alternative_closes program (kept_by program legal) (i + 1) is) in
         (end.0, ap (λ b. if b then block_end program (i + 1) else Some (i + 1)) is ∙ end.1)
@@ -54,7 +54,7 @@ both true b e f = f
 both false b e f = absurd (cc (e))
 
 pub some_branch : (program : List LineFields) → IsLegal program → (i : ℕ) (t : Tree)
-    → (statement_at program i ≡ Some (Statement.BlockIf t)) ⊎ (statement_at program i ≡ Some (Statement.ElseIf t))
+    → (nth_statement program i ≡ Some (Statement.BlockIf t)) ⊎ (nth_statement program i ≡ Some (Statement.ElseIf t))
     → (j : ℕ) × (branch_end_at program i ≡ Some j) × (branch_end program i ≡ Some j)
 some_branch program legal i t (inl at) =
     let closes = block_closes program (kept_by program legal) i t at in
@@ -67,20 +67,20 @@ some_branch program legal i t (inr at) =
     begun_ends program i (or_right (has_at is_block_if program i && is_some (block_end program i)) (has_at is_alternative program i && is_in_block program i) begins)
     (branch_ends program i (alternative_closes program (kept_by program legal) i alternative))
 
-pub some_terminal : (program : List LineFields) → IsLegal program → (i : ℕ) (s : Statement) → statement_at program i ≡ Some s → IsSome (terminal_label s) → IsSome (terminal program i)
+pub some_terminal : (program : List LineFields) → IsLegal program → (i : ℕ) (s : Statement) → nth_statement program i ≡ Some s → IsSome (terminal_label s) → IsSome (terminal program i)
 some_terminal program legal i s at names = by (terminal_label s) refl names
   where
     by : (o : Option ℕ) → terminal_label s ≡ o → IsSome o → IsSome (terminal program i)
     by None is some = absurd (cc (some))
     by (Some label) is some =
         let named = (or_parts _ _ (clause_kept NamedLabels program (kept_by program legal).labels i s at)).1 in
-        let stands = is_some_of (place_of program label) (sym (ap (λ o. option_map_or (λ label. not (is_some (place_of program label))) o false) is) ∙ named) in
-        let end : terminal program i ≡ place_of program label
-        = ap (λ o. option_and_then (place_of program) (option_and_then terminal_label o)) at ∙ ap (option_and_then (place_of program)) is in
+        let stands = is_some_of (label_place program label) (sym (ap (λ o. option_map_or (λ label. not (is_some (label_place program label))) o false) is) ∙ named) in
+        let end : terminal program i ≡ label_place program label
+        = ap (λ o. option_and_then (label_place program) (option_and_then terminal_label o)) at ∙ ap (option_and_then (label_place program)) is in
         subst IsSome (sym end) stands
 
-pub some_place : (program : List LineFields) → IsLegal program → (i : ℕ) (s : Statement) (label : ℕ) → statement_at program i ≡ Some s → list_any (λ l. l == label) (jumps_of s) ≡ true
-    → IsSome (place_of program label)
+pub some_place : (program : List LineFields) → IsLegal program → (i : ℕ) (s : Statement) (label : ℕ) → nth_statement program i ≡ Some s → list_any (λ l. l == label) (jumps_of s) ≡ true
+    → IsSome (label_place program label)
 some_place program legal i s label at among =
     let named = (or_parts _ _ (clause_kept NamedLabels program (kept_by program legal).labels i s at)).0 in
-    is_some_of (place_of program label) (any_false (λ label. not (is_some (place_of program label))) (jumps_of s) label named among)
+    is_some_of (label_place program label) (any_false (λ label. not (is_some (label_place program label))) (jumps_of s) label named among)

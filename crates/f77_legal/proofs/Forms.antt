@@ -13,7 +13,7 @@ use Rattle.f77_nodes.specs.Node.{names_of}
 use Rattle.f77_tree.specs.Statement.{stmt_step, statement_of, Statement}
 use Rattle.f77_legal.specs.Heading.{dummies_of}
 use Rattle.f77_legal.specs.Labels.{terminal_label}
-use Rattle.f77_legal.specs.Loops.{variable_of}
+use Rattle.f77_legal.specs.Loops.{do_variable_of}
 use Rattle.f77_legal.specs.Names.{Plain, mentions_of, unit_name_of}
 use Rattle.f77_legal.specs.Presets.{groups_of}
 
@@ -46,10 +46,10 @@ unfolding boxed.out-Stmt denote.Hole.Carrier.out
 no_terminal (Loop label variable first last step) other = absurd (other label variable first last step refl)
 no_terminal s other = ap terminal_label (fold_out-Stmt Statement stmt_step s)
 
-pub no_variable : (s : Stmt) → IsNoLoop s → variable_of (statement_of s) ≡ None
+pub no_variable : (s : Stmt) → IsNoLoop s → do_variable_of (statement_of s) ≡ None
 unfolding boxed.out-Stmt denote.Hole.Carrier.out
 no_variable (Loop label variable first last step) other = absurd (other label variable first last step refl)
-no_variable s other = ap variable_of (fold_out-Stmt Statement stmt_step s)
+no_variable s other = ap do_variable_of (fold_out-Stmt Statement stmt_step s)
 
 pub plain_mentions : (s : Stmt) → IsNoSubroutine s → ((kind : Kind) (items : Vec Decl Global) → s ≢ Declare kind items)
     → ((items : Vec Decl Global) → s ≢ Dimension items) → mentions_of (statement_of s) ≡ map Plain (names_of (statement_of s))

@@ -5,10 +5,11 @@ use Rattle.f77_tree.specs.Statement.{form_of, Statement}
 use Rattle.f77_program.specs.Group.{group_of}
 use Rattle.f77_nodes.specs.Node.{names_of}
 use Rattle.f77_legal.specs.Blocks.{is_block_if, is_end_if, is_else, is_alternative}
-use Rattle.f77_legal.specs.Frames.{framed, is_framed_out}
+use Rattle.f77_legal.specs.Frames.{framed}
+use Rattle.f77_legal.specs.code.Frames.{is_framed_out}
 use Rattle.f77_legal.specs.Heading.{dummies_of}
 use Rattle.f77_legal.specs.Labels.{terminal_label, is_target}
-use Rattle.f77_legal.specs.Loops.{variable_of}
+use Rattle.f77_legal.specs.Loops.{do_variable_of}
 use Rattle.f77_legal.specs.Names.{Symbol, Mention, Dummy, Typed, Dimensioned, Plain, mentions_of, unit_name_of}
 use Rattle.f77_legal.specs.Presets.{groups_of}
 
@@ -52,7 +53,7 @@ pub terminal_label-framed : (s : Statement) → terminal_label (framed s) ≡ te
 terminal_label-framed (Statement.Loop label name first last step) = refl
 terminal_label-framed _ = refl
 
-pub variable_of-framed : (s : Statement) → variable_of (framed s) ≡ variable_of s
+pub variable_of-framed : (s : Statement) → do_variable_of (framed s) ≡ do_variable_of s
 variable_of-framed (Statement.Loop label name first last step) = refl
 variable_of-framed _ = refl
 

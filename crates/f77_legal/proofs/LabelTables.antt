@@ -15,8 +15,9 @@ use Rattle.indexmap.proofs.CallerLemmas.{insert_entry-new, keys-insert_entry-pre
 use Rattle.f77_program.specs.Program.{LineFields, line_of}
 use Rattle.f77_program.specs.declared.program.Line.{Line}
 use Rattle.f77_tree.specs.Statement.{statement_of}
-use Rattle.f77_legal.specs.Labels.{statement_with, labels, bears, is_double, place_of}
-use Rattle.f77_legal.specs.LabelTable.{distinct, place_in, noted, IsLabelTable}
+use Rattle.f77_legal.specs.Labels.{statement_with, labels, bears, is_double, label_place}
+use Rattle.f77_legal.specs.LabelTable.{distinct, place_in, IsLabelTable}
+use Rattle.f77_legal.specs.code.LabelTable.{noted}
 use Rattle.f77_legal.specs.declared.labels.Labels.{Labels}
 use Rattle.f77_legal.specs.declared.labels.Place.{Place}
 use Rattle.f77_legal.proofs.DistinctLabels.{flipped, distinct-push, find_distinct, find_first}
@@ -35,7 +36,7 @@ borne : (program : List LineFields) (label : ℕ) → list_any (bears label) pro
 borne [] label = refl
 borne (line ∷ program) label = borne_by line.label label (labels program) (list_any (bears label) program) (borne program label)
 
-placed : (program : List LineFields) (label : ℕ) → is_some (place_of program label) ≡ list_any (nat_eq label) (labels program)
+placed : (program : List LineFields) (label : ℕ) → is_some (label_place program label) ≡ list_any (nat_eq label) (labels program)
 placed program label = position_some (bears label) program ∙ borne program label
 
 -- The places, with one more statement.
@@ -53,8 +54,8 @@ place_push : (program : List LineFields) (line : LineFields) (q : ℕ)
     → place_in (program ++ line ∷ []) q ≡ cond (bears q line) (Some (noted (place_in program q) (length program))) (place_in program q)
 place_push program line q =
     ap (λ o. option_map (λ first. at first (is_double (program ++ line ∷ []) q)) o) (position-push (bears q) program line)
-    ∙ ap (λ b. option_map (λ first. at first b) (first_with (place_of program q) (length program) (bears q line))) (twice-push (bears q) program line)
-    ∙ place_by (is_double program q) (bears q line) (place_of program q) (length program) (twice_none (bears q) program)
+    ∙ ap (λ b. option_map (λ first. at first b) (first_with (label_place program q) (length program) (bears q line))) (twice-push (bears q) program line)
+    ∙ place_by (is_double program q) (bears q line) (label_place program q) (length program) (twice_none (bears q) program)
 
 -- A statement with no label leaves the table.
 pub unlabelled : (table : Labels) (program : List LineFields) (line : LineFields) → line.label ≡ None → IsLabelTable table program → IsLabelTable table (program ++ line ∷ [])
@@ -93,7 +94,7 @@ pub labelled : (old new : Labels) (program : List LineFields) (line : LineFields
 labelled old new program line i label place has is long placed_at updates entries =
     let before = get nat_eq old.places label in
     let put : place ≡ noted before (length program) = placed_at ∙ ap (noted before) (sym long) in
-    let own : is_some before ≡ list_any (nat_eq label) (labels program) = ap is_some (is.places label) ∙ some_mapped _ (place_of program label) ∙ placed program label in
+    let own : is_some before ≡ list_any (nat_eq label) (labels program) = ap is_some (is.places label) ∙ some_mapped _ (label_place program label) ∙ placed program label in
     record {
       places = λ q.
           updates.0 q
@@ -136,10 +137,10 @@ first_double table program unique is =
     ∙ find_first (is_double program) (labels program)
   where
     double : (i : ℕ) (e : ℕ × Place) → slice_get table.places.entries i ≡ Some e → e.1.again ≡ is_double program e.0
-    double i e there = again_by (place_of program e.0) (is_double program e.0) e.1 (sym (is.places e.0) ∙ lookup_from_place nat_eq_equiv table.places.entries i e.0 e.1 unique there)
+    double i e there = again_by (label_place program e.0) (is_double program e.0) e.1 (sym (is.places e.0) ∙ lookup_from_place nat_eq_equiv table.places.entries i e.0 e.1 unique there)
 
 -- the statement that a place gives
-pub statement_found : (lines : List Line) (label : Option ℕ) (l p : ℕ) (line : Line) → label ≡ Some l → place_of (map line_of lines) l ≡ Some p
+pub statement_found : (lines : List Line) (label : Option ℕ) (l p : ℕ) (line : Line) → label ≡ Some l → label_place (map line_of lines) l ≡ Some p
     → p < length lines → line ≡ get_or lines p line → Some (statement_of line.stmt) ≡ option_and_then (statement_with (map line_of lines)) label
 statement_found lines label l p line named at within is =
     let here : slice_get lines p ≡ Some line = slice_get_read lines (length lines) p line refl within is in

@@ -10,10 +10,10 @@ use Rattle.f77_tree.specs.Tree.{Tree}
 use Rattle.f77_tree.specs.Statement.{Statement}
 use Rattle.f77_legal.specs.declared.clause.Clause.{Clause}
 use Rattle.f77_legal.specs.declared.clause.Clause.TheVariants.{Kinds, Bounds, NamedLabels, Targets, Terminals, Nests, Jumps, Variables}
-use Rattle.f77_legal.specs.Blocks.{is_block_if, is_alternative, numbers, has_at, block_end, is_in_block, ends_else, breaks_block}
-use Rattle.f77_legal.specs.Clause.{breaks, fault_at, lines_where, faults_of}
-use Rattle.f77_legal.specs.Labels.{statement_at}
-use Rattle.f77_legal.specs.Legal.{IsLegal, name_faults, clause_faults, expression_clauses, control_clauses, label_faults, data_faults, size_faults}
+use Rattle.f77_legal.specs.Blocks.{is_block_if, is_alternative, statement_numbers, has_at, block_end, is_in_block, ends_else, breaks_block}
+use Rattle.f77_legal.specs.Clause.{breaks, clause_fault, lines_where, faults_of}
+use Rattle.f77_legal.specs.Labels.{nth_statement}
+use Rattle.f77_legal.specs.Legal.{IsLegal, name_faults, clause_faults, expression_clauses, control_clauses, label_faults, data_faults, too_large_faults}
 use Rattle.f77_legal.proofs.Branches.{branch_closes}
 
 -- no fault of a clause
@@ -35,18 +35,20 @@ filtered q k (y ∷ ys) i x e at = by (q (k, y)) refl i at (filtered q (k + 1) y
   where
     by : (b : Bool) → q (k, y) ≡ b → (i : ℕ) → slice_get (y ∷ ys) i ≡ Some x
         → ((i : ℕ) (x : LineFields) → filter q (enumerate_from (k + 1) ys) ≡ [] → slice_get ys i ≡ Some x → q (k + 1 + i, x) ≡ false) → q (k + i, x) ≡ false
-    by true t i at later = let whole : filter q (enumerate_from k (y ∷ ys)) ≡ (k, y) ∷ filter q (enumerate_from (k + 1) ys) = ap (λ b. cond b ((k, y) ∷ filter q (enumerate_from (k + 1) ys)) (filter q (enumerate_from (k + 1) ys))) t in absurd (cc (whole, e))
+    by true t i at later = let whole : filter q (enumerate_from k (y ∷ ys)) ≡ (k, y) ∷ filter q (enumerate_from (k + 1) ys) =
+        ap (λ b. cond b ((k, y) ∷ filter q (enumerate_from (k + 1) ys)) (filter q (enumerate_from (k + 1) ys))) t in absurd (cc (whole, e))
     by false t zero at later =
         let same : y ≡ x = cc (at) in
         let n : k + zero ≡ k = omega arith in
         ap q (λ j. (n j, sym same j)) ∙ t
     by false t (suc m) at later =
-        let whole : filter q (enumerate_from k (y ∷ ys)) ≡ filter q (enumerate_from (k + 1) ys) = ap (λ b. cond b ((k, y) ∷ filter q (enumerate_from (k + 1) ys)) (filter q (enumerate_from (k + 1) ys))) t in
+        let whole : filter q (enumerate_from k (y ∷ ys)) ≡ filter q (enumerate_from (k + 1) ys) =
+        ap (λ b. cond b ((k, y) ∷ filter q (enumerate_from (k + 1) ys)) (filter q (enumerate_from (k + 1) ys))) t in
         let n : k + suc m ≡ k + 1 + m = omega arith in
         ap (λ c. q (c, x)) n ∙ later m x (sym whole ∙ e) at
 
 -- where no line passes a test, no statement does
-pub test_kept : (test : ℕ → Statement → Bool) (p : List LineFields) → lines_where test p ≡ [] → (i : ℕ) (s : Statement) → statement_at p i ≡ Some s → test i s ≡ false
+pub test_kept : (test : ℕ → Statement → Bool) (p : List LineFields) → lines_where test p ≡ [] → (i : ℕ) (s : Statement) → nth_statement p i ≡ Some s → test i s ≡ false
 test_kept test p none i s at = by (slice_get p i) refl at
   where
     empty : filter (λ numbered. test numbered.0 numbered.1.stmt) (enumerate_from 0 p) ≡ []
@@ -59,8 +61,8 @@ test_kept test p none i s at = by (slice_get p i) refl at
         let n : 0 + i ≡ i = omega arith in
         sym (ap (test i) same) ∙ sym (ap (λ k. test k line.stmt) n) ∙ filtered (λ numbered. test numbered.0 numbered.1.stmt) 0 p i line empty is
 
-pub clause_kept : (c : Clause) (p : List LineFields) → faults_of c p ≡ [] → (i : ℕ) (s : Statement) → statement_at p i ≡ Some s → breaks c p i s ≡ false
-clause_kept c p none = test_kept (breaks c p) p (map_none (fault_at c) (lines_where (breaks c p) p) none)
+pub clause_kept : (c : Clause) (p : List LineFields) → faults_of c p ≡ [] → (i : ℕ) (s : Statement) → nth_statement p i ≡ Some s → breaks c p i s ≡ false
+clause_kept c p none = test_kept (breaks c p) p (map_none (clause_fault c) (lines_where (breaks c p) p) none)
 
 -- what a legal program keeps
 pub record Kept (p : List LineFields) : Type 0 where
@@ -75,34 +77,34 @@ pub record Kept (p : List LineFields) : Type 0 where
   pub jumps : faults_of Jumps p ≡ []
   pub variables : faults_of Variables p ≡ []
   pub presets : data_faults p ≡ []
-  pub sizes : size_faults p ≡ []
+  pub sizes : too_large_faults p ≡ []
 
 pub kept_by : (p : List LineFields) → IsLegal p → Kept p
 kept_by p legal =
-    let expressions = none_behind (name_faults p) (clause_faults expression_clauses p ++ (label_faults p ++ (clause_faults control_clauses p ++ (data_faults p ++ size_faults p)))) legal in
-    let labels = none_behind (clause_faults expression_clauses p) (label_faults p ++ (clause_faults control_clauses p ++ (data_faults p ++ size_faults p))) expressions in
-    let control = none_behind (label_faults p) (clause_faults control_clauses p ++ (data_faults p ++ size_faults p)) labels in
-    let all = none_before (clause_faults control_clauses p) (data_faults p ++ size_faults p) control in
+    let expressions = none_behind (name_faults p) (clause_faults expression_clauses p ++ (label_faults p ++ (clause_faults control_clauses p ++ (data_faults p ++ too_large_faults p)))) legal in
+    let labels = none_behind (clause_faults expression_clauses p) (label_faults p ++ (clause_faults control_clauses p ++ (data_faults p ++ too_large_faults p))) expressions in
+    let control = none_behind (label_faults p) (clause_faults control_clauses p ++ (data_faults p ++ too_large_faults p)) labels in
+    let all = none_before (clause_faults control_clauses p) (data_faults p ++ too_large_faults p) control in
     let first = none_behind (faults_of NamedLabels p) (clause_faults (Targets ∷ (Terminals ∷ (Nests ∷ (Jumps ∷ (Variables ∷ []))))) p) all in
     let second = none_behind (faults_of Targets p) (clause_faults (Terminals ∷ (Nests ∷ (Jumps ∷ (Variables ∷ [])))) p) first in
     let third = none_behind (faults_of Terminals p) (clause_faults (Nests ∷ (Jumps ∷ (Variables ∷ []))) p) second in
     let fourth = none_behind (faults_of Nests p) (clause_faults (Jumps ∷ (Variables ∷ [])) p) third in
     let fifth = none_behind (faults_of Jumps p) (clause_faults (Variables ∷ []) p) fourth in
-    let last = none_behind (clause_faults control_clauses p) (data_faults p ++ size_faults p) control in
-    let own = none_before (clause_faults expression_clauses p) (label_faults p ++ (clause_faults control_clauses p ++ (data_faults p ++ size_faults p))) expressions in
+    let last = none_behind (clause_faults control_clauses p) (data_faults p ++ too_large_faults p) control in
+    let own = none_before (clause_faults expression_clauses p) (label_faults p ++ (clause_faults control_clauses p ++ (data_faults p ++ too_large_faults p))) expressions in
     record {
-      names = none_before (name_faults p) (clause_faults expression_clauses p ++ (label_faults p ++ (clause_faults control_clauses p ++ (data_faults p ++ size_faults p)))) legal;
+      names = none_before (name_faults p) (clause_faults expression_clauses p ++ (label_faults p ++ (clause_faults control_clauses p ++ (data_faults p ++ too_large_faults p)))) legal;
       kinds = none_before (faults_of Kinds p) (clause_faults (Bounds ∷ []) p) own;
       bounds = none_before (faults_of Bounds p) (clause_faults [] p) (none_behind (faults_of Kinds p) (clause_faults (Bounds ∷ []) p) own);
-      doubles = none_before (label_faults p) (clause_faults control_clauses p ++ (data_faults p ++ size_faults p)) labels;
+      doubles = none_before (label_faults p) (clause_faults control_clauses p ++ (data_faults p ++ too_large_faults p)) labels;
       labels = none_before (faults_of NamedLabels p) (clause_faults (Targets ∷ (Terminals ∷ (Nests ∷ (Jumps ∷ (Variables ∷ []))))) p) all;
       targets = none_before (faults_of Targets p) (clause_faults (Terminals ∷ (Nests ∷ (Jumps ∷ (Variables ∷ [])))) p) first;
       terminals = none_before (faults_of Terminals p) (clause_faults (Nests ∷ (Jumps ∷ (Variables ∷ []))) p) second;
       nests = none_before (faults_of Nests p) (clause_faults (Jumps ∷ (Variables ∷ [])) p) third;
       jumps = none_before (faults_of Jumps p) (clause_faults (Variables ∷ []) p) fourth;
       variables = none_before (faults_of Variables p) (clause_faults [] p) fifth;
-      presets = none_before (data_faults p) (size_faults p) last;
-      sizes = none_behind (data_faults p) (size_faults p) last;
+      presets = none_before (data_faults p) (too_large_faults p) last;
+      sizes = none_behind (data_faults p) (too_large_faults p) last;
     }
 
 -- where no number of a list passes, none of its members does
@@ -143,7 +145,7 @@ is_some_of None h = absurd (cc (h))
 is_some_of (Some x) h = refl
 
 -- no block breaks the nesting
-pub nested : (p : List LineFields) → Kept p → (i : ℕ) (s : Statement) → statement_at p i ≡ Some s → breaks_block p i ≡ false
+pub nested : (p : List LineFields) → Kept p → (i : ℕ) (s : Statement) → nth_statement p i ≡ Some s → breaks_block p i ≡ false
 nested p kept i s at = (or_parts _ _ (clause_kept Nests p kept.nests i s at)).0
 
 is_below : (b i : ℕ) → nat_lt b i ≡ true → b < i
@@ -151,9 +153,9 @@ is_below b i h = grind (arith, nat_tests)
 
 -- a further branch stands in a block, and has its END IF
 pub alternative_in_block : (p : List LineFields) → Kept p → (i : ℕ) → has_at is_alternative p i ≡ true → is_in_block p i ≡ true
-alternative_in_block p kept i alternative = by (statement_at p i) refl alternative
+alternative_in_block p kept i alternative = by (nth_statement p i) refl alternative
   where
-    by : (o : Option Statement) → statement_at p i ≡ o → option_map_or is_alternative o false ≡ true → is_in_block p i ≡ true
+    by : (o : Option Statement) → nth_statement p i ≡ o → option_map_or is_alternative o false ≡ true → is_in_block p i ≡ true
     by None at is = absurd (cc (is))
     by (Some s) at is =
         let third : (has_at is_alternative p i && (not (is_in_block p i) || ends_else p i)) ≡ false = (or_parts _ _ (or_parts _ _ (nested p kept i s at)).1).1 in
@@ -161,13 +163,13 @@ alternative_in_block p kept i alternative = by (statement_at p i) refl alternati
 
 pub alternative_closes : (p : List LineFields) → Kept p → (i : ℕ) → has_at is_alternative p i ≡ true → IsSome (block_end p i)
 alternative_closes p kept i alternative =
-    let b = any_true _ (numbers p) (alternative_in_block p kept i alternative) in
+    let b = any_true _ (statement_numbers p) (alternative_in_block p kept i alternative) in
     let parts = and_parts (has_at is_block_if p b.0) _ b.1 in
     let more = and_parts (nat_lt b.0 i) _ parts.1 in
     let e = some_above (block_end p b.0) i more.1 in
     branch_closes p b.0 i e.0 e.1 (is_below b.0 i more.0) e.2 alternative
 
-pub block_closes : (p : List LineFields) → Kept p → (i : ℕ) (t : Tree) → statement_at p i ≡ Some (Statement.BlockIf t) → IsSome (block_end p i)
+pub block_closes : (p : List LineFields) → Kept p → (i : ℕ) (t : Tree) → nth_statement p i ≡ Some (Statement.BlockIf t) → IsSome (block_end p i)
 block_closes p kept i t at =
     let first = (or_parts _ _ (nested p kept i (Statement.BlockIf t) at)).0 in
     is_some_of (block_end p i) (other_false (has_at is_block_if p i) _ first (ap (λ o. option_map_or is_block_if o false) at))

@@ -18,7 +18,8 @@ use Rattle.f77_tree.specs.Data.{data_group_of}
 use Rattle.f77_nodes.specs.Node.{NodeOf, tree_nodes, group_nodes, label_nodes, nodes_of, step_parts}
 use Rattle.f77_tree.specs.Statement.{stmt_step, statement_of, Statement, value_of}
 use Rattle.f77_tree.specs.View.{tree_of}
-use Rattle.f77_legal.specs.NameTable.{Entries, with_nodes}
+use Rattle.f77_legal.specs.NameTable.{Entries}
+use Rattle.f77_legal.specs.code.NameTable.{with_nodes}
 use Rattle.f77_legal.proofs.Noting.{nodes_append}
 
 module _ {X : Type 0} (xs : List X) (i : ℕ) (x : X) (here : i < length xs) (is : x ≡ get_or xs i x) where
@@ -84,7 +85,8 @@ value_named es (Declare kind items) unit declared dimension preset assign logica
 value_named es (Dimension items) unit declared dimension preset assign logical loop = absurd (dimension items refl)
 value_named es (Preset groups) unit declared dimension preset assign logical loop = absurd (preset groups refl)
 value_named es (Assign target value) unit declared dimension preset assign logical loop = absurd (assign target value refl)
-value_named es (LogicalIf' condition pointer inner) unit declared dimension preset assign logical loop = absurd (logical condition (record { ptr = pointer.ptr; alloc = pointer.alloc; value = inner }) refl)
+value_named es (LogicalIf' condition pointer inner) unit declared dimension preset assign logical loop =
+    absurd (logical condition (record { ptr = pointer.ptr; alloc = pointer.alloc; value = inner }) refl)
 value_named es (Loop label variable first last step) unit declared dimension preset assign logical loop = absurd (loop label variable first last step refl)
 value_named es (ComputedGoto labels value) unit declared dimension preset assign logical loop =
     subst (ValueNamed es) (sym (fold_out-Stmt Statement stmt_step (ComputedGoto labels value))) (labels_unnamed es labels.items (tree_nodes (tree_of value)))

@@ -11,25 +11,27 @@ use Rattle.f77_tree.specs.Intrinsic.{function_named}
 use Rattle.f77_program.specs.Program.{LineFields}
 use Rattle.f77_legal.specs.declared.names.Facts.{Facts}
 use Rattle.f77_legal.specs.declared.names.Names.{Names}
-use Rattle.f77_legal.specs.Names.{Symbol, Mention, name_in, mentions, symbols, each_once, is_integer_name, is_real, is_twice, unit_name_of, kind_of, bounds_of, kinds_given, bounds_given, dummies_given}
-use Rattle.f77_legal.specs.NameTable.{FactsFields, Entries, IsNameTable, fields_of, entry_of, entries_of, times, facts_of, table, no_facts, kind_at, bounds_at, dummy_at, is_never, is_more, tells_real, tells_twice}
+use Rattle.f77_legal.specs.Names.{Symbol, Mention, name_in, mentions, symbols, names_once, is_integer_name, is_real}
+use Rattle.f77_legal.specs.Names.{is_twice, unit_name_of, kind_of, bounds_of, kinds_given, bounds_given, dummies_given}
+use Rattle.f77_legal.specs.NameTable.{FactsFields, Entries, IsNameTable, facts_fields, entry_of, table_entries, how_often, facts_of, table, kind_at, array_bounds}
+use Rattle.f77_legal.specs.code.NameTable.{no_facts, dummy_at, is_never, is_more, tells_real, tells_twice}
 use Rattle.f77_legal.specs.Presets.{is_dummy_name}
 use Rattle.f77_legal.proofs.Digests.{facts_none}
 use Rattle.f77_legal.proofs.Symbols.{same_symbol, any_once}
 use Rattle.f77_legal.proofs.NameTables.{rows}
 
 module _ {X : Type 0} where
-  never_none : (xs : List X) → is_never (times xs) ≡ (length xs == 0)
+  never_none : (xs : List X) → is_never (how_often xs) ≡ (length xs == 0)
   never_none [] = refl
   never_none (x ∷ []) = refl
   never_none (x ∷ (y ∷ xs)) = grind (arith, nat_tests)
 
-  said_some : (xs : List X) → not (is_never (times xs)) ≡ nat_le 1 (length xs)
+  said_some : (xs : List X) → not (is_never (how_often xs)) ≡ nat_le 1 (length xs)
   said_some [] = refl
   said_some (x ∷ []) = refl
   said_some (x ∷ (y ∷ xs)) = grind (arith, nat_tests)
 
-  more_two : (xs : List X) → is_more (times xs) ≡ nat_le 2 (length xs)
+  more_two : (xs : List X) → is_more (how_often xs) ≡ nat_le 2 (length xs)
   more_two [] = refl
   more_two (x ∷ []) = refl
   more_two (x ∷ (y ∷ xs)) = grind (arith, nat_tests)
@@ -53,7 +55,7 @@ facts_row f q (x ∷ xs) = by (bytes_eq q x) refl (facts_row f q xs)
 
 facts_table : (ms : List Mention) (q : Symbol) → facts_at (table ms) q ≡ facts_of ms q
 facts_table ms q =
-    facts_row (facts_of ms) q (each_once (map name_in ms))
+    facts_row (facts_of ms) q (names_once (map name_in ms))
     ∙ ap (row_at (facts_of ms) q) (any_once q (map name_in ms))
     ∙ by (list_any (bytes_eq q) (map name_in ms)) refl
   where
@@ -62,17 +64,17 @@ facts_table ms q =
     by false e = sym (facts_none ms q e)
 
 module _ (names : Names) (program : List LineFields) (is : IsNameTable names program) (q : Symbol) where
-  looked : facts_at (entries_of names) q ≡ facts_of (mentions program) q
+  looked : facts_at (table_entries names) q ≡ facts_of (mentions program) q
   looked = ap (λ es. facts_at es q) is ∙ facts_table (mentions program) q
 
-  found : option_map fields_of (lookup (bytes_eq q) names.facts.entries) ≡ lookup (bytes_eq q) (entries_of names)
-  found = sym (lookup-map_values fields_of (bytes_eq q) names.facts.entries)
+  found : option_map facts_fields (lookup (bytes_eq q) names.facts.entries) ≡ lookup (bytes_eq q) (table_entries names)
+  found = sym (lookup-map_values facts_fields (bytes_eq q) names.facts.entries)
 
-  read : {Y : Type 0} (look : FactsFields → Y) (o : Option Facts) → option_map_or (λ f. look (fields_of f)) o (look no_facts) ≡ look (option_map_or (λ f. f) (option_map fields_of o) no_facts)
+  read : {Y : Type 0} (look : FactsFields → Y) (o : Option Facts) → option_map_or (λ f. look (facts_fields f)) o (look no_facts) ≡ look (option_map_or (λ f. f) (option_map facts_fields o) no_facts)
   read look None = refl
   read look (Some f) = refl
 
-  told : {Y : Type 0} (look : FactsFields → Y) → option_map_or (λ f. look (fields_of f)) (lookup (bytes_eq q) names.facts.entries) (look no_facts) ≡ look (facts_of (mentions program) q)
+  told : {Y : Type 0} (look : FactsFields → Y) → option_map_or (λ f. look (facts_fields f)) (lookup (bytes_eq q) names.facts.entries) (look no_facts) ≡ look (facts_of (mentions program) q)
   told look =
       read look (lookup (bytes_eq q) names.facts.entries)
       ∙ ap (λ o. look (option_map_or (λ f. f) o no_facts)) found
@@ -82,7 +84,7 @@ module _ (names : Names) (program : List LineFields) (is : IsNameTable names pro
   pub same_kind_at : kind_at names q ≡ kind_of program q
   same_kind_at = told (λ f. f.kind)
 
-  pub same_bounds_at : bounds_at names q ≡ bounds_of program q
+  pub same_bounds_at : array_bounds names q ≡ bounds_of program q
   same_bounds_at = told (λ f. f.bounds)
 
   pub same_dummy_at : dummy_at names q ≡ is_dummy_name program q
@@ -92,7 +94,7 @@ module _ (names : Names) (program : List LineFields) (is : IsNameTable names pro
 pub same_kinds : (names : Names) (program : List LineFields) → IsNameTable names program → kind_at names ≡ kind_of program
 same_kinds names program is = λ i. λ q. same_kind_at names program is q i
 
-pub same_bounds : (names : Names) (program : List LineFields) → IsNameTable names program → bounds_at names ≡ bounds_of program
+pub same_bounds : (names : Names) (program : List LineFields) → IsNameTable names program → array_bounds names ≡ bounds_of program
 same_bounds names program is = λ i. λ q. same_bounds_at names program is q i
 
 abbrev key_of : {Y : Type 0} → Symbol × Y → Symbol

@@ -25,7 +25,8 @@ pub all_kept : (p q : ℕ → Bool) (xs : List ℕ) → list_all (λ x. not (p x
 all_kept p q [] = refl
 all_kept p q (x ∷ xs) = ap (λ b. (not (p x) || q x) && b) (all_kept p q xs) ∙ all_step (p x) (q x) (left_out p q xs)
 
-none_out_at : (p q : ℕ → Bool) (x : ℕ) (xs : List ℕ) (b : Bool) → All (λ y. q y ≡ true) (cond b (x ∷ filter p xs) (filter p xs)) → (All (λ y. q y ≡ true) (filter p xs) → left_out p q xs ≡ false) → ((b && not (q x)) || left_out p q xs) ≡ false
+none_out_at : (p q : ℕ → Bool) (x : ℕ) (xs : List ℕ) (b : Bool) → All (λ y. q y ≡ true) (cond b (x ∷ filter p xs) (filter p xs))
+    → (All (λ y. q y ≡ true) (filter p xs) → left_out p q xs ≡ false) → ((b && not (q x)) || left_out p q xs) ≡ false
 none_out_at p q x xs true h rest =
     or_from (not (q x)) (left_out p q xs) (ap not (All-head (λ y. q y ≡ true) x (filter p xs) h)) (rest (All-tail (λ y. q y ≡ true) x (filter p xs) h))
 none_out_at p q x xs false h rest = rest h

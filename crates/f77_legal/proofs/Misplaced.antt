@@ -1,5 +1,6 @@
 -- Names of DATA that are dummy arguments or stand there twice.
-use Rattle.std.proofs.Common.{arith, ◌≡◌, ℕ, suc, ◌+◌, ◌<◌, List, [], ◌∷◌, ◌++◌, length, map, Bool, true, false, cond, refl, sym, ap, subst, ◌∙◌, append_assoc, append-nil, drop, get_or, drop-cons, add-one, length-append}
+use Rattle.std.proofs.Common.{arith, ◌≡◌, ℕ, suc, ◌+◌, ◌<◌, List, [], ◌∷◌, ◌++◌, length, map, Bool, true, false, cond, refl}
+use Rattle.std.proofs.Common.{sym, ap, subst, ◌∙◌, append_assoc, append-nil, drop, get_or, drop-cons, add-one, length-append}
 use Rattle.std.specs.Prelude.{◌||◌, not, nat_le, filter}
 use Rattle.std.specs.Borrow.{Bor}
 use Rattle.std.specs.List.{list_any}
@@ -11,7 +12,7 @@ use Rattle.std.specs.Cmp.Lexicographic.{nat_list_eq_equiv, same_text}
 use Rattle.f77_tree.specs.Data.{data_group_of}
 use Rattle.f77_tree.specs.declared.data.DataGroup.{DataGroup}
 use Rattle.f77_legal.specs.Names.{Symbol}
-use Rattle.f77_legal.specs.Runs.{misplaces, group_names, names_held}
+use Rattle.f77_legal.specs.code.Runs.{misplaces, names_of_groups, names_held}
 
 held_any : (name : Symbol) (keys : List (Bor (List ℕ))) → list_any (λ key. bytes_eq name key.now) keys ≡ list_any (bytes_eq name) (names_held keys)
 held_any name [] = refl
@@ -86,7 +87,8 @@ misplaces_step : (dummy : Symbol → Bool) (before : List Symbol) (x : Symbol) (
 misplaces_step dummy before x xs =
     other_test (dummy x) (twice (before ++ x ∷ xs) x) (list_any (bytes_eq x) before) (list_any (λ name. dummy name || twice (before ++ x ∷ xs) name) xs)
     (stood (length (filter (bytes_eq x) before)) (length (filter (bytes_eq x) xs)) _ (list_any (bytes_eq x) before) (counted_twice before xs x) (any_counted (bytes_eq x) before))
-    (λ y t. later t (any_counted (bytes_eq x) xs ∙ stands_later (length (filter (bytes_eq x) before)) (length (filter (bytes_eq x) xs)) _ (list_any (bytes_eq x) before) (counted_twice before xs x) (any_counted (bytes_eq x) before) y t))
+    (λ y t. later t (any_counted (bytes_eq x) xs ∙ stands_later (length (filter (bytes_eq x) before)) (length (filter (bytes_eq x) xs)) _
+    (list_any (bytes_eq x) before) (counted_twice before xs x) (any_counted (bytes_eq x) before) y t))
     ∙ ap (λ all. (dummy x || list_any (bytes_eq x) before) || list_any (λ name. dummy name || nat_le 2 (length (filter (bytes_eq name) all))) xs) (sym (append_assoc before (x ∷ []) xs))
   where
     later : twice (before ++ x ∷ xs) x ≡ true → list_any (bytes_eq x) xs ≡ true → list_any (λ name. dummy name || twice (before ++ x ∷ xs) name) xs ≡ true
@@ -132,15 +134,17 @@ module _ (dummy : Symbol → Bool) (before items : List Symbol) (i : ℕ) (x : S
 
 -- at a group of a list
 module _ (dummy : Symbol → Bool) (before : List Symbol) (groups : List DataGroup) (i : ℕ) (g : DataGroup) (below : i < length groups) (is : g ≡ get_or groups i g) where
-  groups_are : group_names (map data_group_of (drop i groups)) ≡ g.names.items ++ group_names (map data_group_of (drop (i + 1) groups))
-  groups_are = rw add-one (ap (λ gs. group_names (map data_group_of gs)) (drop-cons groups i g below ∙ ap (λ y. y ∷ drop (suc i) groups) (sym is)))
+  groups_are : names_of_groups (map data_group_of (drop i groups)) ≡ g.names.items ++ names_of_groups (map data_group_of (drop (i + 1) groups))
+  groups_are = rw add-one (ap (λ gs. names_of_groups (map data_group_of gs)) (drop-cons groups i g below ∙ ap (λ y. y ∷ drop (suc i) groups) (sym is)))
 
-  pub group_found : (b : Bool) → b ≡ misplaces dummy before g.names.items → b ≡ true → true ≡ misplaces dummy before (group_names (map data_group_of (drop i groups)))
-  group_found b e t = rw groups_are (sym (misplaces_append dummy before g.names.items _ ∙ ap (λ d. d || misplaces dummy (before ++ g.names.items) (group_names (map data_group_of (drop (i + 1) groups)))) (sym e ∙ t)))
+  pub group_found : (b : Bool) → b ≡ misplaces dummy before g.names.items → b ≡ true → true ≡ misplaces dummy before (names_of_groups (map data_group_of (drop i groups)))
+  group_found b e t = rw groups_are (sym (misplaces_append dummy before g.names.items _
+      ∙ ap (λ d. d || misplaces dummy (before ++ g.names.items) (names_of_groups (map data_group_of (drop (i + 1) groups)))) (sym e ∙ t)))
 
   pub group_passed : (b : Bool) → b ≡ misplaces dummy before g.names.items → b ≡ false
-      → misplaces dummy before (group_names (map data_group_of (drop i groups))) ≡ misplaces dummy (before ++ g.names.items) (group_names (map data_group_of (drop (i + 1) groups)))
-  group_passed b e t = rw groups_are (misplaces_append dummy before g.names.items _ ∙ ap (λ d. d || misplaces dummy (before ++ g.names.items) (group_names (map data_group_of (drop (i + 1) groups)))) (sym e ∙ t))
+      → misplaces dummy before (names_of_groups (map data_group_of (drop i groups))) ≡ misplaces dummy (before ++ g.names.items) (names_of_groups (map data_group_of (drop (i + 1) groups)))
+  group_passed b e t = rw groups_are (misplaces_append dummy before g.names.items _
+      ∙ ap (λ d. d || misplaces dummy (before ++ g.names.items) (names_of_groups (map data_group_of (drop (i + 1) groups)))) (sym e ∙ t))
 
-  pub group_held : before ++ group_names (map data_group_of (drop i groups)) ≡ (before ++ g.names.items) ++ group_names (map data_group_of (drop (i + 1) groups))
-  group_held = rw groups_are (sym (append_assoc before (g.names.items) (group_names (map data_group_of (drop (i + 1) groups)))))
+  pub group_held : before ++ names_of_groups (map data_group_of (drop i groups)) ≡ (before ++ g.names.items) ++ names_of_groups (map data_group_of (drop (i + 1) groups))
+  group_held = rw groups_are (sym (append_assoc before (g.names.items) (names_of_groups (map data_group_of (drop (i + 1) groups)))))

@@ -9,8 +9,9 @@ use Rattle.std.proofs.lemmas.List.Sums.{fold-append}
 use Rattle.f77_program.specs.declared.program.Line.{Line}
 use Rattle.f77_program.specs.Program.{LineFields, line_of}
 use Rattle.f77_tree.specs.Statement.{statement_of}
-use Rattle.f77_legal.specs.Names.{Symbol, Mention, name_in, mentions_of, mentions, each_once}
-use Rattle.f77_legal.specs.NameTable.{FactsFields, Entries, facts_of, table, with_fact, no_facts, with_mention, with_mentions}
+use Rattle.f77_legal.specs.Names.{Symbol, Mention, name_in, mentions_of, mentions, names_once}
+use Rattle.f77_legal.specs.NameTable.{FactsFields, Entries, facts_of, table}
+use Rattle.f77_legal.specs.code.NameTable.{with_fact, no_facts, with_mention, with_mentions}
 use Rattle.f77_legal.proofs.Digests.{facts_hit, facts_miss, facts_none}
 use Rattle.f77_legal.proofs.Listing.{one_more}
 use Rattle.f77_legal.proofs.Symbols.{or_false, same_symbol, symbol_refl, Apart, any_once, once_push, once_apart}
@@ -50,16 +51,16 @@ module _ (m : Mention) (f g : Symbol → FactsFields)
 table_push : (ms : List Mention) (m : Mention) → with_mention (table ms) m ≡ table (ms ++ m ∷ [])
 table_push ms m = by (list_any (bytes_eq (name_in m)) (map name_in ms)) refl
   where
-    names : each_once (map name_in (ms ++ m ∷ [])) ≡ each_once (map name_in ms ++ name_in m ∷ [])
-    names = ap each_once (map-append name_in ms (m ∷ []))
+    names : names_once (map name_in (ms ++ m ∷ [])) ≡ names_once (map name_in ms ++ name_in m ∷ [])
+    names = ap names_once (map-append name_in ms (m ∷ []))
 
     by : (b : Bool) → list_any (bytes_eq (name_in m)) (map name_in ms) ≡ b → with_mention (table ms) m ≡ table (ms ++ m ∷ [])
     by true e =
-        row_there m (facts_of ms) (facts_of (ms ++ m ∷ [])) (facts_hit ms m) (facts_miss ms m) (each_once (map name_in ms))
+        row_there m (facts_of ms) (facts_of (ms ++ m ∷ [])) (facts_hit ms m) (facts_miss ms m) (names_once (map name_in ms))
         (once_apart (map name_in ms)) (any_once (name_in m) (map name_in ms) ∙ e)
         ∙ ap (rows (facts_of (ms ++ m ∷ []))) (sym (names ∙ once_push (map name_in ms) (name_in m) ∙ rw e refl))
     by false e =
-        row_new m (facts_of ms) (facts_of (ms ++ m ∷ [])) (facts_hit ms m) (facts_miss ms m) (each_once (map name_in ms))
+        row_new m (facts_of ms) (facts_of (ms ++ m ∷ [])) (facts_hit ms m) (facts_miss ms m) (names_once (map name_in ms))
         (any_once (name_in m) (map name_in ms) ∙ e)
         (facts_hit ms m (name_in m) (symbol_refl (name_in m)) ∙ ap (λ z. with_fact z m) (facts_none ms (name_in m) e))
         ∙ ap (rows (facts_of (ms ++ m ∷ []))) (sym (names ∙ once_push (map name_in ms) (name_in m) ∙ rw e refl))

@@ -8,15 +8,16 @@ use Rattle.std.proofs.lemmas.Bool.Decides.{nat_tests}
 use Rattle.std.proofs.lemmas.List.{reverse-append}
 use Rattle.std.proofs.lemmas.Option.{slice_get-map, slice_get_past}
 use Rattle.f77_legal.specs.Blocks.{first_numbers}
-use Rattle.f77_legal.specs.Holders.{entry, in_range, in_branch, holds, innermost, parents_of, IsFalling, ancestors_below, ancestors}
+use Rattle.f77_legal.specs.Holders.{end_or_parent, is_in_do_range, in_branch, holds, innermost_holder, parents_of}
+use Rattle.f77_legal.specs.code.Holders.{IsFalling, ancestors_below, ancestors}
 use Rattle.f77_legal.proofs.LoopLists.{count_numbers, get_number}
 use Rattle.f77_legal.proofs.Walks.{IsBelow, below_is}
 
 -- an entry for each of the first numbers
-pub entry_number : (f : ℕ → Option ℕ) (n i : ℕ) → i < n → entry (map f (first_numbers n)) i ≡ f i
+pub entry_number : (f : ℕ → Option ℕ) (n i : ℕ) → i < n → end_or_parent (map f (first_numbers n)) i ≡ f i
 entry_number f n i lt = rw (slice_get-map f (first_numbers n) i, get_number n i lt) refl
 
-pub entry_past : (f : ℕ → Option ℕ) (n i : ℕ) → n ≤ i → entry (map f (first_numbers n)) i ≡ None
+pub entry_past : (f : ℕ → Option ℕ) (n i : ℕ) → n ≤ i → end_or_parent (map f (first_numbers n)) i ≡ None
 entry_past f n i le = rw (slice_get-map f (first_numbers n) i, slice_get_past (first_numbers n) i (omega (arith, le, count_numbers n))) refl
 
 -- what begins before i and holds k, which is i or behind it, holds i
@@ -30,9 +31,9 @@ branch_before (Some t) d i k lt le h = grind (arith, nat_tests)
 
 held_before : (terminals ends : List (Option ℕ)) (d i k : ℕ) → d < i → i ≤ k → holds terminals ends k d ≡ true → holds terminals ends i d ≡ true
 held_before terminals ends d i k lt le h =
-    elim (or_cases (in_range terminals d k) (in_branch ends d k) h) [
-      | inl held ↦ or_left (in_range terminals d i) (in_branch ends d i) (range_before (entry terminals d) d i k lt le held)
-      | inr held ↦ or_right (in_range terminals d i) (in_branch ends d i) (branch_before (entry ends d) d i k lt le held)
+    elim (or_cases (is_in_do_range terminals d k) (in_branch ends d k) h) [
+      | inl held ↦ or_left (is_in_do_range terminals d i) (in_branch ends d i) (range_before (end_or_parent terminals d) d i k lt le held)
+      | inr held ↦ or_right (is_in_do_range terminals d i) (in_branch ends d i) (branch_before (end_or_parent ends d) d i k lt le held)
     ]
 
 backwards_more : (n : ℕ) → reverse (first_numbers (suc n)) ≡ n ∷ reverse (first_numbers n)
@@ -64,13 +65,13 @@ last_below p (suc n) i e = go (p n) (sym (ap (find p) (backwards_more n)) ∙ e)
 
 -- where each parent reaches all that pass, the walk from a number that does has all that pass
 kept : (parents : List (Option ℕ)) (p : ℕ → Bool) (n : ℕ) (first : Option ℕ)
-    → ((j i : ℕ) → j < n → i < j → p i ≡ true → Reaches (entry parents j) i) → ((j : ℕ) → j < n → IsBelow (entry parents j) j)
+    → ((j i : ℕ) → j < n → i < j → p i ≡ true → Reaches (end_or_parent parents j) i) → ((j : ℕ) → j < n → IsBelow (end_or_parent parents j) j)
     → IsBelow first n → ((i : ℕ) → i < n → p i ≡ true → Reaches first i)
     → filter p (ancestors_below parents n first) ≡ filter p (reverse (first_numbers n))
 kept parents p zero first links low bound reach = refl
 kept parents p (suc n) first links low bound reach =
     go (option_map_or (λ i. i == n) first false) refl
-    (kept parents p n (entry parents n) (λ j i lt. links j i (omega arith)) (λ j lt. low j (omega arith)) (low n (omega arith)) (λ i lt. links n i (omega arith) lt))
+    (kept parents p n (end_or_parent parents n) (λ j i lt. links j i (omega arith)) (λ j lt. low j (omega arith)) (low n (omega arith)) (λ i lt. links n i (omega arith) lt))
     (λ fresh. kept parents p n first (λ j i lt. links j i (omega arith)) (λ j lt. low j (omega arith)) fresh (λ i lt. reach i (omega arith)))
     ∙ sym (ap (filter p) (backwards_more n))
   where
@@ -86,9 +87,9 @@ kept parents p (suc n) first links low bound reach =
     fails o low false e far = e
 
     go : (b : Bool) → option_map_or (λ i. i == n) first false ≡ b
-        → filter p (ancestors_below parents n (entry parents n)) ≡ filter p rest
+        → filter p (ancestors_below parents n (end_or_parent parents n)) ≡ filter p rest
         → (IsBelow first n → filter p (ancestors_below parents n first) ≡ filter p rest)
-        → filter p (if b then n ∷ ancestors_below parents n (entry parents n) else ancestors_below parents n first) ≡ filter p (n ∷ rest)
+        → filter p (if b then n ∷ ancestors_below parents n (end_or_parent parents n) else ancestors_below parents n first) ≡ filter p (n ∷ rest)
     go true e taken passed = ap (λ ys. cond (p n) (n ∷ ys) ys) taken
     go false e taken passed =
         let low : IsBelow first n = fresh first bound e in
@@ -99,8 +100,8 @@ held_kept : (terminals ends : List (Option ℕ)) (m k n : ℕ) (first : Option �
     → IsBelow first n → ((i : ℕ) → i < n → holds terminals ends k i ≡ true → Reaches first i)
     → filter (holds terminals ends k) (ancestors_below (parents_of terminals ends m) n first) ≡ filter (holds terminals ends k) (reverse (first_numbers n))
 held_kept terminals ends m k n first within before bound reach =
-    let at : (j : ℕ) → j < n → entry (parents_of terminals ends m) j ≡ innermost terminals ends j =
-    λ j lt. entry_number (innermost terminals ends) m j (omega arith) in
+    let at : (j : ℕ) → j < n → end_or_parent (parents_of terminals ends m) j ≡ innermost_holder terminals ends j =
+    λ j lt. entry_number (innermost_holder terminals ends) m j (omega arith) in
     kept (parents_of terminals ends m) (holds terminals ends k) n first
     (λ j i lt below held. subst (λ o. Reaches o i) (sym (at j lt)) (last_reaches (holds terminals ends j) j i below (held_before terminals ends i j k below (omega arith) held)))
     (λ j lt. subst (λ o. IsBelow o j) (sym (at j lt)) (last_below (holds terminals ends j) j))
@@ -108,19 +109,19 @@ held_kept terminals ends m k n first within before bound reach =
 
 pub parents_fall : (terminals ends : List (Option ℕ)) (m : ℕ) → IsFalling (parents_of terminals ends m)
 parents_fall terminals ends m k i e = elim (cases_lt k m) [
-  | inl below ↦ last_below (holds terminals ends k) k i (sym (entry_number (innermost terminals ends) m k below) ∙ e)
-  | inr past ↦ absurd (let none : None ≡ Some i = sym (entry_past (innermost terminals ends) m k past) ∙ e in cc)
+  | inl below ↦ last_below (holds terminals ends k) k i (sym (entry_number (innermost_holder terminals ends) m k below) ∙ e)
+  | inr past ↦ absurd (let none : None ≡ Some i = sym (entry_past (innermost_holder terminals ends) m k past) ∙ e in cc)
 ]
 
 -- the ancestors of k that hold it are all that do
 pub holders_kept : (terminals ends : List (Option ℕ)) (m k : ℕ) → k < m
-    → filter (holds terminals ends k) (ancestors (parents_of terminals ends m) (entry (parents_of terminals ends m) k)) ≡ filter (holds terminals ends k) (reverse (first_numbers k))
+    → filter (holds terminals ends k) (ancestors (parents_of terminals ends m) (end_or_parent (parents_of terminals ends m) k)) ≡ filter (holds terminals ends k) (reverse (first_numbers k))
 holders_kept terminals ends m k lt =
     let parents : List (Option ℕ) = parents_of terminals ends m in
-    let at : entry parents k ≡ innermost terminals ends k = entry_number (innermost terminals ends) m k lt in
-    let low : IsBelow (entry parents k) k = parents_fall terminals ends m k in
-    ap (filter (holds terminals ends k)) (sym (below_is parents k (entry parents k) low))
-    ∙ held_kept terminals ends m k k (entry parents k) (omega arith) (omega arith) low
+    let at : end_or_parent parents k ≡ innermost_holder terminals ends k = entry_number (innermost_holder terminals ends) m k lt in
+    let low : IsBelow (end_or_parent parents k) k = parents_fall terminals ends m k in
+    ap (filter (holds terminals ends k)) (sym (below_is parents k (end_or_parent parents k) low))
+    ∙ held_kept terminals ends m k k (end_or_parent parents k) (omega arith) (omega arith) low
     (λ i below held. subst (λ o. Reaches o i) (sym at) (last_reaches (holds terminals ends k) k i below held))
 
 -- the first element that passes is the first of those that pass
@@ -133,7 +134,7 @@ find_kept p (x ∷ xs) = go (p x) (find_kept p xs)
     go false rest = rest
 
 -- the innermost that holds k is the statement before it or one of that one's ancestors
-innermost_found : (terminals ends : List (Option ℕ)) (k : ℕ) → find (holds terminals ends (suc k)) (ancestors (parents_of terminals ends (suc k)) (Some k)) ≡ innermost terminals ends (suc k)
+innermost_found : (terminals ends : List (Option ℕ)) (k : ℕ) → find (holds terminals ends (suc k)) (ancestors (parents_of terminals ends (suc k)) (Some k)) ≡ innermost_holder terminals ends (suc k)
 innermost_found terminals ends k =
     let parents : List (Option ℕ) = parents_of terminals ends (suc k) in
     let p : ℕ → Bool = holds terminals ends (suc k) in
@@ -144,7 +145,7 @@ innermost_found terminals ends k =
     ∙ sym (find_kept p (reverse (first_numbers (suc k))))
 
 pub innermost_from : (terminals ends : List (Option ℕ)) (k : ℕ) (before : Option ℕ) → SomeIff before (1 ≤ k) (k - 1)
-    → find (holds terminals ends k) (ancestors (parents_of terminals ends k) before) ≡ innermost terminals ends k
+    → find (holds terminals ends k) (ancestors (parents_of terminals ends k) before) ≡ innermost_holder terminals ends k
 innermost_from terminals ends zero None none = refl
 innermost_from terminals ends (suc k) None none = absurd (none (omega arith))
 innermost_from terminals ends zero (Some j) some = absurd (let le : 1 ≤ zero = some.0 in omega arith)

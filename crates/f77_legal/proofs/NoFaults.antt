@@ -5,11 +5,11 @@ use Rattle.std.specs.List.{enumerate_from, list_all, sum}
 use Rattle.std.proofs.lemmas.Bool.Decides.{nat_tests}
 use Rattle.f77_program.specs.Program.{LineFields}
 use Rattle.f77_legal.specs.declared.clause.Clause.TheVariants.{Bounds}
-use Rattle.f77_legal.specs.Clause.{breaks, fault_at, lines_where}
+use Rattle.f77_legal.specs.Clause.{breaks, clause_fault, lines_where}
 use Rattle.f77_legal.specs.Dimensions.{dimensions_fit}
-use Rattle.f77_legal.specs.Legal.{IsLegal, is_array, is_too_large, size_faults}
+use Rattle.f77_legal.specs.Legal.{IsLegal, is_array, is_too_large, too_large_faults}
 use Rattle.f77_legal.specs.Names.{symbols, bounds_of}
-use Rattle.f77_legal.specs.Presets.{elements}
+use Rattle.f77_legal.specs.Presets.{preset_elements}
 use Rattle.f77_legal.proofs.LegalGives.{kept_by, map_none}
 use Rattle.f77_legal.proofs.Symbols.{or_false}
 
@@ -28,22 +28,23 @@ module _ (program : List LineFields) (legal : IsLegal program) where
   pub dimensions_kept : list_all (λ (line : LineFields). dimensions_fit (bounds_of program) line.stmt) program ≡ true
   dimensions_kept =
       all_pass (λ line. dimensions_fit (bounds_of program) line.stmt) 0 program
-      (map_none _ _ (map_none (fault_at Bounds) (lines_where (breaks Bounds program) program) (kept_by program legal).bounds))
+      (map_none _ _ (map_none (clause_fault Bounds) (lines_where (breaks Bounds program) program) (kept_by program legal).bounds))
 
   pub not_large : is_too_large program ≡ false
   not_large = by (is_too_large program) refl (kept_by program legal).sizes
     where
-      by : (b : Bool) → is_too_large program ≡ b → size_faults program ≡ [] → b ≡ false
+      by : (b : Bool) → is_too_large program ≡ b → too_large_faults program ≡ [] → b ≡ false
       by true e none = let some = rw e at none in absurd (cc (some))
       by false e none = refl
 
-  within_sizes : (nat_lt 100 (length (symbols program)) ≡ false) × (nat_lt 10000 (sum (map (elements program) (filter (is_array program) (symbols program)))) ≡ false)
+  within_sizes : (nat_lt 100 (length (symbols program)) ≡ false) × (nat_lt 10000 (sum (map (preset_elements program) (filter (is_array program) (symbols program)))) ≡ false)
   within_sizes =
-      let parts = or_false (nat_lt 500 (length program)) (nat_lt 100 (length (symbols program)) || nat_lt 10000 (sum (map (elements program) (filter (is_array program) (symbols program))))) not_large in
-      or_false (nat_lt 100 (length (symbols program))) (nat_lt 10000 (sum (map (elements program) (filter (is_array program) (symbols program))))) parts.1
+      let parts = or_false (nat_lt 500 (length program)) (nat_lt 100 (length (symbols program))
+      || nat_lt 10000 (sum (map (preset_elements program) (filter (is_array program) (symbols program))))) not_large in
+      or_false (nat_lt 100 (length (symbols program))) (nat_lt 10000 (sum (map (preset_elements program) (filter (is_array program) (symbols program))))) parts.1
 
   pub few_symbols : length (symbols program) ≤ 100
   few_symbols = let few = within_sizes.0 in grind (arith, nat_tests)
 
-  pub few_elements : sum (map (elements program) (filter (is_array program) (symbols program))) ≤ 10000
+  pub few_elements : sum (map (preset_elements program) (filter (is_array program) (symbols program))) ≤ 10000
   few_elements = let few = within_sizes.1 in grind (arith, nat_tests)

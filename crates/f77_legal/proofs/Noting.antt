@@ -17,31 +17,32 @@ use Rattle.f77_tree.specs.declared.tree.Expr.TheViews as views
 use Rattle.f77_tree.specs.declared.tree.Expr.TheOpen.{Expr-F}
 use Rattle.f77_tree.specs.declared.tree.Expr.TheFolds.{fold-roll-Expr}
 use Rattle.f77_tree.specs.declared.data.Value.{Value}
-use Rattle.f77_nodes.specs.Node.{NodeOf, name_of, parts, all_parts, tree_nodes}
+use Rattle.f77_nodes.specs.Node.{NodeOf, node_name, parts, all_parts, tree_nodes}
 use Rattle.f77_tree.specs.Tree.{Tree}
 use Rattle.f77_tree.specs.View.{trees, tree_of, expr_step, ref_step}
 use Rattle.f77_legal.specs.declared.names.Facts.{Facts}
 use Rattle.f77_legal.specs.declared.mentions.Said.{Said}
 use Rattle.f77_legal.specs.declared.mentions.Said.TheVariants as said
 use Rattle.f77_legal.specs.Names.{Symbol, Mention, name_in}
-use Rattle.f77_legal.specs.NameTable.{Entries, entry_of, fields_of, with_bounds, with_shape, with_fact, no_facts, with_mention, with_mentions, with_nodes, mention_of, FactsFields}
+use Rattle.f77_legal.specs.NameTable.{Entries, entry_of, facts_fields, FactsFields}
+use Rattle.f77_legal.specs.code.NameTable.{facts_with_bounds, with_shape, with_fact, no_facts, with_mention, with_mentions, with_nodes, mention_of}
 
-pub bounds_given : (f : FactsFields) (bounds : List ℕ) → length bounds ≢ 0 → with_bounds f bounds ≡ with_shape f bounds
+pub bounds_given : (f : FactsFields) (bounds : List ℕ) → length bounds ≢ 0 → facts_with_bounds f bounds ≡ with_shape f bounds
 bounds_given f [] some = absurd (some refl)
 bounds_given f (b ∷ bounds) some = refl
 
 -- an entry that is there, and one that is added
 module _ (m : Mention) (w : Facts) where
   there : (e : Symbol × Facts) (es : List (Symbol × Facts)) (v : Facts) (b : Bool) → bytes_eq (name_in m) e.0 ≡ b → lookup (bytes_eq (name_in m)) (e ∷ es) ≡ Some v
-      → fields_of w ≡ with_fact (fields_of v) m
+      → facts_fields w ≡ with_fact (facts_fields v) m
       → (lookup (bytes_eq (name_in m)) es ≡ Some v → map entry_of (set_value (bytes_eq (name_in m)) es w) ≡ with_mention (map entry_of es) m)
       → map entry_of (set_value (bytes_eq (name_in m)) (e ∷ es) w) ≡ with_mention (map entry_of (e ∷ es)) m
   there e es v true t found is rest =
       let here = same_Some v e.1 (sym (rw t at found)) in
-      rw t (ap (λ z. (e.0, z) ∷ map entry_of es) (is ∙ ap (λ z. with_fact (fields_of z) m) here))
+      rw t (ap (λ z. (e.0, z) ∷ map entry_of es) (is ∙ ap (λ z. with_fact (facts_fields z) m) here))
   there e es v false t found is rest = let later = rw t at found in rw t (ap (λ z. entry_of e ∷ z) (rest later))
 
-  pub noted_there : (es : List (Symbol × Facts)) (v : Facts) → lookup (bytes_eq (name_in m)) es ≡ Some v → fields_of w ≡ with_fact (fields_of v) m
+  pub noted_there : (es : List (Symbol × Facts)) (v : Facts) → lookup (bytes_eq (name_in m)) es ≡ Some v → facts_fields w ≡ with_fact (facts_fields v) m
       → map entry_of (set_value (bytes_eq (name_in m)) es w) ≡ with_mention (map entry_of es) m
   noted_there [] v found is = absurd (none-some v found)
   noted_there (e ∷ es) v found is = there e es v (bytes_eq (name_in m) e.0) refl found is (λ later. noted_there es v later is)
@@ -52,16 +53,16 @@ module _ (m : Mention) (w : Facts) where
   new e es true t found rest = let here = rw t at found in absurd (none-some e.1 (sym here))
   new e es false t found rest = let later = rw t at found in rw t (ap (λ z. entry_of e ∷ z) (rest later))
 
-  pub noted_new : (es : List (Symbol × Facts)) → lookup (bytes_eq (name_in m)) es ≡ None → fields_of w ≡ with_fact no_facts m
+  pub noted_new : (es : List (Symbol × Facts)) → lookup (bytes_eq (name_in m)) es ≡ None → facts_fields w ≡ with_fact no_facts m
       → map entry_of (insert_entry bytes_eq es (name_in m) w) ≡ with_mention (map entry_of es) m
   noted_new [] found is = ap (λ z. (name_in m, z) ∷ []) is
   noted_new (e ∷ es) found is = new e es (bytes_eq (name_in m) e.0) refl found (λ later. noted_new es later is)
 
 pub nodes_append : (es : Entries) (xs ys : List NodeOf) → with_nodes es (xs ++ ys) ≡ with_nodes (with_nodes es xs) ys
 nodes_append es xs ys =
-    ap (λ z. with_mentions es (map Mention.Plain z)) (filter_map-append name_of xs ys)
-    ∙ ap (with_mentions es) (map-append Mention.Plain (filter_map name_of xs) (filter_map name_of ys))
-    ∙ fold-append with_mention es (map Mention.Plain (filter_map name_of xs)) (map Mention.Plain (filter_map name_of ys))
+    ap (λ z. with_mentions es (map Mention.Plain z)) (filter_map-append node_name xs ys)
+    ∙ ap (with_mentions es) (map-append Mention.Plain (filter_map node_name xs) (filter_map node_name ys))
+    ∙ fold-append with_mention es (map Mention.Plain (filter_map node_name xs)) (map Mention.Plain (filter_map node_name ys))
 
 pub parts_append : (es : Entries) (xs ys : List Tree) → with_nodes es (map NodeOf.Part (xs ++ ys)) ≡ with_nodes (with_nodes es (map NodeOf.Part xs)) (map NodeOf.Part ys)
 parts_append es xs ys = ap (with_nodes es) (map-append NodeOf.Part xs ys) ∙ nodes_append es (map NodeOf.Part xs) (map NodeOf.Part ys)
@@ -104,14 +105,14 @@ noted_binary es before after e op a b x y is left right first second =
 
 -- what is said of a name, where it is there and where it is new
 module _ (name : Symbol) (w : Facts) (es : List (Symbol × Facts)) where
-  pub said_there : (s : Said) (v : Facts) → lookup (bytes_eq name) es ≡ Some v → fields_of w ≡ with_fact (fields_of v) (mention_of name s)
+  pub said_there : (s : Said) (v : Facts) → lookup (bytes_eq name) es ≡ Some v → facts_fields w ≡ with_fact (facts_fields v) (mention_of name s)
       → map entry_of (set_value (bytes_eq name) es w) ≡ with_mention (map entry_of es) (mention_of name s)
   said_there said.Dummy v found is = noted_there (mention_of name said.Dummy) w es v found is
   said_there (said.Typed kind bounds) v found is = noted_there (mention_of name (said.Typed kind bounds)) w es v found is
   said_there (said.Dimensioned bounds) v found is = noted_there (mention_of name (said.Dimensioned bounds)) w es v found is
   said_there said.Plain v found is = noted_there (mention_of name said.Plain) w es v found is
 
-  pub said_new : (s : Said) → lookup (bytes_eq name) es ≡ None → fields_of w ≡ with_fact no_facts (mention_of name s)
+  pub said_new : (s : Said) → lookup (bytes_eq name) es ≡ None → facts_fields w ≡ with_fact no_facts (mention_of name s)
       → map entry_of (insert_entry bytes_eq es name w) ≡ with_mention (map entry_of es) (mention_of name s)
   said_new said.Dummy found is = noted_new (mention_of name said.Dummy) w es found is
   said_new (said.Typed kind bounds) found is = noted_new (mention_of name (said.Typed kind bounds)) w es found is

@@ -11,9 +11,10 @@ use Rattle.std.proofs.lemmas.List.Folds.{list_all-append, list_all-map}
 use Rattle.std.proofs.lemmas.List.Sums.{AllPass-from_list_all, list_all-from_AllPass}
 use Rattle.std.proofs.lemmas.Map.Made.{is_some-lookup}
 use Rattle.indexmap.specs.IndexMap.{get, keys}
-use Rattle.f77_program.specs.Formed.{is_action, statement_formed, formed}
+use Rattle.f77_program.specs.Formed.{is_action}
+use Rattle.f77_program.specs.code.Formed.{statement_formed, formed}
 use Rattle.f77_program.specs.Group.{group_of}
-use Rattle.f77_nodes.specs.Node.{NodeOf, parts, all_parts, tree_nodes, step_parts, nodes_of, name_of, names_of}
+use Rattle.f77_nodes.specs.Node.{NodeOf, parts, all_parts, tree_nodes, step_parts, nodes_of, node_name, names_of}
 use Rattle.f77_program.specs.Program.{LineFields}
 use Rattle.f77_program.specs.Patching.{replaced}
 use Rattle.f77_tree.specs.StatementGrammar.{IsFormed}
@@ -24,7 +25,8 @@ use Rattle.f77_program.proofs.StatementForming.{is_formed}
 use Rattle.f77_tree.proofs.Tests.{and_true}
 use Rattle.f77_legal.specs.declared.names.Names.{Names}
 use Rattle.f77_legal.specs.Names.{Symbol, Mention, name_in, mentions_of, mentions, symbols}
-use Rattle.f77_legal.specs.Patches.{is_among, NamesAmong, tree_passes, items_pass, value_passes, names_pass}
+use Rattle.f77_legal.specs.Patches.{is_name_among, tree_passes, items_pass, value_passes, names_pass}
+use Rattle.f77_legal.specs.code.Patches.{NamesAmong}
 use Rattle.f77_legal.proofs.Among.{all_once, once_all}
 
 -- each mention of the changed program is one of another line or of the statement
@@ -48,24 +50,24 @@ module _ (test : Mention → Bool) where
 -- names among others, told of each mention
 module _ (names : List Symbol) where
   abbrev mention_among : Mention → Bool
-  mention_among mention = is_among names (name_in mention)
+  mention_among mention = is_name_among names (name_in mention)
 
-  pub symbols_pass : (program : List LineFields) → All (λ name. is_among names name ≡ true) (symbols program) → list_all mention_among (mentions program) ≡ true
+  pub symbols_pass : (program : List LineFields) → All (λ name. is_name_among names name ≡ true) (symbols program) → list_all mention_among (mentions program) ≡ true
   symbols_pass program all =
-      sym (list_all-map (is_among names) name_in (mentions program))
-      ∙ list_all-from_AllPass (is_among names) (map name_in (mentions program)) (once_all (λ name. is_among names name ≡ true) (map name_in (mentions program)) all)
+      sym (list_all-map (is_name_among names) name_in (mentions program))
+      ∙ list_all-from_AllPass (is_name_among names) (map name_in (mentions program)) (once_all (λ name. is_name_among names name ≡ true) (map name_in (mentions program)) all)
 
-  pub pass_symbols : (program : List LineFields) → list_all mention_among (mentions program) ≡ true → All (λ name. is_among names name ≡ true) (symbols program)
+  pub pass_symbols : (program : List LineFields) → list_all mention_among (mentions program) ≡ true → All (λ name. is_name_among names name ≡ true) (symbols program)
   pass_symbols program all =
-      all_once (λ name. is_among names name ≡ true) (map name_in (mentions program))
-      (AllPass-from_list_all (is_among names) (map name_in (mentions program)) (list_all-map (is_among names) name_in (mentions program) ∙ all))
+      all_once (λ name. is_name_among names name ≡ true) (map name_in (mentions program))
+      (AllPass-from_list_all (is_name_among names) (map name_in (mentions program)) (list_all-map (is_name_among names) name_in (mentions program) ∙ all))
 
-  pub replaced_among : (program : List LineFields) (i : ℕ) (s : Statement) → All (λ name. is_among names name ≡ true) (symbols program) → NamesAmong names s
-      → All (λ name. is_among names name ≡ true) (symbols (replaced program i s))
+  pub replaced_among : (program : List LineFields) (i : ℕ) (s : Statement) → All (λ name. is_name_among names name ≡ true) (symbols program) → NamesAmong names s
+      → All (λ name. is_name_among names name ≡ true) (symbols (replaced program i s))
   replaced_among program i s all new = pass_symbols (replaced program i s) (replaced_pass mention_among program i s (symbols_pass program all) new)
 
 -- a name of the table
-pub among_keys : (names : Names) (name : Symbol) → is_among (keys names.facts) name ≡ is_some (get bytes_eq names.facts name)
+pub among_keys : (names : Names) (name : Symbol) → is_name_among (keys names.facts) name ≡ is_some (get bytes_eq names.facts name)
 among_keys names name = sym (is_some-lookup (bytes_eq name) names.facts.entries)
 
 -- It can be executed, and so can what it holds.
@@ -100,10 +102,10 @@ executed s h = group_executed s (is_formed s h)
 -- the names that nodes bear pass where those of the trees do
 module _ (test : Symbol → Bool) where
   abbrev nodes_pass : List NodeOf → Bool
-  nodes_pass nodes = list_all test (filter_map name_of nodes)
+  nodes_pass nodes = list_all test (filter_map node_name nodes)
 
   pass_append : (xs ys : List NodeOf) → nodes_pass (xs ++ ys) ≡ (nodes_pass xs && nodes_pass ys)
-  pass_append xs ys = ap (list_all test) (filter_map-append name_of xs ys) ∙ list_all-append test (filter_map name_of xs) (filter_map name_of ys)
+  pass_append xs ys = ap (list_all test) (filter_map-append node_name xs ys) ∙ list_all-append test (filter_map node_name xs) (filter_map node_name ys)
 
   parts_append : (xs ys : List Tree) → nodes_pass (map NodeOf.Part (xs ++ ys)) ≡ (nodes_pass (map NodeOf.Part xs) && nodes_pass (map NodeOf.Part ys))
   parts_append xs ys = ap nodes_pass (map-append NodeOf.Part xs ys) ∙ pass_append (map NodeOf.Part xs) (map NodeOf.Part ys)
@@ -162,8 +164,8 @@ module _ (test : Symbol → Bool) where
   names_tested s h = plain_is (names_of s) ∙ statement_is s h
 
 -- the walk tells whether the names are among others
-pub among_tested : (names : List Symbol) (s : Statement) → is_executed s ≡ true → names_pass (is_among names) s ≡ true → NamesAmong names s
-among_tested names s h pass = sym (list_all-map (is_among names) name_in (mentions_of s)) ∙ names_tested (is_among names) s h ∙ pass
+pub among_tested : (names : List Symbol) (s : Statement) → is_executed s ≡ true → names_pass (is_name_among names) s ≡ true → NamesAmong names s
+among_tested names s h pass = sym (list_all-map (is_name_among names) name_in (mentions_of s)) ∙ names_tested (is_name_among names) s h ∙ pass
 
 pub among_kept : (names : Names) (s : Statement) → is_executed s ≡ true → names_pass (λ name. is_some (get bytes_eq names.facts name)) s ≡ true
     → NamesAmong (keys names.facts) s

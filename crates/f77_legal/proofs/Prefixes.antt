@@ -8,7 +8,7 @@ use Rattle.std.proofs.lemmas.List.{append-nil, reverse-append}
 use Rattle.std.proofs.lemmas.List.Elements.{All-nil, All-cons, All-head, All-tail, All-append, All-filter, filter-append}
 use Rattle.std.proofs.lemmas.List.Folds.{list_any-append}
 use Rattle.f77_legal.specs.Blocks.{first_numbers}
-use Rattle.f77_legal.specs.Holders.{precedes}
+use Rattle.f77_legal.specs.code.Holders.{precedes}
 use Rattle.f77_legal.specs.Loops.{same_numbers}
 use Rattle.f77_legal.proofs.FirstNumbers.{any_same}
 use Rattle.f77_legal.proofs.LoopLists.{left_out, same_filters}
@@ -133,13 +133,17 @@ begins_is p q (suc n) =
     told : (a b r c : Bool) → p n ≡ a → q n ≡ b → list_any (is_behind p q (last_of (filter q (first_numbers n ++ n ∷ [])))) (first_numbers n) ≡ r
         → precedes n (last_of (filter q (first_numbers n ++ n ∷ []))) ≡ c
         → not (either a b (left_out q p (first_numbers n)) r c)
-        ≡ not (either (p n) (q n) (left_out q p (first_numbers n)) (list_any (is_behind p q (last_of (filter q (first_numbers n ++ n ∷ [])))) (first_numbers n)) (precedes n (last_of (filter q (first_numbers n ++ n ∷ [])))))
+        ≡ not (either
+        (p n) (q n) (left_out q p (first_numbers n)) (list_any (is_behind p q (last_of (filter q (first_numbers n ++ n ∷ [])))) (first_numbers n))
+        (precedes n (last_of (filter q (first_numbers n ++ n ∷ [])))))
     told a b r c e f g h = rw (e, f, g, h) refl
 
     go : (a b : Bool) → p n ≡ a → q n ≡ b
         → begins (filter p (first_numbers n)) (filter q (first_numbers n)) ≡ not (left_out q p (first_numbers n) || list_any (is_behind p q (last_of (filter q (first_numbers n)))) (first_numbers n))
         → begins (filter p (first_numbers n ++ n ∷ [])) (filter q (first_numbers n ++ n ∷ []))
-        ≡ not (either (p n) (q n) (left_out q p (first_numbers n)) (list_any (is_behind p q (last_of (filter q (first_numbers n ++ n ∷ [])))) (first_numbers n)) (precedes n (last_of (filter q (first_numbers n ++ n ∷ [])))))
+        ≡ not (either
+        (p n) (q n) (left_out q p (first_numbers n)) (list_any (is_behind p q (last_of (filter q (first_numbers n ++ n ∷ [])))) (first_numbers n))
+        (precedes n (last_of (filter q (first_numbers n ++ n ∷ [])))))
     go true true e f rest =
         ap (λ xs. begins xs (filter q (first_numbers n ++ n ∷ []))) (kept_more p n true e)
         ∙ ap (begins (filter p (first_numbers n) ++ n ∷ [])) (kept_more q n true f)
@@ -152,7 +156,9 @@ begins_is p q (suc n) =
         ap (λ xs. begins xs (filter q (first_numbers n ++ n ∷ []))) (kept_more p n false e ∙ append-nil (filter p (first_numbers n)))
         ∙ ap (begins (filter p (first_numbers n))) (kept_more q n true f)
         ∙ behind_needle n (filter p (first_numbers n)) (filter q (first_numbers n)) (below p)
-        ∙ ap not (sym (either_needle (left_out q p (first_numbers n)) (list_any (is_behind p q (last_of (filter q (first_numbers n ++ n ∷ [])))) (first_numbers n)) (precedes n (last_of (filter q (first_numbers n ++ n ∷ []))))))
+        ∙ ap not (sym
+        (either_needle (left_out q p (first_numbers n)) (list_any (is_behind p q (last_of (filter q (first_numbers n ++ n ∷ [])))) (first_numbers n))
+        (precedes n (last_of (filter q (first_numbers n ++ n ∷ []))))))
         ∙ told false true _ _ e f refl refl
     go true false e f rest =
         ap (λ xs. begins xs (filter q (first_numbers n ++ n ∷ []))) (kept_more p n true e)

@@ -44,11 +44,15 @@ x3 : first_fault (heading (codes "X3") (k ∷ []) ∷ (line 2 (Statement.Declare
 unfolding function_named
 x3 = refl
 
-x4 : first_fault (heading (codes "X4") (codes "M" ∷ (k ∷ [])) ∷ (line 2 (Statement.Declare Integer (decl (codes "M") (3 ∷ []) ∷ [])) ∷ (line 3 (sets k (name (codes "M"))) ∷ (line 4 Statement.End ∷ [])))) ≡ Some (Dimensions 3)
+x4 : first_fault (heading (codes "X4") (codes "M" ∷ (k ∷ []))
+    ∷ (line 2 (Statement.Declare Integer (decl (codes "M") (3 ∷ []) ∷ [])) ∷ (line 3 (sets k (name (codes "M"))) ∷ (line 4 Statement.End ∷ []))))
+    ≡ Some (Dimensions 3)
 unfolding function_named
 x4 = refl
 
-x5 : first_fault (heading (codes "X5") (k ∷ []) ∷ (labelled 10 2 (sets k (Tree.Number 1)) ∷ (labelled 20 3 (sets k (Tree.Number 1)) ∷ (labelled 20 4 (sets k (Tree.Number 1)) ∷ (labelled 10 5 (sets k (Tree.Number 1)) ∷ (line 6 Statement.End ∷ [])))))) ≡ Some (DoubleLabel 10)
+x5 : first_fault (heading (codes "X5") (k ∷ []) ∷ (labelled 10 2 (sets k (Tree.Number 1)) ∷ (labelled 20 3 (sets k (Tree.Number 1))
+    ∷ (labelled 20 4 (sets k (Tree.Number 1)) ∷ (labelled 10 5 (sets k (Tree.Number 1)) ∷ (line 6 Statement.End ∷ []))))))
+    ≡ Some (DoubleLabel 10)
 unfolding function_named
 x5 = refl
 
@@ -56,7 +60,9 @@ x6 : first_fault (heading (codes "X6") (k ∷ []) ∷ (line 2 (Statement.Goto 10
 unfolding function_named
 x6 = refl
 
-x7 : first_fault (heading (codes "X7") (k ∷ []) ∷ (labelled 10 2 (Statement.Declare Integer (decl (codes "J") [] ∷ [])) ∷ (line 3 (Statement.Goto 10) ∷ (line 4 Statement.End ∷ [])))) ≡ Some (BadTarget 3)
+x7 : first_fault (heading (codes "X7") (k ∷ [])
+    ∷ (labelled 10 2 (Statement.Declare Integer (decl (codes "J") [] ∷ [])) ∷ (line 3 (Statement.Goto 10) ∷ (line 4 Statement.End ∷ []))))
+    ≡ Some (BadTarget 3)
 unfolding function_named
 x7 = refl
 
@@ -67,22 +73,30 @@ x8 = refl
 abbrev i : List ℕ
 i = codes "I"
 
-x9 : first_fault (heading (codes "X9") (i ∷ []) ∷ (line 2 (Statement.Loop 10 i (Tree.Number 1) (Tree.Number 3) None) ∷ (labelled 10 3 (sets i (Tree.Number 2)) ∷ (line 4 Statement.End ∷ [])))) ≡ Some (DoVariable 3)
+x9 : first_fault (heading (codes "X9") (i ∷ [])
+    ∷ (line 2 (Statement.Loop 10 i (Tree.Number 1) (Tree.Number 3) None) ∷ (labelled 10 3 (sets i (Tree.Number 2)) ∷ (line 4 Statement.End ∷ []))))
+    ≡ Some (DoVariable 3)
 unfolding function_named
 x9 = refl
 
 abbrev one : ℤ → Value
 one z = record { times = 1; constant = Number z }
 
-xa : first_fault (heading (codes "XA") (k ∷ []) ∷ (line 2 (Statement.Preset (record { names = codes "J" ∷ []; values = one (pos 1) ∷ (one (pos 2) ∷ []) } ∷ [])) ∷ (line 3 Statement.End ∷ []))) ≡ Some (BadData 2)
+xa : first_fault (heading (codes "XA") (k ∷ [])
+    ∷ (line 2 (Statement.Preset (record { names = codes "J" ∷ []; values = one (pos 1) ∷ (one (pos 2) ∷ []) } ∷ [])) ∷ (line 3 Statement.End ∷ [])))
+    ≡ Some (BadData 2)
 unfolding function_named
 xa = refl
 
-bad : first_fault (heading (codes "BAD") (codes "N" ∷ []) ∷ (line 2 (Statement.Goto 10) ∷ (line 3 (Statement.Loop 10 i (Tree.Number 1) (name (codes "N")) None) ∷ (labelled 10 4 Statement.Continue ∷ (line 5 Statement.End ∷ []))))) ≡ Some (IntoBlock 2)
+bad : first_fault (heading (codes "BAD") (codes "N" ∷ []) ∷ (line 2 (Statement.Goto 10)
+    ∷ (line 3 (Statement.Loop 10 i (Tree.Number 1) (name (codes "N")) None) ∷ (labelled 10 4 Statement.Continue ∷ (line 5 Statement.End ∷ [])))))
+    ≡ Some (IntoBlock 2)
 unfolding function_named
 bad = refl
 
-bad_return : first_fault (heading (codes "BAD") (codes "N" ∷ []) ∷ (line 2 (Statement.Goto 10) ∷ (line 3 (Statement.Loop 10 i (Tree.Number 1) (name (codes "N")) None) ∷ (labelled 10 4 Statement.Return ∷ (line 5 Statement.End ∷ []))))) ≡ Some (BadTerminal 3)
+bad_return : first_fault (heading (codes "BAD") (codes "N" ∷ []) ∷ (line 2 (Statement.Goto 10)
+    ∷ (line 3 (Statement.Loop 10 i (Tree.Number 1) (name (codes "N")) None) ∷ (labelled 10 4 Statement.Return ∷ (line 5 Statement.End ∷ [])))))
+    ≡ Some (BadTerminal 3)
 unfolding function_named
 bad_return = refl
 
@@ -108,14 +122,19 @@ unfolding function_named
 good_is_legal = refl
 
 -- a second ELSE, a loop across a branch, a jump into a branch
-second_else : faults (heading (codes "G") (k ∷ []) ∷ (line 2 (Statement.BlockIf condition) ∷ (line 3 Statement.Else ∷ (line 4 Statement.Else ∷ (line 5 Statement.EndIf ∷ (line 6 Statement.End ∷ [])))))) ≡ Nesting 4 ∷ []
+second_else : faults (heading (codes "G") (k ∷ []) ∷ (line 2 (Statement.BlockIf condition)
+    ∷ (line 3 Statement.Else ∷ (line 4 Statement.Else ∷ (line 5 Statement.EndIf ∷ (line 6 Statement.End ∷ [])))))) ≡ Nesting 4 ∷ []
 unfolding function_named
 second_else = refl
 
-across : faults (heading (codes "G") (k ∷ []) ∷ (line 2 (Statement.Loop 10 i (Tree.Number 1) (name k) None) ∷ (line 3 (Statement.BlockIf condition) ∷ (labelled 10 4 Statement.Continue ∷ (line 5 Statement.EndIf ∷ (line 6 Statement.End ∷ [])))))) ≡ Nesting 2 ∷ []
+across : faults (heading (codes "G") (k ∷ []) ∷ (line 2 (Statement.Loop 10 i (Tree.Number 1) (name k) None)
+    ∷ (line 3 (Statement.BlockIf condition) ∷ (labelled 10 4 Statement.Continue ∷ (line 5 Statement.EndIf ∷ (line 6 Statement.End ∷ []))))))
+    ≡ Nesting 2 ∷ []
 unfolding function_named
 across = refl
 
-into : faults (heading (codes "G") (k ∷ []) ∷ (line 2 (Statement.Goto 10) ∷ (line 3 (Statement.BlockIf condition) ∷ (labelled 10 4 Statement.Continue ∷ (line 5 Statement.EndIf ∷ (line 6 Statement.End ∷ [])))))) ≡ IntoBlock 2 ∷ []
+into : faults (heading (codes "G") (k ∷ []) ∷ (line 2 (Statement.Goto 10)
+    ∷ (line 3 (Statement.BlockIf condition) ∷ (labelled 10 4 Statement.Continue ∷ (line 5 Statement.EndIf ∷ (line 6 Statement.End ∷ []))))))
+    ≡ IntoBlock 2 ∷ []
 unfolding function_named
 into = refl

@@ -7,10 +7,10 @@ use Rattle.f77_tree.specs.Statement.{Statement}
 use Rattle.f77_legal.specs.declared.clause.Clause.{Clause}
 use Rattle.f77_legal.specs.declared.clause.Clause.TheVariants.{Kinds, Bounds, NamedLabels, Targets, Terminals, Nests, Jumps, Variables}
 use Rattle.f77_legal.specs.declared.fault.CheckFault.TheVariants.{RealName, Twice, DoubleLabel, BadData, TooMany}
-use Rattle.f77_legal.specs.Clause.{breaks, lines_where, faults_of, fault_at}
-use Rattle.f77_legal.specs.Labels.{labels, statement_at, is_double}
+use Rattle.f77_legal.specs.Clause.{breaks, lines_where, faults_of, clause_fault}
+use Rattle.f77_legal.specs.Labels.{labels, nth_statement, is_double}
 use Rattle.f77_legal.specs.Law.{KeepsEveryRule}
-use Rattle.f77_legal.specs.Legal.{IsLegal, name_faults, clause_faults, expression_clauses, control_clauses, label_faults, data_faults, size_faults}
+use Rattle.f77_legal.specs.Legal.{IsLegal, name_faults, clause_faults, expression_clauses, control_clauses, label_faults, data_faults, too_large_faults}
 use Rattle.f77_legal.specs.Names.{symbols, is_real, is_twice}
 use Rattle.f77_legal.specs.Presets.{presets_badly}
 use Rattle.f77_legal.proofs.LegalGives.{Kept, kept_by, none_before, none_behind, map_none, test_kept}
@@ -43,7 +43,7 @@ abbrev numbered_where : (ℕ → Statement → Bool) → ℕ → List LineFields
 numbered_where test k lines = filter (λ numbered. test numbered.0 numbered.1.stmt) (enumerate_from k lines)
 
 no_number : (test : ℕ → Statement → Bool) (k : ℕ) (lines : List LineFields)
-    → ((i : ℕ) (s : Statement) → statement_at lines i ≡ Some s → test (k + i) s ≡ false) → numbered_where test k lines ≡ []
+    → ((i : ℕ) (s : Statement) → nth_statement lines i ≡ Some s → test (k + i) s ≡ false) → numbered_where test k lines ≡ []
 no_number test k [] fail = refl
 no_number test k (line ∷ lines) fail =
     let n : k + 0 ≡ k = omega arith in
@@ -54,7 +54,7 @@ no_number test k (line ∷ lines) fail =
     ap (λ j. test j s) m ∙ fail (suc i) s at)
 
 no_line : (test : ℕ → Statement → Bool) (p : List LineFields)
-    → ((i : ℕ) (s : Statement) → statement_at p i ≡ Some s → test i s ≡ false) → lines_where test p ≡ []
+    → ((i : ℕ) (s : Statement) → nth_statement p i ≡ Some s → test i s ≡ false) → lines_where test p ≡ []
 no_line test p fail =
     ap (map (λ numbered. numbered.1.line)) (no_number test 0 p (λ i s at.
     let n : 0 + i ≡ i = omega arith in
@@ -88,7 +88,7 @@ no_clause_faults : (program : List LineFields) → KeepsEveryRule program → (c
 no_clause_faults program rules [] = refl
 no_clause_faults program rules (c ∷ cs) =
     both_none (faults_of c program) (clause_faults cs program)
-    (ap (map (fault_at c)) (no_line (breaks c program) program (rules.statements c))) (no_clause_faults program rules cs)
+    (ap (map (clause_fault c)) (no_line (breaks c program) program (rules.statements c))) (no_clause_faults program rules cs)
 
 pub legal_by_rules : (program : List LineFields) → KeepsEveryRule program → IsLegal program
 legal_by_rules program rules =
@@ -97,9 +97,9 @@ legal_by_rules program rules =
     (ap (map Twice) (all_fail (is_twice program) (symbols program) rules.once)) in
     let doubles : label_faults program ≡ [] = ap (map DoubleLabel) (all_fail (is_double program) (labels program) rules.distinct) in
     let presets : data_faults program ≡ [] = ap (map BadData) (no_line (presets_badly program) program rules.presets) in
-    let sizes : size_faults program ≡ [] = ap (λ b. cond b (TooMany ∷ []) []) rules.sizes in
+    let sizes : too_large_faults program ≡ [] = ap (λ b. cond b (TooMany ∷ []) []) rules.sizes in
     both_none (name_faults program) _ names
     (both_none (clause_faults expression_clauses program) _ (no_clause_faults program rules expression_clauses)
     (both_none (label_faults program) _ doubles
     (both_none (clause_faults control_clauses program) _ (no_clause_faults program rules control_clauses)
-    (both_none (data_faults program) (size_faults program) presets sizes))))
+    (both_none (data_faults program) (too_large_faults program) presets sizes))))

@@ -1,5 +1,6 @@
 -- How runs of kinds are taken from the front of others.
-use Rattle.std.proofs.Common.{arith, ◌≡◌, ◌⊎◌, inl, inr, ℕ, zero, suc, ◌+◌, ◌-◌, ◌<◌, ◌≤◌, List, [], ◌∷◌, ◌++◌, length, replicate, Bool, true, false, cond, refl, sym, ap, ◌∙◌, length-append, get_or, drop, drop-cons, add-one}
+use Rattle.std.proofs.Common.{arith, ◌≡◌, ◌⊎◌, inl, inr, ℕ, zero, suc, ◌+◌, ◌-◌, ◌<◌, ◌≤◌, List, [], ◌∷◌, ◌++◌, length, replicate}
+use Rattle.std.proofs.Common.{Bool, true, false, cond, refl, sym, ap, ◌∙◌, length-append, get_or, drop, drop-cons, add-one}
 use Rattle.std.specs.Prelude.{◌==◌, ◌||◌, ◌&&◌, min, Some, None}
 use Rattle.std.specs.Option.{option_map_or}
 use Rattle.std.specs.List.{list_all}
@@ -12,13 +13,13 @@ use Rattle.f77_tree.specs.declared.tree.Kind.{Kind}
 use Rattle.f77_legal.specs.Kinds.{same_kind}
 use Rattle.f77_legal.specs.Names.{Symbol}
 use Rattle.f77_legal.specs.Presets.{product}
-use Rattle.f77_legal.specs.Runs.{kinds_in, behind, kinds_wanted}
+use Rattle.f77_legal.specs.code.Runs.{kinds_in, behind_kinds, kinds_wanted}
 
 -- one value more
 count_more : (v : Value) (vs : List Value) → length (kinds_in (v ∷ vs)) ≡ v.times + length (kinds_in vs)
 count_more v vs = simp (length-append, length-replicate)
 
-behind_none : (n : ℕ) (k : Kind) → 0 < n → behind n k [] ≡ None
+behind_none : (n : ℕ) (k : Kind) → 0 < n → behind_kinds n k [] ≡ None
 behind_none zero k h = absurd (omega arith)
 behind_none (suc n) k h = refl
 
@@ -32,74 +33,74 @@ gives m b h = by (m == 0) refl h
 
 -- a run of the kind, no longer than what is wanted
 run_same : (m n t : ℕ) (k other : Kind) (g : List Kind) → t ≡ m + n → same_kind k other ≡ true
-    → behind t k (replicate m other ++ g) ≡ behind n k g
+    → behind_kinds t k (replicate m other ++ g) ≡ behind_kinds n k g
 run_same zero n t k other g e h = let f : t ≡ n = omega arith in rw f refl
 run_same (suc m) n zero k other g e h = absurd (omega arith)
 run_same (suc m) n (suc t) k other g e h = rw h (run_same m n t k other g (omega arith) h)
 
 shorter : (m n t : ℕ) (k other : Kind) (g : List Kind) → t ≡ m + n → (m == 0 || same_kind k other) ≡ true
-    → behind t k (replicate m other ++ g) ≡ behind n k g
+    → behind_kinds t k (replicate m other ++ g) ≡ behind_kinds n k g
 shorter m n t k other g e h = by (gives m (same_kind k other) h)
   where
-    by : (m ≡ 0) ⊎ (same_kind k other ≡ true) → behind t k (replicate m other ++ g) ≡ behind n k g
+    by : (m ≡ 0) ⊎ (same_kind k other ≡ true) → behind_kinds t k (replicate m other ++ g) ≡ behind_kinds n k g
     by (inl z) = let f : t ≡ n = omega arith in rw z (rw f refl)
     by (inr s) = run_same m n t k other g e s
 
 -- a run of the kind, no shorter than what is wanted
 run_within : (m t r : ℕ) (k other : Kind) (g : List Kind) → m ≡ t + r → same_kind k other ≡ true
-    → behind t k (replicate m other ++ g) ≡ Some (replicate r other ++ g)
+    → behind_kinds t k (replicate m other ++ g) ≡ Some (replicate r other ++ g)
 run_within m zero r k other g e h = let f : m ≡ r = omega arith in rw f refl
 run_within zero (suc t) r k other g e h = absurd (omega arith)
 run_within (suc m) (suc t) r k other g e h = rw h (run_within m t r k other g (omega arith) h)
 
-none_wanted : (m t : ℕ) (k other : Kind) (g : List Kind) → t ≡ 0 → behind t k (replicate m other ++ g) ≡ Some (replicate (m - t) other ++ g)
+none_wanted : (m t : ℕ) (k other : Kind) (g : List Kind) → t ≡ 0 → behind_kinds t k (replicate m other ++ g) ≡ Some (replicate (m - t) other ++ g)
 none_wanted m t k other g e = let f : m - t ≡ m = omega arith in rw (f, e) refl
 
 pub within : (m t : ℕ) (k other : Kind) (g : List Kind) → t ≤ m → (m == 0 || same_kind k other) ≡ true
-    → behind t k (replicate m other ++ g) ≡ Some (replicate (m - t) other ++ g)
+    → behind_kinds t k (replicate m other ++ g) ≡ Some (replicate (m - t) other ++ g)
 within m t k other g p h = by (gives m (same_kind k other) h)
   where
-    by : (m ≡ 0) ⊎ (same_kind k other ≡ true) → behind t k (replicate m other ++ g) ≡ Some (replicate (m - t) other ++ g)
+    by : (m ≡ 0) ⊎ (same_kind k other ≡ true) → behind_kinds t k (replicate m other ++ g) ≡ Some (replicate (m - t) other ++ g)
     by (inl z) = none_wanted m t k other g (omega arith)
     by (inr s) = run_within m t (m - t) k other g (omega arith) s
 
 -- what is wanted first decides
-pointwise_run : (n : ℕ) (k : Kind) (w g : List Kind) → pointwise same_kind (replicate n k ++ w) g ≡ option_map_or (pointwise same_kind w) (behind n k g) false
+pointwise_run : (n : ℕ) (k : Kind) (w g : List Kind) → pointwise same_kind (replicate n k ++ w) g ≡ option_map_or (pointwise same_kind w) (behind_kinds n k g) false
 pointwise_run zero k w g = refl
 pointwise_run (suc n) k w [] = refl
 pointwise_run (suc n) k w (other ∷ g) = by (same_kind k other) (pointwise_run n k w g)
   where
-    by : (b : Bool) → pointwise same_kind (replicate n k ++ w) g ≡ option_map_or (pointwise same_kind w) (behind n k g) false
-        → (b && pointwise same_kind (replicate n k ++ w) g) ≡ option_map_or (pointwise same_kind w) (cond b (behind n k g) None) false
+    by : (b : Bool) → pointwise same_kind (replicate n k ++ w) g ≡ option_map_or (pointwise same_kind w) (behind_kinds n k g) false
+        → (b && pointwise same_kind (replicate n k ++ w) g) ≡ option_map_or (pointwise same_kind w) (cond b (behind_kinds n k g) None) false
     by true e = e
     by false e = refl
 
-too_many : (n : ℕ) (k : Kind) (g : List Kind) → length g < n → behind n k g ≡ None
+too_many : (n : ℕ) (k : Kind) (g : List Kind) → length g < n → behind_kinds n k g ≡ None
 too_many zero k g h = absurd (omega arith)
 too_many (suc n) k [] h = refl
 too_many (suc n) k (other ∷ g) h = by (same_kind k other) (too_many n k g (omega arith))
   where
-    by : (b : Bool) → behind n k g ≡ None → cond b (behind n k g) None ≡ None
+    by : (b : Bool) → behind_kinds n k g ≡ None → cond b (behind_kinds n k g) None ≡ None
     by true e = e
     by false e = refl
 
-pub behind_fewer : (n : ℕ) (k : Kind) (g h : List Kind) → behind n k g ≡ Some h → length h ≤ length g
+pub behind_fewer : (n : ℕ) (k : Kind) (g h : List Kind) → behind_kinds n k g ≡ Some h → length h ≤ length g
 behind_fewer zero k g h e = let f : g ≡ h = cc in rw f (omega arith)
 behind_fewer (suc n) k [] h e = absurd (cc)
 behind_fewer (suc n) k (other ∷ g) h e = by (same_kind k other) (behind_fewer n k g h) e
   where
-    by : (b : Bool) → (behind n k g ≡ Some h → length h ≤ length g) → cond b (behind n k g) None ≡ Some h → length h ≤ length (other ∷ g)
+    by : (b : Bool) → (behind_kinds n k g ≡ Some h → length h ≤ length g) → cond b (behind_kinds n k g) None ≡ Some h → length h ≤ length (other ∷ g)
     by true f e = let l : length h ≤ length g = f e in omega arith
     by false f e = absurd (cc)
 
 -- more than there are need not be counted
-capped : (n most : ℕ) (k : Kind) (g : List Kind) → length g < most → behind (min n most) k g ≡ behind n k g
+capped : (n most : ℕ) (k : Kind) (g : List Kind) → length g < most → behind_kinds (min n most) k g ≡ behind_kinds n k g
 capped n most k g h = by (cases n most)
   where
     cases : (a b : ℕ) → (a ≤ b) ⊎ (b < a)
     cases a b = grind (arith, nat_tests)
 
-    by : (n ≤ most) ⊎ (most < n) → behind (min n most) k g ≡ behind n k g
+    by : (n ≤ most) ⊎ (most < n) → behind_kinds (min n most) k g ≡ behind_kinds n k g
     by (inl p) = let f : min n most ≡ n = omega arith in rw f refl
     by (inr p) =
         let f : min n most ≡ most = omega arith in
@@ -108,17 +109,17 @@ capped n most k g h = by (cases n most)
 pub fill_step : (bounds : Symbol → List ℕ) (kinds : Symbol → Kind) (name : Symbol) (names : List Symbol) (g : List Kind) (most : ℕ)
     → length g < most
     → pointwise same_kind (kinds_wanted bounds kinds (name ∷ names)) g
-    ≡ option_map_or (pointwise same_kind (kinds_wanted bounds kinds names)) (behind (min (product (bounds name)) most) (kinds name) g) false
+    ≡ option_map_or (pointwise same_kind (kinds_wanted bounds kinds names)) (behind_kinds (min (product (bounds name)) most) (kinds name) g) false
 fill_step bounds kinds name names g most h =
     rw (capped (product (bounds name)) most (kinds name) g h) (pointwise_run (product (bounds name)) (kinds name) (kinds_wanted bounds kinds names) g)
 
 -- the front run is passed over, and a value follows or none
 pub passed : (m t : ℕ) (k other : Kind) (g : List Kind) → m < t → (m == 0 || same_kind k other) ≡ true
-    → behind t k (replicate m other ++ g) ≡ behind (t - m) k g
+    → behind_kinds t k (replicate m other ++ g) ≡ behind_kinds (t - m) k g
 passed m t k other g p h = shorter m (t - m) t k other g (omega arith) h
 
 pub at_end : (m t : ℕ) (k other : Kind) (values : List Value) → m < t → (m == 0 || same_kind k other) ≡ true → length values ≡ 0
-    → behind t k (replicate m other ++ kinds_in values) ≡ None
+    → behind_kinds t k (replicate m other ++ kinds_in values) ≡ None
 at_end m t k other [] p h e = passed m t k other [] p h ∙ behind_none (t - m) k (omega arith)
 at_end m t k other (v ∷ vs) p h e = absurd (omega arith)
 
@@ -141,13 +142,14 @@ all_used [] = refl
 all_used (v ∷ vs) = one_used v.times (length (kinds_in vs)) (length (kinds_in (v ∷ vs))) (list_all (λ v. v.times == 0) vs) (count_more v vs) (all_used vs)
 
 pub used_up : (m : ℕ) (other : Kind) (values : List Value) → (length (replicate m other ++ kinds_in values) == 0) ≡ (m == 0 && list_all (λ v. v.times == 0) values)
-used_up m other values = sym (one_used m (length (kinds_in values)) (length (replicate m other ++ kinds_in values)) (list_all (λ v. v.times == 0) values) (simp (length-append, length-replicate)) (all_used values))
+used_up m other values = sym (one_used m (length (kinds_in values)) (length (replicate m other ++ kinds_in values))
+    (list_all (λ v. v.times == 0) values) (simp (length-append, length-replicate)) (all_used values))
 
 -- the name in turn takes what it wants, or cannot
 pub fill_at : (bounds : Symbol → List ℕ) (kinds : Symbol → Kind) (names : List Symbol) (i : ℕ) (name : Symbol) (g : List Kind) (need most : ℕ) (k : Kind)
     → i < length names → name ≡ get_or names i name → length g < most → need ≡ min (product (bounds name)) most → k ≡ kinds name
     → pointwise same_kind (kinds_wanted bounds kinds (drop i names)) g
-    ≡ option_map_or (pointwise same_kind (kinds_wanted bounds kinds (drop (i + 1) names))) (behind need k g) false
+    ≡ option_map_or (pointwise same_kind (kinds_wanted bounds kinds (drop (i + 1) names))) (behind_kinds need k g) false
 fill_at bounds kinds names i name g need most k p e h f d =
     let s : drop i names ≡ name ∷ drop (i + 1) names = rw add-one (drop-cons names i name p ∙ ap (λ x. x ∷ drop (suc i) names) (sym e)) in
     rw (s, f, d) (fill_step bounds kinds name (drop (i + 1) names) g most h)

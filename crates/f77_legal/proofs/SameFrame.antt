@@ -1,5 +1,6 @@
 -- Programs of one frame have the same labels, blocks and DOs, and a statement breaks the same clauses in each, but for what its DO may end at.
-use Rattle.std.proofs.Common.{◌≡◌, ◌≢◌, ◌∙◌, ◌+◌, ◌==◌, ◌&&◌, ◌||◌, ℕ, zero, suc, List, [], ◌∷◌, Bool, true, false, cond, not, Option, Some, None, refl, sym, ap, reverse, length, filter, take, drop, ◌-◌}
+use Rattle.std.proofs.Common.{◌≡◌, ◌≢◌, ◌∙◌, ◌+◌, ◌==◌, ◌&&◌, ◌||◌, ℕ, zero, suc, List, [], ◌∷◌, Bool, true, false}
+use Rattle.std.proofs.Common.{cond, not, Option, Some, None, refl, sym, ap, reverse, length, filter, take, drop, ◌-◌}
 use Rattle.std.specs.Prelude.{nat_lt, nat_le, is_some, if◌then◌else◌, option_map}
 use Rattle.std.specs.List.{find, list_any, list_all, starts_with, prefix_len, cons_option}
 use Rattle.std.specs.Option.{option_and_then, option_map_or}
@@ -9,22 +10,22 @@ use Rattle.f77_program.specs.Program.{LineFields}
 use Rattle.f77_tree.specs.Statement.{Statement, jumps_of}
 use Rattle.f77_legal.specs.declared.clause.Clause.{Clause}
 use Rattle.f77_legal.specs.declared.clause.Clause.TheVariants.{Kinds, Bounds, NamedLabels, Targets, Terminals, Nests, Jumps, Variables}
-use Rattle.f77_legal.specs.Blocks.{is_block_if, is_end_if, is_else, is_alternative, first_numbers, numbers, has_at, count_between, is_level, block_end, branch_end}
-use Rattle.f77_legal.specs.Blocks.{behind, is_in_block, is_closing, ends_else, begins_branch, branch_holds, breaks_block}
+use Rattle.f77_legal.specs.Blocks.{is_block_if, is_end_if, is_else, is_alternative, first_numbers, statement_numbers, has_at, count_between, is_level, block_end, branch_end}
+use Rattle.f77_legal.specs.Blocks.{statement_behind, is_in_block, is_end_of_block, ends_else, begins_branch, branch_holds, breaks_block}
 use Rattle.f77_legal.specs.Clause.{breaks}
 use Rattle.f77_legal.specs.Dimensions.{dimensions_fit}
 use Rattle.f77_legal.specs.Frames.{framed, framed_line, frame, HaveOneFrame}
 use Rattle.f77_legal.specs.Kinds.{kinds_agree}
-use Rattle.f77_legal.specs.Labels.{labels, bears, is_double, place_of, statement_at, statement_with, terminal_label, is_target}
+use Rattle.f77_legal.specs.Labels.{labels, bears, is_double, label_place, nth_statement, statement_with, terminal_label, is_target}
 use Rattle.f77_legal.specs.Loops.{terminal, range_holds, left_by, loops_ending, branches, enclosing, same_numbers, ends_outside, breaks_range}
-use Rattle.f77_legal.specs.Loops.{AreNested, breaks_nesting, goes_in, set_by, variable_of, holds_with}
+use Rattle.f77_legal.specs.Loops.{AreNested, breaks_nesting, goes_in, set_by, do_variable_of, holds_with}
 use Rattle.f77_legal.specs.Names.{Symbol}
 use Rattle.f77_legal.proofs.FrameNames.{by_frame, kind_of_same, bounds_of_same}
 use Rattle.f77_legal.proofs.Frames.{is_block_if-framed, is_end_if-framed, is_else-framed, is_alternative-framed, is_target-framed, terminal_label-framed, variable_of-framed}
 
 -- what is told from a statement's frame is told from its program's frame
 at-frame : {X : Type 0} (f : Option Statement → X) → ((s : Statement) → f (Some (framed s)) ≡ f (Some s)) → (p : List LineFields) (i : ℕ)
-    → f (statement_at (frame p) i) ≡ f (statement_at p i)
+    → f (nth_statement (frame p) i) ≡ f (nth_statement p i)
 at-frame f kept [] i = refl
 at-frame f kept (line ∷ lines) zero = kept line.stmt
 at-frame f kept (line ∷ lines) (suc i) = at-frame f kept lines i
@@ -53,7 +54,7 @@ unlabelled-frame : (label : ℕ) (p : List LineFields) → prefix_len (λ line. 
 unlabelled-frame label [] = refl
 unlabelled-frame label (line ∷ lines) = ap (λ n. cond (not (bears label line)) (1 + n) 0) (unlabelled-frame label lines)
 
-place_of-frame : (p : List LineFields) (label : ℕ) → place_of (frame p) label ≡ place_of p label
+place_of-frame : (p : List LineFields) (label : ℕ) → label_place (frame p) label ≡ label_place p label
 place_of-frame p label = λ k. cond (nat_lt (unlabelled-frame label p k) (length-frame p k)) (Some (unlabelled-frame label p k)) None
 
 count_between-frame : (test : Statement → Bool) → ((s : Statement) → test (framed s) ≡ test s) → (p : List LineFields) (i j : ℕ)
@@ -65,9 +66,9 @@ count_between-frame test kept p i j =
 
 target_with-frame : (p : List LineFields) (label : ℕ) → option_map is_target (statement_with (frame p) label) ≡ option_map is_target (statement_with p label)
 target_with-frame p label =
-    ap (λ o. option_map is_target (option_and_then (statement_at (frame p)) o)) (place_of-frame p label) ∙ at_place (place_of p label)
+    ap (λ o. option_map is_target (option_and_then (nth_statement (frame p)) o)) (place_of-frame p label) ∙ at_place (label_place p label)
   where
-    at_place : (o : Option ℕ) → option_map is_target (option_and_then (statement_at (frame p)) o) ≡ option_map is_target (option_and_then (statement_at p) o)
+    at_place : (o : Option ℕ) → option_map is_target (option_and_then (nth_statement (frame p)) o) ≡ option_map is_target (option_and_then (nth_statement p) o)
     at_place None = refl
     at_place (Some i) = at-frame (option_map is_target) (λ s. ap Some (is_target-framed s)) p i
 
@@ -75,7 +76,7 @@ module _ (p q : List LineFields) (same : HaveOneFrame p q) where
   pub length_same : length p ≡ length q
   length_same = by_frame length length-frame p q same
 
-  pub numbers_same : numbers p ≡ numbers q
+  pub numbers_same : statement_numbers p ≡ statement_numbers q
   numbers_same = ap first_numbers length_same
 
   pub labels_same : labels p ≡ labels q
@@ -84,8 +85,8 @@ module _ (p q : List LineFields) (same : HaveOneFrame p q) where
   pub is_double_same : (label : ℕ) → is_double p label ≡ is_double q label
   is_double_same label = by_frame (λ r. is_double r label) (λ r. ap (nat_le 2) (count-frame (bears label) (λ line. refl) r)) p q same
 
-  pub place_of_same : (label : ℕ) → place_of p label ≡ place_of q label
-  place_of_same label = by_frame (λ r. place_of r label) (λ r. place_of-frame r label) p q same
+  pub place_of_same : (label : ℕ) → label_place p label ≡ label_place q label
+  place_of_same label = by_frame (λ r. label_place r label) (λ r. place_of-frame r label) p q same
 
   pub target_with_same : (label : ℕ) → option_map is_target (statement_with p label) ≡ option_map is_target (statement_with q label)
   target_with_same label = by_frame (λ r. option_map is_target (statement_with r label)) (λ r. target_with-frame r label) p q same
@@ -120,14 +121,14 @@ module _ (p q : List LineFields) (same : HaveOneFrame p q) where
   pub branch_end_same : (i : ℕ) → branch_end p i ≡ branch_end q i
   branch_end_same i = λ k. find (λ j. (end_if_same j k || alternative_same j k) && is_level_same i j k) (numbers_same k)
 
-  pub behind_same : (i : ℕ) → behind p i ≡ behind q i
+  pub behind_same : (i : ℕ) → statement_behind p i ≡ statement_behind q i
   behind_same i = λ k. if alternative_same (i + 1) k then block_end_same (i + 1) k else Some (i + 1)
 
   pub is_in_block_same : (i : ℕ) → is_in_block p i ≡ is_in_block q i
   is_in_block_same i = λ k.
       list_any (λ block. block_if_same block k && (nat_lt block i && option_map_or (nat_lt i) (block_end_same block k) false)) (numbers_same k)
 
-  pub is_closing_same : (j : ℕ) → is_closing p j ≡ is_closing q j
+  pub is_closing_same : (j : ℕ) → is_end_of_block p j ≡ is_end_of_block q j
   is_closing_same j = λ k.
       list_any (λ block. block_if_same block k && option_map_or (λ end. end == j) (block_end_same block k) false) (numbers_same k)
 
@@ -148,9 +149,9 @@ module _ (p q : List LineFields) (same : HaveOneFrame p q) where
       || (alternative_same i k && (not (is_in_block_same i k) || ends_else_same i k)))
 
   -- DOs
-  pub terminal_label_same : (d : ℕ) → option_and_then terminal_label (statement_at p d) ≡ option_and_then terminal_label (statement_at q d)
+  pub terminal_label_same : (d : ℕ) → option_and_then terminal_label (nth_statement p d) ≡ option_and_then terminal_label (nth_statement q d)
   terminal_label_same d =
-      by_frame (λ r. option_and_then terminal_label (statement_at r d)) (λ r. at-frame (option_and_then terminal_label) terminal_label-framed r d) p q same
+      by_frame (λ r. option_and_then terminal_label (nth_statement r d)) (λ r. at-frame (option_and_then terminal_label) terminal_label-framed r d) p q same
 
   pub terminal_same : (d : ℕ) → terminal p d ≡ terminal q d
   terminal_same d = λ k. option_and_then (λ label. place_of_same label k) (terminal_label_same d k)
@@ -191,8 +192,8 @@ module _ (p q : List LineFields) (same : HaveOneFrame p q) where
   pub holds_with_same : (i : ℕ) (name : Symbol) (d : ℕ) → holds_with p i name d ≡ holds_with q i name d
   holds_with_same i name d = λ k. range_holds_same d i k && option_map_or (bytes_eq name) (variable k) false
     where
-      variable : option_and_then variable_of (statement_at p d) ≡ option_and_then variable_of (statement_at q d)
-      variable = by_frame (λ r. option_and_then variable_of (statement_at r d)) (λ r. at-frame (option_and_then variable_of) variable_of-framed r d) p q same
+      variable : option_and_then do_variable_of (nth_statement p d) ≡ option_and_then do_variable_of (nth_statement q d)
+      variable = by_frame (λ r. option_and_then do_variable_of (nth_statement r d)) (λ r. at-frame (option_and_then do_variable_of) variable_of-framed r d) p q same
 
   -- a label leads to a statement that control may go to in both, or in neither
   leads_same : (label : ℕ)

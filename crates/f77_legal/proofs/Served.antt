@@ -2,7 +2,7 @@
 use Rattle.std.proofs.Common.{◌≡◌, ◌∙◌, ℕ, List, map, ap, if◌then◌else◌, None}
 use Rattle.std.specs.Prelude.{option_map}
 use Rattle.f77_program.specs.Program.{LineFields}
-use Rattle.f77_legal.specs.Blocks.{is_block_if, is_closing, is_in_block, ends_else}
+use Rattle.f77_legal.specs.Blocks.{is_block_if, is_end_of_block, is_in_block, ends_else}
 use Rattle.f77_legal.specs.BlockTable.{block_end_at, branch_end_at, tabled, IsBlockTable}
 use Rattle.f77_legal.specs.Frames.{HaveOneFrame}
 use Rattle.f77_legal.specs.LabelTable.{distinct, IsLabelTable}
@@ -48,7 +48,7 @@ module _ (p q : List LineFields) (same : HaveOneFrame p q) where
   blocks_serve table is = record {
     ends = is.ends ∙ tabled_same block_end_at block_end_at_same;
     branch_ends = is.branch_ends ∙ tabled_same branch_end_at branch_end_at_same;
-    closing = is.closing ∙ tabled_same is_closing (is_closing_same p q same);
+    closing = is.closing ∙ tabled_same is_end_of_block (is_closing_same p q same);
     inside = is.inside ∙ tabled_same is_in_block (is_in_block_same p q same);
     after_else = is.after_else ∙ tabled_same ends_else (ends_else_same p q same);
   }

@@ -12,8 +12,9 @@ use Rattle.f77_legal.specs.declared.names.Facts.{Facts}
 use Rattle.f77_legal.specs.declared.names.Names.{Names}
 use Rattle.f77_legal.specs.Legal.{is_array}
 use Rattle.f77_legal.specs.Names.{Symbol, mentions, symbols, some_items}
-use Rattle.f77_legal.specs.NameTable.{FactsFields, IsNameTable, fields_of, entry_of, facts_of, array_size}
-use Rattle.f77_legal.specs.Presets.{product, elements}
+use Rattle.f77_legal.specs.NameTable.{FactsFields, IsNameTable, facts_fields, entry_of, facts_of}
+use Rattle.f77_legal.specs.code.NameTable.{array_size}
+use Rattle.f77_legal.specs.Presets.{product, preset_elements}
 use Rattle.f77_legal.proofs.NameTables.{rows}
 
 product_push : (xs : List ℕ) (x : ℕ) → product (xs ++ x ∷ []) ≡ product xs * x
@@ -65,12 +66,12 @@ stopped_all n size xs =
 over_stopped : (limit s n : ℕ) → limit < n → nat_lt limit (min s n) ≡ nat_lt limit s
 over_stopped limit s n below = grind (arith, nat_tests)
 
-sum_fields : (es : List (Symbol × Facts)) → sum (map (λ f. array_size (fields_of f)) (values_of es)) ≡ sum (map (λ e. array_size e.1) (map entry_of es))
+sum_fields : (es : List (Symbol × Facts)) → sum (map (λ f. array_size (facts_fields f)) (values_of es)) ≡ sum (map (λ e. array_size e.1) (map entry_of es))
 sum_fields [] = refl
 sum_fields (e ∷ es) =
-    sum_more (array_size (fields_of e.1)) (map (λ f. array_size (fields_of f)) (values_of es))
-    ∙ ap (λ z. array_size (fields_of e.1) + z) (sum_fields es)
-    ∙ sym (sum_more (array_size (fields_of e.1)) (map (λ e. array_size e.1) (map entry_of es)))
+    sum_more (array_size (facts_fields e.1)) (map (λ f. array_size (facts_fields f)) (values_of es))
+    ∙ ap (λ z. array_size (facts_fields e.1) + z) (sum_fields es)
+    ∙ sym (sum_more (array_size (facts_fields e.1)) (map (λ e. array_size e.1) (map entry_of es)))
 
 module _ (f : Symbol → FactsFields) where
   sum_rows : (xs : List Symbol) → sum (map (λ e. array_size e.1) (rows f xs)) ≡ sum (map (λ q. product (f q).bounds) (filter (λ q. is_some (some_items (f q).bounds)) xs))
@@ -88,10 +89,10 @@ module _ (f : Symbol → FactsFields) where
       by false t rest = rw t (sum_more 0 (map (λ e. array_size e.1) (rows f xs)) ∙ ap (λ z. 0 + z) rest ∙ omega arith)
 
 pub over_is : (names : Names) (program : List LineFields) (n limit : ℕ) → IsNameTable names program → limit < n
-    → nat_lt limit (min (sum (map (λ f. array_size (fields_of f)) (values_of names.facts.entries))) n)
-    ≡ nat_lt limit (sum (map (elements program) (filter (is_array program) (symbols program))))
+    → nat_lt limit (min (sum (map (λ f. array_size (facts_fields f)) (values_of names.facts.entries))) n)
+    ≡ nat_lt limit (sum (map (preset_elements program) (filter (is_array program) (symbols program))))
 over_is names program n limit is below =
-    over_stopped limit (sum (map (λ f. array_size (fields_of f)) (values_of names.facts.entries))) n below
+    over_stopped limit (sum (map (λ f. array_size (facts_fields f)) (values_of names.facts.entries))) n below
     ∙ ap (nat_lt limit)
     (sum_fields names.facts.entries
     ∙ ap (λ es. sum (map (λ e. array_size e.1) es)) is

@@ -8,7 +8,7 @@ use Rattle.std.proofs.lemmas.List.{append-nil}
 use Rattle.std.proofs.lemmas.List.Elements.{filter-append}
 use Rattle.std.proofs.lemmas.Map.Views.{any-filter_same}
 use Rattle.std.proofs.lemmas.Slice.Eq.{bytes_eq-Decides}
-use Rattle.f77_legal.specs.Names.{Symbol, each_once}
+use Rattle.f77_legal.specs.Names.{Symbol, names_once}
 
 pub or_false : (a b : Bool) → (a || b) ≡ false → (a ≡ false) × (b ≡ false)
 or_false true b h = cc
@@ -37,33 +37,33 @@ none_without : (x : Symbol) (xs : List Symbol) → list_any (bytes_eq x) (withou
 none_without x xs = any-filter_same (bytes_eq x) (λ other. not (bytes_eq x other)) false (λ k e. ap not e) xs
 
 -- each name once are the same names
-pub any_once : (q : Symbol) (xs : List Symbol) → list_any (bytes_eq q) (each_once xs) ≡ list_any (bytes_eq q) xs
+pub any_once : (q : Symbol) (xs : List Symbol) → list_any (bytes_eq q) (names_once xs) ≡ list_any (bytes_eq q) xs
 any_once q [] = refl
 any_once q (x ∷ xs) = by (bytes_eq q x) refl (any_once q xs)
   where
-    by : (b : Bool) → bytes_eq q x ≡ b → list_any (bytes_eq q) (each_once xs) ≡ list_any (bytes_eq q) xs
-        → list_any (bytes_eq q) (each_once (x ∷ xs)) ≡ list_any (bytes_eq q) (x ∷ xs)
+    by : (b : Bool) → bytes_eq q x ≡ b → list_any (bytes_eq q) (names_once xs) ≡ list_any (bytes_eq q) xs
+        → list_any (bytes_eq q) (names_once (x ∷ xs)) ≡ list_any (bytes_eq q) (x ∷ xs)
     by true e rest = rw e refl
-    by false e rest = rw e (any_without_other q x (each_once xs) e ∙ rest)
+    by false e rest = rw e (any_without_other q x (names_once xs) e ∙ rest)
 
 -- one more name: it goes last, where it is not there
 abbrev with_new : List Symbol → Symbol → List Symbol
-with_new xs x = if list_any (bytes_eq x) xs then each_once xs else each_once xs ++ x ∷ []
+with_new xs x = if list_any (bytes_eq x) xs then names_once xs else names_once xs ++ x ∷ []
 
-pub once_push : (xs : List Symbol) (x : Symbol) → each_once (xs ++ x ∷ []) ≡ (if list_any (bytes_eq x) xs then each_once xs else each_once xs ++ x ∷ [])
+pub once_push : (xs : List Symbol) (x : Symbol) → names_once (xs ++ x ∷ []) ≡ (if list_any (bytes_eq x) xs then names_once xs else names_once xs ++ x ∷ [])
 once_push [] x = refl
 once_push (y ∷ ys) x = by (list_any (bytes_eq x) ys) refl (bytes_eq x y) refl (once_push ys x)
   where
-    by : (a : Bool) → list_any (bytes_eq x) ys ≡ a → (b : Bool) → bytes_eq x y ≡ b → each_once (ys ++ x ∷ []) ≡ with_new ys x
-        → each_once ((y ∷ ys) ++ x ∷ []) ≡ with_new (y ∷ ys) x
+    by : (a : Bool) → list_any (bytes_eq x) ys ≡ a → (b : Bool) → bytes_eq x y ≡ b → names_once (ys ++ x ∷ []) ≡ with_new ys x
+        → names_once ((y ∷ ys) ++ x ∷ []) ≡ with_new (y ∷ ys) x
     by true e true f rest = rw (rest, e, f) refl
     by true e false f rest = rw (rest, e, f) refl
     by false e true f rest =
         let g : bytes_eq y x ≡ true = symbol_symm y x ∙ f in
-        rw (rest, e, f) (ap (λ z. y ∷ z) (filter-append (λ other. not (bytes_eq y other)) (each_once ys) (x ∷ []) ∙ rw g (append-nil (without y (each_once ys)))))
+        rw (rest, e, f) (ap (λ z. y ∷ z) (filter-append (λ other. not (bytes_eq y other)) (names_once ys) (x ∷ []) ∙ rw g (append-nil (without y (names_once ys)))))
     by false e false f rest =
         let g : bytes_eq y x ≡ false = symbol_symm y x ∙ f in
-        rw (rest, e, f) (ap (λ z. y ∷ z) (filter-append (λ other. not (bytes_eq y other)) (each_once ys) (x ∷ []) ∙ rw g refl))
+        rw (rest, e, f) (ap (λ z. y ∷ z) (filter-append (λ other. not (bytes_eq y other)) (names_once ys) (x ∷ []) ∙ rw g refl))
 
 -- no name stands twice
 abbrev pub Apart : List Symbol → Type 0
@@ -86,6 +86,6 @@ apart_filter p (x ∷ xs) h = by (p x) refl (none_in_filter x p xs h.0) (apart_f
     by true e none rest = rw e (none, rest)
     by false e none rest = rw e rest
 
-pub once_apart : (xs : List Symbol) → Apart (each_once xs)
+pub once_apart : (xs : List Symbol) → Apart (names_once xs)
 once_apart [] = tt
-once_apart (x ∷ xs) = (none_without x (each_once xs), apart_filter (λ other. not (bytes_eq x other)) (each_once xs) (once_apart xs))
+once_apart (x ∷ xs) = (none_without x (names_once xs), apart_filter (λ other. not (bytes_eq x other)) (names_once xs) (once_apart xs))

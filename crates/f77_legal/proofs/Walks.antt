@@ -3,7 +3,8 @@ use Rattle.std.proofs.Common.{◌≡◌, ℕ, zero, suc, ◌<◌, List, [], ◌�
 use Rattle.std.specs.Prelude.{◌==◌, if◌then◌else◌}
 use Rattle.std.proofs.lemmas.Bool.{eqb-true}
 use Rattle.std.proofs.lemmas.Bool.Decides.{nat_tests}
-use Rattle.f77_legal.specs.Holders.{entry, IsFalling, ancestors_below, ancestors}
+use Rattle.f77_legal.specs.Holders.{end_or_parent}
+use Rattle.f77_legal.specs.code.Holders.{IsFalling, ancestors_below, ancestors}
 
 abbrev pub IsBelow : Option ℕ → ℕ → Type 0
 IsBelow first n = (i : ℕ) → first ≡ Some i → i < n
@@ -22,10 +23,10 @@ below_is parents zero (Some i) low = let l : i < zero = low i refl in absurd (om
 below_is parents (suc n) (Some i) low = go (i == n) refl (λ lt. below_is parents n (Some i) (λ j same. let e : i ≡ j = cc in omega arith))
   where
     go : (b : Bool) → (i == n) ≡ b → (i < n → ancestors_below parents n (Some i) ≡ ancestors parents (Some i))
-        → (if b then n ∷ ancestors_below parents n (entry parents n) else ancestors_below parents n (Some i)) ≡ ancestors parents (Some i)
+        → (if b then n ∷ ancestors_below parents n (end_or_parent parents n) else ancestors_below parents n (Some i)) ≡ ancestors parents (Some i)
     go true e rest = let same : i ≡ n = eqb-true i n e in ap (λ j. ancestors parents (Some j)) (sym same)
     go false e rest = rest (lower i n (low i refl) e)
 
 -- one step of the walk
-pub one_step : (parents : List (Option ℕ)) → IsFalling parents → (i : ℕ) → ancestors parents (Some i) ≡ i ∷ ancestors parents (entry parents i)
-one_step parents falling i = ap (λ rest. i ∷ rest) (below_is parents i (entry parents i) (falling i))
+pub one_step : (parents : List (Option ℕ)) → IsFalling parents → (i : ℕ) → ancestors parents (Some i) ≡ i ∷ ancestors parents (end_or_parent parents i)
+one_step parents falling i = ap (λ rest. i ∷ rest) (below_is parents i (end_or_parent parents i) (falling i))

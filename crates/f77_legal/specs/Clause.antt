@@ -4,7 +4,8 @@ use Rattle.std.specs.List.{enumerate_from}
 use Rattle.f77_program.specs.Program.{LineFields}
 use Rattle.f77_tree.specs.Statement.{Statement}
 use Rattle.f77_legal.specs.declared.clause.Clause.{Clause}
-use Rattle.f77_legal.specs.declared.clause.Clause.TheVariants.{Kinds, Bounds, NamedLabels, Targets, Terminals, Nests, Jumps, Variables}
+use Rattle.f77_legal.specs.declared.clause.Clause.TheVariants.{Kinds, Bounds, NamedLabels, Targets}
+use Rattle.f77_legal.specs.declared.clause.Clause.TheVariants.{Terminals, Nests, Jumps, Variables}
 use Rattle.f77_legal.specs.declared.fault.CheckFault.{CheckFault}
 use Rattle.f77_legal.specs.declared.fault.CheckFault.TheVariants.{TypeClash, Dimensions, NoLabel, BadTarget}
 use Rattle.f77_legal.specs.declared.fault.CheckFault.TheVariants.{IntoBlock, BadTerminal, Nesting, DoVariable}
@@ -25,20 +26,21 @@ breaks Nests program i statement = breaks_nesting program i
 breaks Jumps program i statement = jumps_in program i statement
 breaks Variables program i statement = sets_variable program i statement
 
-abbrev pub fault_at : Clause → ℕ → CheckFault
-fault_at Kinds line = TypeClash line
-fault_at Bounds line = Dimensions line
-fault_at NamedLabels line = NoLabel line
-fault_at Targets line = BadTarget line
-fault_at Terminals line = BadTerminal line
-fault_at Nests line = Nesting line
-fault_at Jumps line = IntoBlock line
-fault_at Variables line = DoVariable line
+abbrev pub clause_fault : Clause → ℕ → CheckFault
+clause_fault Kinds line = TypeClash line
+clause_fault Bounds line = Dimensions line
+clause_fault NamedLabels line = NoLabel line
+clause_fault Targets line = BadTarget line
+clause_fault Terminals line = BadTerminal line
+clause_fault Nests line = Nesting line
+clause_fault Jumps line = IntoBlock line
+clause_fault Variables line = DoVariable line
 
 -- the lines whose statement, which has this number from 0, passes the test
 abbrev pub lines_where : (ℕ → Statement → Bool) → List LineFields → List ℕ
-lines_where test program = map (λ numbered. numbered.1.line) (filter (λ numbered. test numbered.0 numbered.1.stmt) (enumerate_from 0 program))
+lines_where test program = map (λ numbered. numbered.1.line)
+    (filter (λ numbered. test numbered.0 numbered.1.stmt) (enumerate_from 0 program))
 
 -- the faults of a clause, line by line
 abbrev pub faults_of : Clause → List LineFields → List CheckFault
-faults_of clause program = map (fault_at clause) (lines_where (breaks clause program) program)
+faults_of clause program = map (clause_fault clause) (lines_where (breaks clause program) program)

@@ -7,9 +7,9 @@ use Rattle.f77_tree.specs.declared.intrinsic.Intrinsic.{Intrinsic}
 use Rattle.f77_tree.specs.declared.intrinsic.Intrinsic.TheVariants.{Mod, Iabs, Min0, Max0}
 use Rattle.f77_legal.specs.Names.{Symbol}
 
-abbrev pub count : Trees → ℕ
-count Trees.None = zero
-count (Trees.Then tree trees) = suc (count trees)
+abbrev pub tree_count : Trees → ℕ
+tree_count Trees.None = zero
+tree_count (Trees.Then tree trees) = suc (tree_count trees)
 
 -- a function has so many arguments
 abbrev pub takes : Intrinsic → ℕ → Bool
@@ -20,35 +20,42 @@ takes Max0 given = nat_le 2 given
 
 -- an array stands with as many subscripts as bounds, a variable with none
 abbrev mutual
-  pub fits : (Symbol → List ℕ) → Tree → Bool
-  fits bounds (Tree.Number number) = true
-  fits bounds (Tree.Truth truth) = true
-  fits bounds (Tree.Reference name items) = (count items == length (bounds name)) && all_fit bounds items
-  fits bounds (Tree.Call function items) = takes function (count items) && all_fit bounds items
-  fits bounds (Tree.Signed sign tree) = fits bounds tree
-  fits bounds (Tree.Not tree) = fits bounds tree
-  fits bounds (Tree.Binary operator left right) = fits bounds left && fits bounds right
-  fits bounds (Tree.ZeroPush tree) = fits bounds tree
+  pub fits_bounds : (Symbol → List ℕ) → Tree → Bool
+  fits_bounds bounds (Tree.Number number) = true
+  fits_bounds bounds (Tree.Truth truth) = true
+  fits_bounds bounds (Tree.Reference name items) =
+      (tree_count items == length (bounds name)) && all_fit bounds items
+  fits_bounds bounds (Tree.Call function items) =
+      takes function (tree_count items) && all_fit bounds items
+  fits_bounds bounds (Tree.Signed sign tree) = fits_bounds bounds tree
+  fits_bounds bounds (Tree.Not tree) = fits_bounds bounds tree
+  fits_bounds bounds (Tree.Binary operator left right) =
+      fits_bounds bounds left && fits_bounds bounds right
+  fits_bounds bounds (Tree.ZeroPush tree) = fits_bounds bounds tree
 
   pub all_fit : (Symbol → List ℕ) → Trees → Bool
   all_fit bounds Trees.None = true
-  all_fit bounds (Trees.Then tree trees) = fits bounds tree && all_fit bounds trees
+  all_fit bounds (Trees.Then tree trees) = fits_bounds bounds tree && all_fit bounds trees
 
 -- the expression, where there is one, fits
 abbrev pub value_fits : (Symbol → List ℕ) → Option Tree → Bool
 value_fits bounds None = true
-value_fits bounds (Some tree) = fits bounds tree
+value_fits bounds (Some tree) = fits_bounds bounds tree
 
 -- a declaration gives no bounds, or one or two, each at least 1
 abbrev pub is_shape : DeclFields → Bool
-is_shape declaration = nat_le (length declaration.bounds) 2 && list_all (nat_le 1) declaration.bounds
+is_shape declaration =
+    nat_le (length declaration.bounds) 2 && list_all (nat_le 1) declaration.bounds
 
 -- the dimensions of a statement are in order; a DO variable is no array
 abbrev pub dimensions_fit : (Symbol → List ℕ) → Statement → Bool
 dimensions_fit bounds (Statement.Declare kind declarations) = list_all is_shape declarations
 dimensions_fit bounds (Statement.Dimension declarations) = list_all is_shape declarations
-dimensions_fit bounds (Statement.Assign name items tree) = (count items == length (bounds name)) && (all_fit bounds items && fits bounds tree)
-dimensions_fit bounds (Statement.LogicalIf tree statement) = fits bounds tree && dimensions_fit bounds statement
+dimensions_fit bounds (Statement.Assign name items tree) =
+    (tree_count items == length (bounds name)) && (all_fit bounds items && fits_bounds bounds tree)
+dimensions_fit bounds (Statement.LogicalIf tree statement) =
+    fits_bounds bounds tree && dimensions_fit bounds statement
 dimensions_fit bounds (Statement.Loop label name first last step) =
-    (length (bounds name) == 0) && (fits bounds first && (fits bounds last && value_fits bounds step))
+    (length (bounds name) == 0)
+    && (fits_bounds bounds first && (fits_bounds bounds last && value_fits bounds step))
 dimensions_fit bounds statement = value_fits bounds (value_of statement)

@@ -1,13 +1,13 @@
--- What a change of one statement leaves as it was: the frame of a program, in which every statement that can be executed has lost its
--- expressions, references and jumps. Declarations and DATA, labels, blocks and the ranges of DOs are told from the frame alone.
-use Rattle.std.specs.Prelude.{◌≡◌, Bool, true, false, List, map, None}
+-- What a change of one statement leaves as it was: the frame of a program, in which every
+-- statement that can be executed has lost its expressions, references and jumps.
+-- Declarations and DATA, labels, blocks and the ranges of DOs are told from the frame alone.
+use Rattle.std.specs.Prelude.{◌≡◌, false, List, map, None}
 use Rattle.f77_program.specs.Program.{LineFields}
 use Rattle.f77_tree.specs.Tree.{Tree}
 use Rattle.f77_tree.specs.Statement.{Statement}
-use Rattle.f77_tree.specs.Form.{acts}
-use Rattle.f77_tree.specs.declared.form.Form.{Form}
 
--- a statement with no expression, reference or jump: an action is CONTINUE, and a DO keeps its label and its variable
+-- a statement with no expression, reference or jump: an action
+-- is CONTINUE, and a DO keeps its label and its variable
 abbrev pub framed : Statement → Statement
 framed (Statement.Subroutine name names) = Statement.Subroutine name names
 framed (Statement.Declare kind declarations) = Statement.Declare kind declarations
@@ -17,14 +17,10 @@ framed (Statement.BlockIf tree) = Statement.BlockIf (Tree.Truth false)
 framed (Statement.ElseIf tree) = Statement.ElseIf (Tree.Truth false)
 framed Statement.Else = Statement.Else
 framed Statement.EndIf = Statement.EndIf
-framed (Statement.Loop label name first last step) = Statement.Loop label name (Tree.Number 0) (Tree.Number 0) None
+framed (Statement.Loop label name first last step) =
+    Statement.Loop label name (Tree.Number 0) (Tree.Number 0) None
 framed Statement.End = Statement.End
 framed _ = Statement.Continue
-
--- the frame has CONTINUE in the place of a statement of this form: an action, or a logical IF
-abbrev pub is_framed_out : Form → Bool
-is_framed_out Form.LogicalIf = true
-is_framed_out form = acts form
 
 abbrev pub framed_line : LineFields → LineFields
 framed_line line = record (line) { stmt = framed line.stmt }

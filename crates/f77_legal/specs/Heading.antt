@@ -3,7 +3,7 @@ use Rattle.std.specs.Prelude.{List, []}
 use Rattle.std.specs.Option.{option_map_or}
 use Rattle.f77_program.specs.Program.{LineFields}
 use Rattle.f77_tree.specs.Statement.{Statement}
-use Rattle.f77_legal.specs.Labels.{statement_at}
+use Rattle.f77_legal.specs.Labels.{nth_statement}
 use Rattle.f77_legal.specs.Names.{Symbol}
 
 abbrev pub dummies_of : Statement → List Symbol
@@ -12,4 +12,4 @@ dummies_of _ = []
 
 -- the dummy arguments, in order
 abbrev pub dummies : List LineFields → List Symbol
-dummies program = option_map_or dummies_of (statement_at program 0) []
+dummies program = option_map_or dummies_of (nth_statement program 0) []

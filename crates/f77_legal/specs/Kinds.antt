@@ -3,8 +3,9 @@ use Rattle.std.specs.Prelude.{◌&&◌, Bool, true, false, Option, Some, None}
 use Rattle.f77_tree.specs.Tree.{Tree, Trees}
 use Rattle.f77_tree.specs.Statement.{Statement, value_of}
 use Rattle.f77_tree.specs.declared.operator.Operator.{Operator}
-use Rattle.f77_tree.specs.declared.operator.Operator.TheVariants.{Equivalent, NotEquivalent, Or, And, Less, LessOrEqual, Equal, NotEqual}
-use Rattle.f77_tree.specs.declared.operator.Operator.TheVariants.{GreaterOrEqual, Greater, Add, Subtract, Multiply, Divide, Power}
+use Rattle.f77_tree.specs.declared.operator.Operator.TheVariants.{Equivalent, NotEquivalent, Or, And, Less}
+use Rattle.f77_tree.specs.declared.operator.Operator.TheVariants.{LessOrEqual, Equal, NotEqual, GreaterOrEqual}
+use Rattle.f77_tree.specs.declared.operator.Operator.TheVariants.{Greater, Add, Subtract, Multiply, Divide, Power}
 use Rattle.f77_tree.specs.declared.tree.Kind.{Kind}
 use Rattle.f77_tree.specs.declared.tree.Kind.TheVariants.{Integer, Logical}
 use Rattle.f77_legal.specs.Names.{Symbol}
@@ -15,7 +16,8 @@ same_kind Integer Logical = false
 same_kind Logical Integer = false
 same_kind Logical Logical = true
 
--- arithmetic is INTEGER from INTEGER, a relation LOGICAL from INTEGER, a logical operator LOGICAL from LOGICAL
+-- arithmetic is INTEGER from INTEGER, a relation LOGICAL
+-- from INTEGER, a logical operator LOGICAL from LOGICAL
 abbrev pub result_kind : Operator → Kind
 result_kind Equivalent = Logical
 result_kind NotEquivalent = Logical
@@ -52,32 +54,42 @@ operand_kind Power = Integer
 
 -- the expression is of this kind, and so are its parts of theirs, where names are of these kinds
 abbrev mutual
-  pub is_of : (Symbol → Kind) → Kind → Tree → Bool
-  is_of kinds kind (Tree.Number number) = same_kind Integer kind
-  is_of kinds kind (Tree.Truth truth) = same_kind Logical kind
-  is_of kinds kind (Tree.Reference name items) = same_kind (kinds name) kind && are_integer kinds items
-  is_of kinds kind (Tree.Call function items) = same_kind Integer kind && are_integer kinds items
-  is_of kinds kind (Tree.Signed sign tree) = same_kind Integer kind && is_of kinds Integer tree
-  is_of kinds kind (Tree.Not tree) = same_kind Logical kind && is_of kinds Logical tree
-  is_of kinds kind (Tree.Binary operator left right) =
-      same_kind (result_kind operator) kind && (is_of kinds (operand_kind operator) left && is_of kinds (operand_kind operator) right)
-  is_of kinds kind (Tree.ZeroPush tree) = same_kind Integer kind && is_of kinds Integer tree
+  pub is_of_kind : (Symbol → Kind) → Kind → Tree → Bool
+  is_of_kind kinds kind (Tree.Number number) = same_kind Integer kind
+  is_of_kind kinds kind (Tree.Truth truth) = same_kind Logical kind
+  is_of_kind kinds kind (Tree.Reference name items) =
+      same_kind (kinds name) kind && are_integer kinds items
+  is_of_kind kinds kind (Tree.Call function items) =
+      same_kind Integer kind && are_integer kinds items
+  is_of_kind kinds kind (Tree.Signed sign tree) =
+      same_kind Integer kind && is_of_kind kinds Integer tree
+  is_of_kind kinds kind (Tree.Not tree) = same_kind Logical kind && is_of_kind kinds Logical tree
+  is_of_kind kinds kind (Tree.Binary operator left right) =
+      same_kind (result_kind operator) kind && (is_of_kind kinds (operand_kind operator) left
+      && is_of_kind kinds (operand_kind operator) right)
+  is_of_kind kinds kind (Tree.ZeroPush tree) =
+      same_kind Integer kind && is_of_kind kinds Integer tree
 
   pub are_integer : (Symbol → Kind) → Trees → Bool
   are_integer kinds Trees.None = true
-  are_integer kinds (Trees.Then tree trees) = is_of kinds Integer tree && are_integer kinds trees
+  are_integer kinds (Trees.Then tree trees) =
+      is_of_kind kinds Integer tree && are_integer kinds trees
 
 -- the expression, where there is one, is of this kind
-abbrev pub value_is : (Symbol → Kind) → Kind → Option Tree → Bool
-value_is kinds kind None = true
-value_is kinds kind (Some tree) = is_of kinds kind tree
+abbrev pub is_of_kind_if_given : (Symbol → Kind) → Kind → Option Tree → Bool
+is_of_kind_if_given kinds kind None = true
+is_of_kind_if_given kinds kind (Some tree) = is_of_kind kinds kind tree
 
--- the kinds of a statement agree: a condition is LOGICAL, and what else is neither assigned nor a parameter is INTEGER
+-- the kinds of a statement agree: a condition is LOGICAL, and
+-- what else is neither assigned nor a parameter is INTEGER
 abbrev pub kinds_agree : (Symbol → Kind) → Statement → Bool
-kinds_agree kinds (Statement.Assign name items tree) = are_integer kinds items && is_of kinds (kinds name) tree
-kinds_agree kinds (Statement.LogicalIf tree statement) = is_of kinds Logical tree && kinds_agree kinds statement
-kinds_agree kinds (Statement.BlockIf tree) = is_of kinds Logical tree
-kinds_agree kinds (Statement.ElseIf tree) = is_of kinds Logical tree
+kinds_agree kinds (Statement.Assign name items tree) =
+    are_integer kinds items && is_of_kind kinds (kinds name) tree
+kinds_agree kinds (Statement.LogicalIf tree statement) =
+    is_of_kind kinds Logical tree && kinds_agree kinds statement
+kinds_agree kinds (Statement.BlockIf tree) = is_of_kind kinds Logical tree
+kinds_agree kinds (Statement.ElseIf tree) = is_of_kind kinds Logical tree
 kinds_agree kinds (Statement.Loop label name first last step) =
-    same_kind (kinds name) Integer && (is_of kinds Integer first && (is_of kinds Integer last && value_is kinds Integer step))
-kinds_agree kinds statement = value_is kinds Integer (value_of statement)
+    same_kind (kinds name) Integer && (is_of_kind kinds Integer first
+    && (is_of_kind kinds Integer last && is_of_kind_if_given kinds Integer step))
+kinds_agree kinds statement = is_of_kind_if_given kinds Integer (value_of statement)

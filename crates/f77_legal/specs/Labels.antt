@@ -1,6 +1,7 @@
--- Labels: which stand on a statement, which are named, and what a statement that is named may be (ANSI X3.9-1978, 3.4 and 11.1 to 11.10).
-use Rattle.std.specs.Prelude.{◌==◌, ◌||◌}
-use Rattle.std.specs.Prelude.{ℕ, Bool, true, false, not, nat_le, List, length, filter, Option, Some, None, is_some, option_map, position}
+-- Labels: which stand on a statement, which are named, and what a
+-- statement that is named may be (ANSI X3.9-1978, 3.4 and 11.1 to 11.10).
+use Rattle.std.specs.Prelude.{◌==◌, ◌||◌, ℕ, Bool, true, false, not, nat_le, List, length}
+use Rattle.std.specs.Prelude.{filter, Option, Some, None, is_some, option_map, position}
 use Rattle.std.specs.List.{filter_map, list_any, slice_get}
 use Rattle.std.specs.Option.{option_and_then, option_map_or}
 use Rattle.f77_program.specs.Program.{LineFields}
@@ -18,14 +19,14 @@ abbrev pub is_double : List LineFields → ℕ → Bool
 is_double program label = nat_le 2 (length (filter (bears label) program))
 
 -- the first statement that bears the label: its number from 0
-abbrev pub place_of : List LineFields → ℕ → Option ℕ
-place_of program label = position (bears label) program
+abbrev pub label_place : List LineFields → ℕ → Option ℕ
+label_place program label = position (bears label) program
 
-abbrev pub statement_at : List LineFields → ℕ → Option Statement
-statement_at program i = option_map (λ line. line.stmt) (slice_get program i)
+abbrev pub nth_statement : List LineFields → ℕ → Option Statement
+nth_statement program i = option_map (λ line. line.stmt) (slice_get program i)
 
 abbrev pub statement_with : List LineFields → ℕ → Option Statement
-statement_with program label = option_and_then (statement_at program) (place_of program label)
+statement_with program label = option_and_then (nth_statement program) (label_place program label)
 
 -- the label of the terminal statement that a DO names
 abbrev pub terminal_label : Statement → Option ℕ
@@ -35,8 +36,9 @@ terminal_label _ = None
 -- the statement names a label that stands on none
 abbrev pub names_no_label : List LineFields → Statement → Bool
 names_no_label program statement =
-    list_any (λ label. not (is_some (place_of program label))) (jumps_of statement)
-    || option_map_or (λ label. not (is_some (place_of program label))) (terminal_label statement) false
+    list_any (λ label. not (is_some (label_place program label))) (jumps_of statement)
+    || option_map_or (λ label. not (is_some (label_place program label)))
+    (terminal_label statement) false
 
 -- control may go there: the statement is executable, and no ELSE IF or ELSE
 abbrev pub is_target : Statement → Bool
@@ -51,9 +53,11 @@ is_target _ = true
 -- a jump of the statement leads to one where control may not go
 abbrev pub jumps_badly : List LineFields → Statement → Bool
 jumps_badly program statement =
-    list_any (λ label. option_map_or (λ target. not (is_target target)) (statement_with program label) false) (jumps_of statement)
+    list_any (λ label. option_map_or (λ target. not (is_target target))
+    (statement_with program label) false) (jumps_of statement)
 
--- it may be the terminal statement of a DO: no declaration, no jump but a computed GO TO, no DO, and nothing of a block IF (11.10)
+-- it may be the terminal statement of a DO: no declaration, no jump
+-- but a computed GO TO, no DO, and nothing of a block IF (11.10)
 abbrev pub is_terminal : Statement → Bool
 is_terminal (Statement.Subroutine name names) = false
 is_terminal (Statement.Declare kind declarations) = false
@@ -74,4 +78,5 @@ is_terminal _ = true
 -- the statement is a DO that names one which may be no terminal statement
 abbrev pub ends_badly : List LineFields → Statement → Bool
 ends_badly program statement =
-    option_map_or (λ label. option_map_or (λ last. not (is_terminal last)) (statement_with program label) false) (terminal_label statement) false
+    option_map_or (λ label. option_map_or (λ last. not (is_terminal last))
+    (statement_with program label) false) (terminal_label statement) false

@@ -5,23 +5,28 @@ use Rattle.f77_program.specs.Program.{LineFields}
 use Rattle.f77_tree.specs.Statement.{Statement}
 use Rattle.f77_legal.specs.declared.clause.Clause.{Clause}
 use Rattle.f77_legal.specs.Clause.{breaks}
-use Rattle.f77_legal.specs.Labels.{labels, statement_at, is_double}
+use Rattle.f77_legal.specs.Labels.{labels, nth_statement, is_double}
 use Rattle.f77_legal.specs.Legal.{is_too_large}
 use Rattle.f77_legal.specs.Names.{symbols, is_real, is_twice}
 use Rattle.f77_legal.specs.Presets.{presets_badly}
 
--- No statement breaks a clause, and the names, the labels, the DATA statements and the sizes are right.
+-- No statement breaks a clause, and the names, the
+-- labels, the DATA statements and the sizes are right.
 pub record KeepsEveryRule (program : List LineFields) : Type 0 where
   -- no name is REAL by its first letter
   pub typed : All (λ name. is_real program name ≡ false) (symbols program)
-  -- no name is typed, given bounds or a dummy argument twice, or names the unit or a function as well
+  -- no name is typed, given bounds or a dummy argument
+  -- twice, or names the unit or a function as well
   pub once : All (λ name. is_twice program name ≡ false) (symbols program)
   -- no label stands on two statements
   pub distinct : All (λ label. is_double program label ≡ false) (labels program)
   -- no statement breaks a clause
-  pub statements : (clause : Clause) (i : ℕ) (statement : Statement) → statement_at program i ≡ Some statement
+  pub statements : (clause : Clause) (i : ℕ) (statement : Statement)
+      → nth_statement program i ≡ Some statement
       → breaks clause program i statement ≡ false
-  -- no DATA statement gives a dummy argument or a name a second time, or other values than its names want
-  pub presets : (i : ℕ) (statement : Statement) → statement_at program i ≡ Some statement → presets_badly program i statement ≡ false
+  -- no DATA statement gives a dummy argument or a name
+  -- a second time, or other values than its names want
+  pub presets : (i : ℕ) (statement : Statement)
+      → nth_statement program i ≡ Some statement → presets_badly program i statement ≡ false
   -- at most 500 statements, 100 variables and arrays, and 10,000 elements over all arrays
   pub sizes : is_too_large program ≡ false

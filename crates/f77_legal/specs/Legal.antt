@@ -1,17 +1,19 @@
--- Which programs are legal: no clause has a fault. What is told of another is the first of its faults, clause by clause, and within a
--- clause in the order of the names, the labels or the lines.
+-- Which programs are legal: no clause has a fault. What is told of another is the first of its
+-- faults, clause by clause, and within a clause in the order of the names, the labels or the lines.
 use Rattle.std.specs.Prelude.{◌≡◌, ◌⊎◌, ◌||◌, ◌∷◌, ◌++◌, if◌then◌else◌}
 use Rattle.std.specs.Prelude.{Bool, nat_lt, List, [], length, map, filter, Option, Some, is_some, Result, Ok, Err}
 use Rattle.std.specs.List.{flat_map, sum, slice_get}
 use Rattle.f77_program.specs.Program.{LineFields}
 use Rattle.f77_legal.specs.declared.clause.Clause.{Clause}
-use Rattle.f77_legal.specs.declared.clause.Clause.TheVariants.{Kinds, Bounds, NamedLabels, Targets, Terminals, Nests, Jumps, Variables}
+use Rattle.f77_legal.specs.declared.clause.Clause.TheVariants.{Kinds, Bounds, NamedLabels, Targets}
+use Rattle.f77_legal.specs.declared.clause.Clause.TheVariants.{Terminals, Nests, Jumps, Variables}
 use Rattle.f77_legal.specs.declared.fault.CheckFault.{CheckFault}
-use Rattle.f77_legal.specs.declared.fault.CheckFault.TheVariants.{Memory, RealName, Twice, DoubleLabel, BadData, TooMany}
+use Rattle.f77_legal.specs.declared.fault.CheckFault.TheVariants.{Memory, RealName, Twice}
+use Rattle.f77_legal.specs.declared.fault.CheckFault.TheVariants.{DoubleLabel, BadData, TooMany}
 use Rattle.f77_legal.specs.Clause.{faults_of, lines_where}
 use Rattle.f77_legal.specs.Names.{Symbol, symbols, is_real, is_twice, bounds_of, some_items}
 use Rattle.f77_legal.specs.Labels.{labels, is_double}
-use Rattle.f77_legal.specs.Presets.{elements, presets_badly}
+use Rattle.f77_legal.specs.Presets.{preset_elements, presets_badly}
 
 abbrev pub is_array : List LineFields → Symbol → Bool
 is_array program name = is_some (some_items (bounds_of program name))
@@ -21,10 +23,12 @@ abbrev pub is_too_large : List LineFields → Bool
 is_too_large program =
     nat_lt 500 (length program)
     || (nat_lt 100 (length (symbols program))
-    || nat_lt 10000 (sum (map (elements program) (filter (is_array program) (symbols program)))))
+    || nat_lt 10000
+    (sum (map (preset_elements program) (filter (is_array program) (symbols program)))))
 
 abbrev pub name_faults : List LineFields → List CheckFault
-name_faults program = map RealName (filter (is_real program) (symbols program)) ++ map Twice (filter (is_twice program) (symbols program))
+name_faults program = map RealName (filter (is_real program) (symbols program))
+    ++ map Twice (filter (is_twice program) (symbols program))
 
 abbrev pub clause_faults : List Clause → List LineFields → List CheckFault
 clause_faults clauses program = flat_map (λ clause. faults_of clause program) clauses
@@ -35,8 +39,8 @@ label_faults program = map DoubleLabel (filter (is_double program) (labels progr
 abbrev pub data_faults : List LineFields → List CheckFault
 data_faults program = map BadData (lines_where (presets_badly program) program)
 
-abbrev pub size_faults : List LineFields → List CheckFault
-size_faults program = if is_too_large program then TooMany ∷ [] else []
+abbrev pub too_large_faults : List LineFields → List CheckFault
+too_large_faults program = if is_too_large program then TooMany ∷ [] else []
 
 -- what expressions owe, and what jumps and loops do, in the order of test
 abbrev pub expression_clauses : List Clause
@@ -45,9 +49,11 @@ expression_clauses = Kinds ∷ (Bounds ∷ [])
 abbrev pub control_clauses : List Clause
 control_clauses = NamedLabels ∷ (Targets ∷ (Terminals ∷ (Nests ∷ (Jumps ∷ (Variables ∷ [])))))
 
--- the faults of statements and labels, in the order in which they are told: no memory is taken for them
+-- the faults of statements and labels, in the order
+-- in which they are told: no memory is taken for them
 abbrev pub statement_faults : List LineFields → List CheckFault
-statement_faults program = clause_faults expression_clauses program ++ (label_faults program ++ clause_faults control_clauses program)
+statement_faults program = clause_faults expression_clauses program
+    ++ (label_faults program ++ clause_faults control_clauses program)
 
 -- all faults of a program, in the order in which they are told
 abbrev pub faults : List LineFields → List CheckFault
@@ -57,7 +63,7 @@ faults program =
     ++ (label_faults program
     ++ (clause_faults control_clauses program
     ++ (data_faults program
-    ++ size_faults program))))
+    ++ too_large_faults program))))
 
 abbrev pub IsLegal : List LineFields → Type 0
 IsLegal program = faults program ≡ []
@@ -66,11 +72,6 @@ abbrev pub first_fault : List LineFields → Option CheckFault
 first_fault program = slice_get (faults program) 0
 
 -- there are no faults; or the first of them is told, or want of memory
-abbrev pub Tells : Result (Unit {0}) CheckFault → List CheckFault → Type 0
-Tells (Ok unit) faults = faults ≡ []
-Tells (Err fault) faults = (fault ≡ Memory) ⊎ (slice_get faults 0 ≡ Some fault)
-
--- there are no faults; or the first of them is told, and never want of memory
-abbrev pub TellsFirst : Result (Unit {0}) CheckFault → List CheckFault → Type 0
-TellsFirst (Ok unit) faults = faults ≡ []
-TellsFirst (Err fault) faults = slice_get faults 0 ≡ Some fault
+abbrev pub TellsFirstFault : Result (Unit {0}) CheckFault → List CheckFault → Type 0
+TellsFirstFault (Ok unit) faults = faults ≡ []
+TellsFirstFault (Err fault) faults = (fault ≡ Memory) ⊎ (slice_get faults 0 ≡ Some fault)

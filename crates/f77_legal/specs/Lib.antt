@@ -11,10 +11,10 @@ pub mod Loops
 pub mod Holders
 pub mod LoopTable
 pub mod Presets
-pub mod Runs
 pub mod Clause
 pub mod Tables
 pub mod Legal
 pub mod Law
 pub mod Frames
 pub mod Patches
+pub mod code

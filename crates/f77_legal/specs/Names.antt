@@ -1,5 +1,7 @@
--- The names of a program, and what its declarations say of them (ANSI X3.9-1978, 2.2, 4.1.2, 8.1 and 8.4).
-use Rattle.std.specs.Prelude.{ℕ, ◌==◌, ◌&&◌, ◌||◌, Bool, true, false, not, nat_le, List, [], ◌∷◌, length, map, filter, Option, Some, None, is_some}
+-- The names of a program, and what its declarations say
+-- of them (ANSI X3.9-1978, 2.2, 4.1.2, 8.1 and 8.4).
+use Rattle.std.specs.Prelude.{ℕ, ◌==◌, ◌&&◌, ◌||◌, Bool, true, false, not, nat_le, List}
+use Rattle.std.specs.Prelude.{[], ◌∷◌, length, map, filter, Option, Some, None, is_some}
 use Rattle.std.specs.List.{flat_map, filter_map, slice_get}
 use Rattle.std.specs.Option.{option_and_then, option_map_or}
 use Rattle.std.specs.Str.{bytes_eq}
@@ -15,7 +17,8 @@ use Rattle.f77_tree.specs.declared.tree.Kind.TheVariants.{Integer}
 abbrev pub Symbol : Type 0
 Symbol = List ℕ
 
--- How a statement mentions a name: as a dummy argument, with a type and maybe bounds, with bounds in DIMENSION, or without any of these.
+-- How a statement mentions a name: as a dummy argument, with a type
+-- and maybe bounds, with bounds in DIMENSION, or without any of these.
 pub data Mention : Type 0 where
   Dummy : Symbol → Mention
   Typed : Kind → DeclFields → Mention
@@ -39,13 +42,13 @@ abbrev pub mentions : List LineFields → List Mention
 mentions program = flat_map (λ line. mentions_of line.stmt) program
 
 -- each name once, where it comes first
-abbrev pub each_once : List Symbol → List Symbol
-each_once [] = []
-each_once (name ∷ names) = name ∷ filter (λ other. not (bytes_eq name other)) (each_once names)
+abbrev pub names_once : List Symbol → List Symbol
+names_once [] = []
+names_once (name ∷ names) = name ∷ filter (λ other. not (bytes_eq name other)) (names_once names)
 
 -- the variables and arrays in order of first appearance, dummy arguments first
 abbrev pub symbols : List LineFields → List Symbol
-symbols program = each_once (map name_in (mentions program))
+symbols program = names_once (map name_in (mentions program))
 
 abbrev pub is_dummy : Mention → Bool
 is_dummy (Dummy name) = true
@@ -84,16 +87,17 @@ kinds_given all name = filter_map kind_in (mentions_with all name)
 abbrev pub bounds_given : List Mention → Symbol → List (List ℕ)
 bounds_given all name = filter_map bounds_in (mentions_with all name)
 
-abbrev pub first_or : {X : Type 0} → X → List X → X
-first_or other [] = other
-first_or other (x ∷ xs) = x
+abbrev pub first_item_or : {X : Type 0} → X → List X → X
+first_item_or other [] = other
+first_item_or other (x ∷ xs) = x
 
--- the kind of a name, INTEGER where no type statement gives one, and its bounds, none for a variable
+-- the kind of a name, INTEGER where no type statement
+-- gives one, and its bounds, none for a variable
 abbrev pub kind_of : List LineFields → Symbol → Kind
-kind_of program name = first_or Integer (kinds_given (mentions program) name)
+kind_of program name = first_item_or Integer (kinds_given (mentions program) name)
 
 abbrev pub bounds_of : List LineFields → Symbol → List ℕ
-bounds_of program name = first_or [] (bounds_given (mentions program) name)
+bounds_of program name = first_item_or [] (bounds_given (mentions program) name)
 
 -- its first letter is I to N
 abbrev pub is_integer_name : Symbol → Bool
@@ -102,7 +106,8 @@ is_integer_name (letter ∷ rest) = nat_le 73 letter && nat_le letter 78
 
 -- the name is REAL by its first letter
 abbrev pub is_real : List LineFields → Symbol → Bool
-is_real program name = (length (kinds_given (mentions program) name) == 0) && not (is_integer_name name)
+is_real program name =
+    (length (kinds_given (mentions program) name) == 0) && not (is_integer_name name)
 
 abbrev pub unit_name_of : Statement → Option Symbol
 unit_name_of (Statement.Subroutine name names) = Some name
@@ -114,7 +119,8 @@ unit_name program = option_and_then (λ line. unit_name_of line.stmt) (slice_get
 abbrev pub names_unit : List LineFields → Symbol → Bool
 names_unit program name = option_map_or (bytes_eq name) (unit_name program) false
 
--- the name is typed twice, given bounds twice or a dummy twice, or names the unit or a function as well
+-- the name is typed twice, given bounds twice or a
+-- dummy twice, or names the unit or a function as well
 abbrev pub is_twice : List LineFields → Symbol → Bool
 is_twice program name =
     nat_le 2 (length (kinds_given (mentions program) name))

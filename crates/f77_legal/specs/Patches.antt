@@ -1,6 +1,7 @@
 -- What a changed statement owes by itself, where the rest of a legal program stays.
-use Rattle.std.specs.Prelude.{◌≡◌, ◌≤◌, ◌&&◌, ℕ, Bool, true, false, List, [], ◌∷◌, length, map, filter, Option, Some, None}
-use Rattle.std.specs.List.{All, list_any, list_all, sum, slice_get}
+use Rattle.std.specs.Prelude.{◌≡◌, ◌≤◌, ◌&&◌, ℕ, Bool, true, false, List, []}
+use Rattle.std.specs.Prelude.{◌∷◌, length, map, filter, Option, Some, None}
+use Rattle.std.specs.List.{All, list_any, sum, slice_get}
 use Rattle.std.specs.Str.{bytes_eq}
 use Rattle.f77_program.specs.Program.{LineFields}
 use Rattle.f77_tree.specs.Tree.{Tree, Trees}
@@ -8,53 +9,34 @@ use Rattle.f77_tree.specs.Statement.{Statement, value_of}
 use Rattle.f77_legal.specs.declared.clause.Clause.{Clause}
 use Rattle.f77_legal.specs.declared.clause.Clause.TheVariants.{Kinds, Bounds, NamedLabels, Targets, Jumps, Variables}
 use Rattle.f77_legal.specs.declared.fault.CheckFault.{CheckFault}
-use Rattle.f77_legal.specs.Clause.{breaks, fault_at}
-use Rattle.f77_legal.specs.Frames.{framed}
-use Rattle.f77_legal.specs.Labels.{is_terminal}
+use Rattle.f77_legal.specs.Clause.{breaks, clause_fault}
 use Rattle.f77_legal.specs.Legal.{is_array}
-use Rattle.f77_legal.specs.Loops.{terminal}
-use Rattle.f77_legal.specs.Names.{Symbol, mentions_of, name_in, symbols, is_real, is_twice}
-use Rattle.f77_legal.specs.Presets.{elements}
+use Rattle.f77_legal.specs.Names.{Symbol, symbols, is_real, is_twice}
+use Rattle.f77_legal.specs.Presets.{preset_elements}
 
 -- the clauses that a statement of an unchanged frame may break, in the order of test
 abbrev pub own_clauses : List Clause
 own_clauses = Kinds ∷ (Bounds ∷ (NamedLabels ∷ (Targets ∷ (Jumps ∷ (Variables ∷ [])))))
 
 -- the first fault of the statement i, on this line, by itself
-abbrev pub own_fault : List LineFields → ℕ → ℕ → Statement → Option CheckFault
-own_fault program i line statement =
-    slice_get (map (λ clause. fault_at clause line) (filter (λ clause. breaks clause program i statement) own_clauses)) 0
-
--- where the statement i ends a DO, this one may, too
-abbrev pub MayStandAt : List LineFields → ℕ → Statement → Type 0
-MayStandAt program i statement = (d : ℕ) → terminal program d ≡ Some i → is_terminal statement ≡ true
+abbrev pub own_statement_fault : List LineFields → ℕ → ℕ → Statement → Option CheckFault
+own_statement_fault program i line statement =
+    slice_get (map (λ clause. clause_fault clause line)
+    (filter (λ clause. breaks clause program i statement) own_clauses)) 0
 
 -- the name is one of these
-abbrev pub is_among : List Symbol → Symbol → Bool
-is_among names name = list_any (bytes_eq name) names
+abbrev pub is_name_among : List Symbol → Symbol → Bool
+is_name_among names name = list_any (bytes_eq name) names
 
--- Names that a program may have: its own are among them, each is there once, none is REAL or declared twice, and all together are within
--- the limits.
+-- Names that a program may have: its own are among them, each is there once,
+-- none is REAL or declared twice, and all together are within the limits.
 pub record IsStock (names : List Symbol) (program : List LineFields) : Type 0 where
-  pub covers : All (λ name. is_among names name ≡ true) (symbols program)
+  pub covers : All (λ name. is_name_among names name ≡ true) (symbols program)
   pub once : All (λ name. length (filter (bytes_eq name) names) ≡ 1) names
   pub typed : All (λ name. is_real program name ≡ false) names
   pub declared : All (λ name. is_twice program name ≡ false) names
   pub few : length names ≤ 100
-  pub small : sum (map (elements program) (filter (is_array program) names)) ≤ 10000
-
--- each name of the statement is among these
-abbrev pub NamesAmong : List Symbol → Statement → Type 0
-NamesAmong names statement = list_all (λ mention. is_among names (name_in mention)) (mentions_of statement) ≡ true
-
--- The change of the statement i is judged by that statement alone: the frame stays, the new one may end the DOs that end there, and its names
--- are among these.
-pub record StandsAlone (names : List Symbol) (program : List LineFields) (i : ℕ) (statement : Statement) : Type 0 where
-  pub line : LineFields
-  pub at : slice_get program i ≡ Some line
-  pub frame : framed statement ≡ framed line.stmt
-  pub ends : MayStandAt program i statement
-  pub among : NamesAmong names statement
+  pub small : sum (map (preset_elements program) (filter (is_array program) names)) ≤ 10000
 
 -- each name of an expression passes the test
 abbrev mutual
@@ -65,7 +47,8 @@ abbrev mutual
   tree_passes test (Tree.Call function items) = items_pass test items
   tree_passes test (Tree.Signed sign tree) = tree_passes test tree
   tree_passes test (Tree.Not tree) = tree_passes test tree
-  tree_passes test (Tree.Binary operator left right) = tree_passes test left && tree_passes test right
+  tree_passes test (Tree.Binary operator left right) =
+      tree_passes test left && tree_passes test right
   tree_passes test (Tree.ZeroPush tree) = tree_passes test tree
 
   pub items_pass : (Symbol → Bool) → Trees → Bool
@@ -79,8 +62,10 @@ value_passes test (Some tree) = tree_passes test tree
 
 -- each name of a statement that can be executed passes the test
 abbrev pub names_pass : (Symbol → Bool) → Statement → Bool
-names_pass test (Statement.Assign name items tree) = test name && (items_pass test items && tree_passes test tree)
-names_pass test (Statement.LogicalIf tree statement) = tree_passes test tree && names_pass test statement
+names_pass test (Statement.Assign name items tree) =
+    test name && (items_pass test items && tree_passes test tree)
+names_pass test (Statement.LogicalIf tree statement) =
+    tree_passes test tree && names_pass test statement
 names_pass test (Statement.Loop label name first last step) =
     test name && (tree_passes test first && (tree_passes test last && value_passes test step))
 names_pass test statement = value_passes test (value_of statement)

@@ -18,8 +18,8 @@ product [] = 1
 product (bound ∷ bounds) = bound * product bounds
 
 -- how many elements a name has: the product of its bounds, 1 for a variable
-abbrev pub elements : List LineFields → Symbol → ℕ
-elements program name = product (bounds_of program name)
+abbrev pub preset_elements : List LineFields → Symbol → ℕ
+preset_elements program name = product (bounds_of program name)
 
 abbrev pub constant_kind : Constant → Kind
 constant_kind (Number number) = Integer
@@ -27,10 +27,12 @@ constant_kind (Truth truth) = Logical
 
 -- the kinds of the elements of a group, in order, and of its values, repeats counted
 abbrev pub wanted_kinds : List LineFields → GroupFields → List Kind
-wanted_kinds program group = flat_map (λ name. replicate (elements program name) (kind_of program name)) group.names
+wanted_kinds program group =
+    flat_map (λ name. replicate (preset_elements program name) (kind_of program name)) group.names
 
 abbrev pub given_kinds : GroupFields → List Kind
-given_kinds group = flat_map (λ value. replicate value.times (constant_kind value.constant)) group.values
+given_kinds group =
+    flat_map (λ value. replicate value.times (constant_kind value.constant)) group.values
 
 abbrev pub is_filled : List LineFields → GroupFields → Bool
 is_filled program group = pointwise same_kind (wanted_kinds program group) (given_kinds group)
@@ -44,14 +46,18 @@ is_dummy_name program name = nat_le 1 (length (dummies_given (mentions program) 
 
 -- the names of DATA
 abbrev pub names_preset : List LineFields → List Symbol
-names_preset program = flat_map (λ line. flat_map (λ group. group.names) (groups_of line.stmt)) program
+names_preset program =
+    flat_map (λ line. flat_map (λ group. group.names) (groups_of line.stmt)) program
 
 -- the name has stood in DATA twice when the statement i ends
 abbrev pub is_preset_twice : List LineFields → ℕ → Symbol → Bool
-is_preset_twice program i name = nat_le 2 (length (filter (bytes_eq name) (names_preset (take (suc i) program))))
+is_preset_twice program i name =
+    nat_le 2 (length (filter (bytes_eq name) (names_preset (take (suc i) program))))
 
--- in the statement i a name is a dummy argument or has stood in DATA before, or a group has other values than its names want
+-- in the statement i a name is a dummy argument or has stood in
+-- DATA before, or a group has other values than its names want
 abbrev pub presets_badly : List LineFields → ℕ → Statement → Bool
 presets_badly program i statement =
-    list_any (λ name. is_dummy_name program name || is_preset_twice program i name) (flat_map (λ group. group.names) (groups_of statement))
+    list_any (λ name. is_dummy_name program name || is_preset_twice program i name)
+    (flat_map (λ group. group.names) (groups_of statement))
     || list_any (λ group. not (is_filled program group)) (groups_of statement)

@@ -6,10 +6,12 @@ ghost use Rattle.std.specs.Option.{option_map_or};
 ghost use Rattle.f77_program.specs.Program.{LineFields, line_of};
 ghost use Rattle.f77_tree.specs.Statement.{statement_of};
 ghost use Rattle.f77_legal.specs.Blocks as words;
-ghost use Rattle.f77_legal.specs.Blocks.{first_numbers, behind, branch_holds, breaks_block, is_in_block};
+ghost use Rattle.f77_legal.specs.Blocks.{first_numbers, statement_behind, branch_holds, breaks_block, is_in_block};
 ghost use Rattle.f77_legal.specs.BlockTable as table;
-ghost use Rattle.f77_legal.specs.BlockTable.{tabled, is_end_among, is_before_end, IsBlockTable};
-ghost use Rattle.f77_legal.specs.Labels.{statement_at};
+ghost use Rattle.f77_legal.specs.code.BlockTable as table_code;
+ghost use Rattle.f77_legal.specs.BlockTable.{tabled, IsBlockTable};
+ghost use Rattle.f77_legal.specs.code.BlockTable.{is_end_among, is_before_end};
+ghost use Rattle.f77_legal.specs.Labels.{nth_statement};
 ghost use Rattle.f77_legal.specs.declared.fault.CheckFault.TheVariants.{Memory};
 
 use crate::fault::CheckFault;
@@ -65,7 +67,7 @@ fn is_alternative(stmt: &Stmt) -> bool
 
 impl Extent {
     fn stops(self, stmt: &Stmt) -> bool
-        ensures { result ≡ table.stops self (statement_of stmt.now) }
+        ensures { result ≡ table_code.stops self (statement_of stmt.now) }
     {
         match self {
             Extent::Block => is_end_if(stmt),
@@ -75,7 +77,7 @@ impl Extent {
 
     /// Whether the statement ends it, where so many blocks are open within.
     fn ends(self, stmt: &Stmt, depth: usize) -> bool
-        ensures { result ≡ ((depth == 0) && table.stops self (statement_of stmt.now)) }
+        ensures { result ≡ ((depth == 0) && table_code.stops self (statement_of stmt.now)) }
     {
         depth == 0 && self.stops(stmt)
     }
@@ -84,7 +86,7 @@ impl Extent {
 /// How many blocks are open behind the statement.
 fn depth_behind(stmt: &Stmt, depth: usize) -> usize
     requires { depth + 1 < 2 ^ 64 }
-    ensures { result ≡ table.depth_behind (statement_of stmt.now) depth }
+    ensures { result ≡ table_code.depth_behind (statement_of stmt.now) depth }
 {
     if is_block_if(stmt) {
         return depth + 1;
@@ -98,7 +100,7 @@ fn depth_behind(stmt: &Stmt, depth: usize) -> usize
 /// The statement of this number.
 pub fn statement(lines: &[Shared<Line>], i: usize) -> &Stmt
     requires { i < length lines.now }
-    ensures { statement_at (map line_of lines.now) i ≡ Some (statement_of result.now) }
+    ensures { nth_statement (map line_of lines.now) i ≡ Some (statement_of result.now) }
 {
     &lines[i].stmt
 }
@@ -107,7 +109,7 @@ pub fn statement(lines: &[Shared<Line>], i: usize) -> &Stmt
 #[tactic(auto, using(crate::proofs::BlockScan::scan_start))]
 fn end_of(lines: &[Shared<Line>], extent: Extent, start: usize) -> Option<usize>
     requires { start < length lines.now }
-    ensures { result ≡ table.end_of (map line_of lines.now) extent start }
+    ensures { result ≡ table_code.end_of (map line_of lines.now) extent start }
 {
     let mut depth: usize = 0;
     for j in start + 1..lines.len() {
@@ -136,7 +138,7 @@ fn block_end_at(lines: &[Shared<Line>], i: usize) -> Option<usize>
 #[tactic(auto, using(crate::proofs::BlockScan::branch_end_is))]
 fn else_end_at(lines: &[Shared<Line>], i: usize) -> Option<usize>
     requires { i < length lines.now }
-    ensures { result ≡ table.else_end_at (map line_of lines.now) i }
+    ensures { result ≡ table_code.else_end_at (map line_of lines.now) i }
 {
     if !is_else(statement(lines, i)) {
         return None;
@@ -163,11 +165,12 @@ fn branch_end_at(
     end_of(lines, Extent::Branch, i)
 }
 
-/// The statement behind this one: the next, or the END IF of the block where the next begins another branch (11.6 to 11.9).
+/// The statement behind this one: the next, or the END IF of the
+/// block where the next begins another branch (11.6 to 11.9).
 #[tactic(auto, using(crate::proofs::BlockScan::block_end_is))]
 pub fn next(lines: &[Shared<Line>], i: usize) -> Option<usize>
     requires { i < length lines.now }
-    ensures { result ≡ behind (map line_of lines.now) i }
+    ensures { result ≡ statement_behind (map line_of lines.now) i }
 {
     match lines.get(i + 1) {
         Some(line) if is_alternative(&line.stmt) => end_of(lines, Extent::Block, i + 1),
@@ -189,7 +192,7 @@ fn block_ends(alloc: Global, lines: &[Shared<Line>]) -> Result<Vec<Option<usize>
 
 #[tactic(auto, using(crate::proofs::FirstNumbers::table_more))]
 fn else_ends(alloc: Global, lines: &[Shared<Line>]) -> Result<Vec<Option<usize>>, CheckFault>
-    ensures made { IfOk result (λ ends. ends.items ≡ tabled table.else_end_at (map line_of lines.now)) }
+    ensures made { IfOk result (λ ends. ends.items ≡ tabled table_code.else_end_at (map line_of lines.now)) }
     ensures memory { IfErr result (λ fault. fault ≡ Memory) }
 {
     let mut ends = Vec::with_capacity(alloc, lines.len())?;
@@ -216,7 +219,8 @@ fn is_marked(marks: &[bool], i: usize) -> bool
 /// Marks the statement that is an end.
 fn mark(marks: &mut [bool], end: Option<usize>)
     ensures marked { (k : ℕ) → k < length marks.old
-        → slice_index_or marks.new k false ≡ (slice_index_or marks.old k false || option_map_or (λ e. e == k) end false) }
+        → slice_index_or marks.new k false
+        ≡ (slice_index_or marks.old k false || option_map_or (λ e. e == k) end false) }
     ensures long { length marks.new ≡ length marks.old }
 {
     let Some(place) = end else {
@@ -252,7 +256,8 @@ fn furthest(reach: usize, end: Option<usize>) -> usize
 /// Of each statement whether one of the ends before its place stands behind it.
 #[tactic(auto, using(crate::proofs::FirstNumbers::table_more))]
 fn insides(alloc: Global, ends: &[Option<usize>]) -> Result<Vec<bool>, CheckFault>
-    ensures made { IfOk result (λ inside. inside.items ≡ map (λ k. is_before_end (take k ends.now) k) (first_numbers (length ends.now))) }
+    ensures made { IfOk result
+        (λ inside. inside.items ≡ map (λ k. is_before_end (take k ends.now) k) (first_numbers (length ends.now))) }
     ensures memory { IfErr result (λ fault. fault ≡ Memory) }
 {
     let mut inside = Vec::with_capacity(alloc, ends.len())?;
@@ -270,7 +275,8 @@ fn branch_ends(
     ends: &[Option<usize>],
     inside: &[bool],
 ) -> Result<Vec<Option<usize>>, CheckFault>
-    ensures made { ends.now ≡ tabled table.block_end_at (map line_of lines.now) → inside.now ≡ tabled is_in_block (map line_of lines.now)
+    ensures made { ends.now ≡ tabled table.block_end_at (map line_of lines.now)
+        → inside.now ≡ tabled is_in_block (map line_of lines.now)
         → IfOk result (λ found. found.items ≡ tabled table.branch_end_at (map line_of lines.now)) }
     ensures memory { IfErr result (λ fault. fault ≡ Memory) }
 {
@@ -302,7 +308,7 @@ impl Blocks {
     }
 
     fn is_misplaced(&self, stmt: &Stmt, i: usize) -> bool
-        ensures { result ≡ table.is_misplaced self.now (statement_of stmt.now) i }
+        ensures { result ≡ table_code.is_misplaced self.now (statement_of stmt.now) i }
     {
         if is_block_if(stmt) {
             return end_in(&self.ends, i).is_none();
@@ -325,7 +331,8 @@ impl Blocks {
 
     /// The statement that ends the branch which the statement of this number begins, None where it begins none.
     pub fn branch_end(&self, i: usize) -> Option<usize>
-        ensures value { (program : List LineFields) → IsBlockTable self.now program → result ≡ table.branch_end_at program i }
+        ensures value { (program : List LineFields)
+            → IsBlockTable self.now program → result ≡ table.branch_end_at program i }
         ensures holds { (program : List LineFields) (k : ℕ) → IsBlockTable self.now program
             → (nat_lt i k && option_map_or (nat_lt k) result false) ≡ branch_holds program i k }
     {

@@ -1,7 +1,7 @@
 //! The clauses that single statements keep or break.
 
 ghost use Rattle.std.specs.Prelude.{◌≡◌};
-ghost use Rattle.f77_legal.specs.Clause.{fault_at};
+ghost use Rattle.f77_legal.specs.Clause.{clause_fault};
 
 use crate::fault::CheckFault;
 
@@ -29,7 +29,7 @@ pub enum Clause {
 impl Clause {
     /// What is told of a statement on this line that breaks it.
     pub(crate) fn fault(self, line: u32) -> CheckFault
-        ensures { result ≡ fault_at self line }
+        ensures { result ≡ clause_fault self line }
     {
         match self {
             Clause::Kinds => CheckFault::TypeClash(line),

@@ -6,7 +6,7 @@ ghost use Rattle.f77_tree.specs.Declaration.{decl_of};
 ghost use Rattle.f77_tree.specs.View.{tree_of, trees};
 ghost use Rattle.f77_tree.specs.Statement.{statement_of};
 ghost use Rattle.f77_legal.specs.Dimensions as dimensions;
-ghost use Rattle.f77_legal.specs.NameTable.{bounds_at};
+ghost use Rattle.f77_legal.specs.NameTable.{array_bounds};
 
 use crate::names::Names;
 use f77_tree::{Decl, Expr, Intrinsic, Name, Stmt};
@@ -24,7 +24,7 @@ fn takes(function: Intrinsic, count: usize) -> bool
 
 #[tactic(auto, using(crate::proofs::Counts::count_trees))]
 fn takes_these(function: Intrinsic, arguments: &[Expr]) -> bool
-    ensures { result ≡ dimensions.takes function (dimensions.count (trees (map tree_of arguments.now))) }
+    ensures { result ≡ dimensions.takes function (dimensions.tree_count (trees (map tree_of arguments.now))) }
 {
     takes(function, arguments.len())
 }
@@ -32,7 +32,8 @@ fn takes_these(function: Intrinsic, arguments: &[Expr]) -> bool
 /// Whether there are as many subscripts as the name has bounds (5.4.1).
 #[tactic(auto, using(crate::proofs::Counts::count_trees))]
 fn has_these(names: &Names, name: &Name, subscripts: &[Expr]) -> bool
-    ensures { result ≡ (dimensions.count (trees (map tree_of subscripts.now)) == length (bounds_at names.now name.now)) }
+    ensures { result
+        ≡ (dimensions.tree_count (trees (map tree_of subscripts.now)) == length (array_bounds names.now name.now)) }
 {
     subscripts.len() == names.bounds(name).len()
 }
@@ -41,7 +42,7 @@ fn has_these(names: &Names, name: &Name, subscripts: &[Expr]) -> bool
 /// function with as many arguments as it takes.
 #[cycle(dimensions)]
 pub(crate) fn fits(names: &Names, expr: &Expr) -> bool
-    ensures { result ≡ dimensions.fits (bounds_at names.now) (tree_of expr.now) }
+    ensures { result ≡ dimensions.fits_bounds (array_bounds names.now) (tree_of expr.now) }
 {
     match expr {
         Expr::Number(_) | Expr::Truth(_) => true,
@@ -58,7 +59,7 @@ pub(crate) fn fits(names: &Names, expr: &Expr) -> bool
 
 #[cycle(dimensions)]
 fn all_fit(names: &Names, items: &[Expr]) -> bool
-    ensures { result ≡ dimensions.all_fit (bounds_at names.now) (trees (map tree_of items.now)) }
+    ensures { result ≡ dimensions.all_fit (array_bounds names.now) (trees (map tree_of items.now)) }
 {
     for item in items {
         if !fits(names, item) {
@@ -69,7 +70,8 @@ fn all_fit(names: &Names, items: &[Expr]) -> bool
 }
 
 fn value_fits(names: &Names, value: Option<&Expr>) -> bool
-    ensures { result ≡ dimensions.value_fits (bounds_at names.now) (option_map (λ value. tree_of value.now) value.entry) }
+    ensures { result
+        ≡ dimensions.value_fits (array_bounds names.now) (option_map (λ value. tree_of value.now) value.entry) }
 {
     match value {
         None => true,
@@ -96,14 +98,14 @@ fn are_shapes(items: &[Decl]) -> bool
 }
 
 fn is_variable(names: &Names, name: &Name) -> bool
-    ensures { result ≡ (length (bounds_at names.now name.now) == 0) }
+    ensures { result ≡ (length (array_bounds names.now name.now) == 0) }
 {
     names.bounds(name).is_empty()
 }
 
 /// Whether the dimensions of the statement are in order (5.1, 5.4, 15.10); a DO variable is no array (11.10).
 pub(crate) fn dimensions_fit(names: &Names, stmt: &Stmt) -> bool
-    ensures { result ≡ dimensions.dimensions_fit (bounds_at names.now) (statement_of stmt.now) }
+    ensures { result ≡ dimensions.dimensions_fit (array_bounds names.now) (statement_of stmt.now) }
 {
     match stmt {
         Stmt::Declare { items, .. } | Stmt::Dimension { items } => are_shapes(items),

@@ -7,7 +7,8 @@ use f77_tree::Name;
 use std::alloc::{AllocError, AllocFailed};
 use thiserror::Error;
 
-/// The first fault of a program (ANSI X3.9-1978), or want of memory. Each number of a line is the `line` of one of the program.
+/// The first fault of a program (ANSI X3.9-1978), or want of memory.
+/// Each number of a line is the `line` of one of the program.
 #[derive(Debug, PartialEq, Eq, Drop, Error)]
 pub enum CheckFault {
     /// C1: memory ran out.

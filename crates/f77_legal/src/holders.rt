@@ -5,6 +5,7 @@ ghost use Rattle.std.specs.Iterator.{YieldsFirst, item_count};
 ghost use Rattle.std.specs.Option.{option_map_or};
 ghost use Rattle.f77_program.specs.Program.{LineFields};
 ghost use Rattle.f77_legal.specs.Holders as holders;
+ghost use Rattle.f77_legal.specs.code.Holders as holders_code;
 ghost use Rattle.f77_legal.specs.Loops as loops;
 ghost use Rattle.f77_legal.specs.declared.fault.CheckFault.TheVariants as fault;
 
@@ -25,11 +26,11 @@ pub struct Ranges {
 pub(crate) struct Ancestors<'a> {
     parents: &'a [Option<usize>],
     next: Option<usize>,
-    ghost falling: { holders.IsFalling parents.now },
+    ghost falling: { holders_code.IsFalling parents.now },
 }
 
 impl<'a> Iterator for Ancestors<'a> {
-    ghost use Rattle.f77_legal.specs.LoopTable.{ancestors_left};
+    ghost use Rattle.f77_legal.specs.code.LoopTable.{ancestors_left};
 
     type Item = usize;
 
@@ -45,13 +46,13 @@ impl<'a> Iterator for Ancestors<'a> {
 }
 
 fn parent(parents: &[Option<usize>], k: usize) -> Option<usize>
-    ensures { result ≡ holders.entry parents.now k }
+    ensures { result ≡ holders.end_or_parent parents.now k }
 {
     parents.get(k).copied().flatten()
 }
 
 fn in_range(terminals: &[Option<usize>], d: usize, k: usize) -> bool
-    ensures { result ≡ holders.in_range terminals.now d k }
+    ensures { result ≡ holders.is_in_do_range terminals.now d k }
 {
     match terminals.get(d) {
         Some(Some(terminal)) => d < k && k <= *terminal,
@@ -82,7 +83,7 @@ fn innermost(
     k: usize,
 ) -> Option<usize>
     requires { parents.now ≡ holders.parents_of terminals.now branch_ends.now k }
-    ensures { result ≡ holders.innermost terminals.now branch_ends.now k }
+    ensures { result ≡ holders.innermost_holder terminals.now branch_ends.now k }
 {
     let mut before = Ancestors {
         parents,
@@ -96,7 +97,8 @@ fn parents_of(
     terminals: &[Option<usize>],
     branch_ends: &[Option<usize>],
 ) -> Result<Vec<Option<usize>>, CheckFault>
-    ensures parents { IfOk result (λ parents. parents.items ≡ holders.parents_of terminals.now branch_ends.now (length terminals.now)) }
+    ensures parents { IfOk result
+        (λ parents. parents.items ≡ holders.parents_of terminals.now branch_ends.now (length terminals.now)) }
     ensures memory { IfErr result (λ e. e ≡ fault.Memory) }
 {
     let mut parents = Vec::new(alloc);
@@ -109,13 +111,13 @@ fn parents_of(
 
 /// Whether a DO has `i` in its range and not `k`.
 fn is_left(terminals: &[Option<usize>], d: usize, i: usize, k: usize) -> bool
-    ensures { result ≡ (holders.in_range terminals.now d i && not (holders.in_range terminals.now d k)) }
+    ensures { result ≡ (holders.is_in_do_range terminals.now d i && not (holders.is_in_do_range terminals.now d k)) }
 {
     in_range(terminals, d, i) && !in_range(terminals, d, k)
 }
 
 fn ends_at(terminals: &[Option<usize>], d: usize, t: usize) -> bool
-    ensures { result ≡ option_map_or (λ e. e == t) (holders.entry terminals.now d) false }
+    ensures { result ≡ option_map_or (λ e. e == t) (holders.end_or_parent terminals.now d) false }
 {
     match terminals.get(d) {
         Some(Some(terminal)) => *terminal == t,
@@ -124,7 +126,7 @@ fn ends_at(terminals: &[Option<usize>], d: usize, t: usize) -> bool
 }
 
 fn precedes(d: usize, other: Option<usize>) -> bool
-    ensures { result ≡ holders.precedes d other }
+    ensures { result ≡ holders_code.precedes d other }
 {
     match other {
         Some(other) => d < other,
@@ -133,7 +135,7 @@ fn precedes(d: usize, other: Option<usize>) -> bool
 }
 
 impl Ranges {
-    ghost use Rattle.f77_legal.specs.LoopTable as table;
+    ghost use Rattle.f77_legal.specs.code.LoopTable as table;
     ghost use Rattle.f77_legal.specs.LoopTable.{IsTerminals, IsBranches, IsRangeTable};
 
     /// The table of a program from the terminal statements of its DOs and the ends of its branches.
@@ -143,7 +145,8 @@ impl Ranges {
         branch_ends: Vec<Option<usize>>,
     ) -> Result<Ranges, CheckFault>
         ensures table { IfOk result (λ ranges. (program : List LineFields) → length terminals.items ≡ length program
-            → IsTerminals terminals.items program → IsBranches branch_ends.items program → IsRangeTable ranges program) }
+            → IsTerminals terminals.items program
+            → IsBranches branch_ends.items program → IsRangeTable ranges program) }
         ensures memory { IfErr result (λ e. e ≡ fault.Memory) }
     {
         let parents = parents_of(alloc, &terminals, &branch_ends)?;
@@ -173,7 +176,7 @@ impl Ranges {
     }
 
     pub(crate) fn in_range(&self, d: usize, k: usize) -> bool
-        ensures { result ≡ holders.in_range self.now.terminals.items d k }
+        ensures { result ≡ holders.is_in_do_range self.now.terminals.items d k }
     {
         in_range(&self.terminals, d, k)
     }
@@ -198,7 +201,7 @@ impl Ranges {
     }
 
     fn ends_outside(&self, d: usize, terminal: usize) -> bool
-        ensures { result ≡ table.ends_outside self.now d terminal }
+        ensures { result ≡ table.ends_outside_by_table self.now d terminal }
     {
         terminal <= d
             || self.leaves_branch(d, terminal)
@@ -218,7 +221,8 @@ impl Ranges {
 
     /// The DOs that a jump from `i` to `j` leaves, the outermost first (11.10.8).
     pub fn left_by(&self, alloc: Global, i: usize, j: usize) -> Result<Vec<usize>, CheckFault>
-        ensures left { IfOk result (λ left. (program : List LineFields) → IsRangeTable self.now program → left.items ≡ loops.left_by program i j) }
+        ensures left { IfOk result (λ left. (program : List LineFields)
+            → IsRangeTable self.now program → left.items ≡ loops.left_by program i j) }
         ensures memory { IfErr result (λ e. e ≡ fault.Memory) }
     {
         let mut left: Vec<usize> = self
@@ -231,7 +235,8 @@ impl Ranges {
 
     /// The DOs whose terminal statement is `t`, the innermost first (11.10).
     pub fn ending(&self, alloc: Global, t: usize) -> Result<Vec<usize>, CheckFault>
-        ensures ends { IfOk result (λ ends. (program : List LineFields) → IsRangeTable self.now program → loops.AreNested program
+        ensures ends { IfOk result
+            (λ ends. (program : List LineFields) → IsRangeTable self.now program → loops.AreNested program
             → ends.items ≡ loops.loops_ending program t) }
         ensures memory { IfErr result (λ e. e ≡ fault.Memory) }
     {
@@ -258,7 +263,8 @@ impl Ranges {
         self.ancestors(i).any(|d| self.holds(i, d) && !self.holds(j, d) && precedes(d, innermost))
     }
 
-    /// Whether control goes into a range or a branch from outside of it where it goes from `i` to `j` (11.10.8, 11.6 to 11.8).
+    /// Whether control goes into a range or a branch from outside
+    /// of it where it goes from `i` to `j` (11.10.8, 11.6 to 11.8).
     pub(crate) fn goes_in(&self, i: usize, j: usize) -> bool
         ensures { (program : List LineFields) → IsRangeTable self.now program → result ≡ loops.goes_in program i j }
     {

@@ -65,7 +65,7 @@ fn operand_kind(operator: Operator) -> Kind
 /// Whether the expression is of this kind, and each part of the kind that its place wants.
 #[cycle(kinds)]
 pub(crate) fn is_of(names: &Names, kind: Kind, expr: &Expr) -> bool
-    ensures { result ≡ kinds.is_of (kind_at names.now) kind (tree_of expr.now) }
+    ensures { result ≡ kinds.is_of_kind (kind_at names.now) kind (tree_of expr.now) }
 {
     match expr {
         Expr::Number(_) => same_kind(Kind::Integer, kind),
@@ -103,7 +103,8 @@ fn are_integer(names: &Names, items: &[Expr]) -> bool
 
 /// Whether the expression, if any, is of this kind.
 fn value_is(names: &Names, kind: Kind, value: Option<&Expr>) -> bool
-    ensures { result ≡ kinds.value_is (kind_at names.now) kind (option_map (λ value. tree_of value.now) value.entry) }
+    ensures { result
+        ≡ kinds.is_of_kind_if_given (kind_at names.now) kind (option_map (λ value. tree_of value.now) value.entry) }
 {
     match value {
         None => true,
@@ -111,8 +112,8 @@ fn value_is(names: &Names, kind: Kind, value: Option<&Expr>) -> bool
     }
 }
 
-/// Whether the kinds of the statement agree: subscripts, arguments and DO parameters are INTEGER, a condition is LOGICAL,
-/// and what is assigned has the kind of its name (10.1, 10.2, 11.4 to 11.10).
+/// Whether the kinds of the statement agree: subscripts, arguments and DO parameters are INTEGER, a
+/// condition is LOGICAL, and what is assigned has the kind of its name (10.1, 10.2, 11.4 to 11.10).
 pub(crate) fn kinds_agree(names: &Names, stmt: &Stmt) -> bool
     ensures { result ≡ kinds.kinds_agree (kind_at names.now) (statement_of stmt.now) }
 {

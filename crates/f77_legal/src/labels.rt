@@ -8,9 +8,10 @@ ghost use Rattle.std.specs.Option.{option_and_then, option_map_or};
 ghost use Rattle.indexmap.specs.IndexMap.{get, IsUnique};
 ghost use Rattle.f77_program.specs.Program.{LineFields, line_of};
 ghost use Rattle.f77_tree.specs.Statement.{jumps_of, statement_of};
-ghost use Rattle.f77_legal.specs.LabelTable.{IsLabelTable, noted};
+ghost use Rattle.f77_legal.specs.LabelTable.{IsLabelTable};
+ghost use Rattle.f77_legal.specs.code.LabelTable.{noted};
 ghost use Rattle.f77_legal.specs.Labels as clause;
-ghost use Rattle.f77_legal.specs.Labels.{is_double, place_of};
+ghost use Rattle.f77_legal.specs.Labels.{is_double, label_place};
 ghost use Rattle.f77_legal.specs.declared.fault.CheckFault.TheVariants as fault;
 
 use crate::fault::CheckFault;
@@ -99,7 +100,7 @@ impl Labels {
 
     /// The first statement that bears the label.
     pub fn place(&self, label: u32) -> Option<usize>
-        ensures { (program : List LineFields) → IsLabelTable self.now program → result ≡ place_of program label }
+        ensures { (program : List LineFields) → IsLabelTable self.now program → result ≡ label_place program label }
     {
         let place = self.places.get(&label)?;
         Some(place.first)
@@ -108,7 +109,7 @@ impl Labels {
     /// Whether the label, if any, stands on no statement.
     fn misses(&self, label: Option<u32>) -> bool
         ensures { (program : List LineFields) → IsLabelTable self.now program
-            → result ≡ option_map_or (λ label. not (is_some (place_of program label))) label false }
+            → result ≡ option_map_or (λ label. not (is_some (label_place program label))) label false }
     {
         match label {
             Some(label) => self.place(label).is_none(),
@@ -119,7 +120,8 @@ impl Labels {
     /// The statement that bears the label, where there is one.
     fn statement_with<'a>(&self, lines: &'a [Shared<Line>], label: Option<u32>) -> Option<&'a Stmt>
         ensures { IsLabelTable self.now (map line_of lines.now)
-            → option_map (λ stmt. statement_of stmt.now) result ≡ option_and_then (clause.statement_with (map line_of lines.now)) label }
+            → option_map (λ stmt. statement_of stmt.now) result
+            ≡ option_and_then (clause.statement_with (map line_of lines.now)) label }
     {
         let place = self.place(label?)?;
         let line = lines.get(place)?;
@@ -141,7 +143,7 @@ pub(crate) fn terminal_label(stmt: &Stmt) -> Option<u32>
 /// Whether a jump of the statement names a label that stands on none.
 fn jumps_nowhere(labels: &Labels, stmt: &Stmt) -> bool
     ensures { (program : List LineFields) → IsLabelTable labels.now program
-        → result ≡ list_any (λ label. not (is_some (place_of program label))) (jumps_of (statement_of stmt.now)) }
+        → result ≡ list_any (λ label. not (is_some (label_place program label))) (jumps_of (statement_of stmt.now)) }
 {
     for k in 0..stmt.jump_count() {
         if labels.misses(stmt.jump(k)) {
@@ -153,7 +155,8 @@ fn jumps_nowhere(labels: &Labels, stmt: &Stmt) -> bool
 
 /// Whether the statement names a label that stands on none.
 pub(crate) fn names_no_label(labels: &Labels, stmt: &Stmt) -> bool
-    ensures { (program : List LineFields) → IsLabelTable labels.now program → result ≡ clause.names_no_label program (statement_of stmt.now) }
+    ensures { (program : List LineFields)
+        → IsLabelTable labels.now program → result ≡ clause.names_no_label program (statement_of stmt.now) }
 {
     jumps_nowhere(labels, stmt) || labels.misses(terminal_label(stmt))
 }
@@ -177,7 +180,8 @@ pub(crate) fn is_target(stmt: &Stmt) -> bool
 fn leads_badly(labels: &Labels, lines: &[Shared<Line>], label: Option<u32>) -> bool
     ensures { IsLabelTable labels.now (map line_of lines.now)
         → result ≡ option_map_or
-        (λ label. option_map_or (λ target. not (clause.is_target target)) (clause.statement_with (map line_of lines.now) label) false) label false }
+        (λ label. option_map_or (λ target. not (clause.is_target target))
+        (clause.statement_with (map line_of lines.now) label) false) label false }
 {
     match labels.statement_with(lines, label) {
         Some(target) => !is_target(target),
@@ -187,7 +191,8 @@ fn leads_badly(labels: &Labels, lines: &[Shared<Line>], label: Option<u32>) -> b
 
 /// Whether a jump of the statement leads to one where control may not go.
 pub(crate) fn jumps_badly(labels: &Labels, lines: &[Shared<Line>], stmt: &Stmt) -> bool
-    ensures { IsLabelTable labels.now (map line_of lines.now) → result ≡ clause.jumps_badly (map line_of lines.now) (statement_of stmt.now) }
+    ensures { IsLabelTable labels.now (map line_of lines.now)
+        → result ≡ clause.jumps_badly (map line_of lines.now) (statement_of stmt.now) }
 {
     for k in 0..stmt.jump_count() {
         if leads_badly(labels, lines, stmt.jump(k)) {
@@ -222,7 +227,8 @@ pub fn is_terminal(stmt: &Stmt) -> bool
 
 /// Whether the statement is a DO that names one which may be no terminal statement.
 pub(crate) fn ends_badly(labels: &Labels, lines: &[Shared<Line>], stmt: &Stmt) -> bool
-    ensures { IsLabelTable labels.now (map line_of lines.now) → result ≡ clause.ends_badly (map line_of lines.now) (statement_of stmt.now) }
+    ensures { IsLabelTable labels.now (map line_of lines.now)
+        → result ≡ clause.ends_badly (map line_of lines.now) (statement_of stmt.now) }
 {
     match labels.statement_with(lines, terminal_label(stmt)) {
         Some(last) => !is_terminal(last),

@@ -2,8 +2,9 @@
 
 ghost use Rattle.std.specs.Prelude.{◌≡◌, ◌++◌, List, map, slice_get, Some, Err};
 ghost use Rattle.f77_program.specs.Program.{LineFields, line_of};
-ghost use Rattle.f77_legal.specs.Legal.{Tells, TellsFirst, name_faults, clause_faults, label_faults};
-ghost use Rattle.f77_legal.specs.Legal.{data_faults, size_faults, statement_faults, faults};
+ghost use Rattle.f77_legal.specs.Legal.{TellsFirstFault, name_faults, clause_faults, label_faults};
+ghost use Rattle.f77_legal.specs.code.Legal.{TellsFirst};
+ghost use Rattle.f77_legal.specs.Legal.{data_faults, too_large_faults, statement_faults, faults};
 ghost use Rattle.f77_legal.specs.LabelTable.{IsLabelTable};
 ghost use Rattle.f77_legal.specs.NameTable.{IsNameTable};
 ghost use Rattle.f77_legal.specs.Tables.{AreTables};
@@ -39,7 +40,8 @@ fn check_names(names: &Names, lines: &[Shared<Line>]) -> Result<(), CheckFault>
 
 #[tactic(auto, using(crate::proofs::Served::own_tables_serve))]
 fn check_clauses(tables: &Tables, list: &[Clause], lines: &[Shared<Line>]) -> Result<(), CheckFault>
-    ensures { AreTables tables.now (map line_of lines.now) → TellsFirst result (clause_faults list.now (map line_of lines.now)) }
+    ensures { AreTables tables.now (map line_of lines.now)
+        → TellsFirst result (clause_faults list.now (map line_of lines.now)) }
 {
     match tables.first_fault(list, lines) {
         Some(fault) => Err(fault),
@@ -57,7 +59,8 @@ fn check_labels(labels: &Labels) -> Result<(), CheckFault>
 }
 
 fn check_data(alloc: Global, names: &Names, lines: &[Shared<Line>]) -> Result<(), CheckFault>
-    ensures { IsNameTable names.now (map line_of lines.now) → Tells result (data_faults (map line_of lines.now)) }
+    ensures { IsNameTable names.now (map line_of lines.now)
+        → TellsFirstFault result (data_faults (map line_of lines.now)) }
 {
     match first_bad_data(alloc, names, lines)? {
         Some(line) => Err(CheckFault::BadData(line)),
@@ -66,7 +69,8 @@ fn check_data(alloc: Global, names: &Names, lines: &[Shared<Line>]) -> Result<()
 }
 
 fn check_size(names: &Names, lines: &[Shared<Line>]) -> Result<(), CheckFault>
-    ensures { IsNameTable names.now (map line_of lines.now) → TellsFirst result (size_faults (map line_of lines.now)) }
+    ensures { IsNameTable names.now (map line_of lines.now)
+        → TellsFirst result (too_large_faults (map line_of lines.now)) }
 {
     if lines.len() > MOST_STATEMENTS || names.len() > MOST_NAMES || names.has_over(MOST_ELEMENTS) {
         return Err(CheckFault::TooMany);
@@ -78,7 +82,8 @@ fn check_size(names: &Names, lines: &[Shared<Line>]) -> Result<(), CheckFault>
 ///
 /// The first fault of a name, a statement or a label is told whatever memory there is.
 pub fn judge(alloc: Global, tables: &Tables, lines: &[Shared<Line>]) -> Result<(), CheckFault>
-    ensures tells { AreTables tables.now (map line_of lines.now) → Tells result (faults (map line_of lines.now)) }
+    ensures tells { AreTables tables.now (map line_of lines.now)
+        → TellsFirstFault result (faults (map line_of lines.now)) }
     ensures told { let program = map line_of lines.now in (fault : CheckFault) → AreTables tables.now program
         → slice_get (name_faults program ++ statement_faults program) 0 ≡ Some fault → result ≡ Err fault }
 {

@@ -1,4 +1,5 @@
-//! Which programs are legal: what a program says of its names, labels, blocks and loops, and the first clause that it breaks.
+//! Which programs are legal: what a program says of its names,
+//! labels, blocks and loops, and the first clause that it breaks.
 #![tactic(auto)]
 
 pub mod blocks;

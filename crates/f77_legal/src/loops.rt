@@ -5,9 +5,9 @@ ghost use Rattle.std.specs.Option.{option_and_then, option_map_or};
 ghost use Rattle.std.specs.Str.{bytes_eq};
 ghost use Rattle.f77_program.specs.Program.{line_of};
 ghost use Rattle.f77_tree.specs.Statement.{statement_of};
-ghost use Rattle.f77_legal.specs.Labels.{statement_at};
+ghost use Rattle.f77_legal.specs.Labels.{nth_statement};
 ghost use Rattle.f77_legal.specs.Loops as loops;
-ghost use Rattle.f77_legal.specs.LoopTable as table;
+ghost use Rattle.f77_legal.specs.code.LoopTable as table;
 ghost use Rattle.f77_legal.specs.LoopTable.{IsRangeTable};
 
 use crate::holders::Ranges;
@@ -29,7 +29,7 @@ pub(crate) fn set_by(stmt: &Stmt) -> Option<&Name>
 /// The DO variable of a DO.
 #[tactic(auto, using(crate::proofs::Forms::no_variable))]
 pub(crate) fn variable_of(stmt: &Stmt) -> Option<&Name>
-    ensures { option_map (λ name. name.now) result ≡ loops.variable_of (statement_of stmt.now) }
+    ensures { option_map (λ name. name.now) result ≡ loops.do_variable_of (statement_of stmt.now) }
 {
     match stmt {
         Stmt::Loop { variable, .. } => Some(variable),
@@ -38,7 +38,8 @@ pub(crate) fn variable_of(stmt: &Stmt) -> Option<&Name>
 }
 
 fn variable_at(lines: &[Shared<Line>], d: usize) -> Option<&Name>
-    ensures { option_map (λ name. name.now) result ≡ option_and_then loops.variable_of (statement_at (map line_of lines.now) d) }
+    ensures { option_map (λ name. name.now) result
+        ≡ option_and_then loops.do_variable_of (nth_statement (map line_of lines.now) d) }
 {
     match lines.get(d) {
         Some(line) => variable_of(&line.stmt),
@@ -47,7 +48,8 @@ fn variable_at(lines: &[Shared<Line>], d: usize) -> Option<&Name>
 }
 
 fn is_variable_at(lines: &[Shared<Line>], name: &Name, d: usize) -> bool
-    ensures { result ≡ option_map_or (bytes_eq name.now) (option_and_then loops.variable_of (statement_at (map line_of lines.now) d)) false }
+    ensures { result ≡ option_map_or (bytes_eq name.now)
+        (option_and_then loops.do_variable_of (nth_statement (map line_of lines.now) d)) false }
 {
     match variable_at(lines, d) {
         Some(variable) => name == variable,
@@ -64,7 +66,8 @@ fn is_held_with(ranges: &Ranges, lines: &[Shared<Line>], i: usize, name: &Name) 
 /// Whether the statement `stmt`, of the number `i`, sets the variable of a DO whose range holds it (11.10.5).
 #[tactic(auto, using(crate::proofs::LoopTables::held_with_is))]
 pub(crate) fn sets_variable(ranges: &Ranges, lines: &[Shared<Line>], i: usize, stmt: &Stmt) -> bool
-    ensures { IsRangeTable ranges.now (map line_of lines.now) → result ≡ loops.sets_variable (map line_of lines.now) i (statement_of stmt.now) }
+    ensures { IsRangeTable ranges.now (map line_of lines.now)
+        → result ≡ loops.sets_variable (map line_of lines.now) i (statement_of stmt.now) }
 {
     match set_by(stmt) {
         Some(name) => is_held_with(ranges, lines, i, name),

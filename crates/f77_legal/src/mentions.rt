@@ -8,11 +8,13 @@ ghost use Rattle.f77_tree.specs.Declaration.{decl_of};
 ghost use Rattle.f77_nodes.specs.Node as nodes;
 ghost use Rattle.f77_nodes.specs.Node.{NodeOf, all_parts, tree_nodes, nodes_of};
 ghost use Rattle.f77_tree.specs.Statement.{statement_of};
-ghost use Rattle.f77_tree.specs.View.{trees, tree_of, place_of};
+ghost use Rattle.f77_tree.specs.View.{trees, tree_of, reference_fields};
 ghost use Rattle.f77_legal.specs.declared.fault.CheckFault.TheVariants as fault;
 ghost use Rattle.f77_legal.specs.Names.{Mention, mentions_of};
-ghost use Rattle.f77_legal.specs.NameTable.{fields_of, entries_of, once_more, first_said, with_kind, with_shape, with_bounds};
-ghost use Rattle.f77_legal.specs.NameTable.{with_fact, no_facts, with_mention, with_mentions, with_nodes, mention_of};
+ghost use Rattle.f77_legal.specs.NameTable.{facts_fields, table_entries};
+ghost use Rattle.f77_legal.specs.code.NameTable.{once_more, first_said, with_kind, with_shape};
+ghost use Rattle.f77_legal.specs.code.NameTable.{facts_with_bounds, with_fact, no_facts};
+ghost use Rattle.f77_legal.specs.code.NameTable.{with_mention, with_mentions, with_nodes, mention_of};
 
 use crate::fault::CheckFault;
 use crate::names::{Facts, Names, Times};
@@ -57,7 +59,7 @@ impl Times {
 
 impl Facts {
     fn none(alloc: Global) -> Facts
-        ensures { fields_of result ≡ no_facts }
+        ensures { facts_fields result ≡ no_facts }
     {
         Facts {
             dummy: Times::Never,
@@ -69,14 +71,14 @@ impl Facts {
     }
 
     fn note_kind(&mut self, kind: Kind)
-        ensures { fields_of self.new ≡ with_kind (fields_of self.old) kind }
+        ensures { facts_fields self.new ≡ with_kind (facts_fields self.old) kind }
     {
         self.kind = self.typed.first_kind(kind, self.kind);
         self.typed = self.typed.next();
     }
 
     fn note_shape(&mut self, alloc: Global, bounds: &[u32]) -> Result<(), CheckFault>
-        ensures noted { OnOk result (fields_of self.new ≡ with_shape (fields_of self.old) bounds.now) }
+        ensures noted { OnOk result (facts_fields self.new ≡ with_shape (facts_fields self.old) bounds.now) }
         ensures memory { IfErr result (λ f. f ≡ fault.Memory) }
     {
         match self.dimensioned {
@@ -95,7 +97,7 @@ impl Facts {
 
     #[tactic(auto, using(crate::proofs::Noting::bounds_given))]
     fn note_bounds(&mut self, alloc: Global, bounds: &[u32]) -> Result<(), CheckFault>
-        ensures noted { OnOk result (fields_of self.new ≡ with_bounds (fields_of self.old) bounds.now) }
+        ensures noted { OnOk result (facts_fields self.new ≡ facts_with_bounds (facts_fields self.old) bounds.now) }
         ensures memory { IfErr result (λ f. f ≡ fault.Memory) }
     {
         if bounds.is_empty() {
@@ -105,7 +107,8 @@ impl Facts {
     }
 
     fn note(&mut self, alloc: Global, said: Said) -> Result<(), CheckFault>
-        ensures noted { OnOk result ((name : List ℕ) → fields_of self.new ≡ with_fact (fields_of self.old) (mention_of name said.entry)) }
+        ensures noted { OnOk result
+            ((name : List ℕ) → facts_fields self.new ≡ with_fact (facts_fields self.old) (mention_of name said.entry)) }
         ensures memory { IfErr result (λ f. f ≡ fault.Memory) }
     {
         match said {
@@ -126,7 +129,8 @@ impl Facts {
 impl Names {
     fn add(&mut self, alloc: Global, name: &Name, said: Said) -> Result<(), CheckFault>
         ensures noted { get bytes_eq self.old.facts name.now ≡ None
-            → OnOk result (entries_of self.new ≡ with_mention (entries_of self.old) (mention_of name.now said.entry)) }
+            → OnOk result
+            (table_entries self.new ≡ with_mention (table_entries self.old) (mention_of name.now said.entry)) }
         ensures memory { IfErr result (λ f. f ≡ fault.Memory) }
     {
         let mut facts = Facts::none(alloc);
@@ -136,7 +140,8 @@ impl Names {
     }
 
     fn note(&mut self, alloc: Global, name: &Name, said: Said) -> Result<(), CheckFault>
-        ensures noted { OnOk result (entries_of self.new ≡ with_mention (entries_of self.old) (mention_of name.now said.entry)) }
+        ensures noted { OnOk result
+            (table_entries self.new ≡ with_mention (table_entries self.old) (mention_of name.now said.entry)) }
         ensures memory { IfErr result (λ f. f ≡ fault.Memory) }
     {
         match self.facts.get_mut(name) {
@@ -147,8 +152,9 @@ impl Names {
 
     #[cycle(trees)]
     fn note_place(&mut self, alloc: Global, place: &Ref) -> Result<(), CheckFault>
-        ensures noted { OnOk result (entries_of self.new
-            ≡ with_nodes (entries_of self.old) (nodes.target_nodes (place_of place.now).0 (trees (place_of place.now).1))) }
+        ensures noted { OnOk result (table_entries self.new
+            ≡ with_nodes (table_entries self.old)
+            (nodes.target_nodes (reference_fields place.now).0 (trees (reference_fields place.now).1))) }
         ensures memory { IfErr result (λ f. f ≡ fault.Memory) }
     {
         self.note(alloc, &place.name, Said::Plain)?;
@@ -157,7 +163,8 @@ impl Names {
 
     #[cycle(trees)]
     fn note_tree(&mut self, alloc: Global, expr: &Expr) -> Result<(), CheckFault>
-        ensures noted { OnOk result (entries_of self.new ≡ with_nodes (entries_of self.old) (tree_nodes (tree_of expr.now))) }
+        ensures noted { OnOk result
+            (table_entries self.new ≡ with_nodes (table_entries self.old) (tree_nodes (tree_of expr.now))) }
         ensures memory { IfErr result (λ f. f ≡ fault.Memory) }
     {
         match expr {
@@ -178,8 +185,8 @@ impl Names {
     #[cycle(trees)]
     #[tactic(auto, using(crate::proofs::Noting::items_more))]
     fn note_items(&mut self, alloc: Global, items: &[Expr]) -> Result<(), CheckFault>
-        ensures noted { OnOk result (entries_of self.new
-            ≡ with_nodes (entries_of self.old) (map NodeOf.Part (all_parts (trees (map tree_of items.now))))) }
+        ensures noted { OnOk result (table_entries self.new
+            ≡ with_nodes (table_entries self.old) (map NodeOf.Part (all_parts (trees (map tree_of items.now))))) }
         ensures memory { IfErr result (λ f. f ≡ fault.Memory) }
     {
         for item in items {
@@ -189,8 +196,9 @@ impl Names {
     }
 
     fn note_value(&mut self, alloc: Global, value: Option<&Expr>) -> Result<(), CheckFault>
-        ensures noted { OnOk result (entries_of self.new
-            ≡ with_nodes (entries_of self.old) (nodes.step_parts (option_map (λ value. tree_of value.now) value.entry))) }
+        ensures noted { OnOk result (table_entries self.new
+            ≡ with_nodes (table_entries self.old)
+            (nodes.step_parts (option_map (λ value. tree_of value.now) value.entry))) }
         ensures memory { IfErr result (λ f. f ≡ fault.Memory) }
     {
         match value {
@@ -207,8 +215,9 @@ impl Names {
         last: &Expr,
         step: &Option<Expr>,
     ) -> Result<(), CheckFault>
-        ensures noted { OnOk result (entries_of self.new
-            ≡ with_nodes (entries_of self.old) (nodes.parameter_nodes (tree_of first.now) (tree_of last.now) (option_map tree_of step.now))) }
+        ensures noted { OnOk result (table_entries self.new
+            ≡ with_nodes (table_entries self.old)
+            (nodes.parameter_nodes (tree_of first.now) (tree_of last.now) (option_map tree_of step.now))) }
         ensures memory { IfErr result (λ f. f ≡ fault.Memory) }
     {
         self.note_tree(alloc, first)?;
@@ -225,7 +234,8 @@ impl Names {
         last: &Expr,
         step: &Option<Expr>,
     ) -> Result<(), CheckFault>
-        ensures noted { OnOk result (entries_of self.new ≡ with_nodes (entries_of self.old) (NodeOf.Named variable.now
+        ensures noted { OnOk result
+            (table_entries self.new ≡ with_nodes (table_entries self.old) (NodeOf.Named variable.now
             ∷ nodes.parameter_nodes (tree_of first.now) (tree_of last.now) (option_map tree_of step.now))) }
         ensures memory { IfErr result (λ f. f ≡ fault.Memory) }
     {
@@ -240,8 +250,9 @@ impl Names {
         target: &Ref,
         value: &Expr,
     ) -> Result<(), CheckFault>
-        ensures noted { OnOk result (entries_of self.new
-            ≡ with_nodes (entries_of self.old) (nodes.target_nodes (place_of target.now).0 (trees (place_of target.now).1)
+        ensures noted { OnOk result (table_entries self.new
+            ≡ with_nodes (table_entries self.old)
+            (nodes.target_nodes (reference_fields target.now).0 (trees (reference_fields target.now).1)
             ++ tree_nodes (tree_of value.now))) }
         ensures memory { IfErr result (λ f. f ≡ fault.Memory) }
     {
@@ -250,7 +261,8 @@ impl Names {
     }
 
     fn note_symbols(&mut self, alloc: Global, names: &[Name]) -> Result<(), CheckFault>
-        ensures noted { OnOk result (entries_of self.new ≡ with_nodes (entries_of self.old) (map NodeOf.Named names.now)) }
+        ensures noted { OnOk result
+            (table_entries self.new ≡ with_nodes (table_entries self.old) (map NodeOf.Named names.now)) }
         ensures memory { IfErr result (λ f. f ≡ fault.Memory) }
     {
         for name in names {
@@ -260,7 +272,8 @@ impl Names {
     }
 
     fn note_declared(&mut self, alloc: Global, items: &[Decl]) -> Result<(), CheckFault>
-        ensures noted { OnOk result (entries_of self.new ≡ with_nodes (entries_of self.old) (map NodeOf.Declared (map decl_of items.now))) }
+        ensures noted { OnOk result (table_entries self.new
+            ≡ with_nodes (table_entries self.old) (map NodeOf.Declared (map decl_of items.now))) }
         ensures memory { IfErr result (λ f. f ≡ fault.Memory) }
     {
         for item in items {
@@ -271,15 +284,16 @@ impl Names {
 
     #[tactic(auto, using(crate::proofs::Noting::values_unnamed))]
     fn note_group(&mut self, alloc: Global, group: &DataGroup) -> Result<(), CheckFault>
-        ensures noted { OnOk result (entries_of self.new ≡ with_nodes (entries_of self.old) (nodes.group_nodes (data_group_of group.now))) }
+        ensures noted { OnOk result (table_entries self.new
+            ≡ with_nodes (table_entries self.old) (nodes.group_nodes (data_group_of group.now))) }
         ensures memory { IfErr result (λ f. f ≡ fault.Memory) }
     {
         self.note_symbols(alloc, &group.names)
     }
 
     fn note_groups(&mut self, alloc: Global, groups: &[DataGroup]) -> Result<(), CheckFault>
-        ensures noted { OnOk result (entries_of self.new
-            ≡ with_nodes (entries_of self.old) (flat_map nodes.group_nodes (map data_group_of groups.now))) }
+        ensures noted { OnOk result (table_entries self.new
+            ≡ with_nodes (table_entries self.old) (flat_map nodes.group_nodes (map data_group_of groups.now))) }
         ensures memory { IfErr result (λ f. f ≡ fault.Memory) }
     {
         for group in groups {
@@ -291,7 +305,8 @@ impl Names {
     /// Notes the names of a statement, whatever it says of them.
     #[tactic(auto, using(crate::proofs::Noting::nodes_append))]
     fn note_nodes(&mut self, alloc: Global, stmt: &Stmt) -> Result<(), CheckFault>
-        ensures noted { OnOk result (entries_of self.new ≡ with_nodes (entries_of self.old) (nodes_of (statement_of stmt.now))) }
+        ensures noted { OnOk result
+            (table_entries self.new ≡ with_nodes (table_entries self.old) (nodes_of (statement_of stmt.now))) }
         ensures memory { IfErr result (λ f. f ≡ fault.Memory) }
     {
         match stmt {
@@ -319,7 +334,8 @@ impl Names {
     }
 
     fn note_dummies(&mut self, alloc: Global, names: &[Name]) -> Result<(), CheckFault>
-        ensures noted { OnOk result (entries_of self.new ≡ with_mentions (entries_of self.old) (map Mention.Dummy names.now)) }
+        ensures noted { OnOk result
+            (table_entries self.new ≡ with_mentions (table_entries self.old) (map Mention.Dummy names.now)) }
         ensures memory { IfErr result (λ f. f ≡ fault.Memory) }
     {
         for name in names {
@@ -329,7 +345,8 @@ impl Names {
     }
 
     fn note_typed(&mut self, alloc: Global, kind: Kind, items: &[Decl]) -> Result<(), CheckFault>
-        ensures noted { OnOk result (entries_of self.new ≡ with_mentions (entries_of self.old) (map (Mention.Typed kind) (map decl_of items.now))) }
+        ensures noted { OnOk result (table_entries self.new
+            ≡ with_mentions (table_entries self.old) (map (Mention.Typed kind) (map decl_of items.now))) }
         ensures memory { IfErr result (λ f. f ≡ fault.Memory) }
     {
         for item in items {
@@ -339,7 +356,8 @@ impl Names {
     }
 
     fn note_dimensioned(&mut self, alloc: Global, items: &[Decl]) -> Result<(), CheckFault>
-        ensures noted { OnOk result (entries_of self.new ≡ with_mentions (entries_of self.old) (map Mention.Dimensioned (map decl_of items.now))) }
+        ensures noted { OnOk result (table_entries self.new
+            ≡ with_mentions (table_entries self.old) (map Mention.Dimensioned (map decl_of items.now))) }
         ensures memory { IfErr result (λ f. f ≡ fault.Memory) }
     {
         for item in items {
@@ -351,7 +369,8 @@ impl Names {
     /// Notes what a statement says of the names that it mentions.
     #[tactic(auto, using(crate::proofs::Forms::plain_mentions))]
     pub(crate) fn note_statement(&mut self, alloc: Global, stmt: &Stmt) -> Result<(), CheckFault>
-        ensures noted { OnOk result (entries_of self.new ≡ with_mentions (entries_of self.old) (mentions_of (statement_of stmt.now))) }
+        ensures noted { OnOk result
+            (table_entries self.new ≡ with_mentions (table_entries self.old) (mentions_of (statement_of stmt.now))) }
         ensures memory { IfErr result (λ f. f ≡ fault.Memory) }
     {
         match stmt {

@@ -1,7 +1,7 @@
 //! The table of names: each variable and array with what the declarations say of it.
 
-ghost use Rattle.std.specs.Prelude.{◌≡◌, ◌-◌, ◌^◌, ◌||◌};
-ghost use Rattle.std.specs.Prelude.{List, nat_lt, not, map, filter, sum, min, slice_get, option_map, is_some, length, false, IfOk, IfErr};
+ghost use Rattle.std.specs.Prelude.{◌≡◌, ◌-◌, ◌^◌, ◌||◌, List, nat_lt, not, map, filter, sum, min};
+ghost use Rattle.std.specs.Prelude.{slice_get, option_map, is_some, length, false, IfOk, IfErr};
 ghost use Rattle.std.specs.List.{find};
 ghost use Rattle.std.specs.Map.Iter.{deref_pair};
 ghost use Rattle.std.specs.Option.{option_and_then, option_map_or};
@@ -14,7 +14,9 @@ ghost use Rattle.f77_legal.specs.Legal.{is_array};
 ghost use Rattle.f77_legal.specs.Names as named;
 ghost use Rattle.f77_legal.specs.Names.{Symbol, symbols, is_real, is_twice, unit_name};
 ghost use Rattle.f77_legal.specs.NameTable as table;
-ghost use Rattle.f77_legal.specs.NameTable.{IsNameTable, kind_at, bounds_at, dummy_at, fields_of, entry_of};
+ghost use Rattle.f77_legal.specs.code.NameTable as table_code;
+ghost use Rattle.f77_legal.specs.NameTable.{IsNameTable, kind_at, array_bounds, facts_fields, entry_of};
+ghost use Rattle.f77_legal.specs.code.NameTable.{dummy_at};
 ghost use Rattle.f77_legal.specs.Presets as presets;
 ghost use Rattle.f77_legal.specs.Presets.{product};
 
@@ -50,7 +52,7 @@ pub struct Names {
 
 impl Times {
     fn is_never(self) -> bool
-        ensures { result ≡ table.is_never self }
+        ensures { result ≡ table_code.is_never self }
     {
         match self {
             Times::Never => true,
@@ -60,7 +62,7 @@ impl Times {
     }
 
     fn is_more(self) -> bool
-        ensures { result ≡ table.is_more self }
+        ensures { result ≡ table_code.is_more self }
     {
         match self {
             Times::Never => false,
@@ -81,19 +83,20 @@ fn is_integer_name(name: &Name) -> bool
 }
 
 fn tells_real(name: &Name, facts: &Facts) -> bool
-    ensures { result ≡ table.tells_real (name.now, fields_of facts.now) }
+    ensures { result ≡ table_code.tells_real (name.now, facts_fields facts.now) }
 {
     facts.typed.is_never() && !is_integer_name(name)
 }
 
 fn is_taken(name: &Name, unit: Option<&Name>) -> bool
-    ensures { result ≡ (option_map_or (bytes_eq name.now) (option_map (λ n. n.now) unit.entry) false || is_some (function_named name.now)) }
+    ensures { result ≡ (option_map_or (bytes_eq name.now) (option_map (λ n. n.now) unit.entry) false
+        || is_some (function_named name.now)) }
 {
     unit.is_some_and(|own| name == own) || Intrinsic::named(name.as_str().as_bytes()).is_some()
 }
 
 fn tells_twice(name: &Name, facts: &Facts, unit: Option<&Name>) -> bool
-    ensures { result ≡ table.tells_twice (option_map (λ n. n.now) unit.entry) (name.now, fields_of facts.now) }
+    ensures { result ≡ table_code.tells_twice (option_map (λ n. n.now) unit.entry) (name.now, facts_fields facts.now) }
 {
     facts.typed.is_more()
         || facts.dimensioned.is_more()
@@ -114,7 +117,7 @@ pub fn product(bounds: &[u32]) -> u64
 
 /// The elements of an array, 0 for a variable.
 fn array_size(facts: &Facts) -> u64
-    ensures { result ≡ min (table.array_size (fields_of facts.now)) (2 ^ 64 - 1) }
+    ensures { result ≡ min (table_code.array_size (facts_fields facts.now)) (2 ^ 64 - 1) }
 {
     if facts.bounds.is_empty() {
         return 0;
@@ -156,7 +159,7 @@ impl Names {
 
     /// The bounds of a name, none for a variable.
     pub fn bounds(&self, name: &Name) -> &[u32]
-        ensures { result.now ≡ bounds_at self.now name.now }
+        ensures { result.now ≡ array_bounds self.now name.now }
     {
         match self.facts.get(name) {
             Some(facts) => &facts.bounds,
@@ -182,7 +185,7 @@ impl Names {
     }
 
     fn find_real(&self) -> Option<(&Name, &Facts)>
-        ensures { option_map deref_pair result ≡ find (λ e. table.tells_real (entry_of e)) self.now.facts.entries }
+        ensures { option_map deref_pair result ≡ find (λ e. table_code.tells_real (entry_of e)) self.now.facts.entries }
     {
         self.facts
             .iter()
@@ -199,16 +202,19 @@ impl Names {
 
     fn find_twice(&self, unit: Option<&Name>) -> Option<(&Name, &Facts)>
         ensures { option_map deref_pair result
-            ≡ find (λ e. table.tells_twice (option_map (λ n. n.now) unit.entry) (entry_of e)) self.now.facts.entries }
+            ≡ find (λ e. table_code.tells_twice (option_map (λ n. n.now) unit.entry) (entry_of e))
+            self.now.facts.entries }
     {
         self.facts
             .iter()
             .find(|(name, facts)| tells_twice(name, facts, unit))
     }
 
-    /// The first name that is typed, given bounds or a dummy argument twice, or that names the unit or a function as well.
+    /// The first name that is typed, given bounds or a dummy
+    /// argument twice, or that names the unit or a function as well.
     pub(crate) fn first_twice(&self, unit: Option<&Name>) -> Option<&Name>
-        ensures { (program : List LineFields) → IsNameTable self.now program → option_map (λ n. n.now) unit.entry ≡ unit_name program
+        ensures { (program : List LineFields)
+            → IsNameTable self.now program → option_map (λ n. n.now) unit.entry ≡ unit_name program
             → option_map (λ name. name.now) result ≡ slice_get (filter (is_twice program) (symbols program)) 0 }
     {
         self.find_twice(unit).map(|(name, _)| name)
@@ -216,7 +222,8 @@ impl Names {
 
     /// The elements of all arrays, the largest `u64` for more than that.
     fn elements(&self) -> u64
-        ensures { result ≡ min (sum (map (λ f. table.array_size (fields_of f)) (values self.now.facts))) (2 ^ 64 - 1) }
+        ensures { result
+            ≡ min (sum (map (λ f. table_code.array_size (facts_fields f)) (values self.now.facts))) (2 ^ 64 - 1) }
     {
         self.facts.values().fold(
             0,
@@ -227,7 +234,8 @@ impl Names {
     /// Whether all arrays have more elements than this.
     pub(crate) fn has_over(&self, limit: u32) -> bool
         ensures { (program : List LineFields) → IsNameTable self.now program
-            → result ≡ nat_lt limit (sum (map (presets.elements program) (filter (is_array program) (symbols program)))) }
+            → result
+            ≡ nat_lt limit (sum (map (presets.preset_elements program) (filter (is_array program) (symbols program)))) }
     {
         self.elements() > u64::from(limit)
     }

@@ -5,8 +5,8 @@ ghost use Rattle.f77_program.specs.Program.{line_of};
 ghost use Rattle.f77_tree.specs.Statement.{statement_of, Statement};
 ghost use Rattle.f77_tree.specs.Tree.{Tree};
 ghost use Rattle.f77_tree.specs.View.{tree_of, trees};
-ghost use Rattle.f77_legal.specs.Clause.{breaks, fault_at};
-ghost use Rattle.f77_legal.specs.Frames as frames;
+ghost use Rattle.f77_legal.specs.Clause.{breaks, clause_fault};
+ghost use Rattle.f77_legal.specs.code.Frames as frames;
 ghost use Rattle.f77_legal.specs.Frames.{framed};
 ghost use Rattle.f77_legal.specs.NameTable.{has_name};
 ghost use Rattle.f77_legal.specs.Patches as patches;
@@ -22,7 +22,8 @@ use f77_tree::{Expr, Form, Name, Shared, Stmt};
 
 /// Whether the statement is a DO with this label and this variable.
 fn is_loop_with(stmt: &Stmt, terminal: u32, name: &Name) -> bool
-    ensures { result ≡ true → framed (statement_of stmt.now) ≡ Statement.Loop terminal name.now (Tree.Number 0) (Tree.Number 0) None }
+    ensures { result ≡ true
+        → framed (statement_of stmt.now) ≡ Statement.Loop terminal name.now (Tree.Number 0) (Tree.Number 0) None }
 {
     match stmt {
         Stmt::Loop {
@@ -41,8 +42,8 @@ fn is_framed_out(form: Form) -> bool
     matches!(form, Form::LogicalIf) || form.acts()
 }
 
-/// Whether a program keeps its declarations, labels, blocks and ranges when the one statement takes the place of the other:
-/// both are actions or logical IFs, or both begin or end the same, and a DO keeps its label and its variable.
+/// Whether a program keeps its declarations, labels, blocks and ranges when the one statement takes the place of the
+/// other: both are actions or logical IFs, or both begin or end the same, and a DO keeps its label and its variable.
 ///
 /// Of two declarations it is not told.
 #[tactic(auto, using(crate::proofs::Frames::framed_out))]
@@ -136,7 +137,8 @@ impl Names {
 }
 
 impl Tables {
-    /// The first of these clauses that the statement breaks, which has this number from 0 and this line: what is told of it.
+    /// The first of these clauses that the statement breaks, which
+    /// has this number from 0 and this line: what is told of it.
     fn first_broken(
         &self,
         list: &[Clause],
@@ -146,7 +148,8 @@ impl Tables {
         stmt: &Stmt,
     ) -> Option<CheckFault>
         ensures { let program = map line_of lines.now in Serve self.now program → result
-            ≡ slice_get (map (λ clause. fault_at clause line) (filter (λ clause. breaks clause program i (statement_of stmt.now)) list.now)) 0 }
+            ≡ slice_get (map (λ clause. clause_fault clause line)
+            (filter (λ clause. breaks clause program i (statement_of stmt.now)) list.now)) 0 }
     {
         for clause in list {
             if self.breaks(*clause, lines, i, stmt) {
@@ -156,8 +159,8 @@ impl Tables {
         None
     }
 
-    /// What is told of the statement `stmt`, of the number `i` from 0 and on this line, where only it may break a clause: the
-    /// first of its clauses that it breaks. It takes no memory.
+    /// What is told of the statement `stmt`, of the number `i` from 0 and on this line, where
+    /// only it may break a clause: the first of its clauses that it breaks. It takes no memory.
     pub fn own_fault(
         &self,
         lines: &[Shared<Line>],
@@ -165,7 +168,8 @@ impl Tables {
         line: u32,
         stmt: &Stmt,
     ) -> Option<CheckFault>
-        ensures { Serve self.now (map line_of lines.now) → result ≡ patches.own_fault (map line_of lines.now) i line (statement_of stmt.now) }
+        ensures { Serve self.now (map line_of lines.now)
+            → result ≡ patches.own_statement_fault (map line_of lines.now) i line (statement_of stmt.now) }
     {
         self.first_broken(
             &[

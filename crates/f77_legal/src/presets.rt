@@ -1,6 +1,7 @@
 //! The names and the values of DATA.
 
-ghost use Rattle.std.specs.Prelude.{◌≡◌, ◌==◌, ◌||◌, ◌≤◌, ◌*◌, ◌++◌, false, not, [], ◌∷◌, length, map, min, option_map, slice_get, IfOk, IfErr};
+ghost use Rattle.std.specs.Prelude.{◌≡◌, ◌==◌, ◌||◌, ◌≤◌, ◌*◌, ◌++◌, false, not, [], ◌∷◌};
+ghost use Rattle.std.specs.Prelude.{length, map, min, option_map, slice_get, IfOk, IfErr};
 ghost use Rattle.std.specs.List.{list_all, list_any};
 ghost use Rattle.std.specs.Str.{bytes_eq};
 ghost use Rattle.f77_tree.specs.Data.{data_group_of};
@@ -9,10 +10,12 @@ ghost use Rattle.f77_tree.specs.Statement.{statement_of};
 ghost use Rattle.f77_legal.specs.declared.fault.CheckFault.TheVariants as fault;
 ghost use Rattle.f77_legal.specs.Kinds as kinds;
 ghost use Rattle.f77_legal.specs.Clause.{lines_where};
-ghost use Rattle.f77_legal.specs.NameTable.{kind_at, bounds_at, dummy_at, IsNameTable};
+ghost use Rattle.f77_legal.specs.NameTable.{kind_at, array_bounds, IsNameTable};
+ghost use Rattle.f77_legal.specs.code.NameTable.{dummy_at};
 ghost use Rattle.f77_legal.specs.Presets as presets;
 ghost use Rattle.f77_legal.specs.Presets.{product, groups_of, presets_badly};
-ghost use Rattle.f77_legal.specs.Runs.{kinds_in, kinds_left, behind, fills, misplaces, group_names, groups_break, breaks_data, names_held};
+ghost use Rattle.f77_legal.specs.code.Runs.{kinds_in, kinds_left, behind_kinds, fills, misplaces};
+ghost use Rattle.f77_legal.specs.code.Runs.{names_of_groups, groups_break, breaks_data, names_held};
 
 use crate::fault::CheckFault;
 use crate::kinds::same_kind;
@@ -71,7 +74,7 @@ fn may_give(rest: Remaining<'_>, kind: Kind) -> bool
 
 /// What is left behind so many of this kind, None where others stand before.
 fn take_run(mut rest: Remaining<'_>, mut wanted: u128, kind: Kind) -> Option<Remaining<'_>>
-    ensures { option_map kinds_left result ≡ behind wanted kind (kinds_left rest.entry) }
+    ensures { option_map kinds_left result ≡ behind_kinds wanted kind (kinds_left rest.entry) }
 {
     while rest.times < wanted {
         if !may_give(rest, kind) {
@@ -112,7 +115,7 @@ fn is_used_up(rest: Remaining<'_>) -> bool
 
 /// Whether the values of the group are as many as the elements of its names, and each of the kind of its element.
 fn is_filled(names: &Names, group: &DataGroup) -> bool
-    ensures { result ≡ fills (bounds_at names.now) (kind_at names.now) (data_group_of group.now) }
+    ensures { result ≡ fills (array_bounds names.now) (kind_at names.now) (data_group_of group.now) }
 {
     let most = count(&group.values) + 1;
     let mut rest = Remaining {
@@ -133,7 +136,8 @@ fn is_filled(names: &Names, group: &DataGroup) -> bool
 #[tactic(auto, using(crate::proofs::Misplaced::held_more))]
 fn note<'a>(seen: &mut IndexSet<&'a Name>, name: &'a Name) -> Result<bool, CheckFault>
     ensures before { IfOk result (λ before. before ≡ list_any (bytes_eq name.now) (names_held seen.old.keys)) }
-    ensures noted { IfOk result (λ before. before ≡ false → names_held seen.new.keys ≡ names_held seen.old.keys ++ name.now ∷ []) }
+    ensures noted { IfOk result
+        (λ before. before ≡ false → names_held seen.new.keys ≡ names_held seen.old.keys ++ name.now ∷ []) }
     ensures memory { IfErr result (λ e. e ≡ fault.Memory) }
 {
     let is_new = seen.insert(name)?;
@@ -146,8 +150,10 @@ fn is_misplaced<'a>(
     seen: &mut IndexSet<&'a Name>,
     name: &'a Name,
 ) -> Result<bool, CheckFault>
-    ensures misplaced { IfOk result (λ bad. bad ≡ (dummy_at names.now name.now || list_any (bytes_eq name.now) (names_held seen.old.keys))) }
-    ensures noted { IfOk result (λ bad. bad ≡ false → names_held seen.new.keys ≡ names_held seen.old.keys ++ name.now ∷ []) }
+    ensures misplaced { IfOk result
+        (λ bad. bad ≡ (dummy_at names.now name.now || list_any (bytes_eq name.now) (names_held seen.old.keys))) }
+    ensures noted { IfOk result
+        (λ bad. bad ≡ false → names_held seen.new.keys ≡ names_held seen.old.keys ++ name.now ∷ []) }
     ensures memory { IfErr result (λ e. e ≡ fault.Memory) }
 {
     if names.is_dummy(name) {
@@ -163,7 +169,8 @@ fn are_misplaced<'a>(
     items: &'a [Name],
 ) -> Result<bool, CheckFault>
     ensures misplaced { IfOk result (λ bad. bad ≡ misplaces (dummy_at names.now) (names_held seen.old.keys) items.now) }
-    ensures noted { IfOk result (λ bad. bad ≡ false → names_held seen.new.keys ≡ names_held seen.old.keys ++ items.now) }
+    ensures noted { IfOk result
+        (λ bad. bad ≡ false → names_held seen.new.keys ≡ names_held seen.old.keys ++ items.now) }
     ensures memory { IfErr result (λ e. e ≡ fault.Memory) }
 {
     for item in items {
@@ -181,9 +188,10 @@ fn are_groups_misplaced<'a>(
     groups: &'a [DataGroup],
 ) -> Result<bool, CheckFault>
     ensures misplaced { IfOk result
-        (λ bad. bad ≡ misplaces (dummy_at names.now) (names_held seen.old.keys) (group_names (map data_group_of groups.now))) }
+        (λ bad. bad ≡ misplaces (dummy_at names.now) (names_held seen.old.keys) (names_of_groups
+        (map data_group_of groups.now))) }
     ensures noted { IfOk result (λ bad. bad ≡ false → names_held seen.new.keys
-        ≡ names_held seen.old.keys ++ group_names (map data_group_of groups.now)) }
+        ≡ names_held seen.old.keys ++ names_of_groups (map data_group_of groups.now)) }
     ensures memory { IfErr result (λ e. e ≡ fault.Memory) }
 {
     for group in groups {
@@ -195,7 +203,8 @@ fn are_groups_misplaced<'a>(
 }
 
 fn is_one_unfilled(names: &Names, groups: &[DataGroup]) -> bool
-    ensures { result ≡ list_any (λ g. not (fills (bounds_at names.now) (kind_at names.now) g)) (map data_group_of groups.now) }
+    ensures { result
+        ≡ list_any (λ g. not (fills (array_bounds names.now) (kind_at names.now) g)) (map data_group_of groups.now) }
 {
     for group in groups {
         if !is_filled(names, group) {
@@ -211,10 +220,11 @@ fn groups_break<'a>(
     groups: &'a [DataGroup],
 ) -> Result<bool, CheckFault>
     ensures breaks { IfOk result
-        (λ bad. bad ≡ groups_break (bounds_at names.now) (kind_at names.now) (dummy_at names.now) (names_held seen.old.keys)
+        (λ bad. bad
+        ≡ groups_break (array_bounds names.now) (kind_at names.now) (dummy_at names.now) (names_held seen.old.keys)
         (map data_group_of groups.now)) }
     ensures noted { IfOk result (λ bad. bad ≡ false → names_held seen.new.keys
-        ≡ names_held seen.old.keys ++ group_names (map data_group_of groups.now)) }
+        ≡ names_held seen.old.keys ++ names_of_groups (map data_group_of groups.now)) }
     ensures memory { IfErr result (λ e. e ≡ fault.Memory) }
 {
     if are_groups_misplaced(names, seen, groups)? {
@@ -223,7 +233,8 @@ fn groups_break<'a>(
     Ok(is_one_unfilled(names, groups))
 }
 
-/// Whether the statement presets badly, behind statements whose names of DATA are noted; notes its own where it does not.
+/// Whether the statement presets badly, behind statements whose
+/// names of DATA are noted; notes its own where it does not.
 #[tactic(auto, using(crate::proofs::Misplaced::none_noted, crate::proofs::Forms::no_groups))]
 fn breaks_data<'a>(
     names: &Names,
@@ -231,9 +242,11 @@ fn breaks_data<'a>(
     stmt: &'a Stmt,
 ) -> Result<bool, CheckFault>
     ensures breaks { IfOk result
-        (λ bad. bad ≡ breaks_data (bounds_at names.now) (kind_at names.now) (dummy_at names.now) (names_held seen.old.keys) (statement_of stmt.now)) }
+        (λ bad. bad
+        ≡ breaks_data (array_bounds names.now) (kind_at names.now) (dummy_at names.now) (names_held seen.old.keys)
+        (statement_of stmt.now)) }
     ensures noted { IfOk result (λ bad. bad ≡ false → names_held seen.new.keys
-        ≡ names_held seen.old.keys ++ group_names (groups_of (statement_of stmt.now))) }
+        ≡ names_held seen.old.keys ++ names_of_groups (groups_of (statement_of stmt.now))) }
     ensures memory { IfErr result (λ e. e ≡ fault.Memory) }
 {
     match stmt {
@@ -249,7 +262,8 @@ pub(crate) fn first_bad_data(
     lines: &[Shared<Line>],
 ) -> Result<Option<u32>, CheckFault>
     ensures line { IsNameTable names.now (map line_of lines.now)
-        → IfOk result (λ line. line ≡ slice_get (lines_where (presets_badly (map line_of lines.now)) (map line_of lines.now)) 0) }
+        → IfOk result
+        (λ line. line ≡ slice_get (lines_where (presets_badly (map line_of lines.now)) (map line_of lines.now)) 0) }
     ensures memory { IfErr result (λ e. e ≡ fault.Memory) }
 {
     let mut seen = IndexSet::new(alloc);

@@ -3,7 +3,7 @@
 ghost use Rattle.std.specs.Prelude.{◌≡◌, ◌||◌, List, length, map, slice_get, IfOk, IfErr, false};
 ghost use Rattle.std.specs.Option.{option_map_or};
 ghost use Rattle.f77_legal.specs.Blocks.{first_numbers};
-ghost use Rattle.f77_legal.specs.Labels.{place_of};
+ghost use Rattle.f77_legal.specs.Labels.{label_place};
 ghost use Rattle.f77_program.specs.Program.{LineFields, line_of};
 ghost use Rattle.f77_tree.specs.Statement.{statement_of};
 ghost use Rattle.f77_legal.specs.Clause as clauses;
@@ -12,7 +12,8 @@ ghost use Rattle.f77_legal.specs.Loops as loops;
 ghost use Rattle.f77_legal.specs.LoopTable.{IsRangeTable};
 ghost use Rattle.f77_legal.specs.LabelTable.{IsLabelTable};
 ghost use Rattle.f77_legal.specs.BlockTable.{IsBlockTable};
-ghost use Rattle.f77_legal.specs.Tables.{AreTables, Serve, terminal_of, closed_branch_end};
+ghost use Rattle.f77_legal.specs.Tables.{AreTables, Serve};
+ghost use Rattle.f77_legal.specs.code.Tables.{terminal_of, closed_branch_end};
 ghost use Rattle.f77_legal.specs.declared.fault.CheckFault.TheVariants.{Memory};
 
 use crate::blocks::Blocks;
@@ -39,7 +40,8 @@ pub struct Tables {
 
 /// The terminal statement of a DO, None for another statement.
 fn terminal(labels: &Labels, stmt: &Stmt) -> Option<usize>
-    ensures { (program : List LineFields) → IsLabelTable labels.now program → result ≡ terminal_of program (statement_of stmt.now) }
+    ensures { (program : List LineFields)
+        → IsLabelTable labels.now program → result ≡ terminal_of program (statement_of stmt.now) }
 {
     labels.place(terminal_label(stmt)?)
 }
@@ -100,7 +102,9 @@ impl Tables {
     /// Whether control goes into a range or a branch where it goes from the statement `i` to this label, if any.
     fn leads_in(&self, i: usize, label: Option<u32>) -> bool
         ensures { (program : List LineFields) → Serve self.now program
-            → result ≡ option_map_or (λ label. option_map_or (loops.goes_in program i) (place_of program label) false) label false }
+            → result
+            ≡ option_map_or
+            (λ label. option_map_or (loops.goes_in program i) (label_place program label) false) label false }
     {
         let Some(label) = label else {
             return false;
@@ -113,7 +117,8 @@ impl Tables {
 
     /// Whether a jump of the statement `stmt`, of the number `i`, leads into a range or a branch.
     fn jumps_in(&self, i: usize, stmt: &Stmt) -> bool
-        ensures { (program : List LineFields) → Serve self.now program → result ≡ loops.jumps_in program i (statement_of stmt.now) }
+        ensures { (program : List LineFields)
+            → Serve self.now program → result ≡ loops.jumps_in program i (statement_of stmt.now) }
     {
         for k in 0..stmt.jump_count() {
             if self.leads_in(i, stmt.jump(k)) {
@@ -125,7 +130,8 @@ impl Tables {
 
     /// Whether the statement, which has this number from 0, breaks the clause.
     pub fn breaks(&self, clause: Clause, lines: &[Shared<Line>], i: usize, stmt: &Stmt) -> bool
-        ensures { Serve self.now (map line_of lines.now) → result ≡ clauses.breaks clause (map line_of lines.now) i (statement_of stmt.now) }
+        ensures { Serve self.now (map line_of lines.now)
+            → result ≡ clauses.breaks clause (map line_of lines.now) i (statement_of stmt.now) }
     {
         match clause {
             Clause::Kinds => !kinds_agree(&self.names, stmt),
@@ -142,7 +148,9 @@ impl Tables {
     /// The line of the first statement that breaks the clause.
     fn first_line(&self, clause: Clause, lines: &[Shared<Line>]) -> Option<u32>
         ensures { Serve self.now (map line_of lines.now)
-            → result ≡ slice_get (clauses.lines_where (clauses.breaks clause (map line_of lines.now)) (map line_of lines.now)) 0 }
+            → result
+            ≡ slice_get
+            (clauses.lines_where (clauses.breaks clause (map line_of lines.now)) (map line_of lines.now)) 0 }
     {
         for i in 0..lines.len() {
             let line = &lines[i];
@@ -155,7 +163,8 @@ impl Tables {
 
     /// The first fault of the clauses, one after another.
     pub(crate) fn first_fault(&self, list: &[Clause], lines: &[Shared<Line>]) -> Option<CheckFault>
-        ensures { Serve self.now (map line_of lines.now) → result ≡ slice_get (clause_faults list.now (map line_of lines.now)) 0 }
+        ensures { Serve self.now (map line_of lines.now)
+            → result ≡ slice_get (clause_faults list.now (map line_of lines.now)) 0 }
     {
         for clause in list {
             if let Some(line) = self.first_line(*clause, lines) {

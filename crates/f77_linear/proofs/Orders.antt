@@ -3,7 +3,7 @@ use Rattle.std.proofs.Common.{arith, ◌≡◌, ℕ, zero, suc, List, [], ◌∷
 use Rattle.std.specs.Prelude.{◌+ℤ◌, ◌-ℤ◌, ◌*ℤ◌, ◌≤ℤ◌, if◌then◌else◌}
 use Rattle.std.proofs.lemmas.Int.{ints}
 use Rattle.std.proofs.lemmas.List.Elements.{All-push}
-use Rattle.f77_values.specs.Number.{is_below, is_same, negated, size}
+use Rattle.f77_values.specs.Number.{is_below, is_same, negated, without_sign}
 use Rattle.f77_facts.proofs.Comparisons.{below_lt, not_below_le, same_equal}
 use Rattle.f77_code.specs.Moves.{Cells}
 use Rattle.f77_facts.specs.declared.known.Known.{Known}
@@ -52,7 +52,7 @@ pub greatest_is : (u v : ℤ) → pos 1 *ℤ v +ℤ pos 1 *ℤ above_zero (u -�
 greatest_is u v = greatest_apart u v (u -ℤ v) refl (is_below u v) refl
 
 -- the size of a number, by what is above 0
-pub size_is : (z : ℤ) → pos 2 *ℤ above_zero z +ℤ negsuc 0 *ℤ z ≡ size z
+pub size_is : (z : ℤ) → pos 2 *ℤ above_zero z +ℤ negsuc 0 *ℤ z ≡ without_sign z
 size_is (pos n) = omega (arith, ints)
 size_is (negsuc n) = omega (arith, ints)
 

@@ -11,7 +11,3 @@ IsBelow cells sum = sum_value cells sum ≤ℤ pos 0
 -- each of them is
 abbrev pub AreBelow : Cells → List Sum → Type 0
 AreBelow cells bounds = All (IsBelow cells) bounds
-
--- where the first are at most 0, so are the second
-abbrev pub Follow : List Sum → List Sum → Type 0
-Follow given more = (cells : Cells) → AreBelow cells given → AreBelow cells more

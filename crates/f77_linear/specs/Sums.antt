@@ -1,6 +1,6 @@
 -- Sums over what slots hold.
-use Rattle.std.specs.Prelude.{◌≡◌, if◌then◌else◌, ◌∷◌, ◌+ℤ◌, ◌*ℤ◌, ℕ, List, [], Option}
-use Rattle.std.specs.Prelude.{Some, None, IfSome, ℤ, pos}
+use Rattle.std.specs.Prelude.{if◌then◌else◌, ◌∷◌, ◌+ℤ◌, ◌*ℤ◌, ℕ, List, [], Option}
+use Rattle.std.specs.Prelude.{Some, None, ℤ, pos}
 use Rattle.f77_values.specs.declared.value.Value.{Value}
 use Rattle.f77_values.specs.declared.value.Value.TheVariants as held
 use Rattle.f77_code.specs.Evaluation.{held_in}
@@ -21,14 +21,9 @@ number_held cells k = as_number (held_in cells k)
 -- of each term the number that its slot holds, times its factor
 abbrev pub terms_value : Cells → List Term → ℤ
 terms_value cells [] = pos 0
-terms_value cells (term ∷ terms) = term.factor *ℤ number_held cells term.slot +ℤ terms_value cells terms
+terms_value cells (term ∷ terms) =
+    term.factor *ℤ number_held cells term.slot +ℤ terms_value cells terms
 
 -- all of them and the constant
 abbrev pub sum_value : Cells → Sum → ℤ
 sum_value cells sum = sum.constant +ℤ terms_value cells sum.terms.items
-
--- if there is a sum, it is the first, so many times, and the second, so many times
-abbrev pub IsCombined : ℤ → Sum → ℤ → Sum → Option Sum → Type 0
-IsCombined m a n b combined =
-    IfSome combined (λ sum. (cells : Cells)
-    → sum_value cells sum ≡ m *ℤ sum_value cells a +ℤ n *ℤ sum_value cells b)

@@ -3,7 +3,8 @@
 ghost use Rattle.std.specs.Prelude.{◌≡◌, ◌≤ℤ◌, pos, true, IfOk};
 ghost use Rattle.f77_code.specs.Moves.{Cells};
 ghost use Rattle.f77_facts.specs.Facts.{AreIn};
-ghost use Rattle.f77_linear.specs.Inequalities.{IsBelow, AreBelow, Follow};
+ghost use Rattle.f77_linear.specs.Inequalities.{IsBelow, AreBelow};
+ghost use Rattle.f77_linear.specs.code.Inequalities.{Follow};
 
 use crate::inequalities::{add_all, add_combined, add_known, is_refuted};
 use crate::sums::{Sum, are_zero, copy, factor_of, used_slot};

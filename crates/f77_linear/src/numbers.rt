@@ -1,12 +1,12 @@
 //! The cases of INTEGER expressions.
 
 ghost use Rattle.std.specs.Prelude.{◌≡◌, ◌*ℤ◌, ◌-ℤ◌, if◌then◌else◌, ℕ, ℤ, Ok, IfOk, IfSome};
-ghost use Rattle.f77_values.specs.Number.{is_below, size};
+ghost use Rattle.f77_values.specs.Number.{is_below, without_sign};
 ghost use Rattle.f77_code.specs.Evaluation.{calculated, number_in, slot_in};
 ghost use Rattle.f77_code.specs.Moves.{Cells};
 ghost use Rattle.f77_facts.specs.Facts.{AreIn};
 ghost use Rattle.f77_linear.specs.Cases.{IsOneOf, above_zero};
-ghost use Rattle.f77_linear.specs.Conditions.{CoversNumber};
+ghost use Rattle.f77_linear.specs.code.Conditions.{CoversNumber};
 
 use crate::cases::{Case, above_zero_cases, anything, combined_cases, multiple_cases, one_case};
 use crate::sums::{constant_sum, slot_sum};
@@ -106,7 +106,7 @@ fn greatest_cases(alloc: Global, lefts: &[Case], rights: &[Case]) -> Result<Vec<
 /// The cases of the size of a number: twice what is above 0, less the number.
 fn size_cases(alloc: Global, of: &[Case]) -> Result<Vec<Case>, AllocError>
     ensures { IfOk result (λ cases. (cells : Cells) (z : ℤ) → IsOneOf cells z of.now
-        → IsOneOf cells (size z) cases.items) }
+        → IsOneOf cells (without_sign z) cases.items) }
 {
     let above = above_zero_cases(alloc, of)?;
     combined_cases(alloc, 2, &above, -1, of)

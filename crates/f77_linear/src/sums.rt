@@ -3,7 +3,8 @@
 ghost use Rattle.std.specs.Prelude.{◌≡◌, ◌≤◌, ◌<◌, ◌+ℤ◌, ◌*ℤ◌, pos, true, length};
 ghost use Rattle.std.specs.Prelude.{slice_get, slice_set, Some, IfOk};
 ghost use Rattle.f77_code.specs.Moves.{Cells};
-ghost use Rattle.f77_linear.specs.Sums.{number_held, terms_value, sum_value, IsCombined};
+ghost use Rattle.f77_linear.specs.Sums.{number_held, terms_value, sum_value};
+ghost use Rattle.f77_linear.specs.code.Sums.{IsCombined};
 
 use std::alloc::{AllocError, Global};
 

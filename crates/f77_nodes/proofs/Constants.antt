@@ -6,7 +6,7 @@ use Rattle.std.proofs.lemmas.List.Folds.{list_all-append, list_all-map}
 use Rattle.std.proofs.Math.Bool.{and-true}
 use Rattle.f77_tree.specs.Tree.{Tree, Trees, DeclFields, GroupFields}
 use Rattle.f77_tree.specs.Statement.{Statement}
-use Rattle.f77_nodes.specs.Limits.{largest, is_label, small_tree, decl_constants, small_value, is_small, statement_constants}
+use Rattle.f77_nodes.specs.Limits.{largest, is_label, small_tree, decl_constants, small_value, is_small_node, statement_constants}
 use Rattle.f77_nodes.specs.Names.{of_value}
 use Rattle.f77_nodes.specs.Node.{NodeOf, parts, all_parts, tree_nodes, step_parts, group_nodes, target_nodes, label_nodes, parameter_nodes, nodes_of}
 
@@ -73,44 +73,44 @@ mutual
   all_small Trees.None = refl
   all_small (Trees.Then t ts) = rw (list_all-append small_tree (parts t) (all_parts ts), parts_small t, all_small ts) refl
 
-tree_small : (t : Tree) → list_all is_small (tree_nodes t) ≡ small_constants t
-tree_small t = list_all-map is_small NodeOf.Part (parts t) ∙ parts_small t
+tree_small : (t : Tree) → list_all is_small_node (tree_nodes t) ≡ small_constants t
+tree_small t = list_all-map is_small_node NodeOf.Part (parts t) ∙ parts_small t
 
-step_small : (c : Option Tree) → list_all is_small (step_parts c) ≡ of_value small_constants c
+step_small : (c : Option Tree) → list_all is_small_node (step_parts c) ≡ of_value small_constants c
 step_small None = refl
 step_small (Some t) = tree_small t
 
-names_pass : (names : List (List ℕ)) → list_all is_small (map NodeOf.Named names) ≡ true
+names_pass : (names : List (List ℕ)) → list_all is_small_node (map NodeOf.Named names) ≡ true
 names_pass [] = refl
 names_pass (name ∷ names) = names_pass names
 
-declared_small : (ds : List DeclFields) → list_all is_small (map NodeOf.Declared ds) ≡ declaration_constants ds
-declared_small ds = list_all-map is_small NodeOf.Declared ds
+declared_small : (ds : List DeclFields) → list_all is_small_node (map NodeOf.Declared ds) ≡ declaration_constants ds
+declared_small ds = list_all-map is_small_node NodeOf.Declared ds
 
-labels_small : (labels : List ℕ) → list_all is_small (map NodeOf.Labelled labels) ≡ list_all is_label labels
-labels_small labels = list_all-map is_small NodeOf.Labelled labels
+labels_small : (labels : List ℕ) → list_all is_small_node (map NodeOf.Labelled labels) ≡ list_all is_label labels
+labels_small labels = list_all-map is_small_node NodeOf.Labelled labels
 
-group_small : (g : GroupFields) → list_all is_small (group_nodes g) ≡ group_constants g
+group_small : (g : GroupFields) → list_all is_small_node (group_nodes g) ≡ group_constants g
 group_small g =
-    list_all-append is_small (map NodeOf.Named g.names) (map NodeOf.Initial g.values)
-    ∙ rw (names_pass g.names) (list_all-map is_small NodeOf.Initial g.values)
+    list_all-append is_small_node (map NodeOf.Named g.names) (map NodeOf.Initial g.values)
+    ∙ rw (names_pass g.names) (list_all-map is_small_node NodeOf.Initial g.values)
 
-groups_small : (gs : List GroupFields) → list_all is_small (flat_map group_nodes gs) ≡ data_constants gs
+groups_small : (gs : List GroupFields) → list_all is_small_node (flat_map group_nodes gs) ≡ data_constants gs
 groups_small [] = refl
-groups_small (g ∷ gs) = rw (list_all-append is_small (group_nodes g) (flat_map group_nodes gs), group_small g, groups_small gs) refl
+groups_small (g ∷ gs) = rw (list_all-append is_small_node (group_nodes g) (flat_map group_nodes gs), group_small g, groups_small gs) refl
 
-target_small : (name : List ℕ) (items : Trees) → list_all is_small (target_nodes name items) ≡ all_small_constants items
-target_small name items = list_all-map is_small NodeOf.Part (all_parts items) ∙ all_small items
+target_small : (name : List ℕ) (items : Trees) → list_all is_small_node (target_nodes name items) ≡ all_small_constants items
+target_small name items = list_all-map is_small_node NodeOf.Part (all_parts items) ∙ all_small items
 
 -- two lists of nodes, each told of its part
-both : (xs ys : List NodeOf) (b d : Bool) → list_all is_small xs ≡ b → list_all is_small ys ≡ d → list_all is_small (xs ++ ys) ≡ (b && d)
-both xs ys b d e f = list_all-append is_small xs ys ∙ rw (e, f) refl
+both : (xs ys : List NodeOf) (b d : Bool) → list_all is_small_node xs ≡ b → list_all is_small_node ys ≡ d → list_all is_small_node (xs ++ ys) ≡ (b && d)
+both xs ys b d e f = list_all-append is_small_node xs ys ∙ rw (e, f) refl
 
-three_labels : (l m n : ℕ) → list_all is_small (label_nodes l m n) ≡ (is_label l && (is_label m && is_label n))
+three_labels : (l m n : ℕ) → list_all is_small_node (label_nodes l m n) ≡ (is_label l && (is_label m && is_label n))
 three_labels l m n = rw (and-true (is_label n)) refl
 
 parameters_small : (a b : Tree) (c : Option Tree)
-    → list_all is_small (parameter_nodes a b c) ≡ (small_constants a && (small_constants b && of_value small_constants c))
+    → list_all is_small_node (parameter_nodes a b c) ≡ (small_constants a && (small_constants b && of_value small_constants c))
 parameters_small a b c =
     both (tree_nodes a) (tree_nodes b ++ step_parts c) (small_constants a) (small_constants b && of_value small_constants c) (tree_small a)
     (both (tree_nodes b) (step_parts c) (small_constants b) (of_value small_constants c) (tree_small b) (step_small c))

@@ -1,4 +1,5 @@
--- The limits of a statement, each asked of its nodes: constants, bounds, repeats and labels; and how many nodes there are.
+-- The limits of a statement, each asked of its nodes: constants,
+-- bounds, repeats and labels; and how many nodes there are.
 use Rattle.std.specs.Prelude.{ℕ, suc, ℤ, pos, negsuc, length, Bool, true, ◌&&◌, nat_le}
 use Rattle.std.specs.List.{list_all}
 use Rattle.f77_tree.specs.declared.data.Constant.{Constant}
@@ -32,30 +33,30 @@ abbrev pub decl_constants : DeclFields → Bool
 decl_constants d = list_all small_bound d.bounds
 
 -- a number without its sign
-abbrev pub size : ℤ → ℕ
-size (pos n) = n
-size (negsuc n) = suc n
+abbrev pub magnitude : ℤ → ℕ
+magnitude (pos n) = n
+magnitude (negsuc n) = suc n
 
 abbrev pub small_constant : Constant → Bool
-small_constant (Number z) = nat_le (size z) largest
+small_constant (Number z) = nat_le (magnitude z) largest
 small_constant (Truth b) = true
 
 -- a repeat is 1 at least
 abbrev pub small_value : Value → Bool
 small_value v = nat_le 1 v.times && (nat_le v.times largest && small_constant v.constant)
 
-abbrev pub is_small : NodeOf → Bool
-is_small (NodeOf.Part t) = small_tree t
-is_small (NodeOf.Declared d) = decl_constants d
-is_small (NodeOf.Labelled label) = is_label label
-is_small (NodeOf.Initial v) = small_value v
-is_small _ = true
+abbrev pub is_small_node : NodeOf → Bool
+is_small_node (NodeOf.Part t) = small_tree t
+is_small_node (NodeOf.Declared d) = decl_constants d
+is_small_node (NodeOf.Labelled label) = is_label label
+is_small_node (NodeOf.Initial v) = small_value v
+is_small_node _ = true
 
 -- constants, bounds, repeats and labels are in range
 abbrev pub statement_constants : Statement → Bool
-statement_constants s = list_all is_small (nodes_of s)
+statement_constants s = list_all is_small_node (nodes_of s)
 
--- The statement itself is a node, and so are each dummy argument, declared name, name and value of DATA, label and DO variable; the unit's
--- name, bounds and repeats are none.
+-- The statement itself is a node, and so are each dummy argument, declared name, name and
+-- value of DATA, label and DO variable; the unit's name, bounds and repeats are none.
 abbrev pub statement_nodes : Statement → ℕ
 statement_nodes s = length (nodes_of s)

@@ -32,19 +32,22 @@ decl_name d = is_short d.name
 abbrev pub declaration_names : List DeclFields → Bool
 declaration_names ds = list_all decl_name ds
 
--- The limits: names of six characters at most, numbers that INTEGER has, and a node for each name and each value.
-abbrev pub group_names : GroupFields → Bool
-group_names g = list_all is_short g.names
+-- The limits: names of six characters at most, numbers that
+-- INTEGER has, and a node for each name and each value.
+abbrev pub has_short_group_names : GroupFields → Bool
+has_short_group_names g = list_all is_short g.names
 
 abbrev pub data_names : List GroupFields → Bool
-data_names gs = list_all group_names gs
+data_names gs = list_all has_short_group_names gs
 
 abbrev pub statement_names : Statement → Bool
 statement_names (Statement.Subroutine name names) = is_short name && list_all is_short names
 statement_names (Statement.Declare kind ds) = declaration_names ds
 statement_names (Statement.Dimension ds) = declaration_names ds
 statement_names (Statement.Preset gs) = data_names gs
-statement_names (Statement.Assign name items t) = is_short name && (all_short_names items && short_names t)
+statement_names (Statement.Assign name items t) =
+    is_short name && (all_short_names items && short_names t)
 statement_names (Statement.LogicalIf t s) = short_names t && statement_names s
-statement_names (Statement.Loop label name a b c) = is_short name && (short_names a && (short_names b && of_value short_names c))
+statement_names (Statement.Loop label name a b c) =
+    is_short name && (short_names a && (short_names b && of_value short_names c))
 statement_names s = of_value short_names (value_of s)

@@ -1,5 +1,6 @@
--- The nodes of a statement, numbered from 0: the statement itself, then its parts from left to right, expressions in preorder (an
--- operator before its operands, a reference before its subscripts, a call before its arguments).
+-- The nodes of a statement, numbered from 0: the statement itself, then its
+-- parts from left to right, expressions in preorder (an operator before its
+-- operands, a reference before its subscripts, a call before its arguments).
 use Rattle.std.specs.Prelude.{ℕ, List, [], ◌∷◌, ◌++◌, map, Option, Some, None, filter_map}
 use Rattle.std.specs.List.{flat_map}
 use Rattle.f77_tree.specs.declared.data.Value.{Value}
@@ -7,11 +8,12 @@ use Rattle.f77_tree.specs.Tree.{Tree, Trees, DeclFields, GroupFields}
 use Rattle.f77_tree.specs.Statement.{Statement, statement_of}
 use Rattle.f77_nodes.specs.declared.node.Node.{Node}
 use Rattle.f77_nodes.specs.declared.node.Node.TheVariants as node
-use Rattle.f77_tree.specs.View.{trees, tree_of, place_of}
+use Rattle.f77_tree.specs.View.{trees, tree_of, reference_fields}
 use Rattle.f77_tree.specs.Declaration.{decl_of}
 
--- What a node is: a statement; the reference that an assignment assigns to; an expression or a part of one; a dummy argument, a name of DATA
--- or a DO variable; a declared name with its bounds; a label; a value of DATA with its repeat.
+-- What a node is: a statement; the reference that an assignment assigns to; an
+-- expression or a part of one; a dummy argument, a name of DATA or a DO variable;
+-- a declared name with its bounds; a label; a value of DATA with its repeat.
 pub data NodeOf : Type 0 where
   Itself : Statement → NodeOf
   Target : List ℕ → Trees → NodeOf
@@ -62,7 +64,8 @@ control_nodes label name = NodeOf.Labelled label ∷ (NodeOf.Named name ∷ [])
 abbrev pub parameter_nodes : Tree → Tree → Option Tree → List NodeOf
 parameter_nodes a b c = tree_nodes a ++ (tree_nodes b ++ step_parts c)
 
--- The nodes behind a statement's own. The statement inside a logical IF has one too; the unit's name, bounds and repeats have none.
+-- The nodes behind a statement's own. The statement inside a logical
+-- IF has one too; the unit's name, bounds and repeats have none.
 abbrev pub nodes_behind : Statement → List NodeOf
 nodes_behind (Statement.Subroutine name names) = map NodeOf.Named names
 nodes_behind (Statement.Declare kind ds) = map NodeOf.Declared ds
@@ -107,25 +110,23 @@ tree_name (Tree.Not t) = None
 tree_name (Tree.Binary op a b) = None
 tree_name (Tree.ZeroPush t) = None
 
-abbrev pub name_of : NodeOf → Option (List ℕ)
-name_of (NodeOf.Itself s) = None
-name_of (NodeOf.Target name items) = Some name
-name_of (NodeOf.Part t) = tree_name t
-name_of (NodeOf.Named name) = Some name
-name_of (NodeOf.Declared d) = Some d.name
-name_of (NodeOf.Labelled label) = None
-name_of (NodeOf.Initial v) = None
-
-abbrev pub labels_of : Statement → List ℕ
-labels_of s = filter_map label_of (nodes_of s)
+abbrev pub node_name : NodeOf → Option (List ℕ)
+node_name (NodeOf.Itself s) = None
+node_name (NodeOf.Target name items) = Some name
+node_name (NodeOf.Part t) = tree_name t
+node_name (NodeOf.Named name) = Some name
+node_name (NodeOf.Declared d) = Some d.name
+node_name (NodeOf.Labelled label) = None
+node_name (NodeOf.Initial v) = None
 
 abbrev pub names_of : Statement → List (List ℕ)
-names_of s = filter_map name_of (nodes_of s)
+names_of s = filter_map node_name (nodes_of s)
 
 -- what a node of the program stands for
 abbrev pub node_of : Node → NodeOf
 node_of (node.Statement s) = NodeOf.Itself (statement_of s.now)
-node_of (node.Target r) = NodeOf.Target (place_of r.now).0 (trees (place_of r.now).1)
+node_of (node.Target r) =
+    NodeOf.Target (reference_fields r.now).0 (trees (reference_fields r.now).1)
 node_of (node.Expression e) = NodeOf.Part (tree_of e.now)
 node_of (node.Name name) = NodeOf.Named name.now
 node_of (node.Declared d) = NodeOf.Declared (decl_of d.now)

@@ -50,7 +50,7 @@ fn is_label(label: u32) -> bool
 }
 
 fn is_small(node: &Node<'_>) -> bool
-    ensures { result ≡ limits.is_small (node_of node.now) }
+    ensures { result ≡ limits.is_small_node (node_of node.now) }
 {
     match *node {
         Node::Expression(expr) => is_small_tree(expr),
@@ -61,10 +61,10 @@ fn is_small(node: &Node<'_>) -> bool
     }
 }
 
-/// Whether each constant and bound among the nodes is one that INTEGER has, each repeat too and not 0, and each label 1 to
-/// 99999. It takes no memory.
+/// Whether each constant and bound among the nodes is one that INTEGER has,
+/// each repeat too and not 0, and each label 1 to 99999. It takes no memory.
 pub fn are_small(nodes: &[Node<'_>]) -> bool
-    ensures { result ≡ list_all limits.is_small (map node_of nodes.now) }
+    ensures { result ≡ list_all limits.is_small_node (map node_of nodes.now) }
 {
     for node in nodes {
         if !is_small(node) {

@@ -48,7 +48,7 @@ impl<'a> Node<'a> {
 
     /// The name that the node bears, where it is a reference, a declared name or a name alone.
     pub fn name(&self) -> Option<&'a Name>
-        ensures { option_map (λ name. name.now) result ≡ nodes.name_of (node_of self.now) }
+        ensures { option_map (λ name. name.now) result ≡ nodes.node_name (node_of self.now) }
     {
         match *self {
             Node::Target(place) => Some(&place.name),

@@ -21,7 +21,8 @@ pub fn nodes(alloc: Global, stmt: &Stmt) -> Result<Vec<Node<'_>>, AllocError>
 }
 
 fn add_statement<'a>(list: &mut Vec<Node<'a>>, stmt: &'a Stmt) -> Result<(), AllocError>
-    ensures { OnOk result (map node_of list.new.items ≡ map node_of list.old.items ++ nodes_of (statement_of stmt.now)) }
+    ensures { OnOk result
+        (map node_of list.new.items ≡ map node_of list.old.items ++ nodes_of (statement_of stmt.now)) }
 {
     list.push(Node::Statement(stmt))?;
     match stmt {
@@ -108,7 +109,8 @@ fn add_items<'a>(list: &mut Vec<Node<'a>>, items: &'a [Expr]) -> Result<(), Allo
 }
 
 fn add_step<'a>(list: &mut Vec<Node<'a>>, step: &'a Option<Expr>) -> Result<(), AllocError>
-    ensures { OnOk result (map node_of list.new.items ≡ map node_of list.old.items ++ step_parts (option_map tree_of step.now)) }
+    ensures { OnOk result
+        (map node_of list.new.items ≡ map node_of list.old.items ++ step_parts (option_map tree_of step.now)) }
 {
     match step {
         Some(step) => add_tree(list, step),
@@ -135,7 +137,8 @@ fn add_names<'a>(list: &mut Vec<Node<'a>>, names: &'a [Name]) -> Result<(), Allo
 }
 
 fn add_declared<'a>(list: &mut Vec<Node<'a>>, items: &'a [Decl]) -> Result<(), AllocError>
-    ensures { OnOk result (map node_of list.new.items ≡ map node_of list.old.items ++ map NodeOf.Declared (map decl_of items.now)) }
+    ensures { OnOk result
+        (map node_of list.new.items ≡ map node_of list.old.items ++ map NodeOf.Declared (map decl_of items.now)) }
 {
     for item in items {
         list.push(Node::Declared(item))?;
@@ -144,7 +147,8 @@ fn add_declared<'a>(list: &mut Vec<Node<'a>>, items: &'a [Decl]) -> Result<(), A
 }
 
 fn add_groups<'a>(list: &mut Vec<Node<'a>>, groups: &'a [DataGroup]) -> Result<(), AllocError>
-    ensures { OnOk result (map node_of list.new.items ≡ map node_of list.old.items ++ flat_map group_nodes (map data_group_of groups.now)) }
+    ensures { OnOk result (map node_of list.new.items
+        ≡ map node_of list.old.items ++ flat_map group_nodes (map data_group_of groups.now)) }
 {
     for group in groups {
         add_group(list, group)?;
@@ -153,7 +157,8 @@ fn add_groups<'a>(list: &mut Vec<Node<'a>>, groups: &'a [DataGroup]) -> Result<(
 }
 
 fn add_group<'a>(list: &mut Vec<Node<'a>>, group: &'a DataGroup) -> Result<(), AllocError>
-    ensures { OnOk result (map node_of list.new.items ≡ map node_of list.old.items ++ group_nodes (data_group_of group.now)) }
+    ensures { OnOk result
+        (map node_of list.new.items ≡ map node_of list.old.items ++ group_nodes (data_group_of group.now)) }
 {
     add_names(list, &group.names)?;
     add_values(list, &group.values)

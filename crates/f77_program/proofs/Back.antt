@@ -10,13 +10,14 @@ use Rattle.std.proofs.lemmas.Fmt.{decimal_by_steps, decimal_is_IsNumeral}
 use Rattle.std.proofs.lemmas.Bool.Decides.{nat_tests}
 use Rattle.f77_tree.proofs.Tests.{and_true, not_true}
 use Rattle.f77_tree.specs.declared.operator.Operator.{Operator}
-use Rattle.f77_tree.specs.declared.operator.Operator.TheVariants.{Equivalent, NotEquivalent, Or, And, Less, LessOrEqual, Equal, NotEqual, GreaterOrEqual, Greater, Add, Subtract, Multiply, Divide, Power}
+use Rattle.f77_tree.specs.declared.operator.Operator.TheVariants.{Equivalent, NotEquivalent, Or, And, Less, LessOrEqual, Equal, NotEqual}
+use Rattle.f77_tree.specs.declared.operator.Operator.TheVariants.{GreaterOrEqual, Greater, Add, Subtract, Multiply, Divide, Power}
 use Rattle.f77_tree.specs.Operator.{level, left_level, right_level}
 use Rattle.f77_tree.specs.Tree.{Tree, Trees}
 use Rattle.f77_tree.specs.Grammar.{Spells, SpellsReference, SpellsAll, is_name, is_call, is_digit, is_number}
 use Rattle.f77_tree.specs.StatementGrammar.{tree_in_text, trees_in_text}
 use Rattle.f77_program.specs.Canonical.{own_level, operand, text_of, list_text, rest_text}
-use Rattle.f77_program.specs.Formed.{is_reference, is_some_list, formed, all_formed}
+use Rattle.f77_program.specs.code.Formed.{is_reference, is_some_list, formed, all_formed}
 use Rattle.f77_nodes.proofs.Constants.{small_constants, all_small_constants}
 
 pub digit_is : (d : ℕ) → d < 10 → is_digit (48 + d) ≡ true

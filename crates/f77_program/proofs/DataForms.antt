@@ -7,13 +7,15 @@ use Rattle.std.proofs.lemmas.Bool.{eqb-true}
 use Rattle.f77_tree.specs.declared.data.Constant.{Constant}
 use Rattle.f77_tree.specs.declared.data.Constant.TheVariants.{Number, Truth}
 use Rattle.f77_tree.specs.declared.data.Value.{Value}
-use Rattle.f77_tree.specs.Grammar.{is_name, truth_text}
+use Rattle.f77_tree.specs.Grammar.{is_name, truth_constant_text}
 use Rattle.f77_nodes.specs.Limits.{largest, small_constant, small_value}
-use Rattle.f77_tree.specs.Joined.{Joined, some_all, separated}
+use Rattle.f77_tree.specs.Joined.{Joined, separated}
+use Rattle.f77_tree.specs.code.Joined.{some_all}
 use Rattle.f77_tree.specs.Declaration.{SpellsName, SpellsNumber}
 use Rattle.f77_tree.specs.Tree.{GroupFields}
 use Rattle.f77_tree.specs.Data.{SpellsConstant, SpellsValue, SpellsGroup, SpellsGroups, negative}
-use Rattle.f77_program.specs.Data.{any_value, is_group, data_formed, constant_text, repeat_text, value_text, name_text, group_text, groups_text}
+use Rattle.f77_program.specs.code.Data.{any_value, is_group, data_formed}
+use Rattle.f77_program.specs.Data.{constant_text, repeat_text, value_text, name_text, group_text, groups_text}
 use Rattle.f77_nodes.proofs.Constants.{group_constants, data_constants}
 use Rattle.f77_tree.proofs.Tests.{and_true}
 use Rattle.f77_program.proofs.Plain.{IsPlain, both, plain_name, plain_decimal}
@@ -61,7 +63,7 @@ name_for name h = (name, SpellsName.named h)
 constant_for : (c : Constant) → (text : List ℕ) × SpellsConstant text c
 constant_for (Number (pos n)) = let (text, p) = number_for n refl in (text, unsigned_spelled p)
 constant_for (Number (negsuc n)) = let (text, p) = number_for (suc n) refl in (45 ∷ text, minus_spelled text (suc n) p)
-constant_for (Truth b) = (truth_text b, SpellsConstant.logical b)
+constant_for (Truth b) = (truth_constant_text b, SpellsConstant.logical b)
 
 value_for : (v : Value) → any_value v ≡ true → (text : List ℕ) × SpellsValue text v
 value_for v h =

@@ -7,7 +7,8 @@ use Rattle.f77_tree.specs.Grammar.{is_name}
 use Rattle.f77_tree.specs.Joined.{separated}
 use Rattle.f77_tree.specs.Tree.{DeclFields}
 use Rattle.f77_tree.specs.Declaration.{SpellsNumber, SpellsDecl, SpellsDecls}
-use Rattle.f77_program.specs.Declaration.{is_decl, declaration_formed, bounds_text, decl_text, declarations_text}
+use Rattle.f77_program.specs.code.Declaration.{is_decl, declaration_formed}
+use Rattle.f77_program.specs.Declaration.{bounds_text, decl_text, declarations_text}
 use Rattle.f77_nodes.specs.Limits.{small_bound, decl_constants}
 use Rattle.f77_nodes.proofs.Constants.{declaration_constants}
 use Rattle.f77_tree.proofs.Tests.{and_true}

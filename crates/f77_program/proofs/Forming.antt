@@ -12,10 +12,10 @@ use Rattle.f77_tree.specs.Intrinsic.{function_name, function_named}
 use Rattle.f77_tree.specs.declared.tree.Expr.{Expr}
 use Rattle.f77_tree.specs.Tree.{Tree, Trees}
 use Rattle.f77_tree.specs.View.{tree_of, trees}
-use Rattle.f77_tree.specs.Grammar.{Spells, SpellsReference, SpellsAll, is_name, is_call, is_number, truth_text}
+use Rattle.f77_tree.specs.Grammar.{Spells, SpellsReference, SpellsAll, is_name, is_call, is_number, truth_constant_text}
 use Rattle.f77_tree.specs.StatementGrammar.{tree_in_text, trees_in_text}
 use Rattle.f77_program.specs.Canonical.{own_level, operand}
-use Rattle.f77_program.specs.Formed.{is_some_list, is_reference, formed, all_formed}
+use Rattle.f77_program.specs.code.Formed.{is_some_list, is_reference, formed, all_formed}
 use Rattle.f77_tree.proofs.Tests.{and_true}
 use Rattle.f77_program.proofs.Back.{digit_is, mod_lt, one_more, as_operand, own_low, reference_formed, no_call, call_formed}
 
@@ -106,7 +106,7 @@ mutual
   pub text_for : (t : Tree) → formed t ≡ true → Texts (tree_in_text t)
   text_for (Tree.Number n) f =
       let (text, is, value) = numeral n n (omega arith) in (text, λ v h. subst (λ m. Spells v text (Tree.Number m)) value (Spells.number is))
-  text_for (Tree.Truth b) f = (truth_text b, λ v h. Spells.truth b)
+  text_for (Tree.Truth b) f = (truth_constant_text b, λ v h. Spells.truth b)
   text_for (Tree.Reference name items) f =
       let (is, other, all) = reference_formed name items f in
       let (text, p) = reference_for items name is all in

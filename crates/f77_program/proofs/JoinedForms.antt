@@ -4,7 +4,8 @@ use Rattle.std.specs.Prelude.{◌==◌, map, codes}
 use Rattle.std.specs.List.{list_all}
 use Rattle.std.proofs.lemmas.List.{drop_more}
 use Rattle.std.proofs.lemmas.Bool.{eqb-true}
-use Rattle.f77_tree.specs.Joined.{Joined, some_all, separated}
+use Rattle.f77_tree.specs.Joined.{Joined, separated}
+use Rattle.f77_tree.specs.code.Joined.{some_all}
 use Rattle.f77_tree.proofs.Tests.{and_true}
 use Rattle.f77_program.proofs.Plain.{IsPlain, both}
 

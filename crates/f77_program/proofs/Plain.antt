@@ -12,7 +12,8 @@ use Rattle.f77_source.specs.Line.{is_blank}
 use Rattle.f77_source.specs.Law.{squeezed}
 use Rattle.f77_source.specs.Write.{is_printable}
 use Rattle.f77_tree.specs.declared.operator.Operator.{Operator}
-use Rattle.f77_tree.specs.declared.operator.Operator.TheVariants.{Equivalent, NotEquivalent, Or, And, Less, LessOrEqual, Equal, NotEqual, GreaterOrEqual, Greater, Add, Subtract, Multiply, Divide, Power}
+use Rattle.f77_tree.specs.declared.operator.Operator.TheVariants.{Equivalent, NotEquivalent, Or, And, Less, LessOrEqual, Equal, NotEqual}
+use Rattle.f77_tree.specs.declared.operator.Operator.TheVariants.{GreaterOrEqual, Greater, Add, Subtract, Multiply, Divide, Power}
 use Rattle.f77_tree.specs.declared.operator.Sign.{Sign}
 use Rattle.f77_tree.specs.declared.operator.Sign.TheVariants.{Plus, Minus}
 use Rattle.f77_tree.specs.declared.intrinsic.Intrinsic.{Intrinsic}
@@ -20,9 +21,9 @@ use Rattle.f77_tree.specs.declared.intrinsic.Intrinsic.TheVariants.{Mod, Iabs, M
 use Rattle.f77_tree.specs.Operator.{symbol, sign_symbol, left_level, right_level}
 use Rattle.f77_tree.specs.Intrinsic.{function_name}
 use Rattle.f77_tree.specs.Tree.{Tree, Trees}
-use Rattle.f77_tree.specs.Grammar.{is_letter, is_word, is_name, truth_text}
+use Rattle.f77_tree.specs.Grammar.{is_letter, is_word, is_name, truth_constant_text}
 use Rattle.f77_program.specs.Canonical.{own_level, operand, text_of, list_text, rest_text}
-use Rattle.f77_program.specs.Formed.{formed, all_formed}
+use Rattle.f77_program.specs.code.Formed.{formed, all_formed}
 use Rattle.f77_tree.proofs.Tests.{and_true}
 use Rattle.f77_program.proofs.Back.{reference_formed, no_call, call_formed}
 
@@ -69,7 +70,7 @@ pub plain_decimal : (n : ℕ) → IsPlain (decimal n)
 unfolding digits
 plain_decimal n = plain_digits 64 n [] refl
 
-pub plain_truth : (b : Bool) → IsPlain (truth_text b)
+pub plain_truth : (b : Bool) → IsPlain (truth_constant_text b)
 plain_truth true = refl
 plain_truth false = refl
 

@@ -13,13 +13,15 @@ use Rattle.f77_tree.specs.Grammar.{Spells, is_name, is_number}
 use Rattle.f77_tree.specs.Joined.{has_items, separated}
 use Rattle.f77_tree.specs.StatementGrammar.{SpellsLabel, SpellsAction, SpellsStatement, IsUnmutated, in_text, tree_in_text, trees_in_text, label_number}
 use Rattle.f77_program.specs.Canonical.{text_of, list_text, names_text, step_text}
-use Rattle.f77_program.specs.Formed.{formed, all_formed, value_formed, is_action, statement_formed}
+use Rattle.f77_program.specs.code.Formed.{formed, all_formed, value_formed, statement_formed}
+use Rattle.f77_program.specs.Formed.{is_action}
 use Rattle.f77_nodes.specs.Limits.{is_label}
 use Rattle.f77_nodes.specs.Names.{of_value}
 use Rattle.f77_nodes.proofs.Constants.{small_constants, all_small_constants, by_part}
 use Rattle.f77_program.proofs.Back.{decimal_number, own_low, small, back, back_reference}
 use Rattle.f77_tree.specs.StatementGrammar.{kind_keyword}
-use Rattle.f77_program.specs.Declaration.{declarations_text, declaration_formed}
+use Rattle.f77_program.specs.Declaration.{declarations_text}
+use Rattle.f77_program.specs.code.Declaration.{declaration_formed}
 use Rattle.f77_tree.specs.Declaration.{all_bounded}
 use Rattle.f77_program.specs.Data.{groups_text}
 use Rattle.f77_program.proofs.JoinedForms.{joined_back}

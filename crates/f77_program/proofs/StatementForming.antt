@@ -10,12 +10,13 @@ use Rattle.f77_tree.specs.Statement.{Statement}
 use Rattle.f77_tree.specs.Grammar.{is_name, is_number}
 use Rattle.f77_tree.specs.Joined.{Joined, has_items}
 use Rattle.f77_tree.specs.StatementGrammar.{SpellsLabel, SpellsAction, SpellsStatement, IsFormed, in_text, tree_in_text, label_number, label_in_text}
-use Rattle.f77_program.specs.Formed.{formed, all_formed, value_formed, is_action, statement_formed}
+use Rattle.f77_program.specs.code.Formed.{formed, all_formed, value_formed, statement_formed}
+use Rattle.f77_program.specs.Formed.{is_action}
 use Rattle.f77_tree.proofs.Tests.{and_true}
 use Rattle.f77_program.proofs.Back.{own_low, decimal_number}
 use Rattle.f77_program.proofs.Forming.{tree_formed, reference_name, reference_items, tree_in_text_formed, trees_in_text_formed, text_for, reference_for}
 use Rattle.f77_tree.specs.StatementGrammar.{kind_keyword}
-use Rattle.f77_program.specs.Declaration.{declaration_formed}
+use Rattle.f77_program.specs.code.Declaration.{declaration_formed}
 use Rattle.f77_tree.specs.Declaration.{all_bounded}
 use Rattle.f77_program.proofs.DeclarationForms.{declaration_is_formed, declaration_spelled}
 use Rattle.f77_program.proofs.DataForms.{data_is_formed, data_spelled}

@@ -6,8 +6,9 @@ use Rattle.f77_source.specs.Write.{is_bad_label, continuation_count, card_fault,
 use Rattle.f77_source.specs.declared.fault.FormFault.{FormFault}
 use Rattle.f77_source.specs.declared.fault.FormFault.TheVariants.{BadLabel, TooManyContinuations}
 use Rattle.f77_program.specs.Canonical.{statement_text}
-use Rattle.f77_program.specs.Formed.{statement_formed}
-use Rattle.f77_program.specs.Printing.{card_of, print_fault, print_faults, told}
+use Rattle.f77_program.specs.code.Formed.{statement_formed}
+use Rattle.f77_program.specs.Printing.{card_of, print_fault, print_faults}
+use Rattle.f77_program.specs.code.Printing.{told_fault}
 use Rattle.f77_program.specs.Program.{LineFields, IsProgram}
 use Rattle.f77_program.specs.declared.fault.SyntaxFault.{SyntaxFault}
 use Rattle.f77_program.specs.declared.fault.SyntaxFault.TheVariants.{Memory, BadConstant, TooLong}
@@ -25,24 +26,24 @@ program_formed IsProgram.finished = tt
 program_formed (IsProgram.next {line = line} may rest) = (is_formed line.stmt may.1, program_formed rest)
 
 -- a line's fault is what is told of its card's
-line_told : (line : LineFields) → statement_formed line.stmt ≡ true → option_map told (card_fault (card_of line)) ≡ option_map Some (print_fault line)
+line_told : (line : LineFields) → statement_formed line.stmt ≡ true → option_map told_fault (card_fault (card_of line)) ≡ option_map Some (print_fault line)
 unfolding card_fault print_fault
 line_told line f = rw (printable_statement line.stmt f) (step (is_bad_label line.label) (nat_lt 19 (continuation_count (statement_text line.stmt))))
   where
-    step : (b d : Bool) → option_map told (cond b (Some (BadLabel line.line)) (cond d (Some (TooManyContinuations line.line)) None))
+    step : (b d : Bool) → option_map told_fault (cond b (Some (BadLabel line.line)) (cond d (Some (TooManyContinuations line.line)) None))
         ≡ option_map Some (cond b (Some (BadConstant line.line)) (cond d (Some (TooLong line.line)) None))
     step true d = refl
     step false true = refl
     step false false = refl
 
 one_told : (o : Option FormFault) (p : Option SyntaxFault) (faults : List FormFault) (others : List SyntaxFault)
-    → option_map told o ≡ option_map Some p → map told faults ≡ map Some others → map told (cons_option o faults) ≡ map Some (cons_option p others)
+    → option_map told_fault o ≡ option_map Some p → map told_fault faults ≡ map Some others → map told_fault (cons_option o faults) ≡ map Some (cons_option p others)
 one_told None None faults others e h = h
 one_told None (Some said) faults others e h = cc
 one_told (Some fault) None faults others e h = cc
 one_told (Some fault) (Some said) faults others e h = cc
 
-faults_told : (lines : List LineFields) → AreFormed lines → map told (card_faults (map card_of lines)) ≡ map Some (print_faults lines)
+faults_told : (lines : List LineFields) → AreFormed lines → map told_fault (card_faults (map card_of lines)) ≡ map Some (print_faults lines)
 faults_told [] f = refl
 faults_told (line ∷ lines) f =
     one_told (card_fault (card_of line)) (print_fault line) (card_faults (map card_of lines)) (print_faults lines) (line_told line f.0) (faults_told lines f.1)
@@ -52,10 +53,10 @@ no_faults [] e = refl
 no_faults (fault ∷ faults) e = cc
 
 pub printed_whole : (lines : List LineFields) → AreFormed lines → card_faults (map card_of lines) ≡ [] → print_faults lines ≡ []
-printed_whole lines f none = no_faults (print_faults lines) (sym (faults_told lines f) ∙ ap (map told) none)
+printed_whole lines f none = no_faults (print_faults lines) (sym (faults_told lines f) ∙ ap (map told_fault) none)
 
 -- where no line has a fault, no card has
-no_told : (faults : List FormFault) → map told faults ≡ [] → faults ≡ []
+no_told : (faults : List FormFault) → map told_fault faults ≡ [] → faults ≡ []
 no_told [] e = refl
 no_told (fault ∷ faults) e = cc
 
@@ -63,8 +64,8 @@ pub written_whole : (lines : List LineFields) → AreFormed lines → print_faul
 written_whole lines f none = no_told (card_faults (map card_of lines)) (faults_told lines f ∙ ap (map Some) none)
 
 -- what is told of the first of the faults is the first of those that are told
-first_told : (faults : List FormFault) (others : List SyntaxFault) (fault : FormFault) → map told faults ≡ map Some others
-    → slice_get faults 0 ≡ Some fault → (said : SyntaxFault) × (slice_get others 0 ≡ Some said) × (told fault ≡ Some said)
+first_told : (faults : List FormFault) (others : List SyntaxFault) (fault : FormFault) → map told_fault faults ≡ map Some others
+    → slice_get faults 0 ≡ Some fault → (said : SyntaxFault) × (slice_get others 0 ≡ Some said) × (told_fault fault ≡ Some said)
 first_told [] others fault e h = cc
 first_told (f ∷ faults) [] fault e h = cc
 first_told (f ∷ faults) (said ∷ others) fault e h = (said, refl, (cc))
@@ -73,13 +74,13 @@ first_told (f ∷ faults) (said ∷ others) fault e h = (said, refl, (cc))
 abbrev pub IsRefusal : List LineFields → FormFault → Type 0
 IsRefusal lines fault = (slice_get (card_faults (map card_of lines)) 0 ≡ Some fault) ⊎ (fault ≡ FormFault.Memory)
 
-pub is_told : (lines : List LineFields) (fault : FormFault) → AreFormed lines → IsRefusal lines fault → IsSome (told fault)
+pub is_told : (lines : List LineFields) (fault : FormFault) → AreFormed lines → IsRefusal lines fault → IsSome (told_fault fault)
 is_told lines fault f (inl first) =
     let (said, here, same) = first_told (card_faults (map card_of lines)) (print_faults lines) fault (faults_told lines f) first in rw same refl
 is_told lines fault f (inr memory) = rw memory refl
 
-pub first_refused : (lines : List LineFields) (fault : FormFault) (said : SyntaxFault) → AreFormed lines → told fault ≡ Some said
+pub first_refused : (lines : List LineFields) (fault : FormFault) (said : SyntaxFault) → AreFormed lines → told_fault fault ≡ Some said
     → IsRefusal lines fault → (slice_get (print_faults lines) 0 ≡ Some said) ⊎ (said ≡ Memory)
 first_refused lines fault said f same (inl first) =
     let (found, here, is) = first_told (card_faults (map card_of lines)) (print_faults lines) fault (faults_told lines f) first in inl (cc)
-first_refused lines fault said f same (inr memory) = let is : told FormFault.Memory ≡ Some said = rw memory at same in inr (cc)
+first_refused lines fault said f same (inr memory) = let is : told_fault FormFault.Memory ≡ Some said = rw memory at same in inr (cc)

@@ -6,7 +6,8 @@ use Rattle.f77_tree.specs.Statement.{same_statement}
 use Rattle.f77_program.specs.Program.{LineFields}
 
 abbrev pub same_line : LineFields → LineFields → Bool
-same_line l m = option_eq nat_eq l.label m.label && (same_statement l.stmt m.stmt && l.line == m.line)
+same_line l m =
+    option_eq nat_eq l.label m.label && (same_statement l.stmt m.stmt && l.line == m.line)
 
 abbrev pub same_lines : List LineFields → List LineFields → Bool
 same_lines = pointwise same_line

@@ -1,27 +1,18 @@
--- Initial values (ANSI X3.9-1978, section 9): whether some text spells them, and their canonical text.
-use Rattle.std.specs.Prelude.{ℕ, List, [], ◌++◌, codes, Bool, true, ◌&&◌, ◌==◌, if◌then◌else◌}
+-- Initial values (ANSI X3.9-1978, section 9): whether
+-- some text spells them, and their canonical text.
+use Rattle.std.specs.Prelude.{ℕ, List, [], ◌++◌, codes, ◌==◌, if◌then◌else◌}
 use Rattle.std.specs.Fmt.{decimal, signed_decimal}
 use Rattle.f77_tree.specs.declared.data.Constant.{Constant}
 use Rattle.f77_tree.specs.declared.data.Constant.TheVariants.{Number, Truth}
 use Rattle.f77_tree.specs.declared.data.Value.{Value}
-use Rattle.f77_tree.specs.Grammar.{is_name, truth_text}
-use Rattle.f77_tree.specs.Joined.{some_all, separated}
+use Rattle.f77_tree.specs.Grammar.{truth_constant_text}
+use Rattle.f77_tree.specs.Joined.{separated}
 use Rattle.f77_tree.specs.Tree.{GroupFields}
-
--- Whether some text spells them: each group has a name and a value.
-abbrev pub any_value : Value → Bool
-any_value v = true
-
-abbrev pub is_group : GroupFields → Bool
-is_group g = some_all is_name g.names && some_all any_value g.values
-
-abbrev pub data_formed : List GroupFields → Bool
-data_formed gs = some_all is_group gs
 
 -- The canonical text, as I,J/1,2/,K/3*0/.
 abbrev pub constant_text : Constant → List ℕ
 constant_text (Number z) = signed_decimal z
-constant_text (Truth b) = truth_text b
+constant_text (Truth b) = truth_constant_text b
 
 -- nothing for a repeat of 1
 abbrev pub repeat_text : ℕ → List ℕ
@@ -34,7 +25,8 @@ abbrev pub name_text : List ℕ → List ℕ
 name_text name = name
 
 abbrev pub group_text : GroupFields → List ℕ
-group_text g = separated name_text [] g.names ++ (separated value_text (codes "/") g.values ++ codes "/")
+group_text g =
+    separated name_text [] g.names ++ (separated value_text (codes "/") g.values ++ codes "/")
 
 abbrev pub groups_text : List GroupFields → List ℕ
 groups_text gs = separated group_text [] gs

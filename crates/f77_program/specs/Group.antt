@@ -1,5 +1,6 @@
 -- The order of statements (ANSI X3.9-1978, 3.5).
-use Rattle.std.specs.Prelude.{◌≡◌, ℕ, ◌==◌, ◌&&◌, nat_lt, nat_le, Bool, List, [], ◌∷◌, ◌++◌, replicate, Option, Some, None}
+use Rattle.std.specs.Prelude.{◌≡◌, ℕ, ◌==◌, ◌&&◌, nat_lt, nat_le, Bool, List}
+use Rattle.std.specs.Prelude.{[], ◌∷◌, ◌++◌, replicate, Option, Some, None}
 use Rattle.f77_program.specs.declared.group.Group.{Group}
 use Rattle.f77_program.specs.declared.group.Group.TheVariants.{Subroutine, Declaration, Data, Executable, End}
 use Rattle.f77_tree.specs.Statement.{form_of, Statement}
@@ -18,29 +19,32 @@ abbrev pub group_of : Statement → Group
 group_of statement = form_group (form_of statement)
 
 -- the rank of a group in a subroutine
-abbrev pub rank : Group → ℕ
-rank Subroutine = 0
-rank Declaration = 1
-rank Data = 2
-rank Executable = 3
-rank End = 4
+abbrev pub group_rank : Group → ℕ
+group_rank Subroutine = 0
+group_rank Declaration = 1
+group_rank Data = 2
+group_rank Executable = 3
+group_rank End = 4
 
 -- the rank of what comes behind a group of this rank, which is not the last
 abbrev pub comes_later : ℕ → ℕ → Bool
 comes_later before n = nat_lt 0 n && (nat_le before n && nat_lt before 4)
 
--- A statement of the second group may stand behind one of the first, and behind none where it is the first: SUBROUTINE
--- first and only there, then declarations, then DATA, then what is executed, END last and only there.
+-- A statement of the second group may stand behind one of the first, and
+-- behind none where it is the first: SUBROUTINE first and only there, then
+-- declarations, then DATA, then what is executed, END last and only there.
 abbrev pub may_stand : Option Group → Group → Bool
-may_stand None group = rank group == 0
-may_stand (Some before) group = comes_later (rank before) (rank group)
+may_stand None group = group_rank group == 0
+may_stand (Some before) group = comes_later (group_rank before) (group_rank group)
 
 -- declarations, DATA and executable statements, so many of each, and END
 abbrev pub behind_heading : ℕ → ℕ → ℕ → List Group
 behind_heading declarations presets executables =
-    replicate declarations Declaration ++ (replicate presets Data ++ (replicate executables Executable ++ (End ∷ [])))
+    replicate declarations Declaration
+    ++ (replicate presets Data ++ (replicate executables Executable ++ (End ∷ [])))
 
 -- SUBROUTINE, then declarations, then DATA, then executable statements, any number of each, and END
 abbrev pub AreInOrder : List Group → Type 0
 AreInOrder groups =
-    (declarations : ℕ) × (presets : ℕ) × (executables : ℕ) × (groups ≡ Subroutine ∷ behind_heading declarations presets executables)
+    (declarations : ℕ) × (presets : ℕ) × (executables : ℕ)
+    × (groups ≡ Subroutine ∷ behind_heading declarations presets executables)

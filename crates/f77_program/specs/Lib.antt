@@ -8,3 +8,4 @@ pub mod Comparing
 pub mod SameLines
 pub mod Patching
 pub mod Printing
+pub mod code

@@ -3,14 +3,11 @@ use Rattle.std.specs.Prelude.{◌≡◌, ℕ, nat_lt, if◌then◌else◌, List,
 use Rattle.std.specs.List.{filter_map}
 use Rattle.f77_source.specs.Card.{CardFields}
 use Rattle.f77_source.specs.Write.{written, is_bad_label, continuation_count}
-use Rattle.f77_source.specs.declared.fault.FormFault.{FormFault}
-use Rattle.f77_source.specs.declared.fault.FormFault.TheVariants.{Memory as FormMemory, TooLarge, NotAscii, Tab, BadLabel}
-use Rattle.f77_source.specs.declared.fault.FormFault.TheVariants.{LooseContinuation, TooManyContinuations}
 use Rattle.f77_tree.specs.Statement.{Statement}
 use Rattle.f77_program.specs.Canonical.{statement_text}
 use Rattle.f77_program.specs.Program.{LineFields}
 use Rattle.f77_program.specs.declared.fault.SyntaxFault.{SyntaxFault}
-use Rattle.f77_program.specs.declared.fault.SyntaxFault.TheVariants.{Memory, BadConstant, TooLong}
+use Rattle.f77_program.specs.declared.fault.SyntaxFault.TheVariants.{BadConstant, TooLong}
 
 -- the card with the canonical text of the line's statement
 abbrev pub card_of : LineFields → CardFields
@@ -30,16 +27,6 @@ print_fault line =
 -- what keeps the lines from being printed, the first line's fault first
 abbrev pub print_faults : List LineFields → List SyntaxFault
 print_faults program = filter_map print_fault program
-
--- What is told of a card that cannot be written. Nothing is told of a fault that no card with a printable text has.
-abbrev pub told : FormFault → Option SyntaxFault
-told (BadLabel line) = Some (BadConstant line)
-told (TooManyContinuations line) = Some (TooLong line)
-told FormMemory = Some Memory
-told TooLarge = None
-told (NotAscii line) = None
-told (Tab line) = None
-told (LooseContinuation line) = None
 
 abbrev pub unnumbered : LineFields → Option ℕ × Statement
 unnumbered line = (line.label, line.stmt)

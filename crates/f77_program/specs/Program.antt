@@ -19,14 +19,17 @@ pub record LineFields : Type 0 where
 abbrev pub line_of : Line → LineFields
 line_of l = record { label = l.label; stmt = statement_of l.stmt; line = l.line }
 
--- The line may stand behind a statement of this group, or first; some text spells its statement, with names of six characters at most.
+-- The line may stand behind a statement of this group, or first; some
+-- text spells its statement, with names of six characters at most.
 abbrev pub MayFollow : Option Group → LineFields → Type 0
-MayFollow before line = (may_stand before (group_of line.stmt) ≡ true) × IsFormed line.stmt × (statement_names line.stmt ≡ true)
+MayFollow before line = (may_stand before (group_of line.stmt) ≡ true)
+    × IsFormed line.stmt × (statement_names line.stmt ≡ true)
 
 -- Formed statements in order, behind a statement of this group or from the start on, to the end.
 pub data IsProgram : Option Group → List LineFields → Type 0 where
   finished : IsProgram (Some End) []
-  next : {before : Option Group} {line : LineFields} {lines : List LineFields} → MayFollow before line
+  next : {before : Option Group} {line : LineFields} {lines : List LineFields}
+      → MayFollow before line
       → IsProgram (Some (group_of line.stmt)) lines → IsProgram before (line ∷ lines)
 
 -- lines are numbered from 1

@@ -21,7 +21,8 @@ line_is l m e = λ i. record {
 }
 
 line_own : (l : LineFields) → same_line l l ≡ true
-line_own l = both_true ((labels_decide l.label l.label).1 refl) (both_true (statement_own l.stmt) ((unsigned_Decides l.line l.line).1 refl))
+line_own l = both_true ((labels_decide l.label l.label).1 refl)
+    (both_true (statement_own l.stmt) ((unsigned_Decides l.line l.line).1 refl))
 
 pub line_decides : (l m : LineFields) → Decides (same_line l m) (l ≡ m)
 line_decides = decided_by same_line line_is line_own

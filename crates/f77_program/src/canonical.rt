@@ -88,7 +88,8 @@ fn form(out: &mut String, expr: &Expr) -> Result<(), AllocError>
 /// Writes expressions in parentheses, joined by commas, and nothing where there are none.
 #[cycle(printer)]
 fn list(out: &mut String, items: &[Expr]) -> Result<(), AllocError>
-    ensures { OnOk result (string_bytes out.new ≡ string_bytes out.old ++ canonical.list_text (trees (map tree_of items.now))) }
+    ensures { OnOk result
+        (string_bytes out.new ≡ string_bytes out.old ++ canonical.list_text (trees (map tree_of items.now))) }
 {
     if items.is_empty() {
         return Ok(());
@@ -102,7 +103,8 @@ fn list(out: &mut String, items: &[Expr]) -> Result<(), AllocError>
 #[cycle(printer)]
 fn separated(out: &mut String, opening: u8, items: &[Expr]) -> Result<(), AllocError>
     requires { opening < 128 }
-    ensures { OnOk result (string_bytes out.new ≡ string_bytes out.old ++ canonical.rest_text opening (trees (map tree_of items.now))) }
+    ensures { OnOk result
+        (string_bytes out.new ≡ string_bytes out.old ++ canonical.rest_text opening (trees (map tree_of items.now))) }
 {
     let mut before = opening;
     for item in items {
@@ -128,7 +130,8 @@ fn names(out: &mut String, names: &[Name]) -> Result<(), AllocError>
 
 /// Writes the statement SUBROUTINE.
 fn subroutine(out: &mut String, name: &Name, arguments: &[Name]) -> Result<(), AllocError>
-    ensures { OnOk result (string_bytes out.new ≡ string_bytes out.old ++ canonical.statement_text (Statement.Subroutine name.now arguments.now)) }
+    ensures { OnOk result (string_bytes out.new
+        ≡ string_bytes out.old ++ canonical.statement_text (Statement.Subroutine name.now arguments.now)) }
 {
     out.push_str("SUBROUTINE ")?;
     out.push_str(name.as_str())?;
@@ -142,7 +145,8 @@ fn subroutine(out: &mut String, name: &Name, arguments: &[Name]) -> Result<(), A
 
 /// Writes the third parameter of a DO, where there is one.
 fn third(out: &mut String, step: &Option<Expr>) -> Result<(), AllocError>
-    ensures { OnOk result (string_bytes out.new ≡ string_bytes out.old ++ canonical.step_text (option_map tree_of step.now)) }
+    ensures { OnOk result
+        (string_bytes out.new ≡ string_bytes out.old ++ canonical.step_text (option_map tree_of step.now)) }
 {
     match step {
         None => Ok(()),
@@ -187,7 +191,8 @@ fn do_statement(
     step: &Option<Expr>,
 ) -> Result<(), AllocError>
     ensures { OnOk result (string_bytes out.new ≡ string_bytes out.old
-        ++ canonical.statement_text (Statement.Loop label variable.now (tree_of first.now) (tree_of last.now) (option_map tree_of step.now))) }
+        ++ canonical.statement_text
+        (Statement.Loop label variable.now (tree_of first.now) (tree_of last.now) (option_map tree_of step.now))) }
 {
     write!(out, "DO {label} ")?;
     out.push_str(variable.as_str())?;
@@ -206,7 +211,8 @@ fn condition(
     condition: &Expr,
     rest: &str,
 ) -> Result<(), AllocError>
-    ensures { OnOk result (string_bytes out.new ≡ string_bytes out.old ++ (keyword.now ++ (canonical.text_of (tree_of condition.now) ++ rest.now))) }
+    ensures { OnOk result (string_bytes out.new
+        ≡ string_bytes out.old ++ (keyword.now ++ (canonical.text_of (tree_of condition.now) ++ rest.now))) }
 {
     out.push_str(keyword)?;
     form(out, condition)?;
@@ -214,7 +220,8 @@ fn condition(
 }
 
 fn statement(out: &mut String, stmt: &Stmt) -> Result<(), AllocError>
-    ensures { OnOk result (string_bytes out.new ≡ string_bytes out.old ++ canonical.statement_text (statement_of stmt.now)) }
+    ensures { OnOk result
+        (string_bytes out.new ≡ string_bytes out.old ++ canonical.statement_text (statement_of stmt.now)) }
 {
     match stmt {
         Stmt::Subroutine { name, arguments } => subroutine(out, name, arguments),
@@ -274,8 +281,8 @@ fn statement(out: &mut String, stmt: &Stmt) -> Result<(), AllocError>
     }
 }
 
-/// The canonical text of a statement: one blank behind a keyword that something follows, no other blank, and parentheses
-/// exactly where the levels of operands ask for them (ANSI X3.9-1978, 6.5).
+/// The canonical text of a statement: one blank behind a keyword that something follows, no other
+/// blank, and parentheses exactly where the levels of operands ask for them (ANSI X3.9-1978, 6.5).
 pub fn print_stmt(alloc: Global, stmt: &Stmt) -> Result<String, SyntaxFault>
     ensures text { IfOk result (λ text. string_bytes text ≡ canonical.statement_text (statement_of stmt.now)) }
     // Without its blanks it spells the statement.

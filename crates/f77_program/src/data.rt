@@ -4,10 +4,12 @@ ghost use Rattle.std.specs.Prelude.{◌≡◌, ◌++◌, [], true, map, codes, O
 ghost use Rattle.std.specs.List.{list_all};
 ghost use Rattle.f77_tree.specs.Data.{data_group_of};
 ghost use Rattle.f77_tree.specs.Grammar as grammar;
-ghost use Rattle.f77_tree.specs.Joined.{separated, some_all};
+ghost use Rattle.f77_tree.specs.Joined.{separated};
+ghost use Rattle.f77_tree.specs.code.Joined.{some_all};
 ghost use Rattle.f77_tree.specs.Name.{is_short};
 ghost use Rattle.f77_nodes.specs.Names as limits;
 ghost use Rattle.f77_program.specs.Data as initial;
+ghost use Rattle.f77_program.specs.code.Data as initial_code;
 ghost use Rattle.f77_program.specs.Data.{name_text};
 
 use f77_tree::{Constant, DataGroup, Name, Value, known_names};
@@ -24,20 +26,20 @@ fn are_names(names: &[Name]) -> bool
 
 #[tactic(auto, using(crate::proofs::DataForms::some_values))]
 fn are_values(values: &[Value]) -> bool
-    ensures { result ≡ some_all initial.any_value values.now }
+    ensures { result ≡ some_all initial_code.any_value values.now }
 {
     !values.is_empty()
 }
 
 fn is_group(group: &DataGroup) -> bool
-    ensures formed { result ≡ initial.is_group (data_group_of group.now) }
-    ensures short { limits.group_names (data_group_of group.now) ≡ true }
+    ensures formed { result ≡ initial_code.is_group (data_group_of group.now) }
+    ensures short { limits.has_short_group_names (data_group_of group.now) ≡ true }
 {
     are_names(&group.names) && are_values(&group.values)
 }
 
 fn are_groups(groups: &[DataGroup]) -> bool
-    ensures formed { result ≡ list_all initial.is_group (map data_group_of groups.now) }
+    ensures formed { result ≡ list_all initial_code.is_group (map data_group_of groups.now) }
     ensures short { result ≡ true → limits.data_names (map data_group_of groups.now) ≡ true }
 {
     for group in groups {
@@ -51,7 +53,7 @@ fn are_groups(groups: &[DataGroup]) -> bool
 /// Whether some text spells the groups, names, repeats and constants of any length and size allowed.
 #[tactic(auto, using(crate::proofs::JoinedForms::some_seen, crate::proofs::JoinedForms::none_seen))]
 pub(crate) fn data_formed(groups: &[DataGroup]) -> bool
-    ensures formed { result ≡ initial.data_formed (map data_group_of groups.now) }
+    ensures formed { result ≡ initial_code.data_formed (map data_group_of groups.now) }
     ensures short { result ≡ true → limits.data_names (map data_group_of groups.now) ≡ true }
 {
     !groups.is_empty() && are_groups(groups)
@@ -92,7 +94,8 @@ fn print_names(out: &mut String, names: &[Name]) -> Result<(), AllocError>
 
 /// Writes values, a slash before the first and a comma before each other.
 fn print_values(out: &mut String, values: &[Value]) -> Result<(), AllocError>
-    ensures { OnOk result (string_bytes out.new ≡ string_bytes out.old ++ separated initial.value_text (codes "/") values.now) }
+    ensures { OnOk result
+        (string_bytes out.new ≡ string_bytes out.old ++ separated initial.value_text (codes "/") values.now) }
 {
     let mut before = "/";
     for value in values {
@@ -104,7 +107,8 @@ fn print_values(out: &mut String, values: &[Value]) -> Result<(), AllocError>
 }
 
 fn print_group(out: &mut String, group: &DataGroup) -> Result<(), AllocError>
-    ensures { OnOk result (string_bytes out.new ≡ string_bytes out.old ++ initial.group_text (data_group_of group.now)) }
+    ensures { OnOk result
+        (string_bytes out.new ≡ string_bytes out.old ++ initial.group_text (data_group_of group.now)) }
 {
     print_names(out, &group.names)?;
     print_values(out, &group.values)?;
@@ -113,7 +117,8 @@ fn print_group(out: &mut String, group: &DataGroup) -> Result<(), AllocError>
 
 /// Writes names with their values, joined by commas, without blanks.
 pub(crate) fn print_groups(out: &mut String, groups: &[DataGroup]) -> Result<(), AllocError>
-    ensures { OnOk result (string_bytes out.new ≡ string_bytes out.old ++ initial.groups_text (map data_group_of groups.now)) }
+    ensures { OnOk result
+        (string_bytes out.new ≡ string_bytes out.old ++ initial.groups_text (map data_group_of groups.now)) }
 {
     let mut before = "";
     for group in groups {

@@ -7,13 +7,14 @@ ghost use Rattle.f77_tree.specs.Declaration.{decl_of};
 ghost use Rattle.f77_tree.specs.Joined.{separated};
 ghost use Rattle.f77_nodes.specs.Names as limits;
 ghost use Rattle.f77_program.specs.Declaration as declared;
+ghost use Rattle.f77_program.specs.code.Declaration as declared_code;
 
 use f77_tree::Decl;
 use std::alloc::AllocError;
 
 /// What the type says of the name of each item, told of all of them.
 fn known(items: &[Decl])
-    ensures named { list_all declared.is_decl (map decl_of items.now) ≡ true }
+    ensures named { list_all declared_code.is_decl (map decl_of items.now) ≡ true }
     ensures short { limits.declaration_names (map decl_of items.now) ≡ true }
 {
     for item in items {
@@ -24,7 +25,7 @@ fn known(items: &[Decl])
 /// Whether some text spells the declared names, names and bounds of any length and size allowed.
 #[tactic(auto, using(crate::proofs::JoinedForms::some_seen, crate::proofs::JoinedForms::none_seen))]
 pub(crate) fn declaration_formed(items: &[Decl]) -> bool
-    ensures formed { result ≡ declared.declaration_formed (map decl_of items.now) }
+    ensures formed { result ≡ declared_code.declaration_formed (map decl_of items.now) }
     ensures short { limits.declaration_names (map decl_of items.now) ≡ true }
 {
     known(items);
@@ -57,7 +58,8 @@ fn print_declaration(out: &mut String, item: &Decl) -> Result<(), AllocError>
 
 /// Writes declared names with their bounds, joined by commas, without blanks.
 pub(crate) fn print_declarations(out: &mut String, items: &[Decl]) -> Result<(), AllocError>
-    ensures { OnOk result (string_bytes out.new ≡ string_bytes out.old ++ declared.declarations_text (map decl_of items.now)) }
+    ensures { OnOk result
+        (string_bytes out.new ≡ string_bytes out.old ++ declared.declarations_text (map decl_of items.now)) }
 {
     let mut before = "";
     for item in items {

@@ -18,8 +18,8 @@ pub enum SyntaxFault {
     /// S3: a name of more than six characters.
     #[error("line {0} holds a name of more than six characters")]
     BadName(u32),
-    /// S4: a constant, a bound or a repeat above 2147483647, a repeat of 0, or a label that is not 1 to 99999 or has more
-    /// than five digits.
+    /// S4: a constant, a bound or a repeat above 2147483647, a repeat of
+    /// 0, or a label that is not 1 to 99999 or has more than five digits.
     #[error("line {0} holds a constant or a label out of range")]
     BadConstant(u32),
     /// S5: parentheses more than 40 deep.

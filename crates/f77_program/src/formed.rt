@@ -5,6 +5,7 @@ ghost use Rattle.std.specs.List.{list_all};
 ghost use Rattle.f77_tree.specs.Grammar as grammar;
 ghost use Rattle.f77_tree.specs.StatementGrammar.{IsFormed};
 ghost use Rattle.f77_program.specs.Formed as forms;
+ghost use Rattle.f77_program.specs.code.Formed as forms_code;
 ghost use Rattle.f77_tree.specs.Name.{is_short};
 ghost use Rattle.f77_nodes.specs.Names.{short_names, all_short_names, of_value, statement_names};
 ghost use Rattle.f77_tree.specs.View.{tree_of, trees};
@@ -16,7 +17,7 @@ use f77_tree::{Expr, Intrinsic, Name, Stmt, all_bounded, known_names};
 
 #[tactic(auto, using(crate::proofs::Forming::some_items))]
 fn is_some_list(items: &[Expr]) -> bool
-    ensures { result ≡ forms.is_some_list (trees (map tree_of items.now)) }
+    ensures { result ≡ forms_code.is_some_list (trees (map tree_of items.now)) }
 {
     !items.is_empty()
 }
@@ -29,9 +30,9 @@ fn is_call(name: &[u8], items: &[Expr]) -> bool
     is_some_list(items) && Intrinsic::named(name).is_some()
 }
 
-#[tactic(auto, unfolding(crate::specs::Formed::is_reference))]
+#[tactic(auto, unfolding(crate::specs::code::Formed::is_reference))]
 fn is_reference(name: &Name, items: &[Expr]) -> bool
-    ensures reference { result ≡ forms.is_reference name.now (trees (map tree_of items.now)) }
+    ensures reference { result ≡ forms_code.is_reference name.now (trees (map tree_of items.now)) }
     ensures short { is_short name.now ≡ true }
 {
     !is_call(name.as_str().as_bytes(), items)
@@ -39,7 +40,7 @@ fn is_reference(name: &Name, items: &[Expr]) -> bool
 
 #[cycle(formed)]
 fn formed(expr: &Expr) -> bool
-    ensures formed { result ≡ forms.formed (tree_of expr.now) }
+    ensures formed { result ≡ forms_code.formed (tree_of expr.now) }
     ensures short { result ≡ true → short_names (tree_of expr.now) ≡ true }
 {
     match expr {
@@ -54,7 +55,7 @@ fn formed(expr: &Expr) -> bool
 
 #[cycle(formed)]
 fn all_formed(items: &[Expr]) -> bool
-    ensures formed { result ≡ forms.all_formed (trees (map tree_of items.now)) }
+    ensures formed { result ≡ forms_code.all_formed (trees (map tree_of items.now)) }
     ensures short { result ≡ true → all_short_names (trees (map tree_of items.now)) ≡ true }
 {
     for item in items {
@@ -66,7 +67,7 @@ fn all_formed(items: &[Expr]) -> bool
 }
 
 fn value_formed(value: Option<&Expr>) -> bool
-    ensures formed { result ≡ forms.value_formed (option_map (λ value. tree_of value.now) value.entry) }
+    ensures formed { result ≡ forms_code.value_formed (option_map (λ value. tree_of value.now) value.entry) }
     ensures short { result ≡ true → of_value short_names (option_map (λ value. tree_of value.now) value.entry) ≡ true }
 {
     match value {
@@ -76,7 +77,7 @@ fn value_formed(value: Option<&Expr>) -> bool
 }
 
 fn statement_formed(stmt: &Stmt) -> bool
-    ensures formed { result ≡ forms.statement_formed (statement_of stmt.now) }
+    ensures formed { result ≡ forms_code.statement_formed (statement_of stmt.now) }
     ensures short { result ≡ true → statement_names (statement_of stmt.now) ≡ true }
 {
     match stmt {

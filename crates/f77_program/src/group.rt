@@ -39,7 +39,7 @@ pub fn group_of(stmt: &Stmt) -> Group
 impl Group {
     /// Its rank in a subroutine, from 0.
     fn rank(self) -> u8
-        ensures { result ≡ groups.rank self }
+        ensures { result ≡ groups.group_rank self }
     {
         match self {
             Group::Subroutine => 0,

@@ -1,5 +1,5 @@
-//! Programs of statements: which statements some text spells, their canonical texts, programs with one statement changed, and how
-//! programs are printed.
+//! Programs of statements: which statements some text spells, their canonical
+//! texts, programs with one statement changed, and how programs are printed.
 #![tactic(auto)]
 
 mod canonical;

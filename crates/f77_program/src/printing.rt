@@ -4,7 +4,8 @@ ghost use Rattle.std.specs.Prelude.{◌≡◌, ◌⊎◌, [], Some, IsSome, IfOk
 ghost use Rattle.std.specs.List.{slice_get};
 ghost use Rattle.f77_program.specs.Program.{line_of};
 ghost use Rattle.f77_program.specs.Printing as printing;
-ghost use Rattle.f77_program.specs.Printing.{printed, print_faults, told};
+ghost use Rattle.f77_program.specs.Printing.{printed, print_faults};
+ghost use Rattle.f77_program.specs.code.Printing.{told_fault};
 
 use crate::canonical::print_stmt;
 use crate::fault::SyntaxFault;
@@ -15,8 +16,8 @@ use std::alloc::Global;
 
 /// What is told of a card that cannot be written. Canonical texts are printable, so that no other refusal comes.
 fn told(fault: FormFault) -> SyntaxFault
-    requires { IsSome (told fault) }
-    ensures { told fault ≡ Some result }
+    requires { IsSome (told_fault fault) }
+    ensures { told_fault fault ≡ Some result }
 {
     match fault {
         FormFault::BadLabel(line) => SyntaxFault::BadConstant(line),
@@ -52,7 +53,8 @@ fn cards_of(alloc: Global, lines: &[Shared<Line>]) -> Result<Vec<Card>, SyntaxFa
 pub fn print(alloc: Global, program: &Program) -> Result<String, SyntaxFault>
     ensures text { IfOk result (λ text. string_bytes text ≡ printed (map line_of program.now)) }
     ensures accepted { IfOk result (λ _. print_faults (map line_of program.now) ≡ []) }
-    ensures refused { IfErr result (λ fault. (slice_get (print_faults (map line_of program.now)) 0 ≡ Some fault) ⊎ (fault ≡ SyntaxFault.Memory)) }
+    ensures refused { IfErr result
+        (λ fault. (slice_get (print_faults (map line_of program.now)) 0 ≡ Some fault) ⊎ (fault ≡ SyntaxFault.Memory)) }
 {
     let cards = cards_of(alloc, program.lines())?;
     match write_form(alloc, &cards) {

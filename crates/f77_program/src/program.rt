@@ -137,7 +137,8 @@ impl Program {
         Program { lines }
     }
 
-    /// The program of these lines, None where they are none: each statement in its place, and one that some text spells.
+    /// The program of these lines, None where they are none: each
+    /// statement in its place, and one that some text spells.
     pub fn of(alloc: Global, lines: Vec<Line>) -> Result<Option<Program>, SyntaxFault>
         ensures given { IfOk result (λ answer. IfSome answer (λ program. program ≡ lines.items)) }
         ensures program { IfOk result (λ answer. IsSome answer → IsProgram None (map line_of lines.items)) }

@@ -11,21 +11,21 @@ use Rattle.f77_program.specs.Formed.{is_action}
 use Rattle.f77_program.specs.Program.{LineFields, IsProgram}
 use Rattle.f77_tree.specs.Tree.{Tree, Trees}
 use Rattle.f77_tree.specs.Statement.{Statement, jumps_of}
-use Rattle.f77_legal.specs.Labels.{place_of, statement_at, terminal_label}
+use Rattle.f77_legal.specs.Labels.{label_place, nth_statement, terminal_label}
 use Rattle.f77_legal.specs.Legal.{IsLegal}
 use Rattle.f77_legal.specs.Loops.{terminal, range_holds}
 use Rattle.f77_legal.specs.Names.{Symbol, kind_of, bounds_of}
 use Rattle.f77_legal.proofs.Actions.{inner_acts}
 use Rattle.f77_legal.proofs.Flow.{some_terminal}
 use Rattle.f77_legal.proofs.LegalGives.{some_of}
-use Rattle.f77_check.specs.Start.{is_executable}
+use Rattle.f77_check.specs.Start.{is_executable_statement}
 use Rattle.f77_run.specs.Active.{AreActive, ActiveByPlace}
-use Rattle.f77_code.specs.Choice.{by_sign, numbered}
+use Rattle.f77_code.specs.Choice.{by_sign, item_chosen}
 use Rattle.f77_run.specs.Control.{Comes}
 use Rattle.f77_values.specs.Number.{in_range, trip_count}
 use Rattle.f77_run.specs.Start.{IsStart}
 use Rattle.f77_run.specs.Step.{Place, Execute, Increment, Turn, Turns, Config, config, Next, Goes, GoesOn, Jumps, Passes, Begins, With, Either, Skips, step_number, Executes, Increments, StepAt}
-use Rattle.f77_run.specs.Value.{Store, put, number, truth, value, place}
+use Rattle.f77_run.specs.Value.{Store, store_with, number, truth, value, place}
 use Rattle.f77_values.specs.declared.finish.Fault.{Fault}
 use Rattle.f77_values.specs.declared.value.Value.{Value}
 use Rattle.f77_values.specs.declared.value.Value.TheVariants as held
@@ -51,7 +51,7 @@ left_so true false o is from = refl
 left_so false true o is from = absurd (cc (from refl))
 left_so false false o is from = is
 
-loop_executable : (s : Statement) (label : ℕ) → terminal_label s ≡ Some label → is_executable s ≡ true
+loop_executable : (s : Statement) (label : ℕ) → terminal_label s ≡ Some label → is_executable_statement s ≡ true
 loop_executable (Statement.Loop label name a b c) other names = refl
 loop_executable _ other names = absurd (cc (names))
 
@@ -63,13 +63,13 @@ module _ (p : List LineFields) (program : IsProgram None p) (legal : IsLegal p) 
         (λ e. are e ∙ both_ways (range_holds p e i) (range_holds p e i && nat_lt e i)
         (λ h. and_from (range_holds p e i) (nat_lt e i) h (lt-ltb e i (is_in_range p e i h).before)) (λ h. (and_parts (range_holds p e i) (nat_lt e i) h).0)) s n on
 
-    jumps : (stmt : Statement) → statement_at p i ≡ Some stmt → (label : ℕ) → list_any (λ l. l == label) (jumps_of stmt) ≡ true → (s : Store) (n : Next)
+    jumps : (stmt : Statement) → nth_statement p i ≡ Some stmt → (label : ℕ) → list_any (λ l. l == label) (jumps_of stmt) ≡ true → (s : Store) (n : Next)
         → Jumps p i label s active n → Keeps p n
     jumps stmt at label among s n to =
         subst (Keeps p) (sym to.2)
         (λ d. left_so (range_holds p d i) (range_holds p d to.0) (active d) (are d) (jump_from p legal i stmt label to.0 at among to.1 d))
 
-    skips : (t : Tree) → (statement_at p i ≡ Some (Statement.BlockIf t)) ⊎ (statement_at p i ≡ Some (Statement.ElseIf t)) → (s : Store) (n : Next)
+    skips : (t : Tree) → (nth_statement p i ≡ Some (Statement.BlockIf t)) ⊎ (nth_statement p i ≡ Some (Statement.ElseIf t)) → (s : Store) (n : Next)
         → Skips p i s active n → Keeps p n
     skips t at s n to = subst (Keeps p) (sym to.2) (λ d. are d ∙ ranges_skipped p legal i to.0 t at to.1 d)
 
@@ -81,11 +81,11 @@ module _ (p : List LineFields) (program : IsProgram None p) (legal : IsLegal p) 
     action : (stmt : Statement) → is_action stmt ≡ true → Ready stmt → (s : Store) (n : Next) → Executes p i stmt s active n → Keeps p n
     action (Statement.Assign name items t) acts ready s n =
         with_each p (place (bounds_of p) s name items) s n _
-        (λ k. with_each p (value (kind_of p name) (bounds_of p) s t) s n _ (λ v. ready.on refl (put s name k v) n))
+        (λ k. with_each p (value (kind_of p name) (bounds_of p) s t) s n _ (λ v. ready.on refl (store_with s name k v) n))
     action (Statement.Goto label) acts ready s n = ready.to label (one_label label) s n
-    action (Statement.ComputedGoto labels t) acts ready s n = with_each p (number (bounds_of p) s t) s n _ (λ z. by z (numbered labels z) refl)
+    action (Statement.ComputedGoto labels t) acts ready s n = with_each p (number (bounds_of p) s t) s n _ (λ z. by z (item_chosen labels z) refl)
       where
-        by : (z : ℤ) (o : Option ℕ) → numbered labels z ≡ o → MatchOption o (GoesOn p i s active n) (λ label. Jumps p i label s active n) → Keeps p n
+        by : (z : ℤ) (o : Option ℕ) → item_chosen labels z ≡ o → MatchOption o (GoesOn p i s active n) (λ label. Jumps p i label s active n) → Keeps p n
         by z None is = ready.on refl s n
         by z (Some label) is = ready.to label (numbered_among labels z label is) s n
     action (Statement.ArithIf t l m r) acts ready s n =
@@ -97,35 +97,35 @@ module _ (p : List LineFields) (program : IsProgram None p) (legal : IsLegal p) 
     action _ acts ready s n = absurd (cc (acts))
 
   -- the DO d makes its passes
-  passes : (d : ℕ) (stmt : Statement) (active : Turns) → statement_at p d ≡ Some stmt → IsSome (terminal_label stmt)
+  passes : (d : ℕ) (stmt : Statement) (active : Turns) → nth_statement p d ≡ Some stmt → IsSome (terminal_label stmt)
       → ((e : ℕ) → (d == e) ≡ false → is_some (active e) ≡ range_holds p e d) → (k : ℕ) (step : ℤ) (s : Store) (n : Next) → Passes p d k step s active n → Keeps p n
   passes d stmt active at loop round =
       let end = some_of (terminal p d) (some_terminal p legal d stmt at loop) in
       keeps_passes p legal d active round end.0 end.1
 
-  begins : (d : ℕ) (stmt : Statement) (active : Turns) → statement_at p d ≡ Some stmt → IsSome (terminal_label stmt)
+  begins : (d : ℕ) (stmt : Statement) (active : Turns) → nth_statement p d ≡ Some stmt → IsSome (terminal_label stmt)
       → ((e : ℕ) → is_some (active e) ≡ range_holds p e d) → (name : Symbol) (first last step : ℤ) (s : Store) (n : Next)
       → Begins p d name first last step s active n → Keeps p n
   begins d stmt active at loop are name first last (pos zero) s n = λ ends. subst (Keeps p) (sym ends) tt
   begins d stmt active at loop are name first last (pos (suc m)) s n =
-      passes d stmt active at loop (λ e apart. are e) (trip_count first last (pos (suc m))) (pos (suc m)) (put s name 0 (held.Number first)) n
+      passes d stmt active at loop (λ e apart. are e) (trip_count first last (pos (suc m))) (pos (suc m)) (store_with s name 0 (held.Number first)) n
   begins d stmt active at loop are name first last (negsuc m) s n =
-      passes d stmt active at loop (λ e apart. are e) (trip_count first last (negsuc m)) (negsuc m) (put s name 0 (held.Number first)) n
+      passes d stmt active at loop (λ e apart. are e) (trip_count first last (negsuc m)) (negsuc m) (store_with s name 0 (held.Number first)) n
 
-  executes : (i : ℕ) (active : Turns) → ((d : ℕ) → is_some (active d) ≡ range_holds p d i) → (stmt : Statement) → statement_at p i ≡ Some stmt
+  executes : (i : ℕ) (active : Turns) → ((d : ℕ) → is_some (active d) ≡ range_holds p d i) → (stmt : Statement) → nth_statement p i ≡ Some stmt
       → (s : Store) (n : Next) → Executes p i stmt s active n → Keeps p n
   executes i active are stmt at s n = by stmt at
     where
-      ready : (stmt : Statement) → statement_at p i ≡ Some stmt → Ready i active are stmt
+      ready : (stmt : Statement) → nth_statement p i ≡ Some stmt → Ready i active are stmt
       ready stmt at = record { on = λ none. goes_on i active are (no_loop p i stmt at none); to = jumps i active are stmt at }
 
-      acted : (stmt : Statement) → statement_at p i ≡ Some stmt → is_action stmt ≡ true → Executes p i stmt s active n → Keeps p n
+      acted : (stmt : Statement) → nth_statement p i ≡ Some stmt → is_action stmt ≡ true → Executes p i stmt s active n → Keeps p n
       acted stmt at acts = action i active are stmt acts (ready stmt at) s n
 
-      on : (stmt : Statement) → statement_at p i ≡ Some stmt → terminal_label stmt ≡ None → GoesOn p i s active n → Keeps p n
+      on : (stmt : Statement) → nth_statement p i ≡ Some stmt → terminal_label stmt ≡ None → GoesOn p i s active n → Keeps p n
       on stmt at none = goes_on i active are (no_loop p i stmt at none) s n
 
-      by : (stmt : Statement) → statement_at p i ≡ Some stmt → Executes p i stmt s active n → Keeps p n
+      by : (stmt : Statement) → nth_statement p i ≡ Some stmt → Executes p i stmt s active n → Keeps p n
       by (Statement.LogicalIf t inner) at =
           let whole = ready (Statement.LogicalIf t inner) at in
           with_each p (truth (bounds_of p) s t) s n _
@@ -157,24 +157,24 @@ module _ (p : List LineFields) (program : IsProgram None p) (legal : IsLegal p) 
       by Statement.Stop at = acted Statement.Stop at refl
       by Statement.Trap at = acted Statement.Trap at refl
 
-  increments : (d : ℕ) (active : Turns) → ((e : ℕ) → is_some (active e) ≡ (d == e || range_holds p e d)) → (stmt : Statement) → statement_at p d ≡ Some stmt
+  increments : (d : ℕ) (active : Turns) → ((e : ℕ) → is_some (active e) ≡ (d == e || range_holds p e d)) → (stmt : Statement) → nth_statement p d ≡ Some stmt
       → (turn : Turn) (s : Store) (n : Next) → Increments p d stmt turn s active n → Keeps p n
   increments d active are (Statement.Loop label name a b c) at turn s n =
       with_each p (number (bounds_of p) s (Tree.Reference name Trees.None)) s n _
       (λ z. with_each p (in_range (z +ℤ turn.step)) s n _
       (λ next. passes d (Statement.Loop label name a b c) active at refl (λ e apart. are e ∙ ap (λ b. b || range_holds p e d) apart)
-      (turn.passes - 1) turn.step (put s name 0 (held.Number next)) n))
+      (turn.passes - 1) turn.step (store_with s name 0 (held.Number next)) n))
   increments d active are _ at turn s n = λ h. absurd h
 
   steps : (at : Place) (s : Store) (active : Turns) (n : Next) → AreActive p (config at s active) → StepAt p at s active n → Keeps p n
-  steps (Execute i) s active n are = by (statement_at p i) refl
+  steps (Execute i) s active n are = by (nth_statement p i) refl
     where
-      by : (o : Option Statement) → statement_at p i ≡ o → MatchOption o ⊥ (λ stmt. Executes p i stmt s active n) → Keeps p n
+      by : (o : Option Statement) → nth_statement p i ≡ o → MatchOption o ⊥ (λ stmt. Executes p i stmt s active n) → Keeps p n
       by None at h = absurd h
       by (Some stmt) at h = executes i active are stmt at s n h
-  steps (Increment d) s active n are = by (statement_at p d) refl (active d)
+  steps (Increment d) s active n are = by (nth_statement p d) refl (active d)
     where
-      by : (o : Option Statement) → statement_at p d ≡ o → (turn : Option Turn)
+      by : (o : Option Statement) → nth_statement p d ≡ o → (turn : Option Turn)
           → MatchOption o ⊥ (λ stmt. MatchOption turn ⊥ (λ turn. Increments p d stmt turn s active n)) → Keeps p n
       by None at turn h = absurd h
       by (Some stmt) at None h = absurd h
@@ -187,8 +187,8 @@ module _ (p : List LineFields) (program : IsProgram None p) (legal : IsLegal p) 
       before : (d : ℕ) → range_holds p d start.0 ≡ true → ⊥
       before d h =
           let is = is_in_range p d start.0 h in
-          option_and_then_some (place_of p) (option_and_then terminal_label (statement_at p d)) is.last is.ends
-          (λ label named found. option_and_then_some terminal_label (statement_at p d) label named
+          option_and_then_some (label_place p) (option_and_then terminal_label (nth_statement p d)) is.last is.ends
+          (λ label named found. option_and_then_some terminal_label (nth_statement p d) label named
           (λ loop at names. by loop label names is.before (slice_get p d) refl at))
         where
           by : (loop : Statement) (label : ℕ) → terminal_label loop ≡ Some label → d < start.0 → (o : Option LineFields) → slice_get p d ≡ o
@@ -197,9 +197,9 @@ module _ (p : List LineFields) (program : IsProgram None p) (legal : IsLegal p) 
           by loop label names less (Some line) found at =
               let same : line.stmt ≡ loop = cc (at) in
               let here = get_or_from_slice_get p d line line found in
-              let none = (position-Some (λ other. is_executable other.stmt) p start.0 line start.1).2 d less in
-              let whole : is_executable line.stmt ≡ false = ap (λ other. is_executable other.stmt) (sym here) ∙ none in
-              absurd (cc (ap is_executable same, whole, loop_executable loop label names))
+              let none = (position-Some (λ other. is_executable_statement other.stmt) p start.0 line start.1).2 d less in
+              let whole : is_executable_statement line.stmt ≡ false = ap (λ other. is_executable_statement other.stmt) (sym here) ∙ none in
+              absurd (cc (ap is_executable_statement same, whole, loop_executable loop label names))
 
   pub active_in : (given : List (List Value)) (c : Config) → Comes p given c → AreActive p c
   active_in given c (Comes.at_start start) = none_at_start given c start

@@ -2,14 +2,14 @@
 use Rattle.std.proofs.Common.{arith, ◌≡◌, ◌<◌, ◌⊎◌, inl, inr, ◌≤◌, ℕ, zero, suc, ◌+◌, ◌-◌, List, length, Option, Some, None, zero-add, sym, ap, ◌∙◌, subst, ◌++◌, take, drop}
 use Rattle.std.proofs.lemmas.List.{take-append-le, take_all}
 use Rattle.f77_code.specs.declared.instruction.Instruction.{Instruction}
-use Rattle.f77_code.specs.Block.{one, after}
+use Rattle.f77_code.specs.Block.{one, code_after}
 use Rattle.f77_code.specs.Operation.{Point}
-use Rattle.f77_run.specs.Running.{CameBack}
+use Rattle.f77_run.specs.code.Running.{CameBack}
 
 -- so many instructions, and so many behind them
-pub after_more : (code : List Instruction) (a b : ℕ) (p : Point) → after code (a + b) p ≡ after code b (after code a p)
-after_more code zero b p = ap (λ n. after code n p) (zero-add b)
-after_more code (suc a) b p = let more : suc a + b ≡ suc (a + b) = omega arith in ap (λ n. after code n p) more ∙ after_more code a b (one code p)
+pub after_more : (code : List Instruction) (a b : ℕ) (p : Point) → code_after code (a + b) p ≡ code_after code b (code_after code a p)
+after_more code zero b p = ap (λ n. code_after code n p) (zero-add b)
+after_more code (suc a) b p = let more : suc a + b ≡ suc (a + b) = omega arith in ap (λ n. code_after code n p) more ∙ after_more code a b (one code p)
 
 module _ (code : List Instruction) (start : Point) where
   -- the code stood there some instructions ago
@@ -17,7 +17,7 @@ module _ (code : List Instruction) (start : Point) where
     pub before : ℕ
     pub since : ℕ
     pub sum : made ≡ before + suc since
-    pub stood : after code before start ≡ q
+    pub stood : code_after code before start ≡ q
 
   -- it stood where it was kept, if anything is
   abbrev pub IsKeptBefore : ℕ → Option Point → Type 0
@@ -25,11 +25,11 @@ module _ (code : List Instruction) (start : Point) where
   IsKeptBefore made (Some q) = IsBefore made q
 
   -- a block behind so many instructions
-  pub stands_on : (made more : ℕ) (p q : Point) → after code made start ≡ p → q ≡ after code more p → after code (made + more) start ≡ q
-  stands_on made more p q here is = after_more code made more start ∙ ap (after code more) here ∙ sym is
+  pub stands_on : (made more : ℕ) (p q : Point) → code_after code made start ≡ p → q ≡ code_after code more p → code_after code (made + more) start ≡ q
+  stands_on made more p q here is = after_more code made more start ∙ ap (code_after code more) here ∙ sym is
 
   -- what is kept, whether it was before or is now, is behind the block some instructions ago
-  pub kept_on : (made more : ℕ) (p : Point) (old new : Option Point) → after code made start ≡ p → 0 < more → IsKeptBefore made old
+  pub kept_on : (made more : ℕ) (p : Point) (old new : Option Point) → code_after code made start ≡ p → 0 < more → IsKeptBefore made old
       → (new ≡ old) ⊎ (new ≡ Some p) → IsKeptBefore (made + more) new
   kept_on made more p None new here some kept (inl same) = subst (IsKeptBefore (made + more)) (sym same) tt
   kept_on made more p (Some q) new here some kept (inl same) =
@@ -39,7 +39,7 @@ module _ (code : List Instruction) (start : Point) where
       subst (IsKeptBefore (made + more)) (sym same) (record { before = made; since = more - 1; sum = omega (arith, some); stood = here })
 
   -- where the code stands where it was kept, it came back
-  pub came_back : (made : ℕ) (p : Point) (o : Option Point) → after code made start ≡ p → p.place < length code → IsKeptBefore made o → o ≡ Some p
+  pub came_back : (made : ℕ) (p : Point) (o : Option Point) → code_after code made start ≡ p → p.place < length code → IsKeptBefore made o → o ≡ Some p
       → CameBack code start made
   came_back made p o here there kept same =
       by (subst (IsKeptBefore made) same kept)
@@ -50,11 +50,11 @@ module _ (code : List Instruction) (start : Point) where
         since = b.since;
         sum = b.sum;
         there = subst (λ (q : Point). q.place < length code) (sym b.stood) there;
-        back = sym (after_more code b.before (suc b.since) start) ∙ ap (λ n. after code n start) (sym b.sum) ∙ here ∙ sym b.stood;
+        back = sym (after_more code b.before (suc b.since) start) ∙ ap (λ n. code_after code n start) (sym b.sum) ∙ here ∙ sym b.stood;
       }
 
 -- a block of some instructions from one that is there makes some
-pub makes_some : (code : List Instruction) (p q : Point) (most made : ℕ) → p.place < length code → 0 < most → q ≡ after code made p
+pub makes_some : (code : List Instruction) (p q : Point) (most made : ℕ) → p.place < length code → 0 < most → q ≡ code_after code made p
     → (made < most → length code ≤ q.place) → 0 < made
 makes_some code p q most zero there some is ends =
     let here : q.place ≡ p.place = ap (λ (q : Point). q.place) is in

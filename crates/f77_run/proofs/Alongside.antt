@@ -9,10 +9,10 @@ use Rattle.f77_values.specs.declared.value.Value.{Value}
 use Rattle.f77_run.specs.declared.visits.Visit.{Visit}
 use Rattle.f77_run.specs.Control.{Comes}
 use Rattle.f77_run.specs.Endless.{Reaches}
-use Rattle.f77_run.specs.Reached.{number_of, AreSameBut}
-use Rattle.f77_run.specs.Running.{Site}
+use Rattle.f77_run.specs.Reached.{statement_number, AreSameBut}
+use Rattle.f77_run.specs.Running.{RunSite}
 use Rattle.f77_run.specs.Step.{Config, Goes, Ends, Step}
-use Rattle.f77_run.specs.Together.{DoesAlike, GoTogether, MayBegin, ComeToTheSame}
+use Rattle.f77_run.specs.Together.{DoesAlikeFrom, GoTogether, MayBegin, ComeToTheSame}
 use Rattle.f77_run.specs.Visits.{AreVisits, IsVisit, config_in}
 use Rattle.f77_run.proofs.Endless.{determined, whole}
 use Rattle.f77_run.proofs.Unreached.{step_same}
@@ -21,7 +21,7 @@ use Rattle.f77_run.proofs.Unreached.{step_same}
 further : (p q : List LineFields) (k : ℕ) (c b : Config) → GoTogether p q (suc k) c → Step p c (Goes b) → GoTogether p q k b
 further p q k c b go step j d below reaches = go (suc j) d (omega (arith, below)) (b, step, reaches)
 
-here : (p q : List LineFields) (k : ℕ) (c : Config) → GoTogether p q (suc k) c → DoesAlike p q c
+here : (p q : List LineFields) (k : ℕ) (c : Config) → GoTogether p q (suc k) c → DoesAlikeFrom p q c
 here p q k c go = go 0 c (omega arith) refl
 
 pub follows : (p q : List LineFields) (k : ℕ) (c d : Config) → GoTogether p q k c → Reaches p k c d → Reaches q k c d
@@ -43,21 +43,21 @@ comes_there p given zero c d comes same = subst (Comes p given) (sym same) comes
 comes_there p given (suc k) c d comes on = comes_there p given k on.0 d (Comes.by_step comes on.1) on.2
 
 -- a program that is another in the statement i alone goes with this one, but at the times when control is there
-module _ (at : Site) (q : List LineFields) (same : HaveOneFrame at.program q) (i : ℕ) (others : AreSameBut i at.program q) (start : Config) (n : ℕ) where
-  elsewhere : (c : Config) → number_of c.place ≢ i → DoesAlike at.program q c
+module _ (at : RunSite) (q : List LineFields) (same : HaveOneFrame at.program q) (i : ℕ) (others : AreSameBut i at.program q) (start : Config) (n : ℕ) where
+  elsewhere : (c : Config) → statement_number c.place ≢ i → DoesAlikeFrom at.program q c
   elsewhere c apart next step = step_same at.program q same i others c next apart step
 
   -- one of the times
-  now : (u : Visit) → IsVisit at i start u → DoesAlike at.program q (config_in at u) → (k : ℕ) (c : Config) → k ≡ u.made → Reaches at.program k start c
-      → DoesAlike at.program q c
+  now : (u : Visit) → IsVisit at i start u → DoesAlikeFrom at.program q (config_in at u) → (k : ℕ) (c : Config) → k ≡ u.made → Reaches at.program k start c
+      → DoesAlikeFrom at.program q c
   now u is alike k c made reaches =
       let one : config_in at u ≡ c = determined at.program u.made start (config_in at u) c is.reaches (subst (λ j. Reaches at.program j start c) made reaches) in
-      subst (DoesAlike at.program q) one alike
+      subst (DoesAlikeFrom at.program q) one alike
 
   -- the times before one of them
   pub before : (m : ℕ) (visits : List Visit) (more : Bool) (j : ℕ) (visit : Visit) → AreVisits at i start m n visits more → slice_get visits j ≡ Some visit
-      → ((a : ℕ) (u : Visit) → a < j → slice_get visits a ≡ Some u → DoesAlike at.program q (config_in at u))
-      → (k : ℕ) (c : Config) → m ≤ k → k < visit.made → Reaches at.program k start c → DoesAlike at.program q c
+      → ((a : ℕ) (u : Visit) → a < j → slice_get visits a ≡ Some u → DoesAlikeFrom at.program q (config_in at u))
+      → (k : ℕ) (c : Config) → m ≤ k → k < visit.made → Reaches at.program k start c → DoesAlikeFrom at.program q c
   before m [] more j visit are there alike k c from below reaches = absurd (cc (there))
   before m (u ∷ visits) more zero visit are there alike k c from below reaches =
       let one : u ≡ visit = same_Some u visit there in
@@ -74,8 +74,8 @@ module _ (at : Site) (q : List LineFields) (same : HaveOneFrame at.program q) (i
 
   -- all times
   pub throughout : (m : ℕ) (visits : List Visit) → AreVisits at i start m n visits false
-      → ((a : ℕ) (u : Visit) → slice_get visits a ≡ Some u → DoesAlike at.program q (config_in at u))
-      → (k : ℕ) (c : Config) → m ≤ k → k < n → Reaches at.program k start c → DoesAlike at.program q c
+      → ((a : ℕ) (u : Visit) → slice_get visits a ≡ Some u → DoesAlikeFrom at.program q (config_in at u))
+      → (k : ℕ) (c : Config) → m ≤ k → k < n → Reaches at.program k start c → DoesAlikeFrom at.program q c
   throughout m [] are alike k c from below reaches = elsewhere c (are k c from below reaches)
   throughout m (u ∷ visits) are alike k c from below reaches = elim (cases_lt k u.made) [
     | inl early ↦ elsewhere c (are.2 k c from early reaches)

@@ -12,11 +12,12 @@ use Rattle.f77_run.specs.declared.argument.Arg.{Arg}
 use Rattle.f77_run.specs.declared.machine.Machine.{Machine}
 use Rattle.f77_run.specs.declared.outcome.Outcome.{Outcome}
 use Rattle.f77_run.specs.Interpreter.{AreFitting, IsOutcomeOf, Tells, values_in}
-use Rattle.f77_run.specs.Running.{ComesToCells, config_at, values_at}
-use Rattle.f77_run.specs.Site.{HoldsDummies, held, site_of}
+use Rattle.f77_run.specs.code.Running.{ComesToCells, config_at, values_at}
+use Rattle.f77_run.specs.code.Site.{HoldsDummies}
+use Rattle.f77_run.specs.Site.{held, site_of}
 use Rattle.f77_run.specs.Start.{IsStart}
 use Rattle.f77_run.specs.Step.{Config}
-use Rattle.f77_run.specs.Typed.{IsTyped}
+use Rattle.f77_run.specs.code.Typed.{IsTyped}
 use Rattle.f77_run.proofs.Beginning.{ends_typed}
 use Rattle.f77_run.proofs.Retold.{same_shown, tells_alike, typed_alike}
 use Rattle.f77_run.proofs.SlotKinds.{kinds_count}

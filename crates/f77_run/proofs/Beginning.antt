@@ -12,30 +12,31 @@ use Rattle.f77_legal.specs.Blocks.{first_numbers}
 use Rattle.f77_check.specs.Checked.{CheckedFields, IsChecked, shapes}
 use Rattle.f77_check.specs.declared.checked.Shape.{Shape}
 use Rattle.f77_legal.specs.Names.{Symbol, bounds_of, symbols}
-use Rattle.f77_legal.specs.Patches.{is_among}
-use Rattle.f77_legal.specs.Presets.{elements, product}
+use Rattle.f77_legal.specs.Patches.{is_name_among}
+use Rattle.f77_legal.specs.Presets.{preset_elements, product}
 use Rattle.f77_check.specs.Slots.{slot_count}
 use Rattle.f77_legal.specs.Heading.{dummies}
-use Rattle.f77_check.specs.Start.{preset_at}
+use Rattle.f77_check.specs.Start.{preset_value}
 use Rattle.f77_legal.proofs.Among.{among_holds}
 use Rattle.f77_check.proofs.Unpreset.{unpreset}
 use Rattle.f77_run.specs.declared.argument.Arg.{Arg}
 use Rattle.f77_values.specs.declared.value.Value.{Value}
 use Rattle.f77_run.specs.Interpreter.{AreFitting, AreArguments, values_in}
-use Rattle.f77_run.specs.Machine.{values_of, turns_of, turn_of, placed}
+use Rattle.f77_run.specs.Machine.{values_of, turns_of, turn_of, placed_in_run}
 use Rattle.f77_code.specs.Moves.{Cells, turn_at}
 use Rattle.f77_run.specs.Site.{site_of, held}
-use Rattle.f77_run.specs.Spans.{HaveRoom, AreWithin, AllHold, size_of, span, all_filled}
+use Rattle.f77_run.specs.code.Spans.{HaveRoom, AreWithin, AllHold, span}
+use Rattle.f77_run.specs.Spans.{size_of, all_filled}
 use Rattle.f77_run.specs.Start.{IsStart, constant_value, start_values}
 use Rattle.f77_values.specs.declared.finish.Finish.{Finish}
 use Rattle.f77_run.specs.declared.machine.Machine.{Machine}
 use Rattle.f77_code.specs.declared.control.Place.TheVariants as places
 use Rattle.f77_run.specs.Control.{Comes}
 use Rattle.f77_run.specs.Outcome.{IsOutcome}
-use Rattle.f77_run.specs.Running.{IsRunning, config_at}
+use Rattle.f77_run.specs.code.Running.{IsRunning, config_at}
 use Rattle.f77_run.specs.Step.{Config, config}
 use Rattle.f77_run.specs.Step as run
-use Rattle.f77_run.specs.Typed.{IsTyped}
+use Rattle.f77_run.specs.code.Typed.{IsTyped}
 use Rattle.f77_run.specs.Value.{Store}
 use Rattle.f77_run.proofs.Typing.{outcome_typed, start_typed}
 use Rattle.f77_run.proofs.Filling.{arguments_filled, arguments_within, all_filled_length}
@@ -84,7 +85,7 @@ module _ (checked : CheckedFields) (is : IsChecked checked) where
 
   -- what DATA gives an element
   abbrev given_at : Symbol → ℕ → Option Value
-  given_at name k = option_map constant_value (preset_at program name k)
+  given_at name k = option_map constant_value (preset_value program name k)
 
   -- the slots before the arguments are there
   abbrev pub empty : Cells
@@ -93,24 +94,26 @@ module _ (checked : CheckedFields) (is : IsChecked checked) where
   laid : empty ≡ flat_map (λ name. map (given_at name) (first_numbers (product (bounds name)))) checked.names
   laid =
       ap (map (option_map constant_value)) is.start.initial
-      ∙ map_joined (option_map constant_value) (λ name. map (preset_at program name) (first_numbers (elements program name))) checked.names
-      ∙ same_joined _ _ (λ name. map_twice (option_map constant_value) (preset_at program name) (first_numbers (elements program name))) checked.names
+      ∙ map_joined (option_map constant_value) (λ name. map (preset_value program name) (first_numbers (preset_elements program name))) checked.names
+      ∙ same_joined _ _ (λ name. map_twice (option_map constant_value) (preset_value program name) (first_numbers (preset_elements program name))) checked.names
 
   pub empty_size : length empty ≡ slot_count bounds checked.names
   empty_size = ap length laid ∙ laid_all bounds checked.names given_at
 
-  empty_values : (name : Symbol) → values_of bounds checked.names empty name ≡ map (given_at name) (first_numbers (elements program name))
+  empty_values : (name : Symbol) → values_of bounds checked.names empty name ≡ map (given_at name) (first_numbers (preset_elements program name))
   empty_values name = by (list_any (bytes_eq name) checked.names) refl
     where
-      by : (b : Bool) → list_any (bytes_eq name) checked.names ≡ b → values_of bounds checked.names empty name ≡ map (given_at name) (first_numbers (elements program name))
+      by : (b : Bool) → list_any (bytes_eq name) checked.names ≡ b → values_of bounds checked.names empty name ≡ map (given_at name) (first_numbers (preset_elements program name))
       by true among = ap (λ cells. values_of bounds checked.names cells name) laid ∙ laid_values bounds checked.names given_at name among
       by false apart =
           unlaid_values bounds checked.names name apart empty
-          ∙ same_mapped (λ k. None) (given_at name) (λ k. sym (ap (option_map constant_value) (unpreset program name (other (list_any (bytes_eq name) (symbols program)) refl apart) k))) (first_numbers (elements program name))
+          ∙ same_mapped (λ k. None) (given_at name)
+          (λ k. sym (ap (option_map constant_value) (unpreset program name (other (list_any (bytes_eq name) (symbols program)) refl apart) k)))
+          (first_numbers (preset_elements program name))
         where
           other : (b : Bool) → list_any (bytes_eq name) (symbols program) ≡ b → list_any (bytes_eq name) checked.names ≡ false → list_any (bytes_eq name) (symbols program) ≡ false
           other true e apart =
-              let there = among_holds (λ name. is_among checked.names name ≡ true) (symbols program) is.names.covers name e in
+              let there = among_holds (λ name. is_name_among checked.names name ≡ true) (symbols program) is.names.covers name e in
               absurd (cc (there, apart))
           other false e apart = e
 
@@ -151,7 +154,7 @@ module _ (checked : CheckedFields) (is : IsChecked checked) where
       machine_starts = (
         checked.start.entry,
         is.start.entry,
-        (λ i. config (placed (place i)) (held checked (cells i)) (turns_of (turns i)))
+        (λ i. config (placed_in_run (place i)) (held checked (cells i)) (turns_of (turns i)))
             ∙ (λ i. config (run.Execute checked.start.entry) (starts i) (none_active n i)),
       )
 

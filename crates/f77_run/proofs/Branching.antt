@@ -1,5 +1,6 @@
 -- From a branch to the next one, and to the END IF of its block: a range that holds the one holds the other.
-use Rattle.std.proofs.Common.{◌≡◌, ◌⊎◌, ℕ, zero, suc, ◌+◌, ◌-◌, ◌<◌, ◌≤◌, ◌==◌, ◌&&◌, ◌||◌, Bool, true, false, cond, inl, inr, List, ◌∷◌, ◌++◌, Option, Some, None, refl, sym, ◌∙◌, ap, arith, length, take, drop, drop-cons, drop-drop, filter, slice_get}
+use Rattle.std.proofs.Common.{◌≡◌, ◌⊎◌, ℕ, zero, suc, ◌+◌, ◌-◌, ◌<◌, ◌≤◌, ◌==◌, ◌&&◌, ◌||◌, Bool, true, false, cond, inl, inr, List, ◌∷◌, ◌++◌}
+use Rattle.std.proofs.Common.{Option, Some, None, refl, sym, ◌∙◌, ap, arith, length, take, drop, drop-cons, drop-drop, filter, slice_get}
 use Rattle.std.specs.Prelude.{is_some, nat_lt, option_map, if◌then◌else◌}
 use Rattle.std.specs.Cmp.{both_ways}
 use Rattle.std.specs.Option.{option_map_or}
@@ -11,8 +12,8 @@ use Rattle.std.proofs.lemmas.Option.{get_or_from_slice_get, slice_get_within}
 use Rattle.f77_program.specs.Program.{LineFields}
 use Rattle.f77_tree.specs.Statement.{Statement}
 use Rattle.f77_tree.specs.Tree.{Tree}
-use Rattle.f77_legal.specs.Blocks.{is_block_if, is_end_if, is_alternative, has_at, count_between, is_level, is_in_block, begins_branch, block_end, branch_end, behind}
-use Rattle.f77_legal.specs.Labels.{statement_at}
+use Rattle.f77_legal.specs.Blocks.{is_block_if, is_end_if, is_alternative, has_at, count_between, is_level, is_in_block, begins_branch, block_end, branch_end, statement_behind}
+use Rattle.f77_legal.specs.Labels.{nth_statement}
 use Rattle.f77_legal.specs.Legal.{IsLegal}
 use Rattle.f77_legal.specs.Loops.{terminal, range_holds}
 use Rattle.f77_legal.proofs.Branches.{found_is, found_some}
@@ -217,7 +218,7 @@ module _ (p : List LineFields) (legal : IsLegal p) where
       ]
 
   -- a range that holds the next statement holds the one that is behind this one
-  pub ranges_behind : (i j : ℕ) → behind p i ≡ Some j → (d : ℕ) → range_holds p d (i + 1) ≡ range_holds p d j
+  pub ranges_behind : (i j : ℕ) → statement_behind p i ≡ Some j → (d : ℕ) → range_holds p d (i + 1) ≡ range_holds p d j
   ranges_behind i j is d = by (has_at is_alternative p (i + 1)) refl is
     where
       by : (b : Bool) → has_at is_alternative p (i + 1) ≡ b → (if b then block_end p (i + 1) else Some (i + 1)) ≡ Some j → range_holds p d (i + 1) ≡ range_holds p d j
@@ -225,7 +226,7 @@ module _ (p : List LineFields) (legal : IsLegal p) where
       by false alternative same = let n : i + 1 ≡ j = cc (same) in ap (range_holds p d) n
 
   -- the same of a branch that is skipped
-  pub ranges_skipped : (i j : ℕ) (t : Tree) → (statement_at p i ≡ Some (Statement.BlockIf t)) ⊎ (statement_at p i ≡ Some (Statement.ElseIf t))
+  pub ranges_skipped : (i j : ℕ) (t : Tree) → (nth_statement p i ≡ Some (Statement.BlockIf t)) ⊎ (nth_statement p i ≡ Some (Statement.ElseIf t))
       → branch_end p i ≡ Some j → (d : ℕ) → range_holds p d i ≡ range_holds p d j
   ranges_skipped i j t at ends d =
       let branch = some_branch p legal i t at in

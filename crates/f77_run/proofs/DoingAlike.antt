@@ -7,21 +7,23 @@ use Rattle.f77_run.specs.declared.machine.Machine.{Machine}
 use Rattle.f77_code.specs.declared.control.Place.TheVariants.{Execute, Increment}
 use Rattle.f77_code.specs.declared.control.Turn.{Turn}
 use Rattle.f77_run.specs.declared.visits.Visit.{Visit}
-use Rattle.f77_run.specs.Effect.{AgreeBut}
+use Rattle.f77_run.specs.code.Effect.{AgreeElsewhere}
 use Rattle.f77_run.specs.Endless.{Reaches}
-use Rattle.f77_run.specs.Machine.{placed}
-use Rattle.f77_code.specs.Moves.{Move, acted, action_within, incremented, is_executed, moved, turn_at}
-use Rattle.f77_run.specs.Machine.{state_of}
-use Rattle.f77_run.specs.Parting.{Parting, IsParting, DoesAlikeIn, changed_site, site_in, start_in}
-use Rattle.f77_run.specs.Reached.{number_of}
-use Rattle.f77_run.specs.Running.{Site, IsRunning}
+use Rattle.f77_run.specs.Machine.{placed_in_run}
+use Rattle.f77_code.specs.Moves.{Move, acted, incremented, is_executed, moved, turn_at}
+use Rattle.f77_code.specs.code.Moves.{action_within}
+use Rattle.f77_run.specs.code.Machine.{state_of}
+use Rattle.f77_run.specs.code.Parting.{Parting, IsParting, DoesAlikeIn, changed_site, site_in, start_in}
+use Rattle.f77_run.specs.Reached.{statement_number}
+use Rattle.f77_run.specs.Running.{RunSite}
+use Rattle.f77_run.specs.code.Running.{IsRunning}
 use Rattle.f77_run.specs.Visits.{IsVisit, config_in}
 use Rattle.f77_run.proofs.Parted.{alike, changed_running, own_running}
 use Rattle.f77_run.proofs.Runs.{are_short, are_within, can_move}
 use Rattle.f77_run.proofs.Steps.{executed_moves, executed_so, executed_within, incremented_active, incremented_moves, incremented_within, statement_within}
 
 -- the statement where a machine is that runs
-module _ (at : Site) (statements : List Resolved) (m : Machine) (runs : IsRunning at statements m) (i : ℕ) where
+module _ (at : RunSite) (statements : List Resolved) (m : Machine) (runs : IsRunning at statements m) (i : ℕ) where
   moves : IsSome (moved statements (state_of m))
   moves = can_move at statements m runs
 
@@ -72,8 +74,8 @@ module _ (parting : Parting) (own changed : List Resolved) (is : IsParting parti
       alike parting changed is visit there there refl refl at together x y theirs
       (subst (λ (list : List Resolved). moved list (state_of there) ≡ Some y) same ours) equal
 
-  pub number_there : (i : ℕ) → number_of (placed visit.place) ≡ i → AgreeBut parting.place own changed → AgreeBut i own changed
-  number_there i here agree = subst (λ n. AgreeBut n own changed) (sym at.is ∙ here) agree
+  pub number_there : (i : ℕ) → statement_number (placed_in_run visit.place) ≡ i → AgreeElsewhere parting.place own changed → AgreeElsewhere i own changed
+  number_there i here agree = subst (λ n. AgreeElsewhere n own changed) (sym at.is ∙ here) agree
 
   pub executes_alike : (i : ℕ) (r s : Resolved) → visit.place ≡ Execute i → r ≡ get_or own i r → s ≡ get_or changed i s
       → acted own i r r.action visit.cells.items visit.turns.items ≡ acted changed i s s.action visit.cells.items visit.turns.items → DoesAlikeIn parting visit

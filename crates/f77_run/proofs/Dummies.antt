@@ -12,7 +12,7 @@ use Rattle.f77_program.specs.Program.{LineFields}
 use Rattle.f77_tree.specs.Statement.{Statement}
 use Rattle.f77_legal.specs.Heading.{dummies, dummies_of}
 use Rattle.f77_legal.specs.Legal.{IsLegal, name_faults}
-use Rattle.f77_legal.specs.Names.{Symbol, Mention, Dummy, name_in, mentions_of, mentions, each_once, symbols, is_real, is_twice, dummies_given}
+use Rattle.f77_legal.specs.Names.{Symbol, Mention, Dummy, name_in, mentions_of, mentions, names_once, symbols, is_real, is_twice, dummies_given}
 use Rattle.f77_legal.specs.declared.fault.CheckFault.TheVariants.{RealName, Twice}
 use Rattle.f77_legal.proofs.LegalGives.{none_before, none_behind, map_none}
 
@@ -44,19 +44,19 @@ none_kept q name (x ∷ xs) none among = by (q x) refl (bytes_eq name x) refl (n
         later rest (sym (ap (λ b. b || list_any (bytes_eq name) xs) f) ∙ among)
 
 -- each name once are all the names
-once_among : (name : Symbol) (xs : List Symbol) → list_any (bytes_eq name) xs ≡ true → list_any (bytes_eq name) (each_once xs) ≡ true
+once_among : (name : Symbol) (xs : List Symbol) → list_any (bytes_eq name) xs ≡ true → list_any (bytes_eq name) (names_once xs) ≡ true
 once_among name [] among = among
 once_among name (x ∷ xs) among = by (bytes_eq name x) refl (once_among name xs)
   where
     other_than : (k : Symbol) → bytes_eq name x ≡ false → bytes_eq name k ≡ true → not (bytes_eq x k) ≡ true
     other_than k apart same = ap not (ap (bytes_eq x) (sym (same_symbol name k same)) ∙ either_way x name ∙ apart)
 
-    by : (b : Bool) → bytes_eq name x ≡ b → (list_any (bytes_eq name) xs ≡ true → list_any (bytes_eq name) (each_once xs) ≡ true)
-        → list_any (bytes_eq name) (each_once (x ∷ xs)) ≡ true
+    by : (b : Bool) → bytes_eq name x ≡ b → (list_any (bytes_eq name) xs ≡ true → list_any (bytes_eq name) (names_once xs) ≡ true)
+        → list_any (bytes_eq name) (names_once (x ∷ xs)) ≡ true
     by true e later = rw e refl
     by false e later =
         let rest = later (sym (ap (λ b. b || list_any (bytes_eq name) xs) e) ∙ among) in
-        rw e (any-filter_same (bytes_eq name) (λ other. not (bytes_eq x other)) true (λ k same. other_than k e same) (each_once xs) ∙ rest)
+        rw e (any-filter_same (bytes_eq name) (λ other. not (bytes_eq x other)) true (λ k same. other_than k e same) (names_once xs) ∙ rest)
 
 under_two : (n : ℕ) → nat_le 2 n ≡ false → n < 2
 under_two n e = grind (arith, nat_tests)

@@ -19,9 +19,9 @@ use Rattle.f77_run.specs.declared.changed.Change.{Change}
 use Rattle.f77_run.specs.declared.visits.Visited.{Visited}
 use Rattle.f77_run.specs.declared.visits.Visits.{Visits}
 use Rattle.f77_run.specs.Changed.{ChangedFields, IsChanged, changed_fields, changed_program}
-use Rattle.f77_run.specs.Effect.{AgreeBut}
+use Rattle.f77_run.specs.code.Effect.{AgreeElsewhere}
 use Rattle.f77_run.specs.Interpreter.{AreFitting, values_in}
-use Rattle.f77_run.specs.Parting.{IsParting, parting_of, site_in, start_in}
+use Rattle.f77_run.specs.code.Parting.{IsParting, parting_of, site_in, start_in}
 use Rattle.f77_run.specs.Reached.{AreSameBut}
 use Rattle.f77_run.specs.Site.{site_of}
 use Rattle.f77_run.specs.Visits.{AreVisits, IsFollowed}
@@ -41,7 +41,7 @@ set_other (y ∷ xs) (suc i) zero x other = refl
 set_other (y ∷ xs) (suc i) (suc j) x other = set_other xs i j x (λ same. other (ap suc same))
 
 -- the statements of the two programs are the same but for the changed one
-pub agree_but : (own changed : List Resolved) (i : ℕ) (old : Resolved) → slice_set changed i old ≡ own → AgreeBut i own changed
+pub agree_but : (own changed : List Resolved) (i : ℕ) (old : Resolved) → slice_set changed i old ≡ own → AgreeElsewhere i own changed
 agree_but own changed i old is j other = ap (λ list. slice_get list j) (sym is) ∙ set_other changed i j old other
 
 pub set_same : {X : Type 0} (xs : List X) (i : ℕ) (x : X) → slice_get xs i ≡ Some x → slice_set xs i x ≡ xs

@@ -14,8 +14,9 @@ use Rattle.f77_values.specs.declared.value.Value.{Value}
 use Rattle.f77_code.specs.Evaluation.{held_in}
 use Rattle.f77_code.specs.Moves.{Cells}
 use Rattle.f77_run.specs.Interpreter.{values_in}
-use Rattle.f77_run.specs.Spans.{HaveRoom, all_filled, filled, size_of, span}
-use Rattle.f77_run.specs.Typed.{HasValues, has_kind}
+use Rattle.f77_run.specs.code.Spans.{HaveRoom, span}
+use Rattle.f77_run.specs.Spans.{all_filled, filled, size_of}
+use Rattle.f77_run.specs.code.Typed.{HasValues, has_kind}
 
 length-filled : (cells : Cells) (first : ℕ) (values : List Value) → length (filled cells first values) ≡ length cells
 length-filled cells first [] = refl

@@ -12,9 +12,10 @@ use Rattle.f77_values.specs.declared.finish.Finish.{Finish}
 use Rattle.f77_code.specs.declared.control.Place.{Place}
 use Rattle.f77_code.specs.declared.control.Place.TheVariants.{Execute, Increment}
 use Rattle.f77_run.specs.Endless.{Reaches}
-use Rattle.f77_run.specs.Machine.{placed}
+use Rattle.f77_run.specs.Machine.{placed_in_run}
 use Rattle.f77_code.specs.Moves.{State, state, acted, incremented, is_executed, is_loop, moved, turn_at}
-use Rattle.f77_run.specs.Reached.{number_of, IsReached, AreReachedFrom}
+use Rattle.f77_run.specs.Reached.{statement_number, IsReached}
+use Rattle.f77_run.proofs.ReachedDefinitions.{AreReachedFrom}
 use Rattle.f77_run.specs.Step.{Config, Goes, Ends, Step}
 use Rattle.f77_run.specs.Value.{Store}
 use Rattle.f77_run.proofs.Endless.{determined, split}
@@ -55,27 +56,27 @@ module _ (p : List LineFields) (start : Config) where
   -- one step more is made, at this configuration
   module _ (done : ℕ) (now : Config) (reaches : Reaches p done start now) where
     -- the last step is made here
-    here_or_before : (i : ℕ) → IsReached p i (done + 1) start → (i ≢ number_of now.place) → IsReached p i done start
+    here_or_before : (i : ℕ) → IsReached p i (done + 1) start → (i ≢ statement_number now.place) → IsReached p i done start
     here_or_before i is apart = elim (cases_lt is.made done) [
       | inl before ↦ record { made = is.made; within = before; at = is.at; reaches = is.reaches; is = is.is }
       | inr not_before ↦
           let within = is.within in
           let same : is.made ≡ done = omega (arith, within, not_before) in
           let one : is.at ≡ now = determined p done start is.at now (subst (λ k. Reaches p k start is.at) same is.reaches) reaches in
-          absurd (apart (sym is.is ∙ ap (λ (c : Config). number_of c.place) one))
+          absurd (apart (sym is.is ∙ ap (λ (c : Config). statement_number c.place) one))
     ]
 
-    pub one_noted : (reached : List Bool) → AreReachedFrom p start done reached → AreReachedFrom p start (done + 1) (slice_set reached (number_of now.place) true)
-    one_noted reached are i flag at = by (number_of now.place == i) refl
+    pub one_noted : (reached : List Bool) → AreReachedFrom p start done reached → AreReachedFrom p start (done + 1) (slice_set reached (statement_number now.place) true)
+    one_noted reached are i flag at = by (statement_number now.place == i) refl
       where
-        by : (b : Bool) → (number_of now.place == i) ≡ b → Decides flag (IsReached p i (done + 1) start)
+        by : (b : Bool) → (statement_number now.place == i) ≡ b → Decides flag (IsReached p i (done + 1) start)
         by true e =
-            let same : number_of now.place ≡ i = grind (arith, nat_tests) in
+            let same : statement_number now.place ≡ i = grind (arith, nat_tests) in
             let set : true ≡ flag = set_here reached i true flag (ap (λ k. slice_get (slice_set reached k true) i) (sym same) ∙ at) in
             (λ _. record { made = done; within = omega arith; at = now; reaches = reaches; is = same }, λ _. sym set)
         by false e =
-            let apart : number_of now.place ≢ i = λ same. absurd (true≢false (sym (own i) ∙ ap (λ k. k == i) (sym same) ∙ e)) in
-            let before = are i flag (sym (set_there reached (number_of now.place) i true apart) ∙ at) in
+            let apart : statement_number now.place ≢ i = λ same. absurd (true≢false (sym (own i) ∙ ap (λ k. k == i) (sym same) ∙ e)) in
+            let before = are i flag (sym (set_there reached (statement_number now.place) i true apart) ∙ at) in
             (λ set. later i done (done + 1) (omega arith) (before.0 set), λ is. before.1 (here_or_before i is (λ same. apart (sym same))))
 
     -- behind an end there are no steps
@@ -100,15 +101,16 @@ module _ (p : List LineFields) (start : Config) where
         ]
 
 -- a machine that can make a step is at a statement
-pub place_within : (statements : List Resolved) (s : State) → IsSome (moved statements s) → number_of (placed s.place) < length statements
+pub place_within : (statements : List Resolved) (s : State) → IsSome (moved statements s) → statement_number (placed_in_run s.place) < length statements
 place_within statements s can = by s.place can
   where
-    by : (place : Place) → IsSome (moved statements (state place s.cells s.turns)) → number_of (placed place) < length statements
+    by : (place : Place) → IsSome (moved statements (state place s.cells s.turns)) → statement_number (placed_in_run place) < length statements
     by (Execute i) can = elim (slice_get_cases statements i).1 [
       | inl (r, within, at, is) ↦ within
       | inr (past, none) ↦ absurd (true≢false (sym can ∙ ap (λ o. is_some (option_and_then (λ r. if is_executed r.action then Some (acted statements i r r.action s.cells s.turns) else None) o)) none))
     ]
     by (Increment d) can = elim (slice_get_cases statements d).1 [
       | inl (r, within, at, is) ↦ within
-      | inr (past, none) ↦ absurd (true≢false (sym can ∙ ap (λ o. is_some (option_and_then (λ r. if is_loop r.action then option_map (λ turn. incremented statements d r.action turn s.cells s.turns) (turn_at s.turns d) else None) o)) none))
+      | inr (past, none) ↦ absurd (true≢false (sym can ∙ ap (λ o. is_some (option_and_then (λ r. if is_loop r.action
+          then option_map (λ turn. incremented statements d r.action turn s.cells s.turns) (turn_at s.turns d) else None) o)) none))
     ]

@@ -16,14 +16,15 @@ use Rattle.f77_code.specs.declared.code.Code.{Code}
 use Rattle.f77_code.specs.declared.control.Place.{Place}
 use Rattle.f77_code.specs.declared.control.Place.TheVariants.{Execute, Increment}
 use Rattle.f77_code.specs.declared.control.Turn.{Turn}
-use Rattle.f77_code.specs.Block.{after, code_within}
+use Rattle.f77_code.specs.Block.{code_after, code_within}
 use Rattle.f77_code.specs.Instructions.{place_at, AreCode}
-use Rattle.f77_code.specs.Compiled.{are_ready, HaveActions}
-use Rattle.f77_code.specs.Constants.{Begins}
-use Rattle.f77_code.specs.Holds.{Plan, Holds, Counts, loop_count}
+use Rattle.f77_code.specs.Compiled.{are_ready}
+use Rattle.f77_code.specs.code.Compiled.{HaveActions}
+use Rattle.f77_code.specs.Constants.{BeginsPlan}
+use Rattle.f77_code.specs.Holds.{Plan, HoldsRegisters, HoldsCounters, loop_count}
 use Rattle.f77_code.specs.Moves.{Cells, State, Move, Goes, Ends}
-use Rattle.f77_code.specs.Operation.{Point, point, ended}
-use Rattle.f77_code.specs.Places.{is_among}
+use Rattle.f77_code.specs.Operation.{Point, point, ended_point}
+use Rattle.f77_code.specs.Places.{is_place_among}
 use Rattle.f77_code.specs.Program.{IsCode}
 use Rattle.f77_code.specs.Registers.{are_held}
 use Rattle.f77_code.specs.Sequences.{moved_by}
@@ -33,11 +34,13 @@ use Rattle.f77_code.proofs.Listed.{item_at, order}
 use Rattle.f77_code.proofs.Reached.{code_there}
 use Rattle.f77_code.proofs.Sequences.{blocks_alike, goes_round}
 use Rattle.f77_run.specs.declared.machine.Machine.{Machine}
-use Rattle.f77_run.specs.Machine.{state_of, turn_of}
+use Rattle.f77_run.specs.code.Machine.{state_of}
+use Rattle.f77_run.specs.Machine.{turn_of}
 use Rattle.f77_run.specs.Outcome.{IsOutcome}
-use Rattle.f77_run.specs.Registers.{plan_of, loaded, shown, counters_of, values_fit}
-use Rattle.f77_run.specs.Running.{Site, IsRunning, AgreeOnDummies, ComesToCells, CameBack, config_at, values_at}
-use Rattle.f77_run.specs.Typed.{IsTyped}
+use Rattle.f77_run.specs.code.Registers.{plan_of, loaded, shown_cells, counters_of, values_fit}
+use Rattle.f77_run.specs.Running.{RunSite}
+use Rattle.f77_run.specs.code.Running.{IsRunning, AgreeOnDummies, ComesToCells, CameBack, config_at, values_at}
+use Rattle.f77_run.specs.code.Typed.{IsTyped}
 use Rattle.f77_run.proofs.Advancing.{after_more}
 use Rattle.f77_run.proofs.Endless.{limit_met}
 use Rattle.f77_run.proofs.Kinded.{have_actions}
@@ -52,13 +55,13 @@ use Rattle.f77_run.proofs.Steps.{incremented_within}
 use Rattle.f77_run.proofs.Typing.{outcome_typed}
 
 -- ends have places beyond those of all instructions
-end_far : (finish : Finish) → 4294967296 ≤ ended finish
+end_far : (finish : Finish) → 4294967296 ≤ ended_point finish
 end_far Returned = omega arith
 end_far Stopped = omega arith
 end_far (Failed fault) = omega arith
 end_far StepLimit = omega arith
 
-module _ (at : Site) (statements : List Resolved) (m : Machine) (is : IsRunning at statements m) (kinds : List Kind)
+module _ (at : RunSite) (statements : List Resolved) (m : Machine) (is : IsRunning at statements m) (kinds : List Kind)
     (kinds_are : kinds ≡ slot_kinds (kind_of at.program) (bounds_of at.program) at.names) (code : Code) (compiled : IsCode statements code)
     (slots : code.constants.slots ≡ length kinds) where
   abbrev plan : Plan
@@ -73,7 +76,7 @@ module _ (at : Site) (statements : List Resolved) (m : Machine) (is : IsRunning 
   pub long : length m.turns.items ≡ length statements
   long = is.turns ∙ sym is.resolved.count
 
-  begins : Begins plan code.constants
+  begins : BeginsPlan plan code.constants
   begins = record { slots = sym slots; values = λ k z e. e }
 
   are : AreCode plan statements code.instructions.items
@@ -83,10 +86,10 @@ module _ (at : Site) (statements : List Resolved) (m : Machine) (is : IsRunning 
       (have_actions at.program at.names statements code.constants is.legal is.resolved))
 
   -- the machine stands at a place whose DO, if it is that of one, is among the statements
-  pub place_among : is_among (length code.places.increments.items) m.place ≡ true
+  pub place_among : is_place_among (length code.places.increments.items) m.place ≡ true
   place_among = by m.place refl
     where
-      by : (place : Place) → m.place ≡ place → is_among (length code.places.increments.items) place ≡ true
+      by : (place : Place) → m.place ≡ place → is_place_among (length code.places.increments.items) place ≡ true
       by (Execute i) e = refl
       by (Increment d) e =
           let below = incremented_within statements m d e (can_move at statements m is) in
@@ -110,14 +113,14 @@ module _ (at : Site) (statements : List Resolved) (m : Machine) (is : IsRunning 
         subst (λ n. code_within n (length counters) code.instructions.items ≡ true) (sym size)
         (subst (λ n. code_within (length kinds + length code.constants.values.items) n code.instructions.items ≡ true) (sym many) there)
 
-    holds : Holds plan registers m.cells.items
+    holds : HoldsRegisters plan registers m.cells.items
     holds =
-        subst (λ list. Holds plan list m.cells.items) (sym loads)
+        subst (λ list. HoldsRegisters plan list m.cells.items) (sym loads)
         (loaded_holds kinds code.constants m.cells.items sized (subst (λ list. are_held list ≡ true) loads held) fit constants_fit)
 
-    counted : Counts statements counters m.turns.items
+    counted : HoldsCounters statements counters m.turns.items
     counted =
-        subst (λ list. Counts statements list m.turns.items) (sym counts)
+        subst (λ list. HoldsCounters statements list m.turns.items) (sym counts)
         (counters_hold statements m.turns.items long
         (λ d turn active. (
           active_is_loop at.program at.names at.given statements (config_at at m) is.formed is.legal is.resolved is.comes d (turn_of turn)
@@ -130,35 +133,35 @@ module _ (at : Site) (statements : List Resolved) (m : Machine) (is : IsRunning 
 
     -- where the code stands behind so many instructions, the run stands, or ended there
     module _ (typed : IsTyped at.program (values_at at m.cells.items)) (steps made place : ℕ) (after_registers : List ℤ) (after_counters : List Turn)
-        (stands : point place after_registers after_counters ≡ after code.instructions.items made begin) (few : made ≤ steps)
+        (stands : point place after_registers after_counters ≡ code_after code.instructions.items made begin) (few : made ≤ steps)
         (rest : made < steps → (length code.instructions.items ≤ place) ⊎ CameBack code.instructions.items begin made)
-        (finish : Finish) (told : (f : Finish) → place ≡ ended f → finish ≡ f) (limit : place < 4294967296 → finish ≡ StepLimit) where
+        (finish : Finish) (told : (f : Finish) → place ≡ ended_point f → finish ≡ f) (limit : place < 4294967296 → finish ≡ StepLimit) where
       running : IsRunningIn at statements (state_of m)
       running = running_in at statements m is
 
       moves : (n : ℕ) → (move : Move) × (moved_by statements n (state_of m) ≡ Some move) × ComesIn at statements n (config_at at m) move
       moves n = moves_by at statements n (state_of m) running
 
-      did : (n : ℕ) (move : Move) → moved_by statements n (state_of m) ≡ Some move → IsMove plan statements (after code.instructions.items n begin) move
+      did : (n : ℕ) (move : Move) → moved_by statements n (state_of m) ≡ Some move → IsMove plan statements (code_after code.instructions.items n begin) move
       did n move e =
           blocks_alike plan statements code.instructions.items begin (state_of m) n move are starts (all_nested at statements n (state_of m) running) e
 
       -- the registers behind them, and what the dummy arguments hold
-      agree : (cells : Cells) → Holds plan (after code.instructions.items made begin).registers cells → IsTyped at.program (values_at at cells)
-          → AgreeOnDummies at.program (values_at at cells) (values_at at (shown kinds after_registers))
+      agree : (cells : Cells) → HoldsRegisters plan (code_after code.instructions.items made begin).registers cells → IsTyped at.program (values_at at cells)
+          → AgreeOnDummies at.program (values_at at cells) (values_at at (shown_cells kinds after_registers))
       agree cells holds typed =
-          let here : Holds plan after_registers cells = subst (λ (p : Point). Holds plan p.registers cells) (sym stands) holds in
-          subst (λ list. AgreeOnDummies at.program (values_at at cells) (values_at at (shown list after_registers))) (sym kinds_are)
+          let here : HoldsRegisters plan after_registers cells = subst (λ (p : Point). HoldsRegisters plan p.registers cells) (sym stands) holds in
+          subst (λ list. AgreeOnDummies at.program (values_at at cells) (values_at at (shown_cells list after_registers))) (sym kinds_are)
           (agree_on_dummies at.program at.names code.constants after_registers cells
-          (subst (λ list. Holds (plan_of list code.constants) after_registers cells) kinds_are here) typed)
+          (subst (λ list. HoldsRegisters (plan_of list code.constants) after_registers cells) kinds_are here) typed)
 
       typed_then : (o : Finish) (cells : Cells) → IsOutcome at.program made (config_at at m) o (values_at at cells) → IsTyped at.program (values_at at cells)
       typed_then o cells ends = outcome_typed at.program made (config_at at m) o (values_at at cells) is.legal ends typed
 
       -- the run has ended
       ends_there : (o : Finish) (cells : Cells) → moved_by statements made (state_of m) ≡ Some (Ends o cells)
-          → ComesIn at statements made (config_at at m) (Ends o cells) → IsMove plan statements (after code.instructions.items made begin) (Ends o cells)
-          → ComesToCells at steps (config_at at m) made finish (shown kinds after_registers)
+          → ComesIn at statements made (config_at at m) (Ends o cells) → IsMove plan statements (code_after code.instructions.items made begin) (Ends o cells)
+          → ComesToCells at steps (config_at at m) made finish (shown_cells kinds after_registers)
       ends_there o cells e comes is_end =
           let same : finish ≡ o = told o (ap (λ (p : Point). p.place) stands ∙ is_end.0) in
           let later = moves steps in
@@ -179,25 +182,25 @@ module _ (at : Site) (statements : List Resolved) (m : Machine) (is : IsRunning 
 
       -- it goes on: all steps were made, or it comes back, and never ends
       far_there : (n : ℕ) (o : Finish) (cells : Cells) → moved_by statements n (state_of m) ≡ Some (Ends o cells)
-          → slice_get code.instructions.items (after code.instructions.items n begin).place ≡ None
+          → slice_get code.instructions.items (code_after code.instructions.items n begin).place ≡ None
       far_there n o cells e =
           let is_end = did n (Ends o cells) e in
           let far = end_far o in
           let few = are.few in
           let place = is_end.0 in
-          slice_get_past code.instructions.items (after code.instructions.items n begin).place (omega (arith, far, few, place))
+          slice_get_past code.instructions.items (code_after code.instructions.items n begin).place (omega (arith, far, few, place))
 
       never_back : CameBack code.instructions.items begin made → (o : Finish) (cells : Cells) → moved_by statements steps (state_of m) ≢ Some (Ends o cells)
       never_back b o cells = λ e.
           let sum = b.sum in
           let whole : b.before + (steps - b.before) ≡ steps = omega (arith, sum, few) in
           let there : slice_get code.instructions.items
-          (after code.instructions.items (steps - b.before) (after code.instructions.items b.before begin)).place ≡ None
+          (code_after code.instructions.items (steps - b.before) (code_after code.instructions.items b.before begin)).place ≡ None
           = ap (λ (p : Point). slice_get code.instructions.items p.place)
-          (sym (after_more code.instructions.items b.before (steps - b.before) begin) ∙ ap (λ n. after code.instructions.items n begin) whole)
+          (sym (after_more code.instructions.items b.before (steps - b.before) begin) ∙ ap (λ n. code_after code.instructions.items n begin) whole)
           ∙ far_there steps o cells e in
-          let none = goes_round code.instructions.items b.since (steps - b.before) (after code.instructions.items b.before begin) b.back there in
-          let found = item_at code.instructions.items (after code.instructions.items b.before begin).place b.there in
+          let none = goes_round code.instructions.items b.since (steps - b.before) (code_after code.instructions.items b.before begin) b.back there in
+          let found = item_at code.instructions.items (code_after code.instructions.items b.before begin).place b.there in
           absurd (cc (none, found.1))
 
       never_ends : (t : State) → moved_by statements made (state_of m) ≡ Some (Goes t) → place < length code.instructions.items
@@ -219,8 +222,8 @@ module _ (at : Site) (statements : List Resolved) (m : Machine) (is : IsRunning 
 
       -- so it meets its limit
       meets_limit : (t : State) → moved_by statements made (state_of m) ≡ Some (Goes t) → ComesIn at statements made (config_at at m) (Goes t)
-          → IsMove plan statements (after code.instructions.items made begin) (Goes t)
-          → ComesToCells at steps (config_at at m) made finish (shown kinds after_registers)
+          → IsMove plan statements (code_after code.instructions.items made begin) (Goes t)
+          → ComesToCells at steps (config_at at m) made finish (shown_cells kinds after_registers)
       meets_limit t e comes is_at = by later.0 later.1 later.2
         where
           here : place ≡ place_at statements t.place
@@ -239,7 +242,7 @@ module _ (at : Site) (statements : List Resolved) (m : Machine) (is : IsRunning 
           later = moves steps
 
           by : (move : Move) → moved_by statements steps (state_of m) ≡ Some move → ComesIn at statements steps (config_at at m) move
-              → ComesToCells at steps (config_at at m) made finish (shown kinds after_registers)
+              → ComesToCells at steps (config_at at m) made finish (shown_cells kinds after_registers)
           by (Goes u) is whole = record {
             values = values_at at t.cells;
             ends = record {
@@ -254,20 +257,20 @@ module _ (at : Site) (statements : List Resolved) (m : Machine) (is : IsRunning 
           }
           by (Ends o cells) is whole = absurd (never_ends t e below o cells is)
 
-      pub comes_to_cells : ComesToCells at steps (config_at at m) made finish (shown kinds after_registers)
+      pub comes_to_cells : ComesToCells at steps (config_at at m) made finish (shown_cells kinds after_registers)
       comes_to_cells = by now.0 now.1 now.2
         where
           now : (move : Move) × (moved_by statements made (state_of m) ≡ Some move) × ComesIn at statements made (config_at at m) move
           now = moves made
 
           by : (move : Move) → moved_by statements made (state_of m) ≡ Some move → ComesIn at statements made (config_at at m) move
-              → ComesToCells at steps (config_at at m) made finish (shown kinds after_registers)
+              → ComesToCells at steps (config_at at m) made finish (shown_cells kinds after_registers)
           by (Goes t) e comes = meets_limit t e comes (did made (Goes t) e)
           by (Ends o cells) e comes = ends_there o cells e comes (did made (Ends o cells) e)
 
   -- as many slots are shown as there are
   pub cells_shown : (registers : List ℤ) → registers ≡ loaded kinds m.cells.items ++ code.constants.values.items → (new : List ℤ)
-      → length new ≡ length registers → length (shown kinds new) ≡ slot_count (bounds_of at.program) at.names
+      → length new ≡ length registers → length (shown_cells kinds new) ≡ slot_count (bounds_of at.program) at.names
   cells_shown registers loads new same =
       let size = ap length loads ∙ length-append (loaded kinds m.cells.items) code.constants.values.items in
       let slots = loaded_count kinds m.cells.items sized in

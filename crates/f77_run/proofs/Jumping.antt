@@ -7,7 +7,7 @@ use Rattle.f77_program.specs.Program.{LineFields}
 use Rattle.f77_tree.specs.Statement.{Statement, jumps_of}
 use Rattle.f77_legal.specs.declared.clause.Clause.TheVariants.{Jumps}
 use Rattle.f77_legal.specs.Blocks.{branch_holds}
-use Rattle.f77_legal.specs.Labels.{place_of, statement_at}
+use Rattle.f77_legal.specs.Labels.{label_place, nth_statement}
 use Rattle.f77_legal.specs.Legal.{IsLegal}
 use Rattle.f77_legal.specs.Loops.{range_holds, enclosing, goes_in}
 use Rattle.f77_legal.proofs.LegalGives.{any_false, clause_kept, kept_by, not_false}
@@ -16,12 +16,12 @@ use Rattle.f77_run.proofs.Nested.{in_range, begins_no_branch, none_left_out}
 use Rattle.f77_run.proofs.Stepping.{within}
 
 -- it is in each range that holds where it goes
-pub jump_from : (p : List LineFields) → IsLegal p → (i : ℕ) (s : Statement) (label j : ℕ) → statement_at p i ≡ Some s
-    → list_any (λ l. l == label) (jumps_of s) ≡ true → place_of p label ≡ Some j → (d : ℕ) → range_holds p d j ≡ true → range_holds p d i ≡ true
+pub jump_from : (p : List LineFields) → IsLegal p → (i : ℕ) (s : Statement) (label j : ℕ) → nth_statement p i ≡ Some s
+    → list_any (λ l. l == label) (jumps_of s) ≡ true → label_place p label ≡ Some j → (d : ℕ) → range_holds p d j ≡ true → range_holds p d i ≡ true
 jump_from p legal i s label j at among found d holds =
     let goes : goes_in p i j ≡ false
     = sym (ap (λ o. option_map_or (goes_in p i) o false) found)
-    ∙ any_false (λ label. option_map_or (goes_in p i) (place_of p label) false) (jumps_of s) label (clause_kept Jumps p (kept_by p legal).jumps i s at) among in
+    ∙ any_false (λ label. option_map_or (goes_in p i) (label_place p label) false) (jumps_of s) label (clause_kept Jumps p (kept_by p legal).jumps i s at) among in
     let begins : starts_with (λ a b. a == b) (enclosing p i) (enclosing p j) ≡ true = not_false _ goes in
     let none =
     or_parts _ _

@@ -23,21 +23,21 @@ use Rattle.f77_actions.specs.declared.expression.Condition as condition
 use Rattle.f77_actions.specs.declared.resolved.Resolved.{Resolved}
 use Rattle.f77_legal.specs.declared.clause.Clause.TheVariants.{Kinds}
 use Rattle.f77_legal.specs.Dimensions.{dimensions_fit}
-use Rattle.f77_legal.specs.Kinds.{same_kind, result_kind, operand_kind, is_of, are_integer, value_is, kinds_agree}
+use Rattle.f77_legal.specs.Kinds.{same_kind, result_kind, operand_kind, is_of_kind, are_integer, is_of_kind_if_given, kinds_agree}
 use Rattle.f77_legal.specs.Legal.{IsLegal}
 use Rattle.f77_legal.specs.Names.{Symbol, kind_of, bounds_of}
 use Rattle.f77_legal.specs.Presets.{product}
 use Rattle.f77_legal.proofs.LegalGives.{clause_kept, kept_by, not_false}
-use Rattle.f77_check.specs.Action.{IsStep, IsAssignment, IsAction}
+use Rattle.f77_check.specs.Action.{IsIncrementation, IsAssignment, IsAction}
 use Rattle.f77_check.specs.Expression.{IsElement, IsNumber, IsChosen, IsCondition}
 use Rattle.f77_check.specs.Resolved.{AreResolved}
 use Rattle.f77_check.specs.Slots.{first_slot, slot_kinds}
 use Rattle.f77_check.proofs.Operands.{arithmetic_takes, relation_takes, connective_takes}
 use Rattle.f77_code.specs.declared.constants.Constants.{Constants}
-use Rattle.f77_code.specs.Compiled.{HaveActions}
+use Rattle.f77_code.specs.code.Compiled.{HaveActions}
 use Rattle.f77_code.specs.Holds.{Plan, IsSlot, AreSlots}
 use Rattle.f77_code.specs.Typing.{HasSlots, HasNumbers, HasTruths, HasAction}
-use Rattle.f77_run.specs.Registers.{plan_of}
+use Rattle.f77_run.specs.code.Registers.{plan_of}
 use Rattle.f77_run.proofs.Simulation.{statement_of, legal_fits, no_bounds}
 use Rattle.f77_run.proofs.SlotKinds.{kinds_count, kind_read}
 use Rattle.f77_run.proofs.Spans.{span_within}
@@ -50,12 +50,12 @@ kind_is Logical Integer is = absurd (cc (is))
 kind_is Logical Logical is = refl
 
 -- the operands of an operator are of the kind that it takes
-operands_of : (kinds : Symbol → Kind) (op : Operator) (kind own : Kind) (t u : Tree) → operand_kind op ≡ own → is_of kinds kind (Tree.Binary op t u) ≡ true
-    → (is_of kinds own t ≡ true) × (is_of kinds own u ≡ true)
+operands_of : (kinds : Symbol → Kind) (op : Operator) (kind own : Kind) (t u : Tree) → operand_kind op ≡ own → is_of_kind kinds kind (Tree.Binary op t u) ≡ true
+    → (is_of_kind kinds own t ≡ true) × (is_of_kind kinds own u ≡ true)
 operands_of kinds op kind own t u takes is =
-    let whole = and_parts (same_kind (result_kind op) kind) (is_of kinds (operand_kind op) t && is_of kinds (operand_kind op) u) is in
-    let parts = and_parts (is_of kinds (operand_kind op) t) (is_of kinds (operand_kind op) u) whole.1 in
-    (subst (λ k. is_of kinds k t ≡ true) takes parts.0, subst (λ k. is_of kinds k u ≡ true) takes parts.1)
+    let whole = and_parts (same_kind (result_kind op) kind) (is_of_kind kinds (operand_kind op) t && is_of_kind kinds (operand_kind op) u) is in
+    let parts = and_parts (is_of_kind kinds (operand_kind op) t) (is_of_kind kinds (operand_kind op) u) whole.1 in
+    (subst (λ k. is_of_kind kinds k t ≡ true) takes parts.0, subst (λ k. is_of_kind kinds k u ≡ true) takes parts.1)
 
 module _ (kinds : Symbol → Kind) (bounds : Symbol → List ℕ) (names : List Symbol) (table : Constants) where
   abbrev plan : Plan
@@ -112,7 +112,7 @@ module _ (kinds : Symbol → Kind) (bounds : Symbol → List ℕ) (names : List 
 
   mutual
     -- an INTEGER expression names INTEGER slots
-    number_has : (t : Tree) → is_of kinds Integer t ≡ true → (x : Number) → IsNumber bounds names t x → HasNumbers plan x
+    number_has : (t : Tree) → is_of_kind kinds Integer t ≡ true → (x : Number) → IsNumber bounds names t x → HasNumbers plan x
     number_has (Tree.Number n) is (Constant z) h = tt
     number_has (Tree.Number n) is TooLarge h = tt
     number_has (Tree.Reference name items) is (numeric.Element e) h =
@@ -131,11 +131,11 @@ module _ (kinds : Symbol → Kind) (bounds : Symbol → List ℕ) (names : List 
     all_have : (ts : Trees) → are_integer kinds ts ≡ true → AllHave ts
     all_have Trees.None is = tt
     all_have (Trees.Then t ts) is =
-        let parts = and_parts (is_of kinds Integer t) (are_integer kinds ts) is in
+        let parts = and_parts (is_of_kind kinds Integer t) (are_integer kinds ts) is in
         (number_has t parts.0, all_have ts parts.1)
 
   -- a LOGICAL expression names LOGICAL slots, but for the operands of its relations
-  condition_has : (t : Tree) → is_of kinds Logical t ≡ true → (x : Condition) → IsCondition bounds names t x → HasTruths plan x
+  condition_has : (t : Tree) → is_of_kind kinds Logical t ≡ true → (x : Condition) → IsCondition bounds names t x → HasTruths plan x
   condition_has (Tree.Truth b) is (condition.Constant c) h = tt
   condition_has (Tree.Reference name items) is (condition.Element e) h =
       let parts = and_parts (same_kind (kinds name) Logical) (are_integer kinds items) is in
@@ -150,20 +150,20 @@ module _ (kinds : Symbol → Kind) (bounds : Symbol → List ℕ) (names : List 
   condition_has _ is _ h = absurd h
 
   -- the incrementation parameter of a DO
-  step_has : (c : Option Tree) → value_is kinds Integer c ≡ true → (x : Number) → IsStep bounds names c x → HasNumbers plan x
+  step_has : (c : Option Tree) → is_of_kind_if_given kinds Integer c ≡ true → (x : Number) → IsIncrementation bounds names c x → HasNumbers plan x
   step_has None is x h = subst (HasNumbers plan) (sym h) tt
   step_has (Some t) is x h = number_has t is x h
 
   -- an assignment, whose value is of the kind of what it is assigned to
-  assignment_has : (name : Symbol) (items : Trees) (t : Tree) (action : Action) → (are_integer kinds items && is_of kinds (kinds name) t) ≡ true
+  assignment_has : (name : Symbol) (items : Trees) (t : Tree) (action : Action) → (are_integer kinds items && is_of_kind kinds (kinds name) t) ≡ true
       → IsAssignment kinds bounds names name items t action → HasAction plan action
   assignment_has name items t (AssignNumber e x) is h =
-      let parts = and_parts (are_integer kinds items) (is_of kinds (kinds name) t) is in
-      let value : is_of kinds Integer t ≡ true = subst (λ kind. is_of kinds kind t ≡ true) h.0 parts.1 in
+      let parts = and_parts (are_integer kinds items) (is_of_kind kinds (kinds name) t) is in
+      let value : is_of_kind kinds Integer t ≡ true = subst (λ kind. is_of_kind kinds kind t ≡ true) h.0 parts.1 in
       (element_has Integer name items e h.0 (all_have items parts.0) h.1, number_has t value x h.2)
   assignment_has name items t (AssignTruth e x) is h =
-      let parts = and_parts (are_integer kinds items) (is_of kinds (kinds name) t) is in
-      let value : is_of kinds Logical t ≡ true = subst (λ kind. is_of kinds kind t ≡ true) h.0 parts.1 in
+      let parts = and_parts (are_integer kinds items) (is_of_kind kinds (kinds name) t) is in
+      let value : is_of_kind kinds Logical t ≡ true = subst (λ kind. is_of_kind kinds kind t ≡ true) h.0 parts.1 in
       (element_has Logical name items e h.0 (all_have items parts.0) h.1, condition_has t value x h.2)
   assignment_has name items t _ is h = absurd h
 
@@ -175,14 +175,14 @@ module _ (kinds : Symbol → Kind) (bounds : Symbol → List ℕ) (names : List 
   action_has p i (Statement.ComputedGoto labels t) (ComputedGoto x jumps) agree fits h = number_has t agree x h.0
   action_has p i (Statement.ArithIf t l m k) (ArithmeticIf x a b c) agree fits h = number_has t agree x h.0
   action_has p i (Statement.LogicalIf t s) (LogicalIf' x q action) agree fits h =
-      let parts = and_parts (is_of kinds Logical t) (kinds_agree kinds s) agree in
+      let parts = and_parts (is_of_kind kinds Logical t) (kinds_agree kinds s) agree in
       (condition_has t parts.0 x h.0, action_has p i s action parts.1 (and_parts _ _ fits).1 h.1)
   action_has p i (Statement.BlockIf t) (Branch x otherwise) agree fits h = condition_has t agree x h.0
   action_has p i (Statement.ElseIf t) (Branch x otherwise) agree fits h = condition_has t agree x h.0
   action_has p i (Statement.Loop label name a b c) (Loop variable first last step t) agree fits h =
-      let own = and_parts (same_kind (kinds name) Integer) (is_of kinds Integer a && (is_of kinds Integer b && value_is kinds Integer c)) agree in
-      let one = and_parts (is_of kinds Integer a) (is_of kinds Integer b && value_is kinds Integer c) own.1 in
-      let two = and_parts (is_of kinds Integer b) (value_is kinds Integer c) one.1 in (
+      let own = and_parts (same_kind (kinds name) Integer) (is_of_kind kinds Integer a && (is_of_kind kinds Integer b && is_of_kind_if_given kinds Integer c)) agree in
+      let one = and_parts (is_of_kind kinds Integer a) (is_of_kind kinds Integer b && is_of_kind_if_given kinds Integer c) own.1 in
+      let two = and_parts (is_of_kind kinds Integer b) (is_of_kind_if_given kinds Integer c) one.1 in (
         element_has Integer name Trees.None (Variable variable) (kind_is (kinds name) Integer own.0) tt (no_bounds (bounds name) _ fits, h.0),
         number_has a one.0 first h.1,
         number_has b two.0 last h.2,

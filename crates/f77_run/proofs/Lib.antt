@@ -63,3 +63,5 @@ mod Walked
 mod Advancing
 mod Going
 mod Answering
+pub mod ControlDefinitions
+pub mod ReachedDefinitions

@@ -16,14 +16,14 @@ use Rattle.f77_values.specs.Told.{coded, is_fitting}
 use Rattle.f77_code.specs.declared.constants.Constants.{Constants}
 use Rattle.f77_code.specs.declared.control.Turn.{Turn}
 use Rattle.f77_code.specs.Evaluation.{held_in}
-use Rattle.f77_code.specs.Holds.{Holds, Counts, read_as, loop_count, rank, is_loop_at}
-use Rattle.f77_code.specs.Moves.{Cells, Turns, turn_at, is_loop}
-use Rattle.f77_code.specs.Registers.{register, told, told_at, are_held}
+use Rattle.f77_code.specs.Holds.{HoldsRegisters, HoldsCounters, read_as, loop_count, do_rank, is_loop_at}
+use Rattle.f77_code.specs.Moves.{Cells, TurnList, turn_at, is_loop}
+use Rattle.f77_code.specs.Registers.{register, told_by_register, told_at, are_held}
 use Rattle.f77_code.proofs.Counters.{weight, more}
 use Rattle.f77_code.proofs.Listed.{all_at, get_behind, one_if}
 use Rattle.f77_code.proofs.Written.{told_fits}
-use Rattle.f77_run.specs.Registers.{values_fit, plan_of, loaded, shown_as, shown, counter_of, counters_of}
-use Rattle.f77_run.specs.Typed.{has_kind}
+use Rattle.f77_run.specs.code.Registers.{values_fit, plan_of, loaded, shown_as, shown_cells, counter_of, counters_of}
+use Rattle.f77_run.specs.code.Typed.{has_kind}
 
 -- a register for each slot
 pub loaded_count : (kinds : List Kind) (cells : Cells) → length cells ≡ length kinds → length (loaded kinds cells) ≡ length kinds
@@ -32,7 +32,7 @@ loaded_count (kind ∷ kinds) [] long = absurd (omega (arith, long))
 loaded_count (kind ∷ kinds) (cell ∷ cells) long = ap suc (loaded_count kinds cells (omega (arith, long)))
 
 -- the number for what is read from a slot tells it, where that is a value of 32 bits or that there is none
-read_told : (kind : Kind) (value : Option Value) → is_fitting (read_as kind value) ≡ true → told (coded (read_as kind value)) ≡ read_as kind value
+read_told : (kind : Kind) (value : Option Value) → is_fitting (read_as kind value) ≡ true → told_by_register (coded (read_as kind value)) ≡ read_as kind value
 read_told Integer None e = refl
 read_told Integer (Some (held.Number z)) e = told_fits z e
 read_told Integer (Some (held.Truth b)) e = refl
@@ -63,7 +63,7 @@ constant_told kinds cells values long small k z at =
 -- The registers that are loaded hold the slots and, behind them, the constants. That they are held does not say that they tell values of 32 bits.
 pub loaded_holds : (kinds : List Kind) (table : Constants) (cells : Cells) → length cells ≡ length kinds
     → are_held (loaded kinds cells ++ table.values.items) ≡ true → values_fit kinds cells ≡ true → list_all fits table.values.items ≡ true
-    → Holds (plan_of kinds table) (loaded kinds cells ++ table.values.items) cells
+    → HoldsRegisters (plan_of kinds table) (loaded kinds cells ++ table.values.items) cells
 loaded_holds kinds table cells long all fit small = record {
   slots = λ k below. slot_told kinds cells table.values.items long fit k below;
   constants = λ k z at. constant_told kinds cells table.values.items long small k z at;
@@ -88,7 +88,7 @@ counter_count : (r : Resolved) (turn : Option Turn) → length (counter_of r tur
 counter_count r turn = one_counter (is_loop r.action) (unwrap_or turn idle)
 
 -- a counter for each DO
-pub counters_count : (statements : List Resolved) (turns : Turns) → length turns ≡ length statements
+pub counters_count : (statements : List Resolved) (turns : TurnList) → length turns ≡ length statements
     → length (counters_of statements turns) ≡ loop_count statements
 counters_count [] turns long = refl
 counters_count (r ∷ statements) [] long = absurd (omega (arith, long))
@@ -100,7 +100,7 @@ counters_count (r ∷ statements) (turn ∷ turns) long =
     omega (arith, both, one, rest, count)
 
 -- where no statement is a DO, nothing has a counter
-pub counters_none : (statements : List Resolved) (turns : Turns) → length turns ≡ length statements → loop_count statements ≡ 0
+pub counters_none : (statements : List Resolved) (turns : TurnList) → length turns ≡ length statements → loop_count statements ≡ 0
     → counters_of statements turns ≡ []
 counters_none statements turns long none = empty (counters_of statements turns) (counters_count statements turns long ∙ none)
   where
@@ -116,22 +116,22 @@ first_counter true (Some y) turn others loop at = at
 first_counter false x turn others loop at = absurd (cc (loop))
 
 -- the counter of an active DO, by its rank, holds what the DO has left
-counter_at : (statements : List Resolved) (turns : Turns) → length turns ≡ length statements → (d : ℕ) (turn : Turn) → is_loop_at statements d ≡ true
-    → turn_at turns d ≡ Some turn → slice_get (counters_of statements turns) (rank statements d) ≡ Some turn
+counter_at : (statements : List Resolved) (turns : TurnList) → length turns ≡ length statements → (d : ℕ) (turn : Turn) → is_loop_at statements d ≡ true
+    → turn_at turns d ≡ Some turn → slice_get (counters_of statements turns) (do_rank statements d) ≡ Some turn
 counter_at [] turns long d turn loop at = absurd (cc (loop))
 counter_at (r ∷ statements) [] long d turn loop at = absurd (omega (arith, long))
 counter_at (r ∷ statements) (x ∷ turns) long zero turn loop at = first_counter (is_loop r.action) x turn (counters_of statements turns) loop at
 counter_at (r ∷ statements) (x ∷ turns) long (suc d) turn loop at =
-    let place : rank (r ∷ statements) (suc d) ≡ length (counter_of r x) + rank statements d
-    = more r (take d statements) ∙ ap (λ n. n + rank statements d) (sym (counter_count r x)) in
+    let place : do_rank (r ∷ statements) (suc d) ≡ length (counter_of r x) + do_rank statements d
+    = more r (take d statements) ∙ ap (λ n. n + do_rank statements d) (sym (counter_count r x)) in
     ap (slice_get (counter_of r x ++ counters_of statements turns)) place
-    ∙ get_behind (counter_of r x) (counters_of statements turns) (rank statements d)
+    ∙ get_behind (counter_of r x) (counters_of statements turns) (do_rank statements d)
     ∙ counter_at statements turns (omega (arith, long)) d turn loop at
 
 -- the counters that are loaded hold what the active DOs have left, where each active DO is one and has passes left
-pub counters_hold : (statements : List Resolved) (turns : Turns) → length turns ≡ length statements
+pub counters_hold : (statements : List Resolved) (turns : TurnList) → length turns ≡ length statements
     → ((d : ℕ) (turn : Turn) → turn_at turns d ≡ Some turn → (is_loop_at statements d ≡ true) × (0 < turn.passes))
-    → Counts statements (counters_of statements turns) turns
+    → HoldsCounters statements (counters_of statements turns) turns
 counters_hold statements turns long active = record {
   active = λ d turn at.
       let facts = active d turn at in
@@ -140,17 +140,17 @@ counters_hold statements turns long active = record {
 }
 
 -- what is shown are as many slots as there are kinds
-pub shown_count : (kinds : List Kind) (registers : List ℤ) → length kinds ≤ length registers → length (shown kinds registers) ≡ length kinds
+pub shown_count : (kinds : List Kind) (registers : List ℤ) → length kinds ≤ length registers → length (shown_cells kinds registers) ≡ length kinds
 shown_count [] registers room = refl
 shown_count (kind ∷ kinds) [] room = absurd (omega (arith, room))
 shown_count (kind ∷ kinds) (x ∷ registers) room = ap suc (shown_count kinds registers (omega (arith, room)))
 
 -- what is shown of a slot is what its register tells, by its kind
 shown_at : (kinds : List Kind) (registers : List ℤ) → length kinds ≤ length registers → (k : ℕ) (kind : Kind) → slice_get kinds k ≡ Some kind
-    → held_in (shown kinds registers) k ≡ shown_as kind (register registers k)
+    → held_in (shown_cells kinds registers) k ≡ shown_as kind (register registers k)
 shown_at [] registers room k kind at = absurd (cc (at))
 shown_at (x ∷ kinds) [] room k kind at = absurd (omega (arith, room))
-shown_at (x ∷ kinds) (z ∷ registers) room zero kind at = ap (λ kind. shown_as kind (told z)) (same_Some x kind at)
+shown_at (x ∷ kinds) (z ∷ registers) room zero kind at = ap (λ kind. shown_as kind (told_by_register z)) (same_Some x kind at)
 shown_at (x ∷ kinds) (z ∷ registers) room (suc k) kind at = shown_at kinds registers (omega (arith, room)) k kind at
 
 -- what is shown of what is read from a slot that holds a value of its kind is that value
@@ -164,8 +164,8 @@ read_shown Logical (Some (held.Truth true)) is = refl
 read_shown Logical (Some (held.Truth false)) is = refl
 
 -- what is shown of a slot that holds a value of its kind is what the slot holds
-pub shown_is : (kinds : List Kind) (table : Constants) (registers : List ℤ) (cells : Cells) → Holds (plan_of kinds table) registers cells
-    → (k : ℕ) (kind : Kind) → slice_get kinds k ≡ Some kind → has_kind kind (held_in cells k) ≡ true → held_in (shown kinds registers) k ≡ held_in cells k
+pub shown_is : (kinds : List Kind) (table : Constants) (registers : List ℤ) (cells : Cells) → HoldsRegisters (plan_of kinds table) registers cells
+    → (k : ℕ) (kind : Kind) → slice_get kinds k ≡ Some kind → has_kind kind (held_in cells k) ≡ true → held_in (shown_cells kinds registers) k ≡ held_in cells k
 shown_is kinds table registers cells holds k kind at is =
     let own : unwrap_or (slice_get kinds k) Integer ≡ kind = ap (λ o. unwrap_or o Integer) at in
     let reads : register registers k ≡ read_as kind (held_in cells k)

@@ -11,7 +11,7 @@ use Rattle.f77_actions.specs.declared.expression.Element.{Variable}
 use Rattle.f77_actions.specs.declared.expression.Number as number
 use Rattle.f77_actions.specs.declared.expression.Number.{Number}
 use Rattle.f77_actions.specs.declared.resolved.Resolved.{Resolved}
-use Rattle.f77_legal.specs.Labels.{bears, place_of, statement_at, terminal_label}
+use Rattle.f77_legal.specs.Labels.{bears, label_place, nth_statement, terminal_label}
 use Rattle.f77_legal.specs.Loops.{terminal}
 use Rattle.f77_legal.specs.Names.{Symbol, bounds_of}
 use Rattle.f77_legal.specs.Presets.{product}
@@ -22,13 +22,14 @@ use Rattle.f77_code.specs.declared.control.Place.TheVariants.{Execute}
 use Rattle.f77_code.specs.declared.control.Turn.{Turn}
 use Rattle.f77_values.specs.declared.value.Value.{Value}
 use Rattle.f77_values.specs.declared.value.Value.TheVariants as held
-use Rattle.f77_run.specs.Machine.{values_of, turn_of, turns_of, next_of}
+use Rattle.f77_run.specs.Machine.{values_of, turn_of, turns_of}
+use Rattle.f77_run.specs.code.Machine.{next_of}
 use Rattle.f77_code.specs.Moves as moves
-use Rattle.f77_code.specs.Moves.{Cells, Turns, Move, state, used, passing, passing_at, begun, incremented}
+use Rattle.f77_code.specs.Moves.{Cells, TurnList, Move, state, used, passing, passing_at, begun, incremented}
 use Rattle.f77_values.specs.Number.{in_range, trip_count}
 use Rattle.f77_run.specs.Step as run
 use Rattle.f77_run.specs.Step.{Next, config, with_turn, GoesOn, Passes, Begins, With, Increments}
-use Rattle.f77_run.specs.Value.{put}
+use Rattle.f77_run.specs.Value.{store_with}
 use Rattle.f77_values.specs.Value.{given}
 use Rattle.f77_run.proofs.SameValue.{same_number}
 use Rattle.f77_run.proofs.Stored.{stored}
@@ -40,7 +41,7 @@ use Rattle.f77_run.proofs.Turning.{turns_set, goes_on}
 pub record Row (p : List LineFields) (names : List Symbol) (statements : List Resolved) (i : ℕ) : Type 0 where
   pub statement : Statement
   pub resolved : Resolved
-  pub there : statement_at p i ≡ Some statement
+  pub there : nth_statement p i ≡ Some statement
   pub found : slice_get statements i ≡ Some resolved
   pub is : IsResolved p names i statement resolved
 
@@ -59,7 +60,7 @@ row_at p names statements resolved i below =
 -- the terminal statement of a DO stands in the program
 pub terminal_within : (p : List LineFields) (d t : ℕ) → terminal p d ≡ Some t → t < length p
 terminal_within p d t ends =
-    option_and_then_some (place_of p) (option_and_then terminal_label (statement_at p d)) t ends (λ label named at. place_within (bears label) p t at)
+    option_and_then_some (label_place p) (option_and_then terminal_label (nth_statement p d)) t ends (λ label named at. place_within (bears label) p t at)
 
 module _ (bounds : Symbol → List ℕ) (names : List Symbol) (cells : Cells) where
   with_same : {A : Type 0} (r : Result A Fault) (f : A → Move) (n : Next) (P : A → Type 0)
@@ -85,14 +86,14 @@ module _ (bounds : Symbol → List ℕ) (names : List Symbol) (cells : Cells) wh
 
   -- the slot of a variable is set
   pub variable_stored : (name : Symbol) (variable : ℕ) (v : Value) → length cells ≡ slot_count bounds names → first_slot bounds names name ≡ Some variable → bounds name ≡ []
-      → values_of bounds names (slice_set cells variable (Some v)) ≡ put (values_of bounds names cells) name 0 v
+      → values_of bounds names (slice_set cells variable (Some v)) ≡ store_with (values_of bounds names cells) name 0 v
   variable_stored name variable v long at flat =
       let one : product (bounds name) ≡ 1 = ap product flat in
       let first : variable + 0 ≡ variable = omega arith in
-      subst (λ k. values_of bounds names (slice_set cells k (Some v)) ≡ put (values_of bounds names cells) name 0 v) first
+      subst (λ k. values_of bounds names (slice_set cells k (Some v)) ≡ store_with (values_of bounds names cells) name 0 v) first
       (stored bounds names cells name variable 0 v long at (omega (arith, one)))
 
-module _ (p : List LineFields) (names : List Symbol) (turns : Turns) (long : length turns ≡ length p) where
+module _ (p : List LineFields) (names : List Symbol) (turns : TurnList) (long : length turns ≡ length p) where
   passes : (s : Statement) (r : Resolved) (t d k : ℕ) (step : ℤ) (cells : Cells) → IsResolved p names t s r → terminal p d ≡ Some t
       → Passes p d k step (values_of (bounds_of p) names cells) (turns_of turns) (next_of (bounds_of p) names (passing r d k step cells turns))
   passes s r t d zero step cells is ends =
@@ -119,7 +120,7 @@ module _ (p : List LineFields) (names : List Symbol) (turns : Turns) (long : len
     module _ (cells : Cells) (sized : length cells ≡ slot_count (bounds_of p) names)
         (name : Symbol) (variable t d : ℕ) (at : first_slot (bounds_of p) names name ≡ Some variable) (flat : bounds_of p name ≡ []) (ends : terminal p d ≡ Some t) where
       passes_with : (k : ℕ) (step z : ℤ)
-          → Passes p d k step (put (values_of (bounds_of p) names cells) name 0 (held.Number z)) (turns_of turns)
+          → Passes p d k step (store_with (values_of (bounds_of p) names cells) name 0 (held.Number z)) (turns_of turns)
           (next_of (bounds_of p) names (passing_at statements t d k step (slice_set cells variable (Some (held.Number z))) turns))
       passes_with k step z =
           subst
@@ -142,5 +143,5 @@ module _ (p : List LineFields) (names : List Symbol) (turns : Turns) (long : len
       increments label a b c x y z turn n is =
           with_used (bounds_of p) names cells _ _ (same_number (bounds_of p) names cells (Tree.Reference name Trees.None) (number.Element (Variable variable)) (flat, at)) _ n _
           (λ v. with_used (bounds_of p) names cells (in_range (v +ℤ turn.step)) _ refl _ n _
-          (λ next e. subst (Passes p d (turn.passes - 1) turn.step (put (values_of (bounds_of p) names cells) name 0 (held.Number next)) (turns_of turns)) (sym e)
+          (λ next e. subst (Passes p d (turn.passes - 1) turn.step (store_with (values_of (bounds_of p) names cells) name 0 (held.Number next)) (turns_of turns)) (sym e)
           (passes_with (turn.passes - 1) turn.step next))) is

@@ -24,22 +24,23 @@ use Rattle.f77_values.specs.Value.{whole}
 use Rattle.f77_code.specs.declared.control.Place.{Place}
 use Rattle.f77_code.specs.declared.control.Place.TheVariants.{Execute, Increment}
 use Rattle.f77_code.specs.declared.control.Turn.{Turn}
-use Rattle.f77_code.specs.Choice.{by_sign, numbered}
+use Rattle.f77_code.specs.Choice.{by_sign, item_chosen}
 use Rattle.f77_code.specs.Instructions.{place_at}
 use Rattle.f77_code.specs.Evaluation.{held_in, slot_in, number_in, truth_in}
-use Rattle.f77_code.specs.Holds.{loop_count, rank}
-use Rattle.f77_code.specs.Moves.{Cells, Turns, State, state, Move, Goes, Ends, used, turn_at, go_on, without, jump_to, passing, passing_at}
-use Rattle.f77_code.specs.Moves.{begun, chosen, acted, incremented, is_executed, is_loop, moved}
-use Rattle.f77_code.specs.Sequences.{then_moved, moved_by, AreNested}
+use Rattle.f77_code.specs.Holds.{loop_count, do_rank}
+use Rattle.f77_code.specs.Moves.{Cells, TurnList, State, state, Move, Goes, Ends, used, turn_at, go_on, without, jump_to, passing, passing_at}
+use Rattle.f77_code.specs.Moves.{begun, jump_chosen, acted, incremented, is_executed, is_loop, moved}
+use Rattle.f77_code.specs.Sequences.{then_moved, moved_by, AreStatesNested}
 use Rattle.f77_code.specs.Simulation.{IsNested}
 use Rattle.f77_code.proofs.Counters.{rank_below}
 use Rattle.f77_code.proofs.Listed.{loop_is}
 use Rattle.f77_run.specs.declared.machine.Machine.{Machine}
 use Rattle.f77_run.specs.Control.{Comes}
 use Rattle.f77_run.specs.Endless.{Reaches}
-use Rattle.f77_run.specs.Machine.{next_of, state_of}
+use Rattle.f77_run.specs.code.Machine.{next_of, state_of}
 use Rattle.f77_run.specs.Outcome.{IsOutcome}
-use Rattle.f77_run.specs.Running.{Site, IsRunning, values_at}
+use Rattle.f77_run.specs.Running.{RunSite}
+use Rattle.f77_run.specs.code.Running.{IsRunning, values_at}
 use Rattle.f77_run.specs.Step.{Config, Step}
 use Rattle.f77_run.proofs.NeverLost.{leads_on}
 use Rattle.f77_run.proofs.Runs.{stands_for}
@@ -47,7 +48,7 @@ use Rattle.f77_run.proofs.Simulation.{simulates, moves_on}
 use Rattle.f77_run.proofs.StandsNested.{stands_nested}
 
 -- A state in a run of a program: what it stands for is what the run comes to.
-pub record IsRunningIn (at : Site) (statements : List Resolved) (s : State) : Type 0 where
+pub record IsRunningIn (at : RunSite) (statements : List Resolved) (s : State) : Type 0 where
   pub formed : IsProgram None at.program
   pub legal : IsLegal at.program
   pub resolved : AreResolved at.program at.names statements
@@ -56,7 +57,7 @@ pub record IsRunningIn (at : Site) (statements : List Resolved) (s : State) : Ty
   pub comes : Comes at.program at.given (stands_for at s)
 
 -- What moves from a configuration lead to: the run comes to the state behind as many steps, and goes on there, or it ends within them.
-abbrev pub ComesIn : Site → List Resolved → ℕ → Config → Move → Type 0
+abbrev pub ComesIn : RunSite → List Resolved → ℕ → Config → Move → Type 0
 ComesIn at statements n c (Goes t) = Reaches at.program n c (stands_for at t) × IsRunningIn at statements t
 ComesIn at statements n c (Ends finish cells) =
     IsOutcome at.program n c finish (values_at at cells) × (length cells ≡ slot_count (bounds_of at.program) at.names)
@@ -67,13 +68,13 @@ IsSized slots n (Goes t) = (length t.cells ≡ slots) × (length t.turns ≡ n)
 IsSized slots n (Ends finish cells) = (finish ≢ StepLimit) × (length cells ≡ slots)
 
 -- a jump out of DOs leaves the number of these places as it is
-length-without : (ds : List ℕ) (turns : Turns) → length (without turns ds) ≡ length turns
+length-without : (ds : List ℕ) (turns : TurnList) → length (without turns ds) ≡ length turns
 length-without [] turns = refl
 length-without (d ∷ ds) turns = length-without ds (slice_set turns d None) ∙ length-set turns d None
 
 module _ (slots n : ℕ) where
   -- a DO makes its next pass, or has none left
-  passing_sized : (end : Resolved) (d passes : ℕ) (step : ℤ) (cells : Cells) (turns : Turns) → length cells ≡ slots → length turns ≡ n
+  passing_sized : (end : Resolved) (d passes : ℕ) (step : ℤ) (cells : Cells) (turns : TurnList) → length cells ≡ slots → length turns ≡ n
       → IsSized slots n (passing end d passes step cells turns)
   passing_sized end d zero step cells turns long many = (long, length-set turns d None ∙ many)
   passing_sized end d (suc k) step cells turns long many =
@@ -81,7 +82,7 @@ module _ (slots n : ℕ) where
       (long, length-set turns d (Some turn) ∙ many)
 
   -- the same where it ends at the statement of this number
-  passing_at_sized : (statements : List Resolved) (t d passes : ℕ) (step : ℤ) (cells : Cells) (turns : Turns) → length cells ≡ slots → length turns ≡ n
+  passing_at_sized : (statements : List Resolved) (t d passes : ℕ) (step : ℤ) (cells : Cells) (turns : TurnList) → length cells ≡ slots → length turns ≡ n
       → IsSized slots n (passing_at statements t d passes step cells turns)
   passing_at_sized statements t d passes step cells turns long many = by (slice_get statements t)
     where
@@ -89,7 +90,7 @@ module _ (slots n : ℕ) where
       by None = (long, many)
       by (Some end) = passing_sized end d passes step cells turns long many
 
-  module _ (cells : Cells) (turns : Turns) (long : length cells ≡ slots) (many : length turns ≡ n) where
+  module _ (cells : Cells) (turns : TurnList) (long : length cells ≡ slots) (many : length turns ≡ n) where
     -- an end at a fault
     failed_sized : (fault : Fault) → IsSized slots n (Ends (Failed fault) cells)
     failed_sized fault = (λ same. absurd (cc (same)), long)
@@ -100,7 +101,7 @@ module _ (slots n : ℕ) where
     used_sized (Err fault) f each = failed_sized fault
 
     -- one of two moves
-    chosen_sized : (b : Bool) (x y : Move) → IsSized slots n x → IsSized slots n y → IsSized slots n (chosen b x y)
+    chosen_sized : (b : Bool) (x y : Move) → IsSized slots n x → IsSized slots n y → IsSized slots n (jump_chosen b x y)
     chosen_sized true x y one other = one
     chosen_sized false x y one other = other
 
@@ -137,15 +138,15 @@ module _ (slots n : ℕ) where
         (λ b. (length-set cells k (Some (held.Truth b)) ∙ long, many)))
     acted_sized statements i r (Goto jump) = jump_sized jump
     acted_sized statements i r (ComputedGoto x jumps) =
-        used_sized (number_in cells x) (λ z. option_map_or (λ jump. jump_to jump cells turns) (numbered jumps.items z) (go_on r cells turns))
-        (λ z. jump_or_on r (numbered jumps.items z))
+        used_sized (number_in cells x) (λ z. option_map_or (λ jump. jump_to jump cells turns) (item_chosen jumps.items z) (go_on r cells turns))
+        (λ z. jump_or_on r (item_chosen jumps.items z))
     acted_sized statements i r (ArithmeticIf x a b c) =
         used_sized (number_in cells x) (λ z. jump_to (by_sign z a b c) cells turns) (λ z. jump_sized (by_sign z a b c))
     acted_sized statements i r (LogicalIf' x p action) =
-        used_sized (truth_in cells x) (λ b. chosen b (acted statements i r action cells turns) (go_on r cells turns))
+        used_sized (truth_in cells x) (λ b. jump_chosen b (acted statements i r action cells turns) (go_on r cells turns))
         (λ b. chosen_sized b (acted statements i r action cells turns) (go_on r cells turns) (acted_sized statements i r action) (long, many))
     acted_sized statements i r (Branch x otherwise) =
-        used_sized (truth_in cells x) (λ b. chosen b (go_on r cells turns) (Goes (state (Execute otherwise) cells turns)))
+        used_sized (truth_in cells x) (λ b. jump_chosen b (go_on r cells turns) (Goes (state (Execute otherwise) cells turns)))
         (λ b. chosen_sized b (go_on r cells turns) (Goes (state (Execute otherwise) cells turns)) (long, many) (long, many))
     acted_sized statements i r Continue = (long, many)
     acted_sized statements i r (Loop variable first last step t) =
@@ -227,11 +228,11 @@ pub move_never_at_limit : (statements : List Resolved) (s : State) (finish : Fin
 move_never_at_limit statements s finish cells e = let kept = move_sized statements s (Ends finish cells) e in kept.0
 
 -- Where the machine can move there is an instruction: that of a statement, or of the incrementation of a DO.
-module _ (statements : List Resolved) (cells : Cells) (turns : Turns) where
+module _ (statements : List Resolved) (cells : Cells) (turns : TurnList) where
   -- the incrementation of a DO has one behind those of all statements
   loop_below : (d : ℕ) (r : Resolved) → slice_get statements d ≡ Some r → (b : Bool) → is_loop r.action ≡ b
       → IsSome (if b then option_map (λ turn. incremented statements d r.action turn cells turns) (turn_at turns d) else None)
-      → length statements + rank statements d < length statements + loop_count statements
+      → length statements + do_rank statements d < length statements + loop_count statements
   loop_below d r found false is some = absurd (cc (some))
   loop_below d r found true is some =
       let below = rank_below statements d (loop_is statements d r found ∙ is) in
@@ -251,11 +252,11 @@ module _ (statements : List Resolved) (cells : Cells) (turns : Turns) where
       by : (o : Option Resolved) → slice_get statements d ≡ o
           → IsSome (option_and_then
           (λ r. if is_loop r.action then option_map (λ turn. incremented statements d r.action turn cells turns) (turn_at turns d) else None) o)
-          → length statements + rank statements d < length statements + loop_count statements
+          → length statements + do_rank statements d < length statements + loop_count statements
       by None found some = absurd (cc (some))
       by (Some r) found some = loop_below d r found (is_loop r.action) refl some
 
-module _ (at : Site) (statements : List Resolved) where
+module _ (at : RunSite) (statements : List Resolved) where
   -- the state of a machine in a run
   pub running_in : (m : Machine) → IsRunning at statements m → IsRunningIn at statements (state_of m)
   running_in m is = record {
@@ -332,7 +333,7 @@ module _ (at : Site) (statements : List Resolved) where
       subst (ComesIn at statements n (stands_for at s)) same made.2
 
   -- the states from which these moves are made are nested
-  pub all_nested : (n : ℕ) (s : State) → IsRunningIn at statements s → AreNested statements n s
+  pub all_nested : (n : ℕ) (s : State) → IsRunningIn at statements s → AreStatesNested statements n s
   all_nested n s is = λ k t below e.
       let came : ComesIn at statements k (stands_for at s) (Goes t) = comes_by k s (Goes t) is e in
       nested_in t came.1

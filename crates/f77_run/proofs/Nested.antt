@@ -9,8 +9,8 @@ use Rattle.std.proofs.lemmas.Option.{option_and_then_some}
 use Rattle.f77_program.specs.Program.{LineFields}
 use Rattle.f77_tree.specs.Statement.{Statement}
 use Rattle.f77_legal.specs.declared.clause.Clause.TheVariants.{Terminals}
-use Rattle.f77_legal.specs.Blocks.{is_block_if, is_end_if, is_alternative, first_numbers, numbers, has_at, is_level, begins_branch, branch_end, branch_holds}
-use Rattle.f77_legal.specs.Labels.{place_of, statement_at, statement_with, terminal_label, is_terminal}
+use Rattle.f77_legal.specs.Blocks.{is_block_if, is_end_if, is_alternative, first_numbers, statement_numbers, has_at, is_level, begins_branch, branch_end, branch_holds}
+use Rattle.f77_legal.specs.Labels.{label_place, nth_statement, statement_with, terminal_label, is_terminal}
 use Rattle.f77_legal.specs.Legal.{IsLegal}
 use Rattle.f77_legal.specs.Loops.{terminal, range_holds, branches, same_numbers, ends_outside}
 use Rattle.f77_legal.proofs.Branches.{found_is}
@@ -89,7 +89,7 @@ module _ (p : List LineFields) (legal : IsLegal p) where
   -- what the clause on nesting says of a DO and its terminal statement
   nests : (d t : ℕ) → terminal p d ≡ Some t
       → (nat_lt d t ≡ true) × (same_numbers (branches p d) (branches p t) ≡ true)
-      × (list_all (λ e. not (range_holds p e d) || range_holds p e t) (numbers p) ≡ true)
+      × (list_all (λ e. not (range_holds p e d) || range_holds p e t) (statement_numbers p) ≡ true)
   nests d t ends =
       let kept : ends_outside p d t ≡ false = sym (ap (λ o. option_map_or (ends_outside p d) o false) ends) ∙ are_nested p legal d in
       let all = and_parts (nat_lt d t) _ (not_false _ kept) in
@@ -105,7 +105,7 @@ module _ (p : List LineFields) (legal : IsLegal p) where
   range_holds_last e d t ends h =
       let is = in_range p e d h in
       none_left_out (λ k. range_holds p k d) (λ k. range_holds p k t) (length p) e
-      (not-true _ (sym (all_kept (λ k. range_holds p k d) (λ k. range_holds p k t) (numbers p)) ∙ (nests d t ends).2))
+      (not-true _ (sym (all_kept (λ k. range_holds p k d) (λ k. range_holds p k t) (statement_numbers p)) ∙ (nests d t ends).2))
       (within p e is.last is.ends) h
 
   -- a DO that begins in the range of d ends there
@@ -118,11 +118,11 @@ module _ (p : List LineFields) (legal : IsLegal p) where
 
   -- the branches that hold a DO are those that hold its terminal statement
   module _ (b d t : ℕ) (ends : terminal p d ≡ Some t) where
-    none_apart : (left_out (λ k. branch_holds p k d) (λ k. branch_holds p k t) (numbers p) ≡ false)
-        × (left_out (λ k. branch_holds p k t) (λ k. branch_holds p k d) (numbers p) ≡ false)
+    none_apart : (left_out (λ k. branch_holds p k d) (λ k. branch_holds p k t) (statement_numbers p) ≡ false)
+        × (left_out (λ k. branch_holds p k t) (λ k. branch_holds p k d) (statement_numbers p) ≡ false)
     none_apart =
         or_parts _ _
-        (not-true _ (sym (same_filters (λ k. branch_holds p k d) (λ k. branch_holds p k t) (numbers p)) ∙ (nests d t ends).1))
+        (not-true _ (sym (same_filters (λ k. branch_holds p k d) (λ k. branch_holds p k t) (statement_numbers p)) ∙ (nests d t ends).1))
 
     branch_within : (k : ℕ) → branch_holds p b k ≡ true → b < length p
     branch_within k h =
@@ -139,12 +139,12 @@ module _ (p : List LineFields) (legal : IsLegal p) where
     branch_holds_first h = none_left_out (λ k. branch_holds p k t) (λ k. branch_holds p k d) (length p) b none_apart.1 (branch_within t h) h
 
   -- the terminal statement of a DO is one that may be
-  pub ends_well : (d t : ℕ) (s : Statement) → terminal p d ≡ Some t → statement_at p t ≡ Some s → is_terminal s ≡ true
+  pub ends_well : (d t : ℕ) (s : Statement) → terminal p d ≡ Some t → nth_statement p t ≡ Some s → is_terminal s ≡ true
   ends_well d t s ends at =
-      option_and_then_some (place_of p) (option_and_then terminal_label (statement_at p d)) t ends
-      (λ label named found. option_and_then_some terminal_label (statement_at p d) label named
+      option_and_then_some (label_place p) (option_and_then terminal_label (nth_statement p d)) t ends
+      (λ label named found. option_and_then_some terminal_label (nth_statement p d) label named
       (λ loop begins is.
-      let with : statement_with p label ≡ Some s = ap (option_and_then (statement_at p)) found ∙ at in
+      let with : statement_with p label ≡ Some s = ap (option_and_then (nth_statement p)) found ∙ at in
       not_false (is_terminal s)
       (sym
       (ap (λ o. option_map_or (λ label. option_map_or (λ s. not (is_terminal s)) (statement_with p label) false) o false) is
@@ -152,9 +152,9 @@ module _ (p : List LineFields) (legal : IsLegal p) where
       ∙ clause_kept Terminals p (kept_by p legal).terminals d loop begins)))
 
 -- a statement that is no DO
-pub no_loop : (p : List LineFields) (i : ℕ) (s : Statement) → statement_at p i ≡ Some s → terminal_label s ≡ None → terminal p i ≡ None
+pub no_loop : (p : List LineFields) (i : ℕ) (s : Statement) → nth_statement p i ≡ Some s → terminal_label s ≡ None → terminal p i ≡ None
 no_loop p i s at is =
-    ap (λ o. option_and_then (place_of p) (option_and_then terminal_label o)) at ∙ ap (option_and_then (place_of p)) is
+    ap (λ o. option_and_then (label_place p) (option_and_then terminal_label o)) at ∙ ap (option_and_then (label_place p)) is
 
 last_no_loop : (s : Statement) → is_terminal s ≡ true → terminal_label s ≡ None
 last_no_loop (Statement.Loop label name a b c) h = absurd (cc (h))
@@ -162,10 +162,10 @@ last_no_loop _ h = refl
 
 -- a terminal statement is no DO
 pub last_is_no_loop : (p : List LineFields) → IsLegal p → (d t : ℕ) → terminal p d ≡ Some t → terminal p t ≡ None
-last_is_no_loop p legal d t ends = by (statement_at p t) refl
+last_is_no_loop p legal d t ends = by (nth_statement p t) refl
   where
-    by : (o : Option Statement) → statement_at p t ≡ o → terminal p t ≡ None
-    by None at = ap (λ o. option_and_then (place_of p) (option_and_then terminal_label o)) at
+    by : (o : Option Statement) → nth_statement p t ≡ o → terminal p t ≡ None
+    by None at = ap (λ o. option_and_then (label_place p) (option_and_then terminal_label o)) at
     by (Some s) at = no_loop p t s at (last_no_loop s (ends_well p legal d t s ends at))
 
 -- a terminal statement neither begins a branch nor ends one
@@ -178,9 +178,9 @@ last_of_no_branch _ h = (refl, refl, refl)
 
 pub last_is_no_branch : (p : List LineFields) → IsLegal p → (d t : ℕ) → terminal p d ≡ Some t
     → (has_at is_end_if p t ≡ false) × (has_at is_block_if p t ≡ false) × (has_at is_alternative p t ≡ false)
-last_is_no_branch p legal d t ends = by (statement_at p t) refl
+last_is_no_branch p legal d t ends = by (nth_statement p t) refl
   where
-    by : (o : Option Statement) → statement_at p t ≡ o
+    by : (o : Option Statement) → nth_statement p t ≡ o
         → (option_map_or is_end_if o false ≡ false) × (option_map_or is_block_if o false ≡ false) × (option_map_or is_alternative o false ≡ false)
     by None at = (refl, refl, refl)
     by (Some s) at = last_of_no_branch s (ends_well p legal d t s ends at)
@@ -192,8 +192,8 @@ loop_no_branch _ other h = absurd (cc (h))
 
 pub begins_no_branch : (p : List LineFields) (d t : ℕ) → terminal p d ≡ Some t → begins_branch p d ≡ false
 begins_no_branch p d t ends =
-    option_and_then_some (place_of p) (option_and_then terminal_label (statement_at p d)) t ends
-    (λ label named found. option_and_then_some terminal_label (statement_at p d) label named
+    option_and_then_some (label_place p) (option_and_then terminal_label (nth_statement p d)) t ends
+    (λ label named found. option_and_then_some terminal_label (nth_statement p d) label named
     (λ loop begins is.
     let none = loop_no_branch loop label is in
     or_from _ _

@@ -5,9 +5,10 @@ use Rattle.std.specs.Option.{option_map_or}
 use Rattle.std.proofs.lemmas.List.Quantifiers.{position-Some}
 use Rattle.std.proofs.lemmas.Option.{slice_get-get_or}
 use Rattle.f77_program.specs.Program.{LineFields}
-use Rattle.f77_check.specs.Start.{is_executable}
+use Rattle.f77_check.specs.Start.{is_executable_statement}
 use Rattle.f77_check.proofs.FirstExecutable.{first_executable}
-use Rattle.f77_run.specs.Control.{Stands, IsPlaced, Comes, Starts, LeadsOn, IsSound}
+use Rattle.f77_run.proofs.ControlDefinitions.{CanHaveControl, IsPlaced, NeverLosesControl}
+use Rattle.f77_run.specs.Control.{Comes, Starts, LeadsOn}
 use Rattle.f77_run.specs.Start.{IsStart, start_values}
 use Rattle.f77_run.specs.Step.{Config, config, Execute, Goes}
 use Rattle.f77_run.proofs.Control.{Fine, kept}
@@ -18,12 +19,12 @@ use Rattle.f77_values.specs.declared.value.Value.{Value}
 placed_start : (p : List LineFields) (given : List (List Value)) (c : Config) → IsStart p given c → IsPlaced p c
 placed_start [] given c start = absurd (cc (start.1))
 placed_start (line ∷ p) given c start =
-    let found = position-Some (λ x. is_executable x.stmt) (line ∷ p) start.0 line start.1 in
+    let found = position-Some (λ x. is_executable_statement x.stmt) (line ∷ p) start.0 line start.1 in
     let at = slice_get-get_or (line ∷ p) start.0 line found.0 in
-    let stands : Stands (line ∷ p) start.0 = ap (λ o. option_map_or is_executable (option_map (λ x. x.stmt) o) false) at ∙ found.1 in
+    let stands : CanHaveControl (line ∷ p) start.0 = ap (λ o. option_map_or is_executable_statement (option_map (λ x. x.stmt) o) false) at ∙ found.1 in
     subst (IsPlaced (line ∷ p)) (sym start.2) (record { at = stands; loops = λ d some. absurd (cc (some)) })
 
-pub placed : (p : List LineFields) (given : List (List Value)) (c : Config) → IsSound p → Comes p given c → IsPlaced p c
+pub placed : (p : List LineFields) (given : List (List Value)) (c : Config) → NeverLosesControl p → Comes p given c → IsPlaced p c
 placed p given c sound (Comes.at_start start) = placed_start p given c start
 placed p given c sound (Comes.by_step {b = b} before step) =
     let on = kept p b sound (placed p given b sound before) in

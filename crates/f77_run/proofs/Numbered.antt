@@ -6,8 +6,8 @@ use Rattle.std.proofs.lemmas.Bool.{and_parts, eq-eqb, or_left, or_right}
 use Rattle.f77_program.specs.Program.{LineFields}
 use Rattle.f77_actions.specs.declared.action.Jump.{Jump}
 use Rattle.f77_check.specs.Action.{IsJump, AreJumps}
-use Rattle.f77_code.specs.Choice.{numbered}
-use Rattle.f77_code.specs.Moves.{jump_within}
+use Rattle.f77_code.specs.Choice.{item_chosen}
+use Rattle.f77_code.specs.code.Moves.{jump_within}
 
 label_among : (labels : List ℕ) (k label : ℕ) → slice_get labels k ≡ Some label → list_any (λ x. x == label) labels ≡ true
 label_among [] k label e = absurd (cc (e))
@@ -17,7 +17,7 @@ label_among (x ∷ labels) zero label e =
 label_among (x ∷ labels) (suc k) label e = or_right (x == label) (list_any (λ x. x == label) labels) (label_among labels k label e)
 
 -- the label is one of the statement's
-pub numbered_among : (labels : List ℕ) (z : ℤ) (label : ℕ) → numbered labels z ≡ Some label → list_any (λ x. x == label) labels ≡ true
+pub numbered_among : (labels : List ℕ) (z : ℤ) (label : ℕ) → item_chosen labels z ≡ Some label → list_any (λ x. x == label) labels ≡ true
 numbered_among labels (pos zero) label e = absurd (cc (e))
 numbered_among labels (pos (suc k)) label e = label_among labels k label e
 numbered_among labels (negsuc k) label e = absurd (cc (e))
@@ -37,7 +37,7 @@ jump_there p i _ _ h k = absurd h
 
 -- the jump for a value is one to the label for it
 pub numbered_jump : (p : List LineFields) (i : ℕ) (labels : List ℕ) (jumps : List Jump) → AreJumps p i labels jumps → (z : ℤ)
-    → IsJumpOf p i (numbered labels z) (numbered jumps z)
+    → IsJumpOf p i (item_chosen labels z) (item_chosen jumps z)
 numbered_jump p i labels jumps h (pos zero) = tt
 numbered_jump p i labels jumps h (pos (suc k)) = jump_there p i labels jumps h k
 numbered_jump p i labels jumps h (negsuc k) = tt
@@ -53,7 +53,7 @@ place_within n (x ∷ jumps) (suc k) jump within e =
 
 -- the jump for a value is one of the jumps
 pub numbered_within : (n : ℕ) (jumps : List Jump) (z : ℤ) (jump : Jump) → list_all (jump_within n) jumps ≡ true
-    → numbered jumps z ≡ Some jump → jump_within n jump ≡ true
+    → item_chosen jumps z ≡ Some jump → jump_within n jump ≡ true
 numbered_within n jumps (pos zero) jump within e = absurd (cc (e))
 numbered_within n jumps (pos (suc k)) jump within e = place_within n jumps k jump within e
 numbered_within n jumps (negsuc k) jump within e = absurd (cc (e))

@@ -9,7 +9,7 @@ use Rattle.f77_tree.specs.Statement.{Statement}
 use Rattle.f77_actions.specs.declared.action.Action.{Action, Loop}
 use Rattle.f77_actions.specs.declared.resolved.Resolved.{Resolved}
 use Rattle.f77_legal.specs.Frames.{HaveOneFrame}
-use Rattle.f77_legal.specs.Labels.{statement_at, terminal_label}
+use Rattle.f77_legal.specs.Labels.{nth_statement, terminal_label}
 use Rattle.f77_legal.specs.Names.{Symbol, kind_of, bounds_of}
 use Rattle.f77_legal.proofs.FrameNames.{bounds_of_same}
 use Rattle.f77_legal.proofs.SameFrame.{length_same, terminal_label_same, behind_same, loops_ending_same}
@@ -34,7 +34,7 @@ loop_where_do p names i _ _ h = refl
 
 -- what stands at one place of two programs of one frame has the same frame in both when it is resolved
 resolved_frame : (p q : List LineFields) → HaveOneFrame p q → (names : List Symbol) (i : ℕ) (one other : Statement) (r s : Resolved)
-    → statement_at p i ≡ Some one → statement_at q i ≡ Some other → IsResolved p names i one r → IsResolved q names i other s → HasOneFrame r s
+    → nth_statement p i ≡ Some one → nth_statement q i ≡ Some other → IsResolved p names i one r → IsResolved q names i other s → HasOneFrame r s
 resolved_frame p q same names i one other r s at there old new =
     let label : terminal_label other ≡ terminal_label one
     = sym (ap (option_and_then terminal_label) there) ∙ sym (terminal_label_same p q same i) ∙ ap (option_and_then terminal_label) at in

@@ -4,13 +4,14 @@ use Rattle.std.specs.Prelude.{Result, Ok, Err, MatchOption, IsSome, ◌+ℤ◌}
 use Rattle.f77_program.specs.Program.{LineFields}
 use Rattle.f77_tree.specs.Tree.{Tree, Trees}
 use Rattle.f77_tree.specs.Statement.{Statement}
-use Rattle.f77_legal.specs.Labels.{statement_at}
+use Rattle.f77_legal.specs.Labels.{nth_statement}
 use Rattle.f77_legal.specs.Names.{Symbol, kind_of, bounds_of}
 use Rattle.f77_values.specs.declared.finish.Fault.{Fault}
 use Rattle.f77_values.specs.Number.{in_range, trip_count}
-use Rattle.f77_run.specs.Value.{Store, put, number, truth, value, place}
-use Rattle.f77_code.specs.Choice.{by_sign, numbered}
-use Rattle.f77_run.specs.Step.{Place, Execute, Increment, Turn, Turns, config, Next, Goes, with_turn, left_behind, IsInnermost, GoesOn, Jumps, Passes, Begins, With, Either, Skips, step_number, Executes, Increments, StepAt}
+use Rattle.f77_run.specs.Value.{Store, store_with, number, truth, value, place}
+use Rattle.f77_code.specs.Choice.{by_sign, item_chosen}
+use Rattle.f77_run.specs.Step.{Place, Execute, Increment, Turn, Turns, config, Next, Goes, with_turn, left_behind, IsInnermost}
+use Rattle.f77_run.specs.Step.{GoesOn, Jumps, Passes, Begins, With, Either, Skips, step_number, Executes, Increments, StepAt}
 use Rattle.f77_run.specs.Outcome.{IsOutcome, OneSuccessor, OneOutcome}
 use Rattle.f77_values.specs.declared.value.Value.TheVariants as held
 
@@ -50,9 +51,9 @@ one_begins : (p : List LineFields) (d : ℕ) (x : Symbol) (first last step : ℤ
     → Begins p d x first last step s active m → Begins p d x first last step s active n → m ≡ n
 one_begins p d x first last (pos zero) s active m n f g = f ∙ sym g
 one_begins p d x first last (pos (suc k)) s active m n f g =
-    one_passes p d (trip_count first last (pos (suc k))) (pos (suc k)) (put s x 0 (held.Number first)) active m n f g
+    one_passes p d (trip_count first last (pos (suc k))) (pos (suc k)) (store_with s x 0 (held.Number first)) active m n f g
 one_begins p d x first last (negsuc k) s active m n f g =
-    one_passes p d (trip_count first last (negsuc k)) (negsuc k) (put s x 0 (held.Number first)) active m n f g
+    one_passes p d (trip_count first last (negsuc k)) (negsuc k) (store_with s x 0 (held.Number first)) active m n f g
 
 one_with : {A : Type 0} (r : Result A Fault) (s : Store) (m n : Next) (P Q : A → Type 0) → ((v : A) → P v → Q v → m ≡ n) → With r s m P → With r s n Q → m ≡ n
 one_with (Ok v) s m n P Q each f g = each v f g
@@ -72,10 +73,10 @@ one_executes : (p : List LineFields) (i : ℕ) (stmt : Statement) (s : Store) (a
     → Executes p i stmt s active m → Executes p i stmt s active n → m ≡ n
 one_executes p i (Statement.Assign name items t) s active m n f g =
     one_with (place (bounds_of p) s name items) s m n _ _
-    (λ k. one_with (value (kind_of p name) (bounds_of p) s t) s m n _ _ (λ v. one_on p i (put s name k v) active m n)) f g
+    (λ k. one_with (value (kind_of p name) (bounds_of p) s t) s m n _ _ (λ v. one_on p i (store_with s name k v) active m n)) f g
 one_executes p i (Statement.Goto label) s active m n f g = one_jump p i label s active m n f g
 one_executes p i (Statement.ComputedGoto labels t) s active m n f g =
-    one_with (number (bounds_of p) s t) s m n _ _ (λ z. one_jump_or_on p i s active m n (numbered labels z)) f g
+    one_with (number (bounds_of p) s t) s m n _ _ (λ z. one_jump_or_on p i s active m n (item_chosen labels z)) f g
 one_executes p i (Statement.ArithIf t l e r) s active m n f g =
     one_with (number (bounds_of p) s t) s m n _ _ (λ z. one_jump p i (by_sign z l e r) s active m n) f g
 one_executes p i (Statement.LogicalIf t inner) s active m n f g =
@@ -101,7 +102,7 @@ one_increments : (p : List LineFields) (d : ℕ) (stmt : Statement) (turn : Turn
     → Increments p d stmt turn s active m → Increments p d stmt turn s active n → m ≡ n
 one_increments p d (Statement.Loop label name a b c) turn s active m n f g =
     one_with (number (bounds_of p) s (Tree.Reference name Trees.None)) s m n _ _
-    (λ z. one_with (in_range (z +ℤ turn.step)) s m n _ _ (λ next. one_passes p d (turn.passes - 1) turn.step (put s name 0 (held.Number next)) active m n)) f g
+    (λ z. one_with (in_range (z +ℤ turn.step)) s m n _ _ (λ next. one_passes p d (turn.passes - 1) turn.step (store_with s name 0 (held.Number next)) active m n)) f g
 one_increments p d _ turn s active m n f g = absurd f
 
 one_of_option : {A : Type 0} (o : Option A) (m n : Next) (P Q : A → Type 0) → ((x : A) → P x → Q x → m ≡ n) → MatchOption o ⊥ P → MatchOption o ⊥ Q → m ≡ n
@@ -110,9 +111,9 @@ one_of_option (Some x) m n P Q each f g = each x f g
 
 one_step_at : (p : List LineFields) (at : Place) (s : Store) (active : Turns) (m n : Next) → StepAt p at s active m → StepAt p at s active n → m ≡ n
 one_step_at p (Execute i) s active m n f g =
-    one_of_option (statement_at p i) m n _ _ (λ stmt. one_executes p i stmt s active m n) f g
+    one_of_option (nth_statement p i) m n _ _ (λ stmt. one_executes p i stmt s active m n) f g
 one_step_at p (Increment d) s active m n f g =
-    one_of_option (statement_at p d) m n _ _ (λ stmt. one_of_option (active d) m n _ _ (λ turn. one_increments p d stmt turn s active m n)) f g
+    one_of_option (nth_statement p d) m n _ _ (λ stmt. one_of_option (active d) m n _ _ (λ turn. one_increments p d stmt turn s active m n)) f g
 
 pub one_successor : OneSuccessor
 one_successor p c m n f g = one_step_at p c.place c.values c.active m n f g

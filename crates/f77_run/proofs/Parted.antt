@@ -20,16 +20,18 @@ use Rattle.f77_run.specs.declared.visits.Visit.{Visit}
 use Rattle.f77_run.specs.Control.{Comes}
 use Rattle.f77_run.specs.Endless.{Reaches}
 use Rattle.f77_run.specs.Interpreter.{AreFitting, IsOutcomeOf, Tells, values_in}
-use Rattle.f77_run.specs.Machine.{config_of, next_of, values_of}
+use Rattle.f77_run.specs.Machine.{config_of, values_of}
+use Rattle.f77_run.specs.code.Machine.{next_of}
 use Rattle.f77_code.specs.Moves.{Cells, Move, State, moved}
-use Rattle.f77_run.specs.Machine.{state_of}
+use Rattle.f77_run.specs.code.Machine.{state_of}
 use Rattle.f77_run.specs.Outcome.{IsOutcome}
-use Rattle.f77_run.specs.Parting.{Parting, IsParting, DoesAlikeIn, DoAlikeBefore, changed_site, site_in, start_in}
-use Rattle.f77_run.specs.Running.{IsRunning, AgreeOnDummies, ComesToEnd, config_at, values_at}
-use Rattle.f77_run.specs.Site.{HoldsDummies, held}
+use Rattle.f77_run.specs.code.Parting.{Parting, IsParting, DoesAlikeIn, DoAlikeBefore, changed_site, site_in, start_in}
+use Rattle.f77_run.specs.code.Running.{IsRunning, AgreeOnDummies, ComesToEnd, config_at, values_at}
+use Rattle.f77_run.specs.code.Site.{HoldsDummies}
+use Rattle.f77_run.specs.Site.{held}
 use Rattle.f77_run.specs.Start.{IsStart}
 use Rattle.f77_run.specs.Step.{Config, Step}
-use Rattle.f77_run.specs.Typed.{has_kind, IsTyped}
+use Rattle.f77_run.specs.code.Typed.{has_kind, IsTyped}
 use Rattle.f77_run.specs.Value.{Store}
 use Rattle.f77_run.specs.Visits.{AreVisits, IsVisit, config_in, state_in}
 use Rattle.f77_run.proofs.Alongside.{before, come_to_the_same, comes_there, follows, throughout, visit_of}

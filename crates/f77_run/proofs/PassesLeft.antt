@@ -11,7 +11,7 @@ use Rattle.f77_actions.specs.declared.action.Action.{Action, Loop}
 use Rattle.f77_actions.specs.declared.resolved.Resolved.{Resolved}
 use Rattle.f77_check.specs.Action.{IsAction}
 use Rattle.f77_check.specs.Resolved.{AreResolved}
-use Rattle.f77_legal.specs.Labels.{statement_at, terminal_label}
+use Rattle.f77_legal.specs.Labels.{nth_statement, terminal_label}
 use Rattle.f77_legal.specs.Legal.{IsLegal}
 use Rattle.f77_legal.specs.Loops.{is_left}
 use Rattle.f77_legal.specs.Names.{Symbol, kind_of, bounds_of}
@@ -19,14 +19,14 @@ use Rattle.f77_values.specs.declared.finish.Fault.{Fault}
 use Rattle.f77_values.specs.declared.value.Value.{Value}
 use Rattle.f77_values.specs.declared.value.Value.TheVariants as held
 use Rattle.f77_values.specs.Number.{in_range, trip_count}
-use Rattle.f77_code.specs.Choice.{by_sign, numbered}
+use Rattle.f77_code.specs.Choice.{by_sign, item_chosen}
 use Rattle.f77_code.specs.Holds.{is_loop_at}
 use Rattle.f77_code.specs.Moves.{is_loop}
 use Rattle.f77_code.proofs.Listed.{loop_is}
 use Rattle.f77_run.specs.Control.{Comes}
 use Rattle.f77_run.specs.Step.{Place, Execute, Increment, Turn, Turns, Config, Next, Goes, Ends, with_turn, left_behind, GoesOn, Jumps, Passes}
 use Rattle.f77_run.specs.Step.{Begins, With, Either, Skips, step_number, Executes, Increments, StepAt}
-use Rattle.f77_run.specs.Value.{Store, put, number, truth, value, place}
+use Rattle.f77_run.specs.Value.{Store, store_with, number, truth, value, place}
 use Rattle.f77_run.proofs.Looping.{row_at}
 use Rattle.f77_run.proofs.NeverLost.{placed}
 use Rattle.f77_run.proofs.Soundness.{legal_is_sound}
@@ -99,9 +99,9 @@ module _ (p : List LineFields) where
       → Begins p d name first last step s active n → Leaves n
   leaves_begins d name first last (pos zero) s active n all f = subst Leaves (sym f) tt
   leaves_begins d name first last (pos (suc k)) s active n all f =
-      leaves_passes d (trip_count first last (pos (suc k))) (pos (suc k)) (put s name 0 (held.Number first)) active n all f
+      leaves_passes d (trip_count first last (pos (suc k))) (pos (suc k)) (store_with s name 0 (held.Number first)) active n all f
   leaves_begins d name first last (negsuc k) s active n all f =
-      leaves_passes d (trip_count first last (negsuc k)) (negsuc k) (put s name 0 (held.Number first)) active n all f
+      leaves_passes d (trip_count first last (negsuc k)) (negsuc k) (store_with s name 0 (held.Number first)) active n all f
 
   -- a computed GO TO jumps, or control goes on
   leaves_jump_or_on : (i : ℕ) (s : Store) (active : Turns) (n : Next) (o : Option ℕ) → HavePasses active
@@ -113,10 +113,10 @@ module _ (p : List LineFields) where
   leaves_executes : (i : ℕ) (stmt : Statement) (s : Store) (active : Turns) (n : Next) → HavePasses active → Executes p i stmt s active n → Leaves n
   leaves_executes i (Statement.Assign name items t) s active n all f =
       leaves_with (place (bounds_of p) s name items) s n _
-      (λ k. leaves_with (value (kind_of p name) (bounds_of p) s t) s n _ (λ v. leaves_on i (put s name k v) active n all)) f
+      (λ k. leaves_with (value (kind_of p name) (bounds_of p) s t) s n _ (λ v. leaves_on i (store_with s name k v) active n all)) f
   leaves_executes i (Statement.Goto label) s active n all f = leaves_jump i label s active n all f
   leaves_executes i (Statement.ComputedGoto labels t) s active n all f =
-      leaves_with (number (bounds_of p) s t) s n _ (λ z. leaves_jump_or_on i s active n (numbered labels z) all) f
+      leaves_with (number (bounds_of p) s t) s n _ (λ z. leaves_jump_or_on i s active n (item_chosen labels z) all) f
   leaves_executes i (Statement.ArithIf t l m r) s active n all f =
       leaves_with (number (bounds_of p) s t) s n _ (λ z. leaves_jump i (by_sign z l m r) s active n all) f
   leaves_executes i (Statement.LogicalIf t inner) s active n all f =
@@ -146,14 +146,14 @@ module _ (p : List LineFields) where
   leaves_increments d (Statement.Loop label name x y z) turn s active n all f =
       leaves_with (number (bounds_of p) s (Tree.Reference name Trees.None)) s n _
       (λ before. leaves_with (in_range (before +ℤ turn.step)) s n _
-      (λ next. leaves_passes d (turn.passes - 1) turn.step (put s name 0 (held.Number next)) active n all)) f
+      (λ next. leaves_passes d (turn.passes - 1) turn.step (store_with s name 0 (held.Number next)) active n all)) f
   leaves_increments d _ turn s active n all f = absurd f
 
   -- a step leads from active DOs that each have a pass left to such ones
   leaves_step : (at : Place) (s : Store) (active : Turns) (n : Next) → HavePasses active → StepAt p at s active n → Leaves n
-  leaves_step (Execute i) s active n all f = leaves_option (statement_at p i) n _ (λ stmt. leaves_executes i stmt s active n all) f
+  leaves_step (Execute i) s active n all f = leaves_option (nth_statement p i) n _ (λ stmt. leaves_executes i stmt s active n all) f
   leaves_step (Increment d) s active n all f =
-      leaves_option (statement_at p d) n _
+      leaves_option (nth_statement p d) n _
       (λ stmt. leaves_option (active d) n _ (λ turn. leaves_increments d stmt turn s active n all)) f
 
 -- each active DO of a run has a pass left
@@ -166,7 +166,7 @@ passes_left p given c (Comes.by_step {b = b} before step) = leaves_step p b.plac
 
 -- the statement of an active DO of a legal program is a DO
 pub active_loop : (p : List LineFields) (given : List (List Value)) (c : Config) → IsProgram None p → IsLegal p → Comes p given c
-    → (d : ℕ) (turn : Turn) → c.active d ≡ Some turn → IsSome (option_and_then terminal_label (statement_at p d))
+    → (d : ℕ) (turn : Turn) → c.active d ≡ Some turn → IsSome (option_and_then terminal_label (nth_statement p d))
 active_loop p given c program legal comes d turn is =
     let found = placed p given c (legal_is_sound p program legal) comes in
     found.loops d (ap is_some is)

@@ -14,7 +14,7 @@ use Rattle.f77_actions.specs.declared.action.Jump.{Jump}
 use Rattle.f77_actions.specs.declared.expression.Element.{Variable}
 use Rattle.f77_actions.specs.declared.expression.Number.{Number}
 use Rattle.f77_actions.specs.declared.resolved.Resolved.{Resolved}
-use Rattle.f77_check.specs.Action.{IsJump, AreJumps, IsStep, IsAssignment, IsAction}
+use Rattle.f77_check.specs.Action.{IsJump, AreJumps, IsIncrementation, IsAssignment, IsAction}
 use Rattle.f77_legal.specs.Blocks.{first_numbers}
 use Rattle.f77_legal.specs.Dimensions.{dimensions_fit}
 use Rattle.f77_legal.specs.Legal.{IsLegal}
@@ -23,7 +23,8 @@ use Rattle.f77_legal.specs.Names.{Symbol, kind_of, bounds_of}
 use Rattle.f77_check.specs.Resolved.{IsResolved, AreResolved}
 use Rattle.f77_check.specs.Slots.{slot_count}
 use Rattle.f77_code.specs.Evaluation.{number_within}
-use Rattle.f77_code.specs.Moves.{are_below, jump_within, action_within, resolved_within, all_within}
+use Rattle.f77_code.specs.Moves.{are_below}
+use Rattle.f77_code.specs.code.Moves.{jump_within, action_within, resolved_within, all_within}
 use Rattle.f77_run.proofs.Within.{number_fits, element_fits, condition_fits}
 use Rattle.f77_run.proofs.Looping.{terminal_within}
 use Rattle.f77_run.proofs.Simulation.{statement_of, legal_fits, no_bounds}
@@ -56,7 +57,7 @@ module _ (p : List LineFields) (names : List Symbol) where
   jump_reaches : (i label : ℕ) (jump : Jump) → IsJump p i label jump → jump_within (length p) jump ≡ true
   jump_reaches i label jump h = ap (are_below (length p)) h.leaves ∙ filter_below (is_left p i jump.target) (length p) (length p) (omega arith)
 
-  step_reaches : (c : Option Tree) (x : Number) → IsStep (bounds_of p) names c x → number_within (slot_count (bounds_of p) names) x ≡ true
+  step_reaches : (c : Option Tree) (x : Number) → IsIncrementation (bounds_of p) names c x → number_within (slot_count (bounds_of p) names) x ≡ true
   step_reaches None x h = ap (number_within (slot_count (bounds_of p) names)) h
   step_reaches (Some t) x h = number_fits (bounds_of p) names t x h
 

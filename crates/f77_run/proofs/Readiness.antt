@@ -15,16 +15,17 @@ use Rattle.f77_actions.specs.declared.resolved.Resolved.{Resolved}
 use Rattle.f77_check.specs.Action.{IsJump, AreJumps, IsAction}
 use Rattle.f77_check.specs.Resolved.{AreResolved}
 use Rattle.f77_check.specs.Slots.{slot_count}
-use Rattle.f77_legal.specs.Blocks.{is_end_if, is_alternative, has_at, is_level, block_end, branch_end, behind}
+use Rattle.f77_legal.specs.Blocks.{is_end_if, is_alternative, has_at, is_level, block_end, branch_end, statement_behind}
 use Rattle.f77_legal.specs.Labels.{bears}
 use Rattle.f77_legal.specs.Legal.{IsLegal}
 use Rattle.f77_legal.specs.Names.{Symbol, kind_of, bounds_of}
 use Rattle.f77_legal.proofs.Actions.{inner_acts}
 use Rattle.f77_legal.proofs.Branches.{found_is}
 use Rattle.f77_code.specs.Compiled.{is_ready, are_ready}
-use Rattle.f77_code.specs.Compiling.{is_small, can_compile}
+use Rattle.f77_code.specs.Compiling.{is_of_32_bits, can_compile}
 use Rattle.f77_code.specs.Evaluation.{number_within, condition_within}
-use Rattle.f77_code.specs.Moves.{are_below, action_within, resolved_within}
+use Rattle.f77_code.specs.Moves.{are_below}
+use Rattle.f77_code.specs.code.Moves.{action_within, resolved_within}
 use Rattle.f77_code.specs.Places.{has_places, have_places}
 use Rattle.f77_code.proofs.Listed.{all_at}
 use Rattle.f77_run.proofs.Nested.{branch_ends}
@@ -35,28 +36,28 @@ use Rattle.f77_run.proofs.Soundness.{place_within}
 
 module _ (p : List LineFields) (legal : IsLegal p) where
   -- the number of a statement, and the one behind the last of them, has 32 bits
-  small : (k : ℕ) → k ≤ length p → is_small k ≡ true
+  small : (k : ℕ) → k ≤ length p → is_of_32_bits k ≡ true
   small k h = let few = few_lines p legal in lt-ltb k 4294967296 (omega (arith, h, few))
 
   -- so has that of the statement where a jump goes
-  jump_small : (i label : ℕ) (jump : Jump) → IsJump p i label jump → is_small jump.target ≡ true
+  jump_small : (i label : ℕ) (jump : Jump) → IsJump p i label jump → is_of_32_bits jump.target ≡ true
   jump_small i label jump h = let below = place_within (bears label) p jump.target h.target in small jump.target (omega (arith, below))
 
   -- of those where each of these jumps goes
-  jumps_small : (i : ℕ) (labels : List ℕ) (jumps : List Jump) → AreJumps p i labels jumps → list_all (λ jump. is_small jump.target) jumps ≡ true
+  jumps_small : (i : ℕ) (labels : List ℕ) (jumps : List Jump) → AreJumps p i labels jumps → list_all (λ jump. is_of_32_bits jump.target) jumps ≡ true
   jumps_small i [] [] h = refl
   jumps_small i (label ∷ labels) (jump ∷ jumps) h = and_from _ _ (jump_small i label jump h.0) (jumps_small i labels jumps h.1)
   jumps_small i _ _ h = absurd h
 
   -- of the one that ends a branch
-  branch_small : (i otherwise : ℕ) → branch_end p i ≡ Some otherwise → is_small otherwise ≡ true
+  branch_small : (i otherwise : ℕ) → branch_end p i ≡ Some otherwise → is_of_32_bits otherwise ≡ true
   branch_small i otherwise ends = let below = (branch_ends p i otherwise ends).1 in small otherwise (omega (arith, below))
 
   -- of the one behind a statement
-  behind_small : (i next : ℕ) → i < length p → behind p i ≡ Some next → is_small next ≡ true
+  behind_small : (i next : ℕ) → i < length p → statement_behind p i ≡ Some next → is_of_32_bits next ≡ true
   behind_small i next below is = by (has_at is_alternative p (i + 1)) is
     where
-      by : (b : Bool) → (if b then block_end p (i + 1) else Some (i + 1)) ≡ Some next → is_small next ≡ true
+      by : (b : Bool) → (if b then block_end p (i + 1) else Some (i + 1)) ≡ Some next → is_of_32_bits next ≡ true
       by true ends =
           let within = (found_is (λ j. has_at is_end_if p j && is_level p (i + 1) j) (length p) next ends).1 in
           small next (omega (arith, within))

@@ -8,7 +8,7 @@ use Rattle.f77_tree.specs.Statement.{Statement}
 use Rattle.f77_tree.specs.declared.tree.Kind.TheVariants.{Integer}
 use Rattle.f77_tree.specs.declared.intrinsic.Intrinsic.TheVariants.{Mod}
 use Rattle.f77_tree.specs.declared.operator.Operator.TheVariants.{Add, Divide, Power, Less}
-use Rattle.f77_check.specs.Start.{is_executable}
+use Rattle.f77_check.specs.Start.{is_executable_statement}
 use Rattle.f77_values.specs.declared.finish.Fault.TheVariants.{Overflow, DivideByZero, ZeroPower, BadSubscript, ZeroStep, Undefined}
 use Rattle.f77_values.specs.declared.finish.Finish.{Finish}
 use Rattle.f77_values.specs.declared.finish.Finish.TheVariants.{Returned, Failed, StepLimit}
@@ -53,7 +53,7 @@ abbrev answer : List LineFields → ℕ → List (List Value) → Option (Finish
 answer p limit given =
     option_and_then
     (λ at. option_map (λ r. (r.0, argument_values p r.1)) (run p limit (config (Execute at) (start_values p given) (λ d. None))))
-    (position (λ x. is_executable x.stmt) p)
+    (position (λ x. is_executable_statement x.stmt) p)
 
 abbrev numbers : List ℤ → List (List Value)
 numbers zs = map (λ z. held.Number z ∷ []) zs

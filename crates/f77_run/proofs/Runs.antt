@@ -5,7 +5,7 @@ use Rattle.std.proofs.lemmas.Bool.{or_parts}
 use Rattle.std.proofs.lemmas.Bool.Decides.{nat_tests}
 use Rattle.f77_program.specs.Program.{LineFields}
 use Rattle.f77_actions.specs.declared.resolved.Resolved.{Resolved}
-use Rattle.f77_legal.specs.Legal.{IsLegal, is_too_large, size_faults}
+use Rattle.f77_legal.specs.Legal.{IsLegal, is_too_large, too_large_faults}
 use Rattle.f77_legal.specs.Names.{bounds_of}
 use Rattle.f77_legal.proofs.LegalGives.{kept_by}
 use Rattle.f77_values.specs.declared.finish.Finish.{Finish}
@@ -15,11 +15,14 @@ use Rattle.f77_run.specs.declared.machine.Control.{Control}
 use Rattle.f77_run.specs.declared.machine.Machine.{Machine}
 use Rattle.f77_run.specs.Control.{Comes}
 use Rattle.f77_run.specs.Endless.{Reaches}
-use Rattle.f77_run.specs.Machine.{KeepsLengths, config_of, next_of, state_of, move_of}
-use Rattle.f77_code.specs.Moves.{Cells, State, Move, moved, all_within}
+use Rattle.f77_run.specs.code.Machine.{KeepsLengths, next_of, state_of, move_of}
+use Rattle.f77_run.specs.Machine.{config_of}
+use Rattle.f77_code.specs.Moves.{Cells, State, Move, moved}
+use Rattle.f77_code.specs.code.Moves.{all_within}
 use Rattle.f77_code.specs.Moves as moves
 use Rattle.f77_run.specs.Outcome.{IsOutcome}
-use Rattle.f77_run.specs.Running.{Site, IsRunning, ComesToEnd, values_at, config_at}
+use Rattle.f77_run.specs.Running.{RunSite}
+use Rattle.f77_run.specs.code.Running.{IsRunning, ComesToEnd, values_at, config_at}
 use Rattle.f77_run.specs.Step.{Config, Step}
 use Rattle.f77_run.proofs.Endless.{joined, one_step, one_more as further, whole, limit_met, endless_before, comes_back, meets_limits}
 use Rattle.f77_run.proofs.NeverLost.{leads_on}
@@ -27,21 +30,21 @@ use Rattle.f77_run.proofs.Reaching.{reach}
 use Rattle.f77_run.proofs.Simulation.{simulates, moves_on}
 
 -- After so many steps: the machine runs, and they lead to where it stands.
-pub record IsLeft (at : Site) (statements : List Resolved) (start now : Machine) (done : ℕ) : Type 0 where
+pub record IsLeft (at : RunSite) (statements : List Resolved) (start now : Machine) (done : ℕ) : Type 0 where
   pub running : IsRunning at statements now
   pub reached : Reaches at.program done (config_at at start) (config_at at now)
 
 -- what a state stands for
-abbrev pub stands_for : Site → State → Config
+abbrev pub stands_for : RunSite → State → Config
 stands_for at s = config_of (bounds_of at.program) at.names s
 
 -- the state that is kept is one on the way, some steps back
-abbrev pub IsKept : Site → Config → Config → Option State → Type 0
+abbrev pub IsKept : RunSite → Config → Config → Option State → Type 0
 IsKept at start now None = ⊤
 IsKept at start now (Some s) =
     (m : ℕ) × (n : ℕ) × Reaches at.program m start (stands_for at s) × Reaches at.program (suc n) (stands_for at s) now
 
-module _ (at : Site) (statements : List Resolved) where
+module _ (at : RunSite) (statements : List Resolved) where
   -- a machine that runs can make a step
   pub can_move : (m : Machine) → IsRunning at statements m → IsSome (moved statements (state_of m))
   can_move m is =
@@ -132,11 +135,11 @@ module _ (at : Site) (statements : List Resolved) where
 pub few_lines : (p : List LineFields) → IsLegal p → length p ≤ 500
 few_lines p legal = by (is_too_large p) refl (kept_by p legal).sizes
   where
-    by : (b : Bool) → is_too_large p ≡ b → size_faults p ≡ [] → length p ≤ 500
+    by : (b : Bool) → is_too_large p ≡ b → too_large_faults p ≡ [] → length p ≤ 500
     by true e none = let some = rw e at none in absurd (cc (some))
     by false e none = let few = (or_parts (nat_lt 500 (length p)) _ e).0 in grind (arith, nat_tests)
 
-module _ (at : Site) (statements : List Resolved) (m : Machine) (is : IsRunning at statements m) where
+module _ (at : RunSite) (statements : List Resolved) (m : Machine) (is : IsRunning at statements m) where
   pub are_short : length statements < 4294967296
   are_short = let few = few_lines at.program is.legal in let same = is.resolved.count in omega (arith, few, same)
 

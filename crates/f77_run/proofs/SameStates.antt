@@ -9,7 +9,7 @@ use Rattle.std.specs.Ordering.{int_eq}
 use Rattle.std.proofs.lemmas.Bool.Decides.{Decides-int_eq}
 use Rattle.std.proofs.lemmas.Option.{same_Some}
 use Rattle.std.proofs.lemmas.Slice.Eq.{slice_eq-Decides}
-use Rattle.f77_source.specs.SameCards.{decided_by}
+use Rattle.f77_source.specs.SameCards.{cards_decided_by}
 use Rattle.f77_code.specs.contracts.control.TurnPartialEq.TheImpl as turn
 use Rattle.f77_code.specs.declared.control.Turn.{Turn}
 use Rattle.f77_code.specs.Operation.{Point, point}
@@ -24,10 +24,10 @@ own_turn : (a : Turn) → turn.ghosts.eq a a ≡ true
 own_turn a = both_true ((unsigned_Decides a.passes a.passes).1 refl) ((Decides-int_eq a.step a.step).1 refl)
 
 pub registers_decide : (xs ys : List ℤ) (r : Bool) → r ≡ pointwise int_eq xs ys → Decides r (xs ≡ ys)
-registers_decide xs ys r e = slice_eq-Decides (decided_by int_eq (λ x y. (Decides-int_eq x y).0) (λ x. (Decides-int_eq x x).1 refl)) xs ys r e
+registers_decide xs ys r e = slice_eq-Decides (cards_decided_by int_eq (λ x y. (Decides-int_eq x y).0) (λ x. (Decides-int_eq x x).1 refl)) xs ys r e
 
 pub counters_decide : (xs ys : List Turn) (r : Bool) → r ≡ pointwise turn.ghosts.eq xs ys → Decides r (xs ≡ ys)
-counters_decide xs ys r e = slice_eq-Decides (decided_by turn.ghosts.eq same_turn own_turn) xs ys r e
+counters_decide xs ys r e = slice_eq-Decides (cards_decided_by turn.ghosts.eq same_turn own_turn) xs ys r e
 
 -- the parts of what is kept
 module _ (registers : List ℤ) (counters : List Turn) (p : Point) where

@@ -29,7 +29,7 @@ use Rattle.f77_values.specs.declared.finish.Fault.{Fault}
 use Rattle.f77_values.specs.declared.value.Value.{Value}
 use Rattle.f77_code.specs.Evaluation.{held_in, slot_in, number_in, truth_in, calculated, compared, joined}
 use Rattle.f77_run.specs.Machine.{values_of}
-use Rattle.f77_values.specs.Number.{fits, in_range, least, greatest, called, signed, modulus, size}
+use Rattle.f77_values.specs.Number.{fits, in_range, least, greatest, called, signed, modulus, without_sign}
 use Rattle.f77_run.specs.Value.{Store, arithmetic, related, connected, is_relation, number, numbers, place, truth}
 use Rattle.f77_values.specs.Value.{given, both, whole, logic, element, pushed}
 use Rattle.f77_run.proofs.Cells.{place_within, held_value}
@@ -158,7 +158,7 @@ module _ (bounds : Symbol → List ℕ) (names : List Symbol) (cells : List (Opt
       (λ v e. same.1.0 y h.2) (λ a b. ap (λ k. calculated k a b) h.0)
       ∙ two_given (number bounds store t) (number bounds store u) (called Mod)
   call_same Iabs (Trees.Then t Trees.None) (Absolute' p x) same h =
-      ap (λ r. given r (λ z. in_range (size z))) (same.0 x h) ∙ one_given (number bounds store t) (called Iabs)
+      ap (λ r. given r (λ z. in_range (without_sign z))) (same.0 x h) ∙ one_given (number bounds store t) (called Iabs)
   call_same Min0 items x same h =
       chosen_same arithmetics.Least _ least (called Min0) (λ a b. refl) (λ a bs. refl) (λ a. refl) least_first items x same h
   call_same Max0 items x same h =

@@ -1,5 +1,6 @@
 -- A step of the machine is a step of the run that it stands for.
-use Rattle.std.proofs.Common.{◌≡◌, ℕ, zero, suc, ◌+◌, ◌*◌, ◌<◌, ◌≤◌, ◌==◌, ◌&&◌, inl, inr, Bool, true, false, List, [], ◌∷◌, Option, Some, None, refl, sym, ◌∙◌, ap, subst, arith, length, ℤ, pos, negsuc}
+use Rattle.std.proofs.Common.{◌≡◌, ℕ, zero, suc, ◌+◌, ◌*◌, ◌<◌, ◌≤◌, ◌==◌, ◌&&◌, inl, inr, Bool, true, false, List}
+use Rattle.std.proofs.Common.{[], ◌∷◌, Option, Some, None, refl, sym, ◌∙◌, ap, subst, arith, length, ℤ, pos, negsuc}
 use Rattle.std.specs.Prelude.{Result, Ok, Err, IsSome, MatchOption, nat_lt, if◌then◌else◌, option_map, slice_get, slice_set}
 use Rattle.std.specs.Option.{option_and_then, option_map_or}
 use Rattle.std.proofs.Math.Nat.{mul-le-mul_left}
@@ -15,10 +16,10 @@ use Rattle.f77_legal.specs.declared.clause.Clause.TheVariants.{Bounds}
 use Rattle.f77_actions.specs.declared.expression.Element.{Element, Variable, Vector', Matrix'}
 use Rattle.f77_actions.specs.declared.expression.Number.{Number}
 use Rattle.f77_actions.specs.declared.resolved.Resolved.{Resolved}
-use Rattle.f77_check.specs.Action.{IsJump, IsStep, IsAssignment, IsAction}
+use Rattle.f77_check.specs.Action.{IsJump, IsIncrementation, IsAssignment, IsAction}
 use Rattle.f77_legal.specs.Dimensions.{dimensions_fit}
 use Rattle.f77_check.specs.Expression.{IsElement}
-use Rattle.f77_legal.specs.Labels.{statement_at}
+use Rattle.f77_legal.specs.Labels.{nth_statement}
 use Rattle.f77_legal.specs.Legal.{IsLegal}
 use Rattle.f77_legal.specs.Names.{Symbol, kind_of, bounds_of}
 use Rattle.f77_legal.specs.Presets.{product}
@@ -32,13 +33,14 @@ use Rattle.f77_code.specs.declared.control.Place.TheVariants.{Execute, Increment
 use Rattle.f77_code.specs.declared.control.Turn.{Turn}
 use Rattle.f77_values.specs.declared.value.Value.{Value}
 use Rattle.f77_values.specs.declared.value.Value.TheVariants as held
-use Rattle.f77_code.specs.Choice.{by_sign, numbered}
+use Rattle.f77_code.specs.Choice.{by_sign, item_chosen}
 use Rattle.f77_code.specs.Evaluation.{slot_in, number_in}
-use Rattle.f77_run.specs.Machine.{values_of, turn_of, turns_of, placed, config_of, next_of}
-use Rattle.f77_code.specs.Moves.{Cells, Turns, State, Move, state, used, turn_at, go_on, without, jump_to, chosen, acted, incremented, is_executed, is_loop, moved}
+use Rattle.f77_run.specs.Machine.{values_of, turn_of, turns_of, placed_in_run, config_of}
+use Rattle.f77_run.specs.code.Machine.{next_of}
+use Rattle.f77_code.specs.Moves.{Cells, TurnList, State, Move, state, used, turn_at, go_on, without, jump_to, jump_chosen, acted, incremented, is_executed, is_loop, moved}
 use Rattle.f77_run.specs.Step as run
 use Rattle.f77_run.specs.Step.{Next, config, GoesOn, Jumps, Begins, With, Either, step_number, Executes, Increments, StepAt, Step}
-use Rattle.f77_run.specs.Value.{Store, put, value, place}
+use Rattle.f77_run.specs.Value.{Store, store_with, value, place}
 use Rattle.f77_values.specs.Value.{given, element}
 use Rattle.f77_run.proofs.SameValue.{same_number, same_slot, same_truth}
 use Rattle.f77_run.proofs.Stored.{stored}
@@ -83,7 +85,7 @@ pub no_bounds : (bounds : List ℕ) (b : Bool) → ((length bounds == 0) && b) �
 no_bounds [] b h = refl
 no_bounds (bound ∷ bounds) b h = let none = eqb-true (length (bound ∷ bounds)) 0 (and_parts (length (bound ∷ bounds) == 0) b h).0 in absurd (omega (arith, none))
 
-pub legal_fits : (p : List LineFields) → IsLegal p → (i : ℕ) (s : Statement) → statement_at p i ≡ Some s → dimensions_fit (bounds_of p) s ≡ true
+pub legal_fits : (p : List LineFields) → IsLegal p → (i : ℕ) (s : Statement) → nth_statement p i ≡ Some s → dimensions_fit (bounds_of p) s ≡ true
 legal_fits p legal i s at = not_false (dimensions_fit (bounds_of p) s) (clause_kept Bounds p (kept_by p legal).bounds i s at)
 
 with_value : {A : Type 0} (q : Result A Fault) (wrap : A → Value) (store : Store) (n : Next) (P : Value → Type 0) → With q store n (λ x. P (wrap x))
@@ -92,25 +94,25 @@ with_value (Ok x) wrap store n P h = h
 with_value (Err f) wrap store n P h = h
 
 chooses : (bounds : Symbol → List ℕ) (names : List Symbol) (b : Bool) (x y : Move) (n : Next) (P Q : Type 0)
-    → (n ≡ next_of bounds names x → P) → (n ≡ next_of bounds names y → Q) → n ≡ next_of bounds names (chosen b x y) → Either b P Q
+    → (n ≡ next_of bounds names x → P) → (n ≡ next_of bounds names y → Q) → n ≡ next_of bounds names (jump_chosen b x y) → Either b P Q
 chooses bounds names true x y n P Q f g e = f e
 chooses bounds names false x y n P Q f g e = g e
 
-step_number_same : (bounds : Symbol → List ℕ) (names : List Symbol) (cells : Cells) (c : Option Tree) (x : Number) → IsStep bounds names c x
+step_number_same : (bounds : Symbol → List ℕ) (names : List Symbol) (cells : Cells) (c : Option Tree) (x : Number) → IsIncrementation bounds names c x
     → number_in cells x ≡ step_number bounds (values_of bounds names cells) c
 step_number_same bounds names cells None x h = ap (number_in cells) h
 step_number_same bounds names cells (Some t) x h = same_number bounds names cells t x h
 
 -- what a resolved statement comes from
 pub statement_of : (p : List LineFields) (names : List Symbol) (statements : List Resolved) → AreResolved p names statements → (i : ℕ) (r : Resolved)
-    → slice_get statements i ≡ Some r → (s : Statement) × (statement_at p i ≡ Some s) × IsResolved p names i s r
+    → slice_get statements i ≡ Some r → (s : Statement) × (nth_statement p i ≡ Some s) × IsResolved p names i s r
 statement_of p names statements resolved i r at =
     let within = slice_get_within statements i r at in
     let count = resolved.count in
     let s = there p i (omega (arith, within, count)) in
     (s.0, s.1, resolved.each i s.0 r s.1 at)
 
-module _ (p : List LineFields) (names : List Symbol) (cells : Cells) (turns : Turns) where
+module _ (p : List LineFields) (names : List Symbol) (cells : Cells) (turns : TurnList) where
   abbrev store : Store
   store = values_of (bounds_of p) names cells
 
@@ -123,9 +125,9 @@ module _ (p : List LineFields) (names : List Symbol) (cells : Cells) (turns : Tu
       continues e = subst (GoesOn p i store (turns_of turns)) (sym e) (goes_on p names i whole r is store turns)
 
       continues_with : (name : Symbol) (first k : ℕ) (v : Value) → first_slot (bounds_of p) names name ≡ Some first → k < product (bounds_of p name)
-          → n ≡ next (go_on r (slice_set cells (first + k) (Some v)) turns) → GoesOn p i (put store name k v) (turns_of turns) n
+          → n ≡ next (go_on r (slice_set cells (first + k) (Some v)) turns) → GoesOn p i (store_with store name k v) (turns_of turns) n
       continues_with name first k v at below e =
-          subst (GoesOn p i (put store name k v) (turns_of turns)) (sym e)
+          subst (GoesOn p i (store_with store name k v) (turns_of turns)) (sym e)
           (subst (λ s. GoesOn p i s (turns_of turns) (next (go_on r (slice_set cells (first + k) (Some v)) turns)))
           (stored (bounds_of p) names cells name first k v sized at below)
           (goes_on p names i whole r is (values_of (bounds_of p) names (slice_set cells (first + k) (Some v))) turns))
@@ -138,7 +140,7 @@ module _ (p : List LineFields) (names : List Symbol) (cells : Cells) (turns : Tu
           let first = element_starts (bounds_of p) names name items e h in
           with_slot (bounds_of p) names cells (place (bounds_of p) store name items) (slot_in cells e) first.0
           (same_slot (bounds_of p) names cells name items e first.0 h first.1) _ n _
-          (λ k at on. subst (λ v. With v store n (λ v. GoesOn p i (put store name k v) (turns_of turns) n)) has
+          (λ k at on. subst (λ v. With v store n (λ v. GoesOn p i (store_with store name k v) (turns_of turns) n)) has
           (with_value q wrap store n _
           (with_used (bounds_of p) names cells q x same _ n _
           (λ v e. continues_with name first.0 k (wrap v) first.1 (numbers_below (bounds_of p name) _ k at) e) on)))
@@ -181,7 +183,7 @@ module _ (p : List LineFields) (names : List Symbol) (cells : Cells) (turns : Tu
       executes (Statement.Goto label) (Goto jump) h fits may e = jumps label jump h e
       executes (Statement.ComputedGoto labels t) (ComputedGoto x js) h fits may e =
           with_used (bounds_of p) names cells _ _ (same_number (bounds_of p) names cells t x h.0) _ n _
-          (λ z. jumps_or_continues (numbered labels z) (numbered js.items z) (numbered_jump p i labels js.items h.1 z)) e
+          (λ z. jumps_or_continues (item_chosen labels z) (item_chosen js.items z) (numbered_jump p i labels js.items h.1 z)) e
       executes (Statement.ArithIf t l m k) (ArithmeticIf x a b c) h fits may e =
           with_used (bounds_of p) names cells _ _ (same_number (bounds_of p) names cells t x h.0) _ n _ (jumps_by_sign l m k a b c h.1 h.2 h.3) e
       executes (Statement.LogicalIf t s) (LogicalIf' x q action) h fits may e =
@@ -251,7 +253,7 @@ module _ (p : List LineFields) (names : List Symbol) (cells : Cells) (turns : Tu
       repeats d None at e = absurd (cc (e))
       repeats d (Some r) at e = repeats_by d r at (is_loop r.action) refl e
 
-      simulates_at : (at : Place) → moved statements (state at cells turns) ≡ Some m → StepAt p (placed at) store (turns_of turns) (next m)
+      simulates_at : (at : Place) → moved statements (state at cells turns) ≡ Some m → StepAt p (placed_in_run at) store (turns_of turns) (next m)
       simulates_at (Execute i) e = steps i (slice_get statements i) refl e
       simulates_at (Increment d) e = repeats d (slice_get statements d) refl e
 
@@ -296,11 +298,11 @@ module _ (p : List LineFields) (names : List Symbol) (i : ℕ) (store : Store) (
   incremented_loop (Statement.Loop label name a b c) _ turn h goes = absurd h
   incremented_loop _ _ turn h goes = absurd goes
 
-no_statement : (p : List LineFields) (i : ℕ) → length p ≤ i → statement_at p i ≡ None
+no_statement : (p : List LineFields) (i : ℕ) → length p ≤ i → nth_statement p i ≡ None
 no_statement p i past = ap (option_map (λ line. line.stmt)) (slice_get_past p i past)
 
 module _ (p : List LineFields) (names : List Symbol) (statements : List Resolved) (program : IsProgram None p) (resolved : AreResolved p names statements) (store : Store)
-    (cells : Cells) (turns : Turns) (n : Next) where
+    (cells : Cells) (turns : TurnList) (n : Next) where
   moves_statement : (i : ℕ) → StepAt p (run.Execute i) store (turns_of turns) n → IsSome (moved statements (state (Execute i) cells turns))
   moves_statement i step =
       elim (cases_lt i (length p)) [
@@ -315,7 +317,7 @@ module _ (p : List LineFields) (names : List Symbol) (statements : List Resolved
       ]
 
   moves_loop_by : (d : ℕ) → d < length p → (o : Option Turn) → turn_at turns d ≡ o
-      → MatchOption (statement_at p d) ⊥ (λ stmt. MatchOption (option_map turn_of o) ⊥ (λ turn. Increments p d stmt turn store (turns_of turns) n))
+      → MatchOption (nth_statement p d) ⊥ (λ stmt. MatchOption (option_map turn_of o) ⊥ (λ turn. Increments p d stmt turn store (turns_of turns) n))
       → IsSome (moved statements (state (Increment d) cells turns))
   moves_loop_by d below None is step =
       let row = row_at p names statements resolved d below in
@@ -335,7 +337,7 @@ module _ (p : List LineFields) (names : List Symbol) (statements : List Resolved
             absurd (subst (λ o. MatchOption o ⊥ (λ stmt. MatchOption (turns_of turns d) ⊥ (λ turn. Increments p d stmt turn store (turns_of turns) n))) (no_statement p d past) step)
       ]
 
-  moves_at : (at : Place) → StepAt p (placed at) store (turns_of turns) n → IsSome (moved statements (state at cells turns))
+  moves_at : (at : Place) → StepAt p (placed_in_run at) store (turns_of turns) n → IsSome (moved statements (state at cells turns))
   moves_at (Execute i) step = moves_statement i step
   moves_at (Increment d) step = moves_loop d step
 

@@ -21,12 +21,12 @@ use Rattle.f77_values.specs.declared.value.Value.{Value}
 use Rattle.f77_code.specs.declared.control.Place.{Place}
 use Rattle.f77_code.specs.declared.control.Place.TheVariants.{Execute, Increment}
 use Rattle.f77_code.specs.declared.control.Turn.{Turn}
-use Rattle.f77_code.specs.Moves.{Turns, State, state, turn_at}
+use Rattle.f77_code.specs.Moves.{TurnList, State, state, turn_at}
 use Rattle.f77_code.specs.Simulation.{are_active, only_round, MayLeave, IsNested}
 use Rattle.f77_code.proofs.Written.{at_other}
 use Rattle.f77_run.specs.Active.{is_active_at}
 use Rattle.f77_run.specs.Control.{Comes}
-use Rattle.f77_run.specs.Machine.{turn_of, placed, config_of}
+use Rattle.f77_run.specs.Machine.{turn_of, placed_in_run, config_of}
 use Rattle.f77_run.proofs.Active.{active_by_place}
 use Rattle.f77_run.proofs.Looping.{row_at, terminal_within}
 use Rattle.f77_run.proofs.Nested.{range_of, ends_behind}
@@ -45,7 +45,7 @@ module _ (q : ℕ → Bool) where
       by true = refl
       by false = refl
 
-  module _ (turns : Turns) where
+  module _ (turns : TurnList) where
     all_active : (n : ℕ) → ((e : ℕ) → e < n → q e ≡ true → is_some (turn_at turns e) ≡ true) → are_active turns (backwards n) ≡ true
     all_active zero each = refl
     all_active (suc n) each = ap (are_active turns) (one_more n) ∙ by (q n) refl (all_active n (λ e below. each e (omega (arith, below))))
@@ -98,10 +98,10 @@ last_of p names d (Statement.Loop label name a b c) variable t first last step h
 last_of p names d _ variable t first last step h = absurd h
 
 -- once a DO is not active any more, the others are as they were
-others_active : (turns : Turns) (d e : ℕ) → e ≢ d → is_some (turn_at (slice_set turns d None) e) ≡ is_some (turn_at turns e)
+others_active : (turns : TurnList) (d e : ℕ) → e ≢ d → is_some (turn_at (slice_set turns d None) e) ≡ is_some (turn_at turns e)
 others_active turns d e apart = ap is_some (at_other turns d e None apart)
 
-module _ (p : List LineFields) (legal : IsLegal p) (names : List Symbol) (statements : List Resolved) (resolved : AreResolved p names statements) (turns : Turns) where
+module _ (p : List LineFields) (legal : IsLegal p) (names : List Symbol) (statements : List Resolved) (resolved : AreResolved p names statements) (turns : TurnList) where
   -- the DOs that end at a statement are active where it is executed
   module _ (i : ℕ) (are : (e : ℕ) → is_some (turn_at turns e) ≡ range_holds p e i) where
     ends_active : (r : Resolved) → slice_get statements i ≡ Some r → are_active turns r.ends.items ≡ true
@@ -144,7 +144,7 @@ pub stands_nested : (p : List LineFields) (names : List Symbol) (given : List (L
 stands_nested p names given statements s program legal resolved comes =
     by s.place (λ d. same_active (turn_at s.turns d) ∙ active_by_place p given (config_of (bounds_of p) names s) program legal comes d)
   where
-    by : (place : Place) → ((d : ℕ) → is_some (turn_at s.turns d) ≡ is_active_at p (placed place) d) → IsNested statements (state place s.cells s.turns)
+    by : (place : Place) → ((d : ℕ) → is_some (turn_at s.turns d) ≡ is_active_at p (placed_in_run place) d) → IsNested statements (state place s.cells s.turns)
     by (Execute i) are = λ r found. (
       ends_active p legal names statements resolved s.turns i are r found,
       may_leave p legal names statements resolved s.turns i (λ e h. are e ∙ h) (λ e less. are e ∙ no_range p e i less) r found,

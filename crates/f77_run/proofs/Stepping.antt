@@ -8,8 +8,8 @@ use Rattle.std.proofs.lemmas.Option.{slice_get_past, same_Some}
 use Rattle.f77_program.specs.Program.{LineFields}
 use Rattle.f77_tree.specs.Tree.{Tree, Trees}
 use Rattle.f77_tree.specs.Statement.{Statement}
-use Rattle.f77_legal.specs.Blocks.{branch_end, behind}
-use Rattle.f77_legal.specs.Labels.{place_of, statement_at, terminal_label}
+use Rattle.f77_legal.specs.Blocks.{branch_end, statement_behind}
+use Rattle.f77_legal.specs.Labels.{label_place, nth_statement, terminal_label}
 use Rattle.f77_legal.specs.Loops.{terminal, ends_at}
 use Rattle.f77_legal.specs.Names.{Symbol, kind_of, bounds_of}
 use Rattle.f77_values.specs.declared.finish.Fault.{Fault}
@@ -17,9 +17,10 @@ use Rattle.f77_values.specs.declared.finish.Fault.TheVariants.{ZeroStep, Trapped
 use Rattle.f77_values.specs.declared.finish.Finish.{Finish}
 use Rattle.f77_values.specs.declared.finish.Finish.TheVariants.{Returned, Stopped, Failed, StepLimit}
 use Rattle.f77_values.specs.Number.{in_range, trip_count}
-use Rattle.f77_run.specs.Value.{Store, put, number, truth, value, place}
-use Rattle.f77_code.specs.Choice.{by_sign, numbered}
-use Rattle.f77_run.specs.Step.{Place, Execute, Increment, Turn, Turns, Config, config, Next, Goes, Ends, with_turn, left_behind, GoesOn, Jumps, Passes, Begins, With, Either, Skips, step_number, Executes, Increments, StepAt, Step}
+use Rattle.f77_run.specs.Value.{Store, store_with, number, truth, value, place}
+use Rattle.f77_code.specs.Choice.{by_sign, item_chosen}
+use Rattle.f77_run.specs.Step.{Place, Execute, Increment, Turn, Turns, Config, config, Next, Goes, Ends, with_turn, left_behind}
+use Rattle.f77_run.specs.Step.{GoesOn, Jumps, Passes, Begins, With, Either, Skips, step_number, Executes, Increments, StepAt, Step}
 use Rattle.f77_run.specs.Outcome.{IsOutcome}
 use Rattle.f77_values.specs.declared.value.Value.TheVariants as held
 
@@ -93,21 +94,21 @@ within p d t ends =
     elim (cases_lt d (length p)) [
       | inl lt ↦ lt
       | inr past ↦
-          let at : statement_at p d ≡ None = ap (option_map (λ line. line.stmt)) (slice_get_past p d past) in
-          let e : terminal p d ≡ None = ap (λ o. option_and_then (place_of p) (option_and_then terminal_label o)) at in
+          let at : nth_statement p d ≡ None = ap (option_map (λ line. line.stmt)) (slice_get_past p d past) in
+          let e : terminal p d ≡ None = ap (λ o. option_and_then (label_place p) (option_and_then terminal_label o)) at in
           absurd (cc (e, ends))
     ]
 
 -- what is found of a list of options, and how each way to go on is computed
 abbrev pub chosen : List LineFields → ℕ → Store → Turns → Option ℕ → Option Next
 chosen p t s active (Some d) = Some (Goes (config (Increment d) s active))
-chosen p t s active None = option_map (λ j. Goes (config (Execute j) s active)) (behind p t)
+chosen p t s active None = option_map (λ j. Goes (config (Execute j) s active)) (statement_behind p t)
 
 abbrev pub goes_on : List LineFields → ℕ → Store → Turns → Option Next
 goes_on p t s active = chosen p t s active (innermost p active t (length p))
 
 sound_behind : (p : List LineFields) (t : ℕ) (s : Store) (active : Turns) (n : Next) → ((d : ℕ) → terminal p d ≡ Some t → active d ≡ None)
-    → (o : Option ℕ) → behind p t ≡ o → option_map (λ j. Goes (config (Execute j) s active)) o ≡ Some n → GoesOn p t s active n
+    → (o : Option ℕ) → statement_behind p t ≡ o → option_map (λ j. Goes (config (Execute j) s active)) o ≡ Some n → GoesOn p t s active n
 sound_behind p t s active n none None is e = absurd (cc (e))
 sound_behind p t s active n none (Some j) is e = let same : n ≡ Goes (config (Execute j) s active) = cc (e) in inr (none, j, is, same)
 
@@ -118,21 +119,21 @@ sound_chosen p t s active n (Some d) f e =
     let inner : (k : ℕ) → d < k → terminal p k ≡ Some t → active k ≡ None = λ k above ends. f.2 k above (within p k t ends) ends in
     inl (d, record { ends = f.0; turns = f.1; inner = inner }, same)
 sound_chosen p t s active n None f e =
-    sound_behind p t s active n (λ d ends. f d (within p d t ends) ends) (behind p t) refl e
+    sound_behind p t s active n (λ d ends. f d (within p d t ends) ends) (statement_behind p t) refl e
 
 pub sound_on : (p : List LineFields) (t : ℕ) (s : Store) (active : Turns) (n : Next) → goes_on p t s active ≡ Some n → GoesOn p t s active n
 sound_on p t s active n e = sound_chosen p t s active n (innermost p active t (length p)) (is_found p active t (length p)) e
 
 abbrev pub jumps : List LineFields → ℕ → ℕ → Store → Turns → Option Next
-jumps p i label s active = option_map (λ j. Goes (config (Execute j) s (left_behind p i j active))) (place_of p label)
+jumps p i label s active = option_map (λ j. Goes (config (Execute j) s (left_behind p i j active))) (label_place p label)
 
-sound_jump_at : (p : List LineFields) (i label : ℕ) (s : Store) (active : Turns) (n : Next) (o : Option ℕ) → place_of p label ≡ o
+sound_jump_at : (p : List LineFields) (i label : ℕ) (s : Store) (active : Turns) (n : Next) (o : Option ℕ) → label_place p label ≡ o
     → option_map (λ j. Goes (config (Execute j) s (left_behind p i j active))) o ≡ Some n → Jumps p i label s active n
 sound_jump_at p i label s active n None is e = absurd (cc (e))
 sound_jump_at p i label s active n (Some j) is e = let same : n ≡ Goes (config (Execute j) s (left_behind p i j active)) = cc (e) in (j, is, same)
 
 sound_jump : (p : List LineFields) (i label : ℕ) (s : Store) (active : Turns) (n : Next) → jumps p i label s active ≡ Some n → Jumps p i label s active n
-sound_jump p i label s active n e = sound_jump_at p i label s active n (place_of p label) refl e
+sound_jump p i label s active n e = sound_jump_at p i label s active n (label_place p label) refl e
 
 abbrev pub skips : List LineFields → ℕ → Store → Turns → Option Next
 skips p i s active = option_map (λ j. Goes (config (Execute j) s active)) (branch_end p i)
@@ -164,16 +165,16 @@ sound_passes p d (suc k) step s active n e = cc (e)
 
 abbrev pub begins : List LineFields → ℕ → Symbol → ℤ → ℤ → ℤ → Store → Turns → Option Next
 begins p d name first last (pos zero) s active = Some (Ends (Failed ZeroStep) s)
-begins p d name first last (pos (suc m)) s active = passes p d (trip_count first last (pos (suc m))) (pos (suc m)) (put s name 0 (held.Number first)) active
-begins p d name first last (negsuc m) s active = passes p d (trip_count first last (negsuc m)) (negsuc m) (put s name 0 (held.Number first)) active
+begins p d name first last (pos (suc m)) s active = passes p d (trip_count first last (pos (suc m))) (pos (suc m)) (store_with s name 0 (held.Number first)) active
+begins p d name first last (negsuc m) s active = passes p d (trip_count first last (negsuc m)) (negsuc m) (store_with s name 0 (held.Number first)) active
 
 sound_begins : (p : List LineFields) (d : ℕ) (name : Symbol) (first last step : ℤ) (s : Store) (active : Turns) (n : Next)
     → begins p d name first last step s active ≡ Some n → Begins p d name first last step s active n
 sound_begins p d name first last (pos zero) s active n e = cc (e)
 sound_begins p d name first last (pos (suc m)) s active n e =
-    sound_passes p d (trip_count first last (pos (suc m))) (pos (suc m)) (put s name 0 (held.Number first)) active n e
+    sound_passes p d (trip_count first last (pos (suc m))) (pos (suc m)) (store_with s name 0 (held.Number first)) active n e
 sound_begins p d name first last (negsuc m) s active n e =
-    sound_passes p d (trip_count first last (negsuc m)) (negsuc m) (put s name 0 (held.Number first)) active n e
+    sound_passes p d (trip_count first last (negsuc m)) (negsuc m) (store_with s name 0 (held.Number first)) active n e
 
 abbrev pub unless_fault : {A : Type 0} → Result A Fault → Store → (A → Option Next) → Option Next
 unless_fault (Ok v) s f = f v
@@ -204,9 +205,9 @@ sound_jump_or_on p i s active n (Some label) e = sound_jump p i label s active n
 
 abbrev pub executes : List LineFields → ℕ → Statement → Store → Turns → Option Next
 executes p i (Statement.Assign name items t) s active =
-    unless_fault (place (bounds_of p) s name items) s (λ k. unless_fault (value (kind_of p name) (bounds_of p) s t) s (λ v. goes_on p i (put s name k v) active))
+    unless_fault (place (bounds_of p) s name items) s (λ k. unless_fault (value (kind_of p name) (bounds_of p) s t) s (λ v. goes_on p i (store_with s name k v) active))
 executes p i (Statement.Goto label) s active = jumps p i label s active
-executes p i (Statement.ComputedGoto labels t) s active = unless_fault (number (bounds_of p) s t) s (λ z. jumps_or_on p i s active (numbered labels z))
+executes p i (Statement.ComputedGoto labels t) s active = unless_fault (number (bounds_of p) s t) s (λ z. jumps_or_on p i s active (item_chosen labels z))
 executes p i (Statement.ArithIf t l m r) s active = unless_fault (number (bounds_of p) s t) s (λ z. jumps p i (by_sign z l m r) s active)
 executes p i (Statement.LogicalIf t inner) s active = unless_fault (truth (bounds_of p) s t) s (λ b. either b (executes p i inner s active) (goes_on p i s active))
 executes p i (Statement.BlockIf t) s active = unless_fault (truth (bounds_of p) s t) s (λ b. either b (goes_on p i s active) (skips p i s active))
@@ -229,10 +230,10 @@ sound_executes : (p : List LineFields) (i : ℕ) (stmt : Statement) (s : Store) 
     → executes p i stmt s active ≡ Some n → Executes p i stmt s active n
 sound_executes p i (Statement.Assign name items t) s active n e =
     sound_with (place (bounds_of p) s name items) s n _ _
-    (λ k. sound_with (value (kind_of p name) (bounds_of p) s t) s n _ _ (λ v. sound_on p i (put s name k v) active n)) e
+    (λ k. sound_with (value (kind_of p name) (bounds_of p) s t) s n _ _ (λ v. sound_on p i (store_with s name k v) active n)) e
 sound_executes p i (Statement.Goto label) s active n e = sound_jump p i label s active n e
 sound_executes p i (Statement.ComputedGoto labels t) s active n e =
-    sound_with (number (bounds_of p) s t) s n _ _ (λ z. sound_jump_or_on p i s active n (numbered labels z)) e
+    sound_with (number (bounds_of p) s t) s n _ _ (λ z. sound_jump_or_on p i s active n (item_chosen labels z)) e
 sound_executes p i (Statement.ArithIf t l m r) s active n e =
     sound_with (number (bounds_of p) s t) s n _ _ (λ z. sound_jump p i (by_sign z l m r) s active n) e
 sound_executes p i (Statement.LogicalIf t inner) s active n e =
@@ -257,14 +258,14 @@ sound_executes p i _ s active n e = absurd (cc (e))
 abbrev pub increments : List LineFields → ℕ → Statement → Turn → Store → Turns → Option Next
 increments p d (Statement.Loop label name a b c) turn s active =
     unless_fault (number (bounds_of p) s (Tree.Reference name Trees.None)) s
-    (λ z. unless_fault (in_range (z +ℤ turn.step)) s (λ next. passes p d (turn.passes - 1) turn.step (put s name 0 (held.Number next)) active))
+    (λ z. unless_fault (in_range (z +ℤ turn.step)) s (λ next. passes p d (turn.passes - 1) turn.step (store_with s name 0 (held.Number next)) active))
 increments p d _ turn s active = None
 
 sound_increments : (p : List LineFields) (d : ℕ) (stmt : Statement) (turn : Turn) (s : Store) (active : Turns) (n : Next)
     → increments p d stmt turn s active ≡ Some n → Increments p d stmt turn s active n
 sound_increments p d (Statement.Loop label name a b c) turn s active n e =
     sound_with (number (bounds_of p) s (Tree.Reference name Trees.None)) s n _ _
-    (λ z. sound_with (in_range (z +ℤ turn.step)) s n _ _ (λ next. sound_passes p d (turn.passes - 1) turn.step (put s name 0 (held.Number next)) active n)) e
+    (λ z. sound_with (in_range (z +ℤ turn.step)) s n _ _ (λ next. sound_passes p d (turn.passes - 1) turn.step (store_with s name 0 (held.Number next)) active n)) e
 sound_increments p d _ turn s active n e = absurd (cc (e))
 
 abbrev pub of_option : {A : Type 0} → Option A → (A → Option Next) → Option Next
@@ -276,13 +277,13 @@ sound_option None n f P each e = absurd (cc (e))
 sound_option (Some x) n f P each e = each x e
 
 abbrev pub next_at : List LineFields → Place → Store → Turns → Option Next
-next_at p (Execute i) s active = of_option (statement_at p i) (λ stmt. executes p i stmt s active)
-next_at p (Increment d) s active = of_option (statement_at p d) (λ stmt. of_option (active d) (λ turn. increments p d stmt turn s active))
+next_at p (Execute i) s active = of_option (nth_statement p i) (λ stmt. executes p i stmt s active)
+next_at p (Increment d) s active = of_option (nth_statement p d) (λ stmt. of_option (active d) (λ turn. increments p d stmt turn s active))
 
 pub sound_step : (p : List LineFields) (at : Place) (s : Store) (active : Turns) (n : Next) → next_at p at s active ≡ Some n → StepAt p at s active n
-sound_step p (Execute i) s active n e = sound_option (statement_at p i) n _ _ (λ stmt. sound_executes p i stmt s active n) e
+sound_step p (Execute i) s active n e = sound_option (nth_statement p i) n _ _ (λ stmt. sound_executes p i stmt s active n) e
 sound_step p (Increment d) s active n e =
-    sound_option (statement_at p d) n _ _ (λ stmt. sound_option (active d) n _ _ (λ turn. sound_increments p d stmt turn s active n)) e
+    sound_option (nth_statement p d) n _ _ (λ stmt. sound_option (active d) n _ _ (λ turn. sound_increments p d stmt turn s active n)) e
 
 -- a run, computed: what it gives is the outcome
 abbrev pub run_on : Option Next → (Config → Option (Finish × Store)) → Option (Finish × Store)

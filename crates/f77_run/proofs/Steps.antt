@@ -15,8 +15,9 @@ use Rattle.f77_code.specs.declared.control.Turn.{Turn}
 use Rattle.f77_code.specs.Evaluation.{number_within}
 use Rattle.f77_values.specs.declared.value.Value.{Value}
 use Rattle.f77_values.specs.declared.value.Value.TheVariants as held
-use Rattle.f77_code.specs.Moves.{Cells, Turns, moved, acted, begun, incremented, is_executed, is_loop, passing_at, turn_at, are_below, action_within, resolved_within, all_within}
-use Rattle.f77_run.specs.Machine.{state_of}
+use Rattle.f77_code.specs.Moves.{Cells, TurnList, moved, acted, begun, incremented, is_executed, is_loop, passing_at, turn_at, are_below}
+use Rattle.f77_code.specs.code.Moves.{action_within, resolved_within, all_within}
+use Rattle.f77_run.specs.code.Machine.{state_of}
 use Rattle.f77_values.specs.Number.{trip_count}
 
 among : {A B : Type 0} (f : A → Option B) (xs : List A) (i : ℕ) → IsSome (option_and_then f (slice_get xs i)) → i < length xs
@@ -63,7 +64,7 @@ some_loop (Loop variable first last step t) loop none = none variable first last
 some_loop _ loop none = false≢true loop
 
 -- the turn that was read
-pub turn_read : (turns : Turns) (d : ℕ) (turn : Option Turn) → d < length turns → turn ≡ get_or turns d turn → turn_at turns d ≡ turn
+pub turn_read : (turns : TurnList) (d : ℕ) (turn : Option Turn) → d < length turns → turn ≡ get_or turns d turn → turn_at turns d ≡ turn
 turn_read turns d turn below here = ap (option_and_then (λ x. x)) (slice_get_read turns (length turns) d turn refl below here)
 
 -- the statement that is executed is among the statements
@@ -110,7 +111,7 @@ incremented_moves statements m d r turn is here active some =
     rw (is, got, test, active) refl
 
 -- a DO whose step is not zero begins with its passes to make
-pub begun_so : (statements : List Resolved) (d variable t : ℕ) (first last step : ℤ) (cells : Cells) (turns : Turns) → (step ≡ pos 0 → ⊥)
+pub begun_so : (statements : List Resolved) (d variable t : ℕ) (first last step : ℤ) (cells : Cells) (turns : TurnList) → (step ≡ pos 0 → ⊥)
     → begun statements d variable t first last step cells turns
     ≡ passing_at statements t d (trip_count first last step) step (slice_set cells variable (Some (held.Number first))) turns
 begun_so statements d variable t first last (pos zero) cells turns nonzero = absurd (nonzero refl)

@@ -14,7 +14,7 @@ use Rattle.f77_check.specs.Slots.{slot_count, first_slot}
 use Rattle.f77_values.specs.declared.value.Value.{Value}
 use Rattle.f77_code.specs.Evaluation.{held_in}
 use Rattle.f77_run.specs.Machine.{values_of}
-use Rattle.f77_run.specs.Value.{put}
+use Rattle.f77_run.specs.Value.{store_with}
 use Rattle.f77_run.proofs.Cells.{length-table, get_or-table}
 use Rattle.f77_run.proofs.Spans.{span_within, spans_apart}
 
@@ -80,14 +80,14 @@ module _ (bounds : Symbol → List ℕ) (names : List Symbol) (cells : List (Opt
           let elsewhere : begin + j ≢ first + k = elim apart [ inl sooner ↦ omega (arith, sooner, h, below) | inr later ↦ omega (arith, later, h, below) ] in
           held_there cells (first + k) (begin + j) v elsewhere
 
-  in_each : (other : Symbol) → values_of bounds names changed other ≡ put (values_of bounds names cells) name k v other
+  in_each : (other : Symbol) → values_of bounds names changed other ≡ store_with (values_of bounds names cells) name k v other
   in_each other = by (bytes_eq name other) refl
     where
-      by : (b : Bool) → bytes_eq name other ≡ b → values_of bounds names changed other ≡ put (values_of bounds names cells) name k v other
+      by : (b : Bool) → bytes_eq name other ≡ b → values_of bounds names changed other ≡ store_with (values_of bounds names cells) name k v other
       by true e =
           let same : name ≡ other = (bytes_eq-Decides name other).0 e in
           rw e (ap (values_of bounds names changed) (sym same) ∙ in_name ∙ ap (λ n. slice_set (values_of bounds names cells n) k (Some v)) same)
       by false e = rw e (in_other other e)
 
-  pub stored : values_of bounds names (slice_set cells (first + k) (Some v)) ≡ put (values_of bounds names cells) name k v
+  pub stored : values_of bounds names (slice_set cells (first + k) (Some v)) ≡ store_with (values_of bounds names cells) name k v
   stored = λ i. λ other. in_each other i

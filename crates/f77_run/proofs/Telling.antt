@@ -13,7 +13,7 @@ use Rattle.f77_check.specs.Checked.{CheckedFields, IsChecked, shape_of}
 use Rattle.f77_check.specs.Slots.{slot_count}
 use Rattle.f77_legal.specs.Heading.{dummies}
 use Rattle.f77_legal.specs.Names.{Symbol, kind_of, bounds_of}
-use Rattle.f77_legal.specs.Presets.{elements}
+use Rattle.f77_legal.specs.Presets.{preset_elements}
 use Rattle.f77_run.specs.declared.argument.Arg.{Arg}
 use Rattle.f77_run.specs.declared.argument.Arg.TheVariants.{Int, Truth, Ints, Truths}
 use Rattle.f77_values.specs.declared.finish.Finish.{Finish}
@@ -22,15 +22,16 @@ use Rattle.f77_run.specs.declared.outcome.Outcome.{Outcome}
 use Rattle.f77_run.specs.declared.outcome.Outcome.TheVariants as outcome
 use Rattle.f77_values.specs.declared.value.Value.{Value}
 use Rattle.f77_values.specs.declared.value.Value.TheVariants as held_value
-use Rattle.f77_run.specs.Holding.{AreHeld}
-use Rattle.f77_run.specs.Interpreter.{values_in, has_shape, told, AreFitting, AreArguments, IsOutcomeOf, Tells}
+use Rattle.f77_run.specs.code.Holding.{AreHeld}
+use Rattle.f77_run.specs.Interpreter.{values_in, has_shape, told_outcome, AreFitting, AreArguments, IsOutcomeOf, Tells}
 use Rattle.f77_code.specs.Moves.{Cells}
-use Rattle.f77_run.specs.Running.{ComesToEnd}
+use Rattle.f77_run.specs.code.Running.{ComesToEnd}
 use Rattle.f77_run.specs.Site.{held}
-use Rattle.f77_run.specs.Spans.{HaveRoom, size_of, span}
+use Rattle.f77_run.specs.code.Spans.{HaveRoom, span}
+use Rattle.f77_run.specs.Spans.{size_of}
 use Rattle.f77_run.specs.Start.{IsStart}
 use Rattle.f77_run.specs.Step.{Config}
-use Rattle.f77_run.specs.Typed.{has_kind, HasValues, IsTyped}
+use Rattle.f77_run.specs.code.Typed.{has_kind, HasValues, IsTyped}
 use Rattle.f77_run.specs.Value.{Store}
 use Rattle.f77_run.proofs.Beginning.{dummies_read, room_of}
 use Rattle.f77_run.proofs.Dummies.{or_later}
@@ -83,7 +84,7 @@ some_argument Logical (Some n) cells is =
     (Truths bs.0, eq-eqb n (length bs.0) (as_many_values (λ b. held_value.Truth b) cells n bs.0 is.count bs.1), bs.1)
 
 some_arguments : (p : List LineFields) (s : Store) (list : List Symbol)
-    → ((name : Symbol) → list_any (bytes_eq name) list ≡ true → HasValues (kind_of p name) (elements p name) (s name))
+    → ((name : Symbol) → list_any (bytes_eq name) list ≡ true → HasValues (kind_of p name) (preset_elements p name) (s name))
     → (arguments : List Arg) × AreFitting (map (shape_of p) list) arguments × (map s list ≡ map (λ argument. map (λ v. Some v) (values_in argument)) arguments)
 some_arguments p s [] typed = ([], tt, refl)
 some_arguments p s (x ∷ list) typed =
@@ -100,7 +101,7 @@ tells_one p finish.Returned s typed =
 tells_one p finish.Stopped s typed =
     let arguments = some_arguments p s (dummies p) typed in
     (outcome.Stopped arguments.0, record { fitting = arguments.1; values = arguments.2 })
-tells_one p (finish.Failed fault) s typed = (told fault, refl)
+tells_one p (finish.Failed fault) s typed = (told_outcome fault, refl)
 tells_one p finish.StepLimit s typed = (outcome.StepLimit, refl)
 
 -- what is told where steps end is told within the limit

@@ -19,8 +19,8 @@ use Rattle.f77_legal.specs.Names.{Symbol}
 use Rattle.f77_check.specs.Resolved.{IsResolved}
 use Rattle.f77_code.specs.declared.control.Place.TheVariants.{Execute, Increment}
 use Rattle.f77_code.specs.declared.control.Turn.{Turn}
-use Rattle.f77_run.specs.Machine.{turn_of, turns_of, placed}
-use Rattle.f77_code.specs.Moves.{Turns, turn_at, innermost, place_behind, without}
+use Rattle.f77_run.specs.Machine.{turn_of, turns_of, placed_in_run}
+use Rattle.f77_code.specs.Moves.{TurnList, turn_at, innermost, place_behind, without}
 use Rattle.f77_run.specs.Step as run
 use Rattle.f77_run.specs.Step.{config, with_turn, left_behind, GoesOn}
 use Rattle.f77_run.specs.Value.{Store}
@@ -32,7 +32,7 @@ no_turn true x y e f = e
 no_turn false x y e f = f
 
 -- past the end nothing is set
-turn_set : (turns : Turns) (d e : ℕ) (x : Option Turn) → (length turns ≤ d → x ≡ None) → turn_at (slice_set turns d x) e ≡ (if d == e then x else turn_at turns e)
+turn_set : (turns : TurnList) (d e : ℕ) (x : Option Turn) → (length turns ≤ d → x ≡ None) → turn_at (slice_set turns d x) e ≡ (if d == e then x else turn_at turns e)
 turn_set [] d e x past = sym (no_turn (d == e) x None (past (omega arith)) refl)
 turn_set (turn ∷ turns) zero zero x past = refl
 turn_set (turn ∷ turns) zero (suc e) x past = rw eqb-zero-suc refl
@@ -43,7 +43,7 @@ map_either : (b : Bool) (x y : Option Turn) → option_map turn_of (if b then x 
 map_either true x y = refl
 map_either false x y = refl
 
-pub turns_set : (turns : Turns) (d : ℕ) (x : Option Turn) → d < length turns → turns_of (slice_set turns d x) ≡ with_turn (turns_of turns) d (option_map turn_of x)
+pub turns_set : (turns : TurnList) (d : ℕ) (x : Option Turn) → d < length turns → turns_of (slice_set turns d x) ≡ with_turn (turns_of turns) d (option_map turn_of x)
 turns_set turns d x below =
     λ i. λ e. (ap (option_map turn_of) (turn_set turns d e x (λ past. absurd (omega (arith, below, past)))) ∙ map_either (d == e) x (turn_at turns e)) i
 
@@ -52,7 +52,7 @@ none_of_two true true x = refl
 none_of_two true false x = refl
 none_of_two false b x = refl
 
-turn_without : (turns : Turns) (ds : List ℕ) (d : ℕ) → turn_at (without turns ds) d ≡ (if list_any (λ e. e == d) ds then None else turn_at turns d)
+turn_without : (turns : TurnList) (ds : List ℕ) (d : ℕ) → turn_at (without turns ds) d ≡ (if list_any (λ e. e == d) ds then None else turn_at turns d)
 turn_without turns [] d = refl
 turn_without turns (e ∷ ds) d =
     turn_without (slice_set turns e None) ds d
@@ -81,7 +81,7 @@ among q n d below =
     and_true false = refl
 
 -- a jump leaves each DO that it has to
-turn_left : (p : List LineFields) (i j : ℕ) (turns : Turns) → length turns ≡ length p → (d : ℕ)
+turn_left : (p : List LineFields) (i j : ℕ) (turns : TurnList) → length turns ≡ length p → (d : ℕ)
     → turn_at (without turns (left_by p i j)) d ≡ (if is_left p i j d then None else turn_at turns d)
 turn_left p i j turns long d =
     elim (cases_lt d (length p)) [
@@ -93,7 +93,7 @@ turn_left p i j turns long d =
           ∙ sym (no_turn (is_left p i j d) None (turn_at turns d) refl none)
     ]
 
-pub turns_left : (p : List LineFields) (i j : ℕ) (turns : Turns) → length turns ≡ length p → turns_of (without turns (left_by p i j)) ≡ left_behind p i j (turns_of turns)
+pub turns_left : (p : List LineFields) (i j : ℕ) (turns : TurnList) → length turns ≡ length p → turns_of (without turns (left_by p i j)) ≡ left_behind p i j (turns_of turns)
 turns_left p i j turns long =
     λ k. λ d. (ap (option_map turn_of) (turn_left p i j turns long d) ∙ map_either (is_left p i j d) None (turn_at turns d)) k
 
@@ -102,7 +102,7 @@ same_active None = refl
 same_active (Some turn) = refl
 
 -- the first active DO of those that end at t, the innermost first, is the innermost active one
-same_innermost : (p : List LineFields) (turns : Turns) (t n : ℕ) → innermost turns (reverse (filter (ends_at p t) (first_numbers n))) ≡ computed.innermost p (turns_of turns) t n
+same_innermost : (p : List LineFields) (turns : TurnList) (t n : ℕ) → innermost turns (reverse (filter (ends_at p t) (first_numbers n))) ≡ computed.innermost p (turns_of turns) t n
 same_innermost p turns t zero = refl
 same_innermost p turns t (suc n) = by (ends_at p t n) refl (is_some (turn_at turns n)) refl (same_innermost p turns t n)
   where
@@ -119,13 +119,13 @@ same_innermost p turns t (suc n) = by (ends_at p t n) refl (is_some (turn_at tur
     by false e active a rest = rw (apart, e) rest
 
 chosen_place : (p : List LineFields) (names : List Symbol) (t : ℕ) (s : Statement) (r : Resolved) → IsResolved p names t s r → (store : Store) (active : run.Turns) (o : Option ℕ)
-    → chosen p t store active o ≡ Some (run.Goes (config (placed (option_map_or Increment o (Execute r.next))) store active))
+    → chosen p t store active o ≡ Some (run.Goes (config (placed_in_run (option_map_or Increment o (Execute r.next))) store active))
 chosen_place p names t s r resolved store active (Some d) = refl
 chosen_place p names t s r resolved store active None = ap (option_map (λ j. run.Goes (config (run.Execute j) store active))) resolved.next
 
 -- control goes on where the machine does
-pub goes_on : (p : List LineFields) (names : List Symbol) (t : ℕ) (s : Statement) (r : Resolved) → IsResolved p names t s r → (store : Store) (turns : Turns)
-    → GoesOn p t store (turns_of turns) (run.Goes (config (placed (place_behind r turns)) store (turns_of turns)))
+pub goes_on : (p : List LineFields) (names : List Symbol) (t : ℕ) (s : Statement) (r : Resolved) → IsResolved p names t s r → (store : Store) (turns : TurnList)
+    → GoesOn p t store (turns_of turns) (run.Goes (config (placed_in_run (place_behind r turns)) store (turns_of turns)))
 goes_on p names t s r resolved store turns =
     let found : innermost turns r.ends.items ≡ computed.innermost p (turns_of turns) t (length p)
     = ap (innermost turns) resolved.ends ∙ same_innermost p turns t (length p) in

@@ -1,5 +1,6 @@
 -- Dummy arguments have values of their kinds at the start of a run, and keep them.
-use Rattle.std.proofs.Common.{◌≡◌, ℕ, zero, suc, ◌+◌, ◌-◌, ◌||◌, not, inl, inr, Bool, true, false, cond, List, [], ◌∷◌, Option, Some, None, refl, sym, ◌∙◌, ap, subst, arith, length, map, ℤ, pos, negsuc}
+use Rattle.std.proofs.Common.{◌≡◌, ℕ, zero, suc, ◌+◌, ◌-◌, ◌||◌, not, inl, inr, Bool, true, false, cond, List, []}
+use Rattle.std.proofs.Common.{◌∷◌, Option, Some, None, refl, sym, ◌∙◌, ap, subst, arith, length, map, ℤ, pos, negsuc}
 use Rattle.std.specs.Prelude.{Result, Ok, Err, MatchOption, is_some, nat_lt, option_map, position, slice_get, slice_set, if◌then◌else◌, ◌+ℤ◌}
 use Rattle.std.specs.List.{list_all, list_any, position_or_len}
 use Rattle.std.specs.Option.{option_map_or}
@@ -16,10 +17,10 @@ use Rattle.f77_legal.specs.declared.clause.Clause.TheVariants.{Kinds}
 use Rattle.f77_check.specs.Checked.{shape_of, shapes}
 use Rattle.f77_legal.specs.Heading.{dummies}
 use Rattle.f77_legal.specs.Kinds.{same_kind, kinds_agree}
-use Rattle.f77_legal.specs.Labels.{statement_at}
+use Rattle.f77_legal.specs.Labels.{nth_statement}
 use Rattle.f77_legal.specs.Legal.{IsLegal}
 use Rattle.f77_legal.specs.Names.{Symbol, some_items, kind_of, bounds_of}
-use Rattle.f77_legal.specs.Presets.{product, elements}
+use Rattle.f77_legal.specs.Presets.{product, preset_elements}
 use Rattle.f77_legal.proofs.LegalGives.{clause_kept, kept_by, not_false}
 use Rattle.f77_run.specs.declared.argument.Arg.{Arg}
 use Rattle.f77_run.specs.declared.argument.Arg.TheVariants.{Int, Truth, Ints, Truths}
@@ -31,10 +32,11 @@ use Rattle.f77_values.specs.Number.{in_range, trip_count}
 use Rattle.f77_run.specs.Outcome.{IsOutcome}
 use Rattle.f77_run.specs.Interpreter.{values_in, has_shape, is_count, is_single, AreFitting}
 use Rattle.f77_run.specs.Start.{IsStart}
-use Rattle.f77_code.specs.Choice.{by_sign, numbered}
-use Rattle.f77_run.specs.Step.{Place, Execute, Increment, Turn, Turns, Config, Next, Goes, Ends, Step, with_turn, GoesOn, Jumps, Passes, Begins, With, Either, Skips, step_number, Executes, Increments, StepAt}
-use Rattle.f77_run.specs.Typed.{has_kind, HasValues, IsTyped}
-use Rattle.f77_run.specs.Value.{Store, put, number, truth, value, place}
+use Rattle.f77_code.specs.Choice.{by_sign, item_chosen}
+use Rattle.f77_run.specs.Step.{Place, Execute, Increment, Turn, Turns, Config, Next, Goes, Ends, Step, with_turn, GoesOn}
+use Rattle.f77_run.specs.Step.{Jumps, Passes, Begins, With, Either, Skips, step_number, Executes, Increments, StepAt}
+use Rattle.f77_run.specs.code.Typed.{has_kind, HasValues, IsTyped}
+use Rattle.f77_run.specs.Value.{Store, store_with, number, truth, value, place}
 use Rattle.f77_values.specs.Value.{given}
 
 -- an element put in keeps what holds of each
@@ -46,22 +48,22 @@ set_keeps q (x ∷ cells) (suc k) cell is all =
     let parts = and_parts (q x) (list_all q cells) all in
     rw parts.0 (set_keeps q cells k cell is parts.1)
 
-pub put_typed : (p : List LineFields) (s : Store) (name : Symbol) (k : ℕ) (v : Value) → has_kind (kind_of p name) (Some v) ≡ true → IsTyped p s → IsTyped p (put s name k v)
+pub put_typed : (p : List LineFields) (s : Store) (name : Symbol) (k : ℕ) (v : Value) → has_kind (kind_of p name) (Some v) ≡ true → IsTyped p s → IsTyped p (store_with s name k v)
 put_typed p s name k v is typed other among = by (bytes_eq name other) refl
   where
-    by : (b : Bool) → bytes_eq name other ≡ b → HasValues (kind_of p other) (elements p other) (put s name k v other)
+    by : (b : Bool) → bytes_eq name other ≡ b → HasValues (kind_of p other) (preset_elements p other) (store_with s name k v other)
     by true e =
         let same : name ≡ other = (bytes_eq-Decides name other).0 e in
-        let cells : put s name k v other ≡ slice_set (s other) k (Some v) = ap (λ b. if b then slice_set (s other) k (Some v) else s other) e in
+        let cells : store_with s name k v other ≡ slice_set (s other) k (Some v) = ap (λ b. if b then slice_set (s other) k (Some v) else s other) e in
         let its : has_kind (kind_of p other) (Some v) ≡ true = subst (λ x. has_kind (kind_of p x) (Some v) ≡ true) same is in
         let before = typed other among in
-        subst (HasValues (kind_of p other) (elements p other)) (sym cells) (record {
+        subst (HasValues (kind_of p other) (preset_elements p other)) (sym cells) (record {
           count = length-set (s other) k (Some v) ∙ before.count;
           each = set_keeps (has_kind (kind_of p other)) (s other) k (Some v) its before.each;
         })
     by false e =
-        let cells : put s name k v other ≡ s other = ap (λ b. if b then slice_set (s other) k (Some v) else s other) e in
-        subst (HasValues (kind_of p other) (elements p other)) (sym cells) (typed other among)
+        let cells : store_with s name k v other ≡ s other = ap (λ b. if b then slice_set (s other) k (Some v) else s other) e in
+        subst (HasValues (kind_of p other) (preset_elements p other)) (sym cells) (typed other among)
 
 -- numbers are of INTEGER, truths of LOGICAL, and the value of an expression of a kind is of that kind
 number_kind : (kind : Kind) (z : ℤ) → same_kind kind Integer ≡ true → has_kind kind (Some (held.Number z)) ≡ true
@@ -104,13 +106,13 @@ module _ (p : List LineFields) (s : Store) (A : Type 0) where
   leaves_passes d zero step now active n typed f = leaves_on f.0 now (with_turn active d None) n typed f.2
   leaves_passes d (suc k) step now active n typed f = subst Leaves (sym f) typed
 
-  leaves_begins : (d : ℕ) (name : Symbol) (first last step : ℤ) (active : Turns) (n : Next) → (A → IsTyped p (put s name 0 (held.Number first)))
+  leaves_begins : (d : ℕ) (name : Symbol) (first last step : ℤ) (active : Turns) (n : Next) → (A → IsTyped p (store_with s name 0 (held.Number first)))
       → Begins p d name first last step s active n → Leaves n
   leaves_begins d name first last (pos zero) active n typed f = subst Leaves (sym f) refl
   leaves_begins d name first last (pos (suc k)) active n typed f =
-      leaves_passes d (trip_count first last (pos (suc k))) (pos (suc k)) (put s name 0 (held.Number first)) active n typed f
+      leaves_passes d (trip_count first last (pos (suc k))) (pos (suc k)) (store_with s name 0 (held.Number first)) active n typed f
   leaves_begins d name first last (negsuc k) active n typed f =
-      leaves_passes d (trip_count first last (negsuc k)) (negsuc k) (put s name 0 (held.Number first)) active n typed f
+      leaves_passes d (trip_count first last (negsuc k)) (negsuc k) (store_with s name 0 (held.Number first)) active n typed f
 
   leaves_with : {B : Type 0} (r : Result B Fault) (n : Next) (P : B → Type 0) → ((v : B) → r ≡ Ok v → P v → Leaves n) → With r s n P → Leaves n
   leaves_with (Ok v) n P each f = each v refl f
@@ -130,10 +132,10 @@ module _ (p : List LineFields) (s : Store) (A : Type 0) where
   leaves_executes i (Statement.Assign name items t) active n agree typed f =
       leaves_with (place (bounds_of p) s name items) n _
       (λ k at. leaves_with (value (kind_of p name) (bounds_of p) s t) n _
-      (λ v is. leaves_on i (put s name k v) active n (λ a. put_typed p s name k v (value_kind (kind_of p name) (bounds_of p) s t v is) (typed a)))) f
+      (λ v is. leaves_on i (store_with s name k v) active n (λ a. put_typed p s name k v (value_kind (kind_of p name) (bounds_of p) s t v is) (typed a)))) f
   leaves_executes i (Statement.Goto label) active n agree typed f = leaves_jump i label s active n typed f
   leaves_executes i (Statement.ComputedGoto labels t) active n agree typed f =
-      leaves_with (number (bounds_of p) s t) n _ (λ z is. leaves_jump_or_on i active n (numbered labels z) typed) f
+      leaves_with (number (bounds_of p) s t) n _ (λ z is. leaves_jump_or_on i active n (item_chosen labels z) typed) f
   leaves_executes i (Statement.ArithIf t l m r) active n agree typed f =
       leaves_with (number (bounds_of p) s t) n _ (λ z is. leaves_jump i (by_sign z l m r) s active n typed) f
   leaves_executes i (Statement.LogicalIf t inner) active n agree typed f =
@@ -163,7 +165,7 @@ module _ (p : List LineFields) (s : Store) (A : Type 0) where
   leaves_increments d (Statement.Loop label name x y z) turn active n agree typed f =
       leaves_with (number (bounds_of p) s (Tree.Reference name Trees.None)) n _
       (λ before one. leaves_with (in_range (before +ℤ turn.step)) n _
-      (λ next two. leaves_passes d (turn.passes - 1) turn.step (put s name 0 (held.Number next)) active n
+      (λ next two. leaves_passes d (turn.passes - 1) turn.step (store_with s name 0 (held.Number next)) active n
       (λ a. put_typed p s name 0 (held.Number next) (number_kind (kind_of p name) next (and_parts _ _ (agree a)).0) (typed a)))) f
   leaves_increments d _ turn active n agree typed f = absurd f
 
@@ -171,16 +173,16 @@ module _ (p : List LineFields) (s : Store) (A : Type 0) where
   leaves_option None n P each f = absurd f
   leaves_option (Some x) n P each f = each x refl f
 
-  leaves_step : (at : Place) (active : Turns) (n : Next) → ((i : ℕ) (stmt : Statement) → statement_at p i ≡ Some stmt → A → kinds_agree (kind_of p) stmt ≡ true)
+  leaves_step : (at : Place) (active : Turns) (n : Next) → ((i : ℕ) (stmt : Statement) → nth_statement p i ≡ Some stmt → A → kinds_agree (kind_of p) stmt ≡ true)
       → (A → IsTyped p s) → StepAt p at s active n → Leaves n
   leaves_step (Execute i) active n agree typed f =
-      leaves_option (statement_at p i) n _ (λ stmt at. leaves_executes i stmt active n (agree i stmt at) typed) f
+      leaves_option (nth_statement p i) n _ (λ stmt at. leaves_executes i stmt active n (agree i stmt at) typed) f
   leaves_step (Increment d) active n agree typed f =
-      leaves_option (statement_at p d) n _
+      leaves_option (nth_statement p d) n _
       (λ stmt at. leaves_option (active d) n _ (λ turn is. leaves_increments d stmt turn active n (agree d stmt at) typed)) f
 
 -- the kinds of each statement of a legal program agree
-agreeing : (p : List LineFields) → IsLegal p → (i : ℕ) (stmt : Statement) → statement_at p i ≡ Some stmt → kinds_agree (kind_of p) stmt ≡ true
+agreeing : (p : List LineFields) → IsLegal p → (i : ℕ) (stmt : Statement) → nth_statement p i ≡ Some stmt → kinds_agree (kind_of p) stmt ≡ true
 agreeing p legal i stmt at = not_false (kinds_agree (kind_of p) stmt) (clause_kept Kinds p (kept_by p legal).kinds i stmt at)
 
 pub step_typed : (p : List LineFields) (c b : Config) → IsLegal p → Step p c (Goes b) → IsTyped p c.values → IsTyped p b.values
@@ -217,7 +219,7 @@ count_twice f [] n e = e
 count_twice f (x ∷ xs) n e = ap suc (count_twice f xs (length xs) refl) ∙ e
 
 pub shaped : (p : List LineFields) (name : Symbol) (argument : Arg) → has_shape (shape_of p name) argument ≡ true
-    → HasValues (kind_of p name) (elements p name) (map (λ v. Some v) (values_in argument))
+    → HasValues (kind_of p name) (preset_elements p name) (map (λ v. Some v) (values_in argument))
 shaped p name (Int z) is =
     let parts = and_parts _ _ is in
     record { count = shape_single (bounds_of p name) parts.1; each = all_numbers (kind_of p name) (z ∷ []) parts.0 }
@@ -227,13 +229,13 @@ shaped p name (Truth b) is =
 shaped p name (Ints zs) is =
     let parts = and_parts _ _ is in
     record {
-      count = count_twice (λ z. held.Number z) zs (elements p name) (shape_count (bounds_of p name) (length zs) parts.1);
+      count = count_twice (λ z. held.Number z) zs (preset_elements p name) (shape_count (bounds_of p name) (length zs) parts.1);
       each = all_numbers (kind_of p name) zs parts.0;
     }
 shaped p name (Truths bs) is =
     let parts = and_parts _ _ is in
     record {
-      count = count_twice (λ b. held.Truth b) bs (elements p name) (shape_count (bounds_of p name) (length bs) parts.1);
+      count = count_twice (λ b. held.Truth b) bs (preset_elements p name) (shape_count (bounds_of p name) (length bs) parts.1);
       each = all_truths (kind_of p name) bs parts.0;
     }
 
@@ -262,28 +264,28 @@ held_later values lists other (Some i) = refl
 
 given_typed : (p : List LineFields) (name : Symbol) (other : List (Option Value)) (names : List Symbol) (arguments : List Arg) → list_any (bytes_eq name) names ≡ true
     → AreFitting (map (shape_of p) names) arguments
-    → HasValues (kind_of p name) (elements p name) (held_at (map values_in arguments) other (position (bytes_eq name) names))
+    → HasValues (kind_of p name) (preset_elements p name) (held_at (map values_in arguments) other (position (bytes_eq name) names))
 given_typed p name other [] arguments among fits = absurd (cc (among))
 given_typed p name other (x ∷ names) [] among fits = absurd fits
 given_typed p name other (x ∷ names) (argument ∷ arguments) among fits = by (bytes_eq name x) refl (given_typed p name other names arguments)
   where
     by : (b : Bool) → bytes_eq name x ≡ b
         → (list_any (bytes_eq name) names ≡ true → AreFitting (map (shape_of p) names) arguments
-        → HasValues (kind_of p name) (elements p name) (held_at (map values_in arguments) other (position (bytes_eq name) names)))
-        → HasValues (kind_of p name) (elements p name) (held_at (map values_in (argument ∷ arguments)) other (position (bytes_eq name) (x ∷ names)))
+        → HasValues (kind_of p name) (preset_elements p name) (held_at (map values_in arguments) other (position (bytes_eq name) names)))
+        → HasValues (kind_of p name) (preset_elements p name) (held_at (map values_in (argument ∷ arguments)) other (position (bytes_eq name) (x ∷ names)))
     by true e later =
         let same : name ≡ x = (bytes_eq-Decides name x).0 e in
         let at : position (bytes_eq name) (x ∷ names) ≡ Some 0
         = first_place (bytes_eq name) x names ∙ ap (λ b. cond b (Some 0) (option_map suc (position (bytes_eq name) names))) e in
-        let holds : HasValues (kind_of p name) (elements p name) (map (λ v. Some v) (values_in argument))
+        let holds : HasValues (kind_of p name) (preset_elements p name) (map (λ v. Some v) (values_in argument))
         = shaped p name argument (subst (λ y. has_shape (shape_of p y) argument ≡ true) (sym same) fits.0) in
-        subst (λ o. HasValues (kind_of p name) (elements p name) (held_at (map values_in (argument ∷ arguments)) other o)) (sym at) holds
+        subst (λ o. HasValues (kind_of p name) (preset_elements p name) (held_at (map values_in (argument ∷ arguments)) other o)) (sym at) holds
     by false e later =
         let at : position (bytes_eq name) (x ∷ names) ≡ option_map suc (position (bytes_eq name) names)
         = first_place (bytes_eq name) x names ∙ ap (λ b. cond b (Some 0) (option_map suc (position (bytes_eq name) names))) e in
         let cells = ap (held_at (map values_in (argument ∷ arguments)) other) at ∙ held_later (values_in argument) (map values_in arguments) other (position (bytes_eq name) names) in
         let rest : list_any (bytes_eq name) names ≡ true = sym (ap (λ b. b || list_any (bytes_eq name) names) e) ∙ among in
-        subst (HasValues (kind_of p name) (elements p name)) (sym cells) (later rest fits.1)
+        subst (HasValues (kind_of p name) (preset_elements p name)) (sym cells) (later rest fits.1)
 
 pub start_typed : (p : List LineFields) (arguments : List Arg) (c : Config) → IsLegal p → AreFitting (shapes p) arguments → IsStart p (map values_in arguments) c → IsTyped p c.values
 start_typed p arguments c legal fitting start =

@@ -8,7 +8,7 @@ use Rattle.f77_tree.specs.Tree.{Tree, Trees}
 use Rattle.f77_tree.specs.Statement.{Statement}
 use Rattle.f77_legal.specs.Blocks.{first_numbers}
 use Rattle.f77_legal.specs.Frames.{HaveOneFrame}
-use Rattle.f77_legal.specs.Labels.{statement_at}
+use Rattle.f77_legal.specs.Labels.{nth_statement}
 use Rattle.f77_legal.specs.Names.{Symbol, kind_of, bounds_of}
 use Rattle.f77_legal.proofs.FrameNames.{kind_of_same, bounds_of_same, elements_same, dummies_same}
 use Rattle.f77_legal.proofs.SameFrame.{place_of_same, range_holds_same, branch_end_same, terminal_same, behind_same}
@@ -21,14 +21,15 @@ use Rattle.f77_run.specs.declared.outcome.Outcome.{Outcome}
 use Rattle.f77_run.specs.declared.outcome.Outcome.TheVariants as outcome
 use Rattle.f77_values.specs.declared.value.Value.{Value}
 use Rattle.f77_values.specs.declared.value.Value.TheVariants as held
-use Rattle.f77_code.specs.Choice.{by_sign, numbered}
+use Rattle.f77_code.specs.Choice.{by_sign, item_chosen}
 use Rattle.f77_run.specs.Interpreter.{AreFitting, AreArguments, Tells, values_in}
 use Rattle.f77_values.specs.Number.{in_range, trip_count}
 use Rattle.f77_run.specs.Outcome.{IsOutcome}
-use Rattle.f77_run.specs.Reached.{number_of, IsReached, AreSameBut, MayBeAnother}
+use Rattle.f77_run.specs.Reached.{statement_number, IsReached, AreSameBut, MayBeAnother}
 use Rattle.f77_run.specs.Start.{IsStart, start_values, constant_value}
-use Rattle.f77_run.specs.Step.{Config, config, Place, Execute, Increment, Turn, Turns, Next, Goes, Ends, with_turn, left_behind, IsInnermost, GoesOn, Jumps, Passes, Begins, With, Either, Skips, step_number, Executes, Increments, StepAt, Step}
-use Rattle.f77_run.specs.Value.{Store, put, number, truth, value, place}
+use Rattle.f77_run.specs.Step.{Config, config, Place, Execute, Increment, Turn, Turns, Next, Goes, Ends, with_turn, left_behind, IsInnermost}
+use Rattle.f77_run.specs.Step.{GoesOn, Jumps, Passes, Begins, With, Either, Skips, step_number, Executes, Increments, StepAt, Step}
+use Rattle.f77_run.specs.Value.{Store, store_with, number, truth, value, place}
 
 with_same : {A : Type 0} (r q : Result A Fault) (s : Store) (n : Next) (P Q : A → Type 0) → r ≡ q → ((x : A) → P x → Q x) → With r s n P → With q s n Q
 with_same r q s n P Q same each h = subst (λ t. With t s n Q) same (kept r h)
@@ -77,9 +78,9 @@ module _ (p q : List LineFields) (same : HaveOneFrame p q) where
       → Begins p d x first last step s active n → Begins q d x first last step s active n
   begins_same d x first last (pos zero) s active n f = f
   begins_same d x first last (pos (suc k)) s active n f =
-      passes_same d (trip_count first last (pos (suc k))) (pos (suc k)) (put s x 0 (held.Number first)) active n f
+      passes_same d (trip_count first last (pos (suc k))) (pos (suc k)) (store_with s x 0 (held.Number first)) active n f
   begins_same d x first last (negsuc k) s active n f =
-      passes_same d (trip_count first last (negsuc k)) (negsuc k) (put s x 0 (held.Number first)) active n f
+      passes_same d (trip_count first last (negsuc k)) (negsuc k) (store_with s x 0 (held.Number first)) active n f
 
   skips_same : (i : ℕ) (s : Store) (active : Turns) (n : Next) → Skips p i s active n → Skips q i s active n
   skips_same i s active n f = (f.0, sym (branch_end_same p q same i) ∙ f.1, f.2)
@@ -111,9 +112,9 @@ module _ (p q : List LineFields) (same : HaveOneFrame p q) where
 
   executes_same : (i : ℕ) (stmt : Statement) (s : Store) (active : Turns) (n : Next) → Executes p i stmt s active n → Executes q i stmt s active n
   executes_same i (Statement.Assign name items t) s active n f =
-      with_place s n name items _ _ (λ k. with_value s n name t _ _ (λ v. goes_on_same i (put s name k v) active n)) f
+      with_place s n name items _ _ (λ k. with_value s n name t _ _ (λ v. goes_on_same i (store_with s name k v) active n)) f
   executes_same i (Statement.Goto label) s active n f = jumps_same i label s active n f
-  executes_same i (Statement.ComputedGoto labels t) s active n f = with_number s n t _ _ (λ z. jump_or_on_same i s active n (numbered labels z)) f
+  executes_same i (Statement.ComputedGoto labels t) s active n f = with_number s n t _ _ (λ z. jump_or_on_same i s active n (item_chosen labels z)) f
   executes_same i (Statement.ArithIf t l e r) s active n f = with_number s n t _ _ (λ z. jumps_same i (by_sign z l e r) s active n) f
   executes_same i (Statement.LogicalIf t inner) s active n f =
       with_truth s n t _ _ (λ b. either_same b _ _ _ _ (executes_same i inner s active n) (goes_on_same i s active n)) f
@@ -134,22 +135,22 @@ module _ (p q : List LineFields) (same : HaveOneFrame p q) where
   increments_same d (Statement.Loop label name a b c) turn s active n f =
       with_number s n (Tree.Reference name Trees.None) _ _
       (λ z. with_same (in_range (z +ℤ turn.step)) (in_range (z +ℤ turn.step)) s n _ _ refl
-      (λ next. passes_same d (turn.passes - 1) turn.step (put s name 0 (held.Number next)) active n)) f
+      (λ next. passes_same d (turn.passes - 1) turn.step (store_with s name 0 (held.Number next)) active n)) f
   increments_same d _ turn s active n f = absurd f
 
-  step_at_same : (at : Place) (s : Store) (active : Turns) (n : Next) → statement_at q (number_of at) ≡ statement_at p (number_of at)
+  step_at_same : (at : Place) (s : Store) (active : Turns) (n : Next) → nth_statement q (statement_number at) ≡ nth_statement p (statement_number at)
       → StepAt p at s active n → StepAt q at s active n
   step_at_same (Execute i) s active n here f =
       subst (λ o. MatchOption o ⊥ (λ stmt. Executes q i stmt s active n)) (sym here)
-      (option_same (statement_at p i) _ _ (λ stmt. executes_same i stmt s active n) f)
+      (option_same (nth_statement p i) _ _ (λ stmt. executes_same i stmt s active n) f)
   step_at_same (Increment d) s active n here f =
       subst (λ o. MatchOption o ⊥ (λ stmt. MatchOption (active d) ⊥ (λ turn. Increments q d stmt turn s active n))) (sym here)
-      (option_same (statement_at p d) _ _ (λ stmt. option_same (active d) _ _ (λ turn. increments_same d stmt turn s active n)) f)
+      (option_same (nth_statement p d) _ _ (λ stmt. option_same (active d) _ _ (λ turn. increments_same d stmt turn s active n)) f)
 
   -- and where they differ in one statement, until control is there
   module _ (i : ℕ) (others : AreSameBut i p q) where
-    pub step_same : (c : Config) (n : Next) → number_of c.place ≢ i → Step p c n → Step q c n
-    step_same c n apart f = step_at_same c.place c.values c.active n (others (number_of c.place) apart) f
+    pub step_same : (c : Config) (n : Next) → statement_number c.place ≢ i → Step p c n → Step q c n
+    step_same c n apart f = step_at_same c.place c.values c.active n (others (statement_number c.place) apart) f
 
     run_same : (n : ℕ) (c : Config) (o : Finish) (s : Store) → ¬ (IsReached p i n c) → IsOutcome p n c o s → IsOutcome q n c o s
     run_same zero c o s never f = f

@@ -18,16 +18,18 @@ use Rattle.f77_run.specs.declared.visits.Visit.{Visit}
 use Rattle.f77_run.specs.declared.visits.Visited.{Visited}
 use Rattle.f77_run.specs.Endless.{Reaches}
 use Rattle.f77_run.specs.Interpreter.{values_in}
-use Rattle.f77_run.specs.Machine.{config_of, placed}
+use Rattle.f77_run.specs.Machine.{config_of, placed_in_run}
 use Rattle.f77_code.specs.Moves.{Cells, State, moved}
-use Rattle.f77_run.specs.Machine.{state_of}
+use Rattle.f77_run.specs.code.Machine.{state_of}
 use Rattle.f77_code.specs.Moves as moves
-use Rattle.f77_run.specs.Reached.{number_of, IsReached, ComesTo, AreReached}
-use Rattle.f77_run.specs.Running.{Site, config_at, values_at}
+use Rattle.f77_run.specs.Reached.{statement_number, IsReached, ComesTo, AreReached}
+use Rattle.f77_run.specs.Running.{RunSite}
+use Rattle.f77_run.specs.code.Running.{config_at, values_at}
 use Rattle.f77_run.specs.Start.{IsStart}
 use Rattle.f77_run.specs.Step.{Config, Ends, Step}
 use Rattle.f77_run.specs.Value.{Store}
-use Rattle.f77_run.specs.Visits.{AreUnvisited, AreVisited, AreVisits, IsAway, IsThere, IsVisit, Notes, config_in, has_some, is_visited}
+use Rattle.f77_run.specs.code.Visits.{AreUnvisited, Notes, has_some, is_visited}
+use Rattle.f77_run.specs.Visits.{AreVisited, AreVisits, IsAway, IsVisited, IsVisit, config_in}
 use Rattle.f77_run.proofs.Endless.{determined}
 use Rattle.f77_run.proofs.Following.{no_later}
 use Rattle.f77_run.proofs.OneAnswer.{one_start}
@@ -60,7 +62,7 @@ pub on_success : {A E P Q : Type 0} (r : Result A E) → OnOk r P → (P → Q) 
 on_success (Ok a) p f = f p
 on_success (Err e) p f = p
 
-module _ (at : Site) (start : Config) where
+module _ (at : RunSite) (start : Config) where
   abbrev p : List LineFields
   p = at.program
 
@@ -81,20 +83,20 @@ module _ (at : Site) (start : Config) where
     is_now : (k : ℕ) (c : Config) → k ≡ done → Reaches p k start c → c ≡ now
     is_now k c same reached = determined p done start c now (subst (λ k. Reaches p k start c) same reached) reaches
 
-    there_more : (i m : ℕ) → IsThere p i start m done → IsThere p i start m (done + 1)
+    there_more : (i m : ℕ) → IsVisited p i start m done → IsVisited p i start m (done + 1)
     there_more i m is = let below = is.below in record { made = is.made; from = is.from; below = omega (arith, below); at = is.at; reaches = is.reaches; is = is.is }
 
-    there_now : (i m : ℕ) → number_of now.place ≡ i → m ≤ done → IsThere p i start m (done + 1)
+    there_now : (i m : ℕ) → statement_number now.place ≡ i → m ≤ done → IsVisited p i start m (done + 1)
     there_now i m is from = record { made = done; from = from; below = omega arith; at = now; reaches = reaches; is = is }
 
     -- at another statement
-    other_visits : (i m : ℕ) (visits : List Visit) (more : Bool) → number_of now.place ≢ i → AreVisits at i start m done visits more
+    other_visits : (i m : ℕ) (visits : List Visit) (more : Bool) → statement_number now.place ≢ i → AreVisits at i start m done visits more
         → AreVisits at i start m (done + 1) visits more
     other_visits i m [] false apart away = λ k c from below reached. elim (cases_lt k done) [
       | inl before ↦ away k c from before reached
       | inr not_before ↦ λ is.
           let same : k ≡ done = omega (arith, below, not_before) in
-          apart (ap (λ (c : Config). number_of c.place) (sym (is_now k c same reached)) ∙ is)
+          apart (ap (λ (c : Config). statement_number c.place) (sym (is_now k c same reached)) ∙ is)
     ]
     other_visits i m [] true apart there = there_more i m there
     other_visits i m (visit ∷ visits) more apart are =
@@ -102,7 +104,7 @@ module _ (at : Site) (start : Config) where
         (are.0, omega (arith, below), are.2, are.3, other_visits i (visit.made + 1) visits more apart are.4)
 
     -- at this one, and the time is left out
-    left_out : (i m : ℕ) (visits : List Visit) (more : Bool) → number_of now.place ≡ i → m ≤ done → AreVisits at i start m done visits more
+    left_out : (i m : ℕ) (visits : List Visit) (more : Bool) → statement_number now.place ≡ i → m ≤ done → AreVisits at i start m done visits more
         → AreVisits at i start m (done + 1) visits true
     left_out i m [] more is from are = there_now i m is from
     left_out i m (visit ∷ visits) more is from are =
@@ -124,48 +126,48 @@ module _ (at : Site) (start : Config) where
         (are.0, omega (arith, below), are.2, are.3, kept_last i (v.made + 1) visits visit (omega (arith, below)) are.4 made is)
 
     pub one_visited : (s : State) → now ≡ config_of (bounds_of p) at.names s → length s.cells ≡ slot_count (bounds_of p) at.names → length s.turns ≡ length p
-        → (list : List Visited) (old new : Visited) → slice_get list (number_of now.place) ≡ Some old → Notes done s old new → AreVisited at start done list
-        → AreVisited at start (done + 1) (slice_set list (number_of now.place) new)
+        → (list : List Visited) (old new : Visited) → slice_get list (statement_number now.place) ≡ Some old → Notes done s old new → AreVisited at start done list
+        → AreVisited at start (done + 1) (slice_set list (statement_number now.place) new)
     one_visited s here cells turns list old new found notes are = record {
-      count = length-set list (number_of now.place) new ∙ are.count;
+      count = length-set list (statement_number now.place) new ∙ are.count;
       each = each;
     }
       where
-        noted : (old new : Visited) → Notes done s old new → AreVisits at (number_of now.place) start 0 done old.visits.items old.more
-            → AreVisits at (number_of now.place) start 0 (done + 1) new.visits.items new.more
+        noted : (old new : Visited) → Notes done s old new → AreVisits at (statement_number now.place) start 0 done old.visits.items old.more
+            → AreVisits at (statement_number now.place) start 0 (done + 1) new.visits.items new.more
         noted old new (Notes.left_out same more) visits =
-            subst (λ more. AreVisits at (number_of now.place) start 0 (done + 1) new.visits.items more) (sym more)
-            (subst (λ items. AreVisits at (number_of now.place) start 0 (done + 1) items true) (sym same)
-            (left_out (number_of now.place) 0 old.visits.items old.more refl (omega arith) visits))
+            subst (λ more. AreVisits at (statement_number now.place) start 0 (done + 1) new.visits.items more) (sym more)
+            (subst (λ items. AreVisits at (statement_number now.place) start 0 (done + 1) items true) (sym same)
+            (left_out (statement_number now.place) 0 old.visits.items old.more refl (omega arith) visits))
         noted old new (Notes.kept visit none more added made state) visits =
-            subst (λ more. AreVisits at (number_of now.place) start 0 (done + 1) new.visits.items more) (sym more)
-            (subst (λ items. AreVisits at (number_of now.place) start 0 (done + 1) items false) (sym added)
-            (kept_last (number_of now.place) 0 old.visits.items visit (omega arith)
-            (subst (λ more. AreVisits at (number_of now.place) start 0 done old.visits.items more) none visits) made
+            subst (λ more. AreVisits at (statement_number now.place) start 0 (done + 1) new.visits.items more) (sym more)
+            (subst (λ items. AreVisits at (statement_number now.place) start 0 (done + 1) items false) (sym added)
+            (kept_last (statement_number now.place) 0 old.visits.items visit (omega arith)
+            (subst (λ more. AreVisits at (statement_number now.place) start 0 done old.visits.items more) none visits) made
             (record {
               reaches =
                   let same : config_in at visit ≡ now = ap (config_of (bounds_of p) at.names) state ∙ sym here in
                   subst (λ n. Reaches p n start (config_in at visit)) (sym made) (subst (Reaches p done start) (sym same) reaches);
-              is = ap (λ (s : State). number_of (placed s.place)) state ∙ ap (λ (c : Config). number_of c.place) (sym here);
+              is = ap (λ (s : State). statement_number (placed_in_run s.place)) state ∙ ap (λ (c : Config). statement_number c.place) (sym here);
               cells = ap (λ (s : State). length s.cells) state ∙ cells;
               turns = ap (λ (s : State). length s.turns) state ∙ turns;
             })))
 
-        each : (i : ℕ) (visited : Visited) → slice_get (slice_set list (number_of now.place) new) i ≡ Some visited
+        each : (i : ℕ) (visited : Visited) → slice_get (slice_set list (statement_number now.place) new) i ≡ Some visited
             → AreVisits at i start 0 (done + 1) visited.visits.items visited.more
-        each i visited told = by (number_of now.place == i) refl
+        each i visited told = by (statement_number now.place == i) refl
           where
-            by : (b : Bool) → (number_of now.place == i) ≡ b → AreVisits at i start 0 (done + 1) visited.visits.items visited.more
+            by : (b : Bool) → (statement_number now.place == i) ≡ b → AreVisits at i start 0 (done + 1) visited.visits.items visited.more
             by true e =
-                let same : number_of now.place ≡ i = grind (arith, nat_tests) in
+                let same : statement_number now.place ≡ i = grind (arith, nat_tests) in
                 let written : new ≡ visited = set_here list i new visited (ap (λ k. slice_get (slice_set list k new) i) (sym same) ∙ told) in
                 subst (λ (v : Visited). AreVisits at i start 0 (done + 1) v.visits.items v.more) written
                 (subst (λ k. AreVisits at k start 0 (done + 1) new.visits.items new.more) same
-                (noted old new notes (are.each (number_of now.place) old found)))
+                (noted old new notes (are.each (statement_number now.place) old found)))
             by false e =
-                let apart : number_of now.place ≢ i = λ same. absurd (true≢false (sym (own i) ∙ ap (λ k. k == i) (sym same) ∙ e)) in
+                let apart : statement_number now.place ≢ i = λ same. absurd (true≢false (sym (own i) ∙ ap (λ k. k == i) (sym same) ∙ e)) in
                 other_visits i 0 visited.visits.items visited.more apart
-                (are.each i visited (sym (set_there list (number_of now.place) i new apart) ∙ told))
+                (are.each i visited (sym (set_there list (statement_number now.place) i new apart) ∙ told))
 
     -- behind an end there are no more
     module _ (o : Finish) (s : Store) (ends : Step p now (Ends o s)) (steps : ℕ) (within : done < steps) where
@@ -216,15 +218,15 @@ module _ (at : Site) (start : Config) where
           )
 
 -- the same of machines
-module _ (at : Site) (statements : List Resolved) (start m : Machine) (done : ℕ) (left : IsLeft at statements start m done) (list : List Visited) (old new : Visited)
-    (found : slice_get list (number_of (placed m.place)) ≡ Some old) (notes : Notes done (state_of m) old new)
+module _ (at : RunSite) (statements : List Resolved) (start m : Machine) (done : ℕ) (left : IsLeft at statements start m done) (list : List Visited) (old new : Visited)
+    (found : slice_get list (statement_number (placed_in_run m.place)) ≡ Some old) (notes : Notes done (state_of m) old new)
     (are : AreVisited at (config_at at start) done list) where
-  pub visited_more : AreVisited at (config_at at start) (done + 1) (slice_set list (number_of (placed m.place)) new)
+  pub visited_more : AreVisited at (config_at at start) (done + 1) (slice_set list (statement_number (placed_in_run m.place)) new)
   visited_more =
       one_visited at (config_at at start) done (config_at at m) left.reached (state_of m) refl left.running.cells left.running.turns list old new found notes are
 
   pub visited_end : (limit : ℕ) (o : Finish) (cells : Cells) → done < limit → moved statements (state_of m) ≡ Some (moves.Ends o cells)
-      → AreVisited at (config_at at start) limit (slice_set list (number_of (placed m.place)) new)
+      → AreVisited at (config_at at start) limit (slice_set list (statement_number (placed_in_run m.place)) new)
   visited_end limit o cells below e =
       ended_visited at (config_at at start) done (config_at at m) left.reached o (values_at at cells) (is_step at statements m (moves.Ends o cells) left.running e)
-      limit below (slice_set list (number_of (placed m.place)) new) visited_more
+      limit below (slice_set list (statement_number (placed_in_run m.place)) new) visited_more

@@ -3,11 +3,12 @@ use Rattle.std.proofs.Common.{arith, ◌+◌, ◌-◌, ◌≤◌, ℕ, refl}
 use Rattle.f77_values.specs.declared.finish.Finish.{Finish}
 use Rattle.f77_code.specs.Moves.{Cells}
 use Rattle.f77_run.specs.Endless.{Reaches}
-use Rattle.f77_run.specs.Running.{Site, ComesToCells}
+use Rattle.f77_run.specs.Running.{RunSite}
+use Rattle.f77_run.specs.code.Running.{ComesToCells}
 use Rattle.f77_run.specs.Step.{Config}
 use Rattle.f77_run.proofs.Endless.{whole}
 
-pub from_there : (at : Site) (few steps : ℕ) (c d : Config) (made : ℕ) (finish : Finish) (cells : Cells) → few ≤ steps → Reaches at.program few c d
+pub from_there : (at : RunSite) (few steps : ℕ) (c d : Config) (made : ℕ) (finish : Finish) (cells : Cells) → few ≤ steps → Reaches at.program few c d
     → ComesToCells at (steps - few) d made finish cells → ComesToCells at steps c (few + made) finish cells
 from_there at few steps c d made finish cells within reaches end =
     let more = end.ends.within in

@@ -7,8 +7,8 @@ use Rattle.f77_run.specs.Control.{Comes}
 use Rattle.f77_run.specs.Step.{Config, Place, Execute, Increment}
 use Rattle.f77_values.specs.declared.value.Value.{Value}
 
--- The DO d is active at this place: its range holds the statement that is to be executed, or it is the DO that is to be incremented, or its
--- range holds that one.
+-- The DO d is active at this place: its range holds the statement that is to be
+-- executed, or it is the DO that is to be incremented, or its range holds that one.
 abbrev pub is_active_at : List LineFields → Place → ℕ → Bool
 is_active_at p (Execute i) d = range_holds p d i
 is_active_at p (Increment e) d = e == d || range_holds p d e
@@ -19,4 +19,5 @@ AreActive p c = (d : ℕ) → is_some (c.active d) ≡ is_active_at p c.place d
 
 -- wherever a run of a legal program comes to
 abbrev pub ActiveByPlace : Type 0
-ActiveByPlace = (p : List LineFields) (given : List (List Value)) (c : Config) → IsProgram None p → IsLegal p → Comes p given c → AreActive p c
+ActiveByPlace = (p : List LineFields) (given : List (List Value)) (c : Config)
+    → IsProgram None p → IsLegal p → Comes p given c → AreActive p c

@@ -1,4 +1,5 @@
--- A checked program with another statement in the place of one. Statements are numbered from 0 here.
+-- A checked program with another statement in the
+-- place of one. Statements are numbered from 0 here.
 use Rattle.std.specs.Prelude.{◌≡◌, ◌<◌, ℕ, List, length, map, Option, None, slice_set}
 use Rattle.std.specs.Option.{option_map_or}
 use Rattle.f77_program.specs.Patching.{replaced}
@@ -21,7 +22,8 @@ pub record ChangedFields : Type 0 where
   pub stmt : Option Stmt
 
 abbrev pub changed_fields : Change → ChangedFields
-changed_fields change = record { checked = change.checked.now; place = change.place; stmt = change.stmt }
+changed_fields change =
+    record { checked = change.checked.now; place = change.place; stmt = change.stmt }
 
 -- the changed program
 abbrev pub changed_program : ChangedFields → List LineFields
@@ -29,9 +31,10 @@ changed_program changed =
     let program = map line_of changed.checked.program in
     option_map_or (λ stmt. replaced program changed.place (statement_of stmt)) changed.stmt program
 
--- It is legal and of the same frame, these are its statements resolved, and with this one in the place of the changed one they are those of
--- the program.
-pub record IsChanged (changed : ChangedFields) (statements : List Resolved) (old : Resolved) : Type 0 where
+-- It is legal and of the same frame, these are its statements resolved, and
+-- with this one in the place of the changed one they are those of the program.
+pub record IsChanged (changed : ChangedFields) (statements : List Resolved)
+    (old : Resolved) : Type 0 where
   pub checked : IsChecked changed.checked
   pub within : changed.place < length changed.checked.program
   pub formed : IsProgram None (changed_program changed)
@@ -41,6 +44,7 @@ pub record IsChanged (changed : ChangedFields) (statements : List Resolved) (old
   pub own : slice_set statements changed.place old ≡ changed.checked.statements
 
 -- this is code of these statements over the slots of a checked program
-pub record IsCodeOf (checked : CheckedFields) (statements : List Resolved) (code : Code) : Type 0 where
+pub record IsCodeOf (checked : CheckedFields) (statements : List Resolved)
+    (code : Code) : Type 0 where
   pub compiled : IsCode statements code
   pub slots : code.constants.slots ≡ checked.slots

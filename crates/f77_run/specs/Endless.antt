@@ -21,4 +21,5 @@ ComesBack = (p : List LineFields) (n : ℕ) (c : Config) → Reaches p (suc n) c
 
 -- an endless run meets every limit on steps
 abbrev pub MeetsLimits : Type 0
-MeetsLimits = (p : List LineFields) (limit : ℕ) (c : Config) → IsEndless p c → (s : Store) × IsOutcome p limit c StepLimit s
+MeetsLimits = (p : List LineFields) (limit : ℕ) (c : Config)
+    → IsEndless p c → (s : Store) × IsOutcome p limit c StepLimit s

@@ -1,6 +1,6 @@
 -- What is answered for a checked program, values of its dummy arguments and a limit on steps.
-use Rattle.std.specs.Prelude.{◌≡◌, ◌+◌, ◌==◌, ◌&&◌, ◌∷◌, if◌then◌else◌}
-use Rattle.std.specs.Prelude.{ℕ, Bool, true, false, not, List, [], length, map, Option, Some, None, option_map, position}
+use Rattle.std.specs.Prelude.{◌≡◌, ◌+◌, ◌==◌, ◌&&◌, ◌∷◌, if◌then◌else◌, ℕ, Bool, true, false, not}
+use Rattle.std.specs.Prelude.{List, [], length, map, Option, Some, None, option_map, position}
 use Rattle.std.specs.List.{AllZip, zip}
 use Rattle.f77_program.specs.Program.{LineFields}
 use Rattle.f77_tree.specs.declared.tree.Kind.TheVariants.{Integer, Logical}
@@ -48,13 +48,16 @@ has_shape shape (Truths bs) = same_kind shape.kind Logical && is_count shape.ele
 
 -- as many arguments as shapes, each of its shape
 abbrev pub AreFitting : List Shape → List Arg → Type 0
-AreFitting list arguments = AllZip (λ shape argument. has_shape shape argument ≡ true) list arguments
+AreFitting list arguments =
+    AllZip (λ shape argument. has_shape shape argument ≡ true) list arguments
 
 -- the first argument, from 0, that has not its shape
 abbrev pub first_misfit : List Shape → List Arg → Option ℕ
-first_misfit shapes arguments = position (λ pair. not (has_shape pair.0 pair.1)) (zip shapes arguments)
+first_misfit shapes arguments =
+    position (λ pair. not (has_shape pair.0 pair.1)) (zip shapes arguments)
 
--- what is told of arguments that do not fit, their number before their shapes, which are numbered from 1
+-- what is told of arguments that do not fit, their
+-- number before their shapes, which are numbered from 1
 abbrev pub refusal : List Shape → List Arg → Option RunFault
 refusal shapes arguments =
     if length arguments == length shapes
@@ -62,30 +65,35 @@ refusal shapes arguments =
     else Some fault_of.ArgumentCount
 
 -- the arguments are what the dummy arguments hold, and have their shapes
-pub record AreArguments (program : List LineFields) (s : Store) (arguments : List Arg) : Type 0 where
+pub record AreArguments (program : List LineFields) (store : Store)
+    (arguments : List Arg) : Type 0 where
   pub fitting : AreFitting (shapes program) arguments
-  pub values : argument_values program s ≡ map (λ argument. map (λ v. Some v) (values_in argument)) arguments
+  pub values : argument_values program store
+      ≡ map (λ argument. map (λ v. Some v) (values_in argument)) arguments
 
 -- the fault by which a run failed
-abbrev pub told : Fault → Outcome
-told fault.Overflow = outcome.Overflow
-told fault.DivideByZero = outcome.DivideByZero
-told fault.ZeroPower = outcome.ZeroPower
-told fault.BadSubscript = outcome.BadSubscript
-told fault.ZeroStep = outcome.ZeroStep
-told fault.Undefined = outcome.Undefined
-told fault.Trapped = outcome.Trapped
+abbrev pub told_outcome : Fault → Outcome
+told_outcome fault.Overflow = outcome.Overflow
+told_outcome fault.DivideByZero = outcome.DivideByZero
+told_outcome fault.ZeroPower = outcome.ZeroPower
+told_outcome fault.BadSubscript = outcome.BadSubscript
+told_outcome fault.ZeroStep = outcome.ZeroStep
+told_outcome fault.Undefined = outcome.Undefined
+told_outcome fault.Trapped = outcome.Trapped
 
 -- what is told of an end with what the names hold then
 abbrev pub Tells : List LineFields → Finish → Store → Outcome → Type 0
-Tells program finish.Returned s (outcome.Returned arguments) = AreArguments program s arguments
-Tells program finish.Stopped s (outcome.Stopped arguments) = AreArguments program s arguments
-Tells program (finish.Failed fault) s answer = answer ≡ told fault
-Tells program finish.StepLimit s answer = answer ≡ outcome.StepLimit
-Tells program _ s _ = ⊥
+Tells program finish.Returned store (outcome.Returned arguments) =
+    AreArguments program store arguments
+Tells program finish.Stopped store (outcome.Stopped arguments) =
+    AreArguments program store arguments
+Tells program (finish.Failed fault) store answer = answer ≡ told_outcome fault
+Tells program finish.StepLimit store answer = answer ≡ outcome.StepLimit
+Tells program _ store _ = ⊥
 
 -- the outcome of the run with these arguments within so many steps
-pub record IsOutcomeOf (program : List LineFields) (arguments : List Arg) (steps : ℕ) (answer : Outcome) : Type 0 where
+pub record IsOutcomeOf (program : List LineFields) (arguments : List Arg) (steps : ℕ)
+    (answer : Outcome) : Type 0 where
   pub start : Config
   pub starts : IsStart program (map values_in arguments) start
   pub finish : Finish
@@ -95,5 +103,6 @@ pub record IsOutcomeOf (program : List LineFields) (arguments : List Arg) (steps
 
 -- a run with these arguments has one outcome at most
 abbrev pub OneAnswer : Type 0
-OneAnswer = (p : List LineFields) (arguments : List Arg) (steps : ℕ) (answer other : Outcome) → IsOutcomeOf p arguments steps answer
-    → IsOutcomeOf p arguments steps other → answer ≡ other
+OneAnswer = (program : List LineFields) (arguments : List Arg) (steps : ℕ) (answer other : Outcome)
+    → IsOutcomeOf program arguments steps answer
+    → IsOutcomeOf program arguments steps other → answer ≡ other

@@ -1,9 +1,10 @@
--- Which statements control comes to in a run, and that the others do not matter to it. Statements are numbered from 0 here.
+-- Which statements control comes to in a run, and that the others
+-- do not matter to it. Statements are numbered from 0 here.
 use Rattle.std.specs.Prelude.{◌≡◌, ◌≢◌, ◌<◌, ℕ, Bool, List, length, map, Some, slice_get}
 use Rattle.std.specs.Bool.{Decides}
 use Rattle.f77_program.specs.Program.{LineFields}
 use Rattle.f77_legal.specs.Frames.{HaveOneFrame}
-use Rattle.f77_legal.specs.Labels.{statement_at}
+use Rattle.f77_legal.specs.Labels.{nth_statement}
 use Rattle.f77_run.specs.declared.argument.Arg.{Arg}
 use Rattle.f77_run.specs.declared.outcome.Outcome.{Outcome}
 use Rattle.f77_run.specs.Endless.{Reaches}
@@ -12,9 +13,9 @@ use Rattle.f77_run.specs.Start.{IsStart}
 use Rattle.f77_run.specs.Step.{Config, Place, Execute, Increment}
 
 -- the statement where control is
-abbrev pub number_of : Place → ℕ
-number_of (Execute i) = i
-number_of (Increment d) = d
+abbrev pub statement_number : Place → ℕ
+statement_number (Execute i) = i
+statement_number (Increment d) = d
 
 -- one of the first n steps from c is made at the statement i
 pub record IsReached (p : List LineFields) (i n : ℕ) (c : Config) : Type 0 where
@@ -22,11 +23,7 @@ pub record IsReached (p : List LineFields) (i n : ℕ) (c : Config) : Type 0 whe
   pub within : made < n
   pub at : Config
   pub reaches : Reaches p made c at
-  pub is : number_of at.place ≡ i
-
--- one truth value for each statement: whether one of the first n steps from c is made there
-abbrev pub AreReachedFrom : List LineFields → Config → ℕ → List Bool → Type 0
-AreReachedFrom p c n reached = (i : ℕ) (flag : Bool) → slice_get reached i ≡ Some flag → Decides flag (IsReached p i n c)
+  pub is : statement_number at.place ≡ i
 
 -- control comes to the statement i in a run with these arguments within so many steps
 pub record ComesTo (p : List LineFields) (i : ℕ) (arguments : List Arg) (steps : ℕ) : Type 0 where
@@ -35,15 +32,20 @@ pub record ComesTo (p : List LineFields) (i : ℕ) (arguments : List Arg) (steps
   pub reached : IsReached p i steps start
 
 -- one truth value for each statement, in order: whether control comes to it
-pub record AreReached (p : List LineFields) (arguments : List Arg) (steps : ℕ) (reached : List Bool) : Type 0 where
+pub record AreReached (p : List LineFields) (arguments : List Arg) (steps : ℕ)
+    (reached : List Bool) : Type 0 where
   pub count : length reached ≡ length p
-  pub each : (i : ℕ) (flag : Bool) → slice_get reached i ≡ Some flag → Decides flag (ComesTo p i arguments steps)
+  pub each : (i : ℕ) (flag : Bool)
+      → slice_get reached i ≡ Some flag → Decides flag (ComesTo p i arguments steps)
 
 -- they are one program but for the statement i
 abbrev pub AreSameBut : ℕ → List LineFields → List LineFields → Type 0
-AreSameBut i p q = (j : ℕ) → j ≢ i → statement_at q j ≡ statement_at p j
+AreSameBut i p q = (j : ℕ) → j ≢ i → nth_statement q j ≡ nth_statement p j
 
--- A statement that control does not come to may be another one of the same frame: the outcome stays.
+-- A statement that control does not come to may be
+-- another one of the same frame: the outcome stays.
 abbrev pub MayBeAnother : Type 0
-MayBeAnother = (p q : List LineFields) (i : ℕ) (arguments : List Arg) (steps : ℕ) (answer : Outcome) → HaveOneFrame p q → AreSameBut i p q
-    → ¬ (ComesTo p i arguments steps) → IsOutcomeOf p arguments steps answer → IsOutcomeOf q arguments steps answer
+MayBeAnother = (p q : List LineFields) (i : ℕ) (arguments : List Arg) (steps : ℕ) (answer : Outcome)
+    → HaveOneFrame p q → AreSameBut i p q
+    → ¬ (ComesTo p i arguments steps)
+    → IsOutcomeOf p arguments steps answer → IsOutcomeOf q arguments steps answer

@@ -1,13 +1,10 @@
 -- The slots of a name, one after another, and the arguments that stand in them.
-use Rattle.std.specs.Prelude.{⊤, ℕ, ◌+◌, ◌≤◌, List, [], ◌∷◌, length, map, Option, Some, None, slice_set}
-use Rattle.f77_legal.specs.Blocks.{first_numbers}
+use Rattle.std.specs.Prelude.{ℕ, ◌+◌, List, [], ◌∷◌, Option, Some, None, slice_set}
 use Rattle.f77_check.specs.declared.checked.Shape.{Shape}
 use Rattle.f77_run.specs.declared.argument.Arg.{Arg}
 use Rattle.f77_values.specs.declared.value.Value.{Value}
-use Rattle.f77_code.specs.Evaluation.{held_in}
 use Rattle.f77_code.specs.Moves.{Cells}
 use Rattle.f77_run.specs.Interpreter.{values_in}
-use Rattle.f77_run.specs.Typed.{HasValues}
 
 -- how many elements a dummy argument of this shape has
 abbrev pub size_of : Shape → ℕ
@@ -17,31 +14,12 @@ size_of shape = size shape.elements
     size None = 1
     size (Some n) = n
 
--- what so many slots hold, from this one on
-abbrev pub span : ℕ → ℕ → Cells → List (Option Value)
-span first n cells = map (λ k. held_in cells (first + k)) (first_numbers n)
-
 -- these values are put into the slots from this one on
 abbrev pub filled : Cells → ℕ → List Value → Cells
 filled cells first [] = cells
 filled cells first (v ∷ vs) = filled (slice_set cells first (Some v)) (first + 1) vs
 
--- each argument has its slots among so many
-abbrev pub HaveRoom : ℕ → List (ℕ × Arg) → Type 0
-HaveRoom n [] = ⊤
-HaveRoom n (x ∷ xs) = (x.0 + length (values_in x.1) ≤ n) × HaveRoom n xs
-
 -- each argument is put into the slots of its dummy argument
 abbrev pub all_filled : Cells → List (ℕ × Arg) → Cells
 all_filled cells [] = cells
 all_filled cells (x ∷ xs) = all_filled (filled cells x.0 (values_in x.1)) xs
-
--- the slots of each dummy argument are among so many
-abbrev pub AreWithin : ℕ → List (Shape × ℕ) → Type 0
-AreWithin n [] = ⊤
-AreWithin n (x ∷ xs) = (x.1 + size_of x.0 ≤ n) × AreWithin n xs
-
--- the slots of each dummy argument hold values of its kind
-abbrev pub AllHold : Cells → List (Shape × ℕ) → Type 0
-AllHold cells [] = ⊤
-AllHold cells (x ∷ xs) = HasValues x.0.kind (size_of x.0) (span x.1 (size_of x.0) cells) × AllHold cells xs

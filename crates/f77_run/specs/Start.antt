@@ -1,4 +1,5 @@
--- Where a run starts: the dummy arguments have the values given, the names of DATA theirs, the others none (ANSI X3.9-1978, section 9 and 15.9).
+-- Where a run starts: the dummy arguments have the values given, the names
+-- of DATA theirs, the others none (ANSI X3.9-1978, section 9 and 15.9).
 use Rattle.std.specs.Prelude.{◌≡◌, ℕ, List, [], map, Option, Some, None, option_map, position, slice_get}
 use Rattle.std.specs.Option.{option_map_or}
 use Rattle.std.specs.Str.{bytes_eq}
@@ -6,9 +7,9 @@ use Rattle.f77_program.specs.Program.{LineFields}
 use Rattle.f77_tree.specs.declared.data.Constant.{Constant}
 use Rattle.f77_tree.specs.declared.data.Constant.TheVariants.{Number, Truth}
 use Rattle.f77_legal.specs.Blocks.{first_numbers}
-use Rattle.f77_legal.specs.Presets.{elements}
+use Rattle.f77_legal.specs.Presets.{preset_elements}
 use Rattle.f77_legal.specs.Heading.{dummies}
-use Rattle.f77_check.specs.Start.{preset_at, is_executable}
+use Rattle.f77_check.specs.Start.{preset_value, is_executable_statement}
 use Rattle.f77_run.specs.Value.{Store}
 use Rattle.f77_run.specs.Step.{Config, config, Execute}
 use Rattle.f77_values.specs.declared.value.Value.{Value}
@@ -21,13 +22,16 @@ constant_value (Truth b) = held.Truth b
 -- what a name holds at the start, where these are the elements of the dummy arguments in order
 abbrev pub start_values : List LineFields → List (List Value) → Store
 start_values p given name =
-    option_map_or (λ i. option_map_or (map (λ v. Some v)) (slice_get given i) []) (position (bytes_eq name) (dummies p))
-    (map (λ k. option_map constant_value (preset_at p name k)) (first_numbers (elements p name)))
+    option_map_or (λ i. option_map_or (map (λ v. Some v)) (slice_get given i) [])
+    (position (bytes_eq name) (dummies p))
+    (map (λ k. option_map constant_value (preset_value p name k))
+    (first_numbers (preset_elements p name)))
 
 -- the first executable statement, which is END where there is no other
 abbrev pub IsStart : List LineFields → List (List Value) → Config → Type 0
 IsStart p given c =
-    (i : ℕ) × (position (λ line. is_executable line.stmt) p ≡ Some i) × (c ≡ config (Execute i) (start_values p given) (λ d. None))
+    (i : ℕ) × (position (λ line. is_executable_statement line.stmt) p ≡ Some i)
+    × (c ≡ config (Execute i) (start_values p given) (λ d. None))
 
 -- what the dummy arguments hold, in order
 abbrev pub argument_values : List LineFields → Store → List (List (Option Value))

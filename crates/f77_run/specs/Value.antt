@@ -1,12 +1,13 @@
 -- What variables and arrays hold, and the values of expressions (ANSI X3.9-1978, sections 5 and 6).
-use Rattle.std.specs.Prelude.{◌&&◌, ◌||◌, if◌then◌else◌, ◌∷◌, ◌+ℤ◌, ◌-ℤ◌, ◌*ℤ◌}
-use Rattle.std.specs.Prelude.{ℕ, Bool, true, false, not, List, [], Option, Some, slice_get, slice_set, ℤ, pos, Result, Ok, Err}
+use Rattle.std.specs.Prelude.{◌&&◌, ◌||◌, if◌then◌else◌, ◌∷◌, ◌+ℤ◌, ◌-ℤ◌, ◌*ℤ◌, ℕ, Bool, true, false}
+use Rattle.std.specs.Prelude.{not, List, [], Option, Some, slice_get, slice_set, ℤ, pos, Result, Ok, Err}
 use Rattle.std.specs.Option.{option_and_then}
 use Rattle.std.specs.Str.{bytes_eq}
 use Rattle.f77_tree.specs.Tree.{Tree, Trees}
 use Rattle.f77_tree.specs.declared.operator.Operator.{Operator}
-use Rattle.f77_tree.specs.declared.operator.Operator.TheVariants.{Equivalent, NotEquivalent, Or, And, Less, LessOrEqual, Equal, NotEqual}
-use Rattle.f77_tree.specs.declared.operator.Operator.TheVariants.{GreaterOrEqual, Greater, Add, Subtract, Multiply, Divide, Power}
+use Rattle.f77_tree.specs.declared.operator.Operator.TheVariants.{Equivalent, NotEquivalent, Or, And, Less}
+use Rattle.f77_tree.specs.declared.operator.Operator.TheVariants.{LessOrEqual, Equal, NotEqual, GreaterOrEqual}
+use Rattle.f77_tree.specs.declared.operator.Operator.TheVariants.{Greater, Add, Subtract, Multiply, Divide, Power}
 use Rattle.f77_tree.specs.declared.tree.Kind.{Kind}
 use Rattle.f77_tree.specs.declared.tree.Kind.TheVariants.{Integer, Logical}
 use Rattle.f77_legal.specs.Names.{Symbol}
@@ -17,14 +18,17 @@ use Rattle.f77_values.specs.Value.{given, both, whole, logic, element, same_trut
 use Rattle.f77_values.specs.declared.value.Value.TheVariants as held
 use Rattle.f77_values.specs.declared.value.Value.{Value}
 
--- the elements of each name, with a value or without: a variable has one, an array's first subscript varies fastest
+-- the elements of each name, with a value or without: a
+-- variable has one, an array's first subscript varies fastest
 abbrev pub Store : Type 0
 Store = Symbol → List (Option Value)
 
-abbrev pub put : Store → Symbol → ℕ → Value → Store
-put s name k v = λ other. if bytes_eq name other then slice_set (s other) k (Some v) else s other
+abbrev pub store_with : Store → Symbol → ℕ → Value → Store
+store_with store name k v =
+    λ other. if bytes_eq name other then slice_set (store other) k (Some v) else store other
 
--- An operator on numbers, a relation, and a logical operator. No legal program has another one there.
+-- An operator on numbers, a relation, and a logical
+-- operator. No legal program has another one there.
 abbrev pub arithmetic : Operator → ℤ → ℤ → Result ℤ Fault
 arithmetic Add a b = in_range (a +ℤ b)
 arithmetic Subtract a b = in_range (a -ℤ b)
@@ -58,39 +62,44 @@ is_relation GreaterOrEqual = true
 is_relation Greater = true
 is_relation _ = false
 
--- The value of an INTEGER expression where names have these bounds. No legal program asks it of a LOGICAL one, and only a program made
--- of parts has a constant beyond the range.
+-- The value of an INTEGER expression where names have these bounds. No legal program asks
+-- it of a LOGICAL one, and only a program made of parts has a constant beyond the range.
 abbrev mutual
   pub number : (Symbol → List ℕ) → Store → Tree → Result ℤ Fault
-  number bounds s (Tree.Number n) = in_range (pos n)
-  number bounds s (Tree.Truth b) = Err Undefined
-  number bounds s (Tree.Reference name items) =
-      given (given (numbers bounds s items) (element (bounds name))) (λ k. whole (option_and_then (λ cell. cell) (slice_get (s name) k)))
-  number bounds s (Tree.Call f items) = given (numbers bounds s items) (called f)
-  number bounds s (Tree.Signed sign t) = given (number bounds s t) (signed sign)
-  number bounds s (Tree.Not t) = Err Undefined
-  number bounds s (Tree.Binary op a b) = both (arithmetic op) (number bounds s a) (number bounds s b)
-  number bounds s (Tree.ZeroPush t) = given (number bounds s t) pushed
+  number bounds store (Tree.Number n) = in_range (pos n)
+  number bounds store (Tree.Truth b) = Err Undefined
+  number bounds store (Tree.Reference name items) =
+      given (given (numbers bounds store items) (element (bounds name)))
+      (λ k. whole (option_and_then (λ cell. cell) (slice_get (store name) k)))
+  number bounds store (Tree.Call f items) = given (numbers bounds store items) (called f)
+  number bounds store (Tree.Signed sign t) = given (number bounds store t) (signed sign)
+  number bounds store (Tree.Not t) = Err Undefined
+  number bounds store (Tree.Binary op a b) =
+      both (arithmetic op) (number bounds store a) (number bounds store b)
+  number bounds store (Tree.ZeroPush t) = given (number bounds store t) pushed
 
   pub numbers : (Symbol → List ℕ) → Store → Trees → Result (List ℤ) Fault
-  numbers bounds s Trees.None = Ok []
-  numbers bounds s (Trees.Then t ts) = given (number bounds s t) (λ z. given (numbers bounds s ts) (λ zs. Ok (z ∷ zs)))
+  numbers bounds store Trees.None = Ok []
+  numbers bounds store (Trees.Then t ts) =
+      given (number bounds store t) (λ z. given (numbers bounds store ts) (λ zs. Ok (z ∷ zs)))
 
 -- the place of the element that a reference names
 abbrev pub place : (Symbol → List ℕ) → Store → Symbol → Trees → Result ℕ Fault
-place bounds s name items = given (numbers bounds s items) (element (bounds name))
+place bounds store name items = given (numbers bounds store items) (element (bounds name))
 
 -- the value of a LOGICAL expression
 abbrev pub truth : (Symbol → List ℕ) → Store → Tree → Result Bool Fault
-truth bounds s (Tree.Truth b) = Ok b
-truth bounds s (Tree.Reference name items) = given (place bounds s name items) (λ k. logic (option_and_then (λ cell. cell) (slice_get (s name) k)))
-truth bounds s (Tree.Not t) = given (truth bounds s t) (λ b. Ok (not b))
-truth bounds s (Tree.Binary op a b) =
-    if is_relation op then both (λ x y. Ok (related op x y)) (number bounds s a) (number bounds s b)
-    else both (λ x y. Ok (connected op x y)) (truth bounds s a) (truth bounds s b)
-truth bounds s _ = Err Undefined
+truth bounds store (Tree.Truth b) = Ok b
+truth bounds store (Tree.Reference name items) = given (place bounds store name items)
+    (λ k. logic (option_and_then (λ cell. cell) (slice_get (store name) k)))
+truth bounds store (Tree.Not t) = given (truth bounds store t) (λ b. Ok (not b))
+truth bounds store (Tree.Binary op a b) =
+    if is_relation op
+    then both (λ x y. Ok (related op x y)) (number bounds store a) (number bounds store b)
+    else both (λ x y. Ok (connected op x y)) (truth bounds store a) (truth bounds store b)
+truth bounds store _ = Err Undefined
 
 -- the value of an expression of this kind
 abbrev pub value : Kind → (Symbol → List ℕ) → Store → Tree → Result Value Fault
-value Integer bounds s t = given (number bounds s t) (λ z. Ok (held.Number z))
-value Logical bounds s t = given (truth bounds s t) (λ b. Ok (held.Truth b))
+value Integer bounds store t = given (number bounds store t) (λ z. Ok (held.Number z))
+value Logical bounds store t = given (truth bounds store t) (λ b. Ok (held.Truth b))

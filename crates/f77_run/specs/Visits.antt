@@ -1,7 +1,7 @@
--- Where control was in a run: the first times that it came to each statement, with the states of the machine then. Statements are numbered
--- from 0 here.
-use Rattle.std.specs.Prelude.{◌≡◌, ◌≢◌, ◌+◌, ◌<◌, ◌≤◌, ◌||◌, ℕ, Bool, true, false, List, [], ◌∷◌, ◌++◌, length, map, Some, slice_get}
-use Rattle.std.specs.List.{All}
+-- Where control was in a run: the first times that it came to each statement,
+-- with the states of the machine then. Statements are numbered from 0 here.
+use Rattle.std.specs.Prelude.{◌≡◌, ◌≢◌, ◌+◌, ◌<◌, ◌≤◌, ℕ, Bool, true, false}
+use Rattle.std.specs.Prelude.{List, [], ◌∷◌, length, map, Some, slice_get}
 use Rattle.f77_program.specs.Program.{LineFields, line_of}
 use Rattle.f77_legal.specs.Names.{bounds_of}
 use Rattle.f77_check.specs.Checked.{CheckedFields}
@@ -12,10 +12,10 @@ use Rattle.f77_run.specs.declared.visits.Visited.{Visited}
 use Rattle.f77_run.specs.declared.visits.Visits.{Visits}
 use Rattle.f77_run.specs.Endless.{Reaches}
 use Rattle.f77_run.specs.Interpreter.{AreFitting, values_in}
-use Rattle.f77_run.specs.Machine.{config_of, placed}
+use Rattle.f77_run.specs.Machine.{config_of, placed_in_run}
 use Rattle.f77_code.specs.Moves.{State, state}
-use Rattle.f77_run.specs.Reached.{number_of}
-use Rattle.f77_run.specs.Running.{Site}
+use Rattle.f77_run.specs.Reached.{statement_number}
+use Rattle.f77_run.specs.Running.{RunSite}
 use Rattle.f77_run.specs.Site.{site_of}
 use Rattle.f77_run.specs.Start.{IsStart}
 use Rattle.f77_run.specs.Step.{Config}
@@ -24,64 +24,50 @@ use Rattle.f77_run.specs.Step.{Config}
 abbrev pub state_in : Visit → State
 state_in visit = state visit.place visit.cells.items visit.turns.items
 
-abbrev pub config_in : Site → Visit → Config
+abbrev pub config_in : RunSite → Visit → Config
 config_in at visit = config_of (bounds_of at.program) at.names (state_in visit)
 
 -- behind m steps or more, and fewer than n, control is not at the statement i
 abbrev pub IsAway : List LineFields → ℕ → Config → ℕ → ℕ → Type 0
-IsAway p i start m n = (k : ℕ) (c : Config) → m ≤ k → k < n → Reaches p k start c → number_of c.place ≢ i
+IsAway p i start m n =
+    (k : ℕ) (c : Config) → m ≤ k → k < n → Reaches p k start c → statement_number c.place ≢ i
 
 -- behind some of so many steps it is
-pub record IsThere (p : List LineFields) (i : ℕ) (start : Config) (m n : ℕ) : Type 0 where
+pub record IsVisited (p : List LineFields) (i : ℕ) (start : Config) (m n : ℕ) : Type 0 where
   pub made : ℕ
   pub from : m ≤ made
   pub below : made < n
   pub at : Config
   pub reaches : Reaches p made start at
-  pub is : number_of at.place ≡ i
+  pub is : statement_number at.place ≡ i
 
 -- control is at the statement i in the state that is kept
-pub record IsVisit (at : Site) (i : ℕ) (start : Config) (visit : Visit) : Type 0 where
+pub record IsVisit (at : RunSite) (i : ℕ) (start : Config) (visit : Visit) : Type 0 where
   pub reaches : Reaches at.program visit.made start (config_in at visit)
-  pub is : number_of (placed visit.place) ≡ i
+  pub is : statement_number (placed_in_run visit.place) ≡ i
   pub cells : length visit.cells.items ≡ slot_count (bounds_of at.program) at.names
   pub turns : length visit.turns.items ≡ length at.program
 
--- the first times behind m steps or more, and fewer than n, that control is at the statement i, and whether it is there once more
-abbrev pub AreVisits : Site → ℕ → Config → ℕ → ℕ → List Visit → Bool → Type 0
+-- the first times behind m steps or more, and fewer than n, that
+-- control is at the statement i, and whether it is there once more
+abbrev pub AreVisits : RunSite → ℕ → Config → ℕ → ℕ → List Visit → Bool → Type 0
 AreVisits at i start m n [] false = IsAway at.program i start m n
-AreVisits at i start m n [] true = IsThere at.program i start m n
+AreVisits at i start m n [] true = IsVisited at.program i start m n
 AreVisits at i start m n (visit ∷ visits) more =
-    (m ≤ visit.made) × (visit.made < n) × IsAway at.program i start m visit.made × IsVisit at i start visit
+    (m ≤ visit.made)
+    × (visit.made < n) × IsAway at.program i start m visit.made × IsVisit at i start visit
     × AreVisits at i start (visit.made + 1) n visits more
 
 -- those of each statement among the first n steps, in the order of the statements
-pub record AreVisited (at : Site) (start : Config) (n : ℕ) (list : List Visited) : Type 0 where
+pub record AreVisited (at : RunSite) (start : Config) (n : ℕ) (list : List Visited) : Type 0 where
   pub count : length list ≡ length at.program
-  pub each : (i : ℕ) (visited : Visited) → slice_get list i ≡ Some visited → AreVisits at i start 0 n visited.visits.items visited.more
-
--- nothing is noted of so many statements
-pub record AreUnvisited (n : ℕ) (list : List Visited) : Type 0 where
-  pub count : length list ≡ n
-  pub none : All (λ visited. (visited.visits.items ≡ []) × (visited.more ≡ false)) list
+  pub each : (i : ℕ) (visited : Visited)
+      → slice_get list i ≡ Some visited → AreVisits at i start 0 n visited.visits.items visited.more
 
 -- where control was in the run with these arguments within so many steps
-pub record IsFollowed (checked : CheckedFields) (arguments : List Arg) (steps : ℕ) (visits : Visits) : Type 0 where
+pub record IsFollowed (checked : CheckedFields) (arguments : List Arg) (steps : ℕ)
+    (visits : Visits) : Type 0 where
   pub fitting : AreFitting checked.arguments arguments
   pub start : Config
   pub starts : IsStart (map line_of checked.program) (map values_in arguments) start
   pub visited : AreVisited (site_of checked arguments) start steps visits.list.items
-
--- one more time: it is kept behind the others, unless some are left out
-pub data Notes (made : ℕ) (now : State) : Visited → Visited → Type 0 where
-  left_out : {old new : Visited} → new.visits.items ≡ old.visits.items → new.more ≡ true → Notes made now old new
-  kept : {old new : Visited} (visit : Visit) → old.more ≡ false → new.more ≡ false → new.visits.items ≡ old.visits.items ++ visit ∷ []
-      → visit.made ≡ made → state_in visit ≡ now → Notes made now old new
-
--- control was at the statement
-abbrev pub has_some : List Visit → Bool
-has_some [] = false
-has_some (visit ∷ visits) = true
-
-abbrev pub is_visited : Visited → Bool
-is_visited visited = visited.more || has_some visited.visits.items

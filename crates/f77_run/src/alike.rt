@@ -3,8 +3,9 @@
 ghost use Rattle.std.specs.Prelude.{◌≡◌, ℕ, List, true, length};
 ghost use Rattle.f77_actions.specs.declared.resolved.Resolved.{Resolved as Statement};
 ghost use Rattle.f77_code.specs.declared.control.Turn.{Turn};
-ghost use Rattle.f77_run.specs.Effect.{AgreeBut, GoOnAlike, effected};
-ghost use Rattle.f77_code.specs.Moves.{Cells, Turns, acted, action_within, incremented, is_executed};
+ghost use Rattle.f77_run.specs.code.Effect.{AgreeElsewhere, ContinueAlike, effected};
+ghost use Rattle.f77_code.specs.Moves.{Cells, TurnList, acted, incremented, is_executed};
+ghost use Rattle.f77_code.specs.code.Moves.{action_within};
 
 use crate::effect::{Effect, effect_of};
 use f77_check::{Action, Jump, Resolved};
@@ -13,7 +14,7 @@ use f77_values::Value;
 /// Whether control goes on from both in one way.
 #[tactic(auto, using(crate::proofs::Effects::same_numbers))]
 fn go_on_alike(own: &Resolved, other: &Resolved) -> bool
-    ensures { result ≡ true → GoOnAlike own.now other.now }
+    ensures { result ≡ true → ContinueAlike own.now other.now }
 {
     own.next == other.next && own.ends == other.ends
 }
@@ -29,7 +30,8 @@ fn jump_alike(one: &Jump, other: &Jump) -> bool
 
 /// The effect, which changes nothing where the slot holds the value that is stored there.
 fn without_change<'a>(told: Effect<'a>, cells: &[Option<Value>]) -> Effect<'a>
-    ensures { (statements : List Statement) (i : ℕ) (r : Statement) (turns : Turns) → effected statements i r told.entry cells.now turns
+    ensures { (statements : List Statement) (i : ℕ) (r : Statement) (turns : TurnList)
+        → effected statements i r told.entry cells.now turns
         ≡ effected statements i r result cells.now turns }
 {
     match told {
@@ -40,8 +42,8 @@ fn without_change<'a>(told: Effect<'a>, cells: &[Option<Value>]) -> Effect<'a>
 
 /// Whether the effects of two statements in the place `i` are the same.
 fn are_same(one: Effect<'_>, other: Effect<'_>, i: usize) -> bool
-    ensures { result ≡ true → (statements others : List Statement) (r s : Statement) (cells : Cells) (turns : Turns)
-        → AgreeBut i statements others → GoOnAlike r s
+    ensures { result ≡ true → (statements others : List Statement) (r s : Statement) (cells : Cells) (turns : TurnList)
+        → AgreeElsewhere i statements others → ContinueAlike r s
         → effected statements i r one.entry cells turns ≡ effected others i s other.entry cells turns }
 {
     match (one, other) {
@@ -70,9 +72,12 @@ fn are_same(one: Effect<'_>, other: Effect<'_>, i: usize) -> bool
 pub(crate) fn act_alike(own: &Resolved, other: &Resolved, i: usize, cells: &[Option<Value>]) -> bool
     requires own { is_executed own.now.action ≡ true }
     requires other { is_executed other.now.action ≡ true }
-    requires within { (n : ℕ) × (action_within (length cells.now) n own.now.action ≡ true) × (action_within (length cells.now) n other.now.action ≡ true) }
-    ensures { result ≡ true → (statements others : List Statement) (turns : Turns) → AgreeBut i statements others
-        → acted statements i own.now own.now.action cells.now turns ≡ acted others i other.now other.now.action cells.now turns }
+    requires within { (n : ℕ) × (action_within (length cells.now) n own.now.action ≡ true)
+        × (action_within (length cells.now) n other.now.action ≡ true) }
+    ensures { result ≡ true
+        → (statements others : List Statement) (turns : TurnList) → AgreeElsewhere i statements others
+        → acted statements i own.now own.now.action cells.now turns
+        ≡ acted others i other.now other.now.action cells.now turns }
 {
     if !go_on_alike(own, other) {
         return false;
@@ -88,10 +93,13 @@ pub(crate) fn act_alike(own: &Resolved, other: &Resolved, i: usize, cells: &[Opt
     }
 }
 
-/// Whether two DOs that stand in the place `d` are incremented alike: they have one variable, and one terminal statement behind them.
+/// Whether two DOs that stand in the place `d` are incremented alike:
+/// they have one variable, and one terminal statement behind them.
 pub(crate) fn increment_alike(own: &Resolved, other: &Resolved, d: usize) -> bool
-    ensures { result ≡ true → (statements others : List Statement) (turn : Turn) (cells : Cells) (turns : Turns) → AgreeBut d statements others
-        → incremented statements d own.now.action turn cells turns ≡ incremented others d other.now.action turn cells turns }
+    ensures { result ≡ true → (statements others : List Statement) (turn : Turn) (cells : Cells) (turns : TurnList)
+        → AgreeElsewhere d statements others
+        → incremented statements d own.now.action turn cells turns
+        ≡ incremented others d other.now.action turn cells turns }
 {
     match (&own.action, &other.action) {
         (

@@ -1,6 +1,7 @@
 //! Runs of a program with one statement changed, one change after another.
 
-ghost use Rattle.std.specs.Prelude.{◌≡◌, ◌<◌, ◌-◌, length, map, option_map, slice_get, slice_set, Some, None, IfOk, IfErr};
+ghost use Rattle.std.specs.Prelude.{◌≡◌, ◌<◌, ◌-◌, length, map, option_map};
+ghost use Rattle.std.specs.Prelude.{slice_get, slice_set, Some, None, IfOk, IfErr};
 ghost use Rattle.std.specs.Bool.{Decides};
 ghost use Rattle.f77_program.specs.Patching.{Fits, patched};
 ghost use Rattle.f77_program.specs.Program.{line_of};
@@ -101,7 +102,8 @@ impl<'a> Model for ChangedRunner<'a> {
 
     ghost view = { λ runner. changed_fields runner.change };
 
-    ghost invariant = { λ runner. IsChanged (changed_fields runner.change) runner.change.statements.items runner.change.own
+    ghost invariant = { λ runner. IsChanged (changed_fields runner.change)
+        runner.change.statements.items runner.change.own
         × (runner.space.initial.items ≡ map (option_map constant_value) runner.change.checked.now.start.initial.items)
         × IsCodeOf runner.change.checked.now runner.change.checked.now.statements runner.code.own
         × IfSome runner.code.changed (IsCodeOf runner.change.checked.now runner.change.statements.items) };
@@ -126,8 +128,8 @@ fn unchanged<'a>(alloc: Global, checked: &'a Checked) -> Result<Change<'a>, RunF
 }
 
 impl<'a> ChangedRunner<'a> {
-    /// The runs of this program, with no statement changed. All the memory that they need is taken here, but that in which a state
-    /// of a long run is kept.
+    /// The runs of this program, with no statement changed. All the memory that
+    /// they need is taken here, but that in which a state of a long run is kept.
     pub fn of(alloc: Global, checked: &'a Checked) -> Result<ChangedRunner<'a>, RunFault>
         ensures program { IfOk result (λ runner. runner.checked ≡ checked.now) }
         ensures unchanged { IfOk result (λ runner. runner.stmt ≡ None) }
@@ -143,22 +145,23 @@ impl<'a> ChangedRunner<'a> {
         })
     }
 
-    /// From now on the runs are those of the program with this statement in the place of the one of this number, from 1, and every other
-    /// one its own. It takes no memory.
+    /// From now on the runs are those of the program with this statement in the place of
+    /// the one of this number, from 1, and every other one its own. It takes no memory.
     pub fn change(&mut self, number: usize, stmt: Stmt, resolved: Shared<Resolved>)
         requires fits { Fits (map line_of self.old.checked.program) number (statement_of stmt) }
         requires legal { IsLegal (patched (map line_of self.old.checked.program) number (statement_of stmt)) }
         requires in_place { IsInPlace self.old.checked number (statement_of stmt) resolved }
         ensures program { self.new.checked ≡ self.old.checked }
-        ensures changed { changed_program self.new ≡ patched (map line_of self.old.checked.program) number (statement_of stmt) }
+        ensures changed { changed_program self.new
+            ≡ patched (map line_of self.old.checked.program) number (statement_of stmt) }
     {
         self.change.put(number, stmt, resolved);
         self.code.forget();
     }
 
-    /// Whether the run of the changed program with these values of the dummy arguments, in order, for so many steps at most, has this outcome,
-    /// which is that of the program itself: begun where the two part, by the states in which control came to the changed statement, and not
-    /// made where they do not part.
+    /// Whether the run of the changed program with these values of the dummy arguments, in order, for so
+    /// many steps at most, has this outcome, which is that of the program itself: begun where the two part,
+    /// by the states in which control came to the changed statement, and not made where they do not part.
     ///
     /// Want of memory, N1, is told in place of any answer.
     pub fn comes_to(

@@ -3,8 +3,9 @@
 ghost use Rattle.std.specs.Prelude.{◌≡◌, ℕ, List, true, length};
 ghost use Rattle.f77_actions.specs.declared.resolved.Resolved.{Resolved as Statement};
 ghost use Rattle.f77_code.specs.Choice as choice;
-ghost use Rattle.f77_run.specs.Effect.{effected};
-ghost use Rattle.f77_code.specs.Moves.{Turns, acted, action_within, is_executed, used};
+ghost use Rattle.f77_run.specs.code.Effect.{effected};
+ghost use Rattle.f77_code.specs.Moves.{TurnList, acted, is_executed, used};
+ghost use Rattle.f77_code.specs.code.Moves.{action_within};
 
 use crate::evaluate::{holds, operand, target, truth};
 use crate::execute::{Parameters, numbered};
@@ -48,7 +49,8 @@ pub(crate) fn effect_of<'a>(
 ) -> Result<Effect<'a>, Fault>
     requires executed { is_executed action.now ≡ true }
     requires within { (n : ℕ) × (action_within (length cells.now) n action.now ≡ true) }
-    ensures { (statements : List Statement) (i : ℕ) (r : Statement) (turns : Turns) → acted statements i r action.now cells.now turns
+    ensures { (statements : List Statement) (i : ℕ) (r : Statement) (turns : TurnList)
+        → acted statements i r action.now cells.now turns
         ≡ used result cells.now (λ effect. effected statements i r effect cells.now turns) }
 {
     match action {

@@ -2,7 +2,8 @@
 
 ghost use Rattle.std.specs.Prelude.{◌≡◌, ◌<◌, ◌*◌, [], ◌∷◌, true, length, Ok, IfOk, IfSome};
 ghost use Rattle.f77_code.specs.Evaluation as resolved;
-ghost use Rattle.f77_code.specs.Evaluation.{slot_in, number_in, truth_in, element_within, number_within, condition_within};
+ghost use Rattle.f77_code.specs.Evaluation.{slot_in, number_in, truth_in, element_within};
+ghost use Rattle.f77_code.specs.Evaluation.{number_within, condition_within};
 ghost use Rattle.f77_values.specs.Value as meaning;
 
 use crate::machine::{held_number, held_truth, number_at};
@@ -231,7 +232,8 @@ fn related(
 ) -> Result<bool, Fault>
     requires left { number_within (length cells.now) left.now ≡ true }
     requires right { number_within (length cells.now) right.now ≡ true }
-    ensures { result ≡ meaning.both (λ a b. Ok (resolved.compared relation a b)) (number_in cells.now left.now) (number_in cells.now right.now) }
+    ensures { result ≡ meaning.both (λ a b. Ok (resolved.compared relation a b)) (number_in cells.now left.now)
+        (number_in cells.now right.now) }
 {
     let left = match at_hand(left, cells) {
         Some(value) => value,

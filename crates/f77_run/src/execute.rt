@@ -6,11 +6,13 @@ ghost use Rattle.std.specs.Option.{option_map_or};
 ghost use Rattle.f77_actions.specs.declared.action.Action.{Loop};
 ghost use Rattle.f77_actions.specs.declared.expression.Number.{Number};
 ghost use Rattle.f77_code.specs.Choice as choice;
-ghost use Rattle.f77_code.specs.Evaluation.{element_within, number_within, condition_within, slot_in, number_in, truth_in};
-ghost use Rattle.f77_run.specs.Machine.{KeepsLengths, state_of, move_of};
+ghost use Rattle.f77_code.specs.Evaluation.{element_within, number_within};
+ghost use Rattle.f77_code.specs.Evaluation.{condition_within, slot_in, number_in, truth_in};
+ghost use Rattle.f77_run.specs.code.Machine.{KeepsLengths, state_of, move_of};
 ghost use Rattle.f77_code.specs.Moves as moves;
-ghost use Rattle.f77_code.specs.Moves.{Goes, state, used, chosen, jump_to};
-ghost use Rattle.f77_code.specs.Moves.{are_below, jump_within, action_within, all_within};
+ghost use Rattle.f77_code.specs.Moves.{Goes, state, used, jump_chosen, jump_to};
+ghost use Rattle.f77_code.specs.Moves.{are_below};
+ghost use Rattle.f77_code.specs.code.Moves.{jump_within, action_within, all_within};
 ghost use Rattle.f77_code.specs.Moves.{passing, passing_at, begun, acted, incremented, is_executed, moved};
 ghost use Rattle.f77_values.specs.Value.{given};
 
@@ -36,7 +38,8 @@ fn place_behind(resolved: &Resolved, turns: &[Option<Turn>]) -> Place
 /// Control goes on from a statement that did not jump.
 fn go_on(resolved: &Resolved, machine: &mut Machine) -> Control
     requires { are_below (length machine.old.turns.items) resolved.now.ends.items ≡ true }
-    ensures moved { move_of (Ok result) machine.new ≡ moves.go_on resolved.now machine.old.cells.items machine.old.turns.items }
+    ensures moved { move_of (Ok result) machine.new
+        ≡ moves.go_on resolved.now machine.old.cells.items machine.old.turns.items }
     ensures lengths { KeepsLengths machine.old machine.new }
 {
     machine.place = place_behind(resolved, &machine.turns);
@@ -45,7 +48,8 @@ fn go_on(resolved: &Resolved, machine: &mut Machine) -> Control
 
 fn jump(target: &Jump, machine: &mut Machine) -> Control
     requires { jump_within (length machine.old.turns.items) target.now ≡ true }
-    ensures moved { move_of (Ok result) machine.new ≡ jump_to target.now machine.old.cells.items machine.old.turns.items }
+    ensures moved { move_of (Ok result) machine.new
+        ≡ jump_to target.now machine.old.cells.items machine.old.turns.items }
     ensures lengths { KeepsLengths machine.old machine.new }
 {
     leave(&mut machine.turns, &target.leaves);
@@ -62,7 +66,8 @@ fn assign_number(
     requires element { element_within (length machine.old.cells.items) element.now ≡ true }
     requires term { number_within (length machine.old.cells.items) term.now ≡ true }
     requires ends { are_below (length machine.old.turns.items) resolved.now.ends.items ≡ true }
-    ensures moved { let cells = machine.old.cells.items in move_of result machine.new ≡ used (slot_in cells element.now) cells
+    ensures moved { let cells = machine.old.cells.items in move_of result machine.new
+        ≡ used (slot_in cells element.now) cells
         (λ k. used (number_in cells term.now) cells
         (λ z. moves.go_on resolved.now (slice_set cells k (Some (Value.Number z))) machine.old.turns.items)) }
     ensures lengths { KeepsLengths machine.old machine.new }
@@ -82,7 +87,8 @@ fn assign_truth(
     requires element { element_within (length machine.old.cells.items) element.now ≡ true }
     requires condition { condition_within (length machine.old.cells.items) condition.now ≡ true }
     requires ends { are_below (length machine.old.turns.items) resolved.now.ends.items ≡ true }
-    ensures moved { let cells = machine.old.cells.items in move_of result machine.new ≡ used (slot_in cells element.now) cells
+    ensures moved { let cells = machine.old.cells.items in move_of result machine.new
+        ≡ used (slot_in cells element.now) cells
         (λ k. used (truth_in cells condition.now) cells
         (λ b. moves.go_on resolved.now (slice_set cells k (Some (Value.Truth b))) machine.old.turns.items)) }
     ensures lengths { KeepsLengths machine.old machine.new }
@@ -105,7 +111,8 @@ fn jump_by_sign(
     requires negative { jump_within (length machine.old.turns.items) negative.now ≡ true }
     requires zero { jump_within (length machine.old.turns.items) zero.now ≡ true }
     requires positive { jump_within (length machine.old.turns.items) positive.now ≡ true }
-    ensures moved { let cells = machine.old.cells.items in move_of result machine.new ≡ used (number_in cells value.now) cells
+    ensures moved { let cells = machine.old.cells.items in move_of result machine.new
+        ≡ used (number_in cells value.now) cells
         (λ z. jump_to (choice.by_sign z negative.now zero.now positive.now) cells machine.old.turns.items) }
     ensures lengths { KeepsLengths machine.old machine.new }
 {
@@ -121,7 +128,7 @@ fn jump_by_sign(
 
 /// The jump of this number, counted from 1.
 pub(crate) fn numbered(jumps: &[Jump], number: i32) -> Option<&Jump>
-    ensures { option_map (λ jump. jump.now) result ≡ choice.numbered jumps.now number }
+    ensures { option_map (λ jump. jump.now) result ≡ choice.item_chosen jumps.now number }
 {
     let number = usize::try_from(number).ok()?;
     jumps.get(number.checked_sub(1)?)
@@ -138,9 +145,11 @@ fn jump_by_number(
     requires value { number_within (length machine.old.cells.items) value.now ≡ true }
     requires jumps { list_all (jump_within (length machine.old.turns.items)) jumps.now ≡ true }
     requires ends { are_below (length machine.old.turns.items) resolved.now.ends.items ≡ true }
-    ensures moved { let cells = machine.old.cells.items in let turns = machine.old.turns.items in move_of result machine.new
+    ensures moved { let cells = machine.old.cells.items in let turns = machine.old.turns.items in
+        move_of result machine.new
         ≡ used (number_in cells value.now) cells
-        (λ z. option_map_or (λ jump. jump_to jump cells turns) (choice.numbered jumps.now z) (moves.go_on resolved.now cells turns)) }
+        (λ z. option_map_or (λ jump. jump_to jump cells turns) (choice.item_chosen jumps.now z)
+        (moves.go_on resolved.now cells turns)) }
     ensures lengths { KeepsLengths machine.old machine.new }
 {
     let value = operand(value, &machine.cells)?;
@@ -159,9 +168,11 @@ fn branch(
 ) -> Result<Control, Fault>
     requires condition { condition_within (length machine.old.cells.items) condition.now ≡ true }
     requires ends { are_below (length machine.old.turns.items) resolved.now.ends.items ≡ true }
-    ensures moved { let cells = machine.old.cells.items in let turns = machine.old.turns.items in move_of result machine.new
+    ensures moved { let cells = machine.old.cells.items in let turns = machine.old.turns.items in
+        move_of result machine.new
         ≡ used (truth_in cells condition.now) cells
-        (λ b. chosen b (moves.go_on resolved.now cells turns) (Goes (state (Place.Execute otherwise) cells turns))) }
+        (λ b. jump_chosen b (moves.go_on resolved.now cells turns)
+        (Goes (state (Place.Execute otherwise) cells turns))) }
     ensures lengths { KeepsLengths machine.old machine.new }
 {
     if holds(condition, &machine.cells)? {
@@ -176,7 +187,8 @@ fn pass(end: &Resolved, d: usize, turn: Turn, machine: &mut Machine) -> Control
     requires ends { are_below (length machine.old.turns.items) end.now.ends.items ≡ true }
     requires within { d < length machine.old.turns.items }
     requires number { d + 1 < 2 ^ 64 }
-    ensures moved { move_of (Ok result) machine.new ≡ passing end.now d turn.passes turn.step machine.old.cells.items machine.old.turns.items }
+    ensures moved { move_of (Ok result) machine.new
+        ≡ passing end.now d turn.passes turn.step machine.old.cells.items machine.old.turns.items }
     ensures lengths { KeepsLengths machine.old machine.new }
 {
     if turn.passes == 0 {
@@ -196,7 +208,8 @@ fn pass_at(
     turn: Turn,
     machine: &mut Machine,
 ) -> Control
-    requires statements { all_within (length machine.old.cells.items) (length machine.old.turns.items) statements.now ≡ true }
+    requires statements { all_within (length machine.old.cells.items) (length machine.old.turns.items) statements.now
+        ≡ true }
     requires terminal { terminal < length statements.now }
     requires within { d < length machine.old.turns.items }
     requires number { d + 1 < 2 ^ 64 }
@@ -246,13 +259,15 @@ fn begin(
     parameters: Parameters,
     machine: &mut Machine,
 ) -> Result<Control, Fault>
-    requires statements { all_within (length machine.old.cells.items) (length machine.old.turns.items) statements.now ≡ true }
+    requires statements { all_within (length machine.old.cells.items) (length machine.old.turns.items) statements.now
+        ≡ true }
     requires terminal { terminal < length statements.now }
     requires variable { variable < length machine.old.cells.items }
     requires within { d < length machine.old.turns.items }
     requires number { d + 1 < 2 ^ 64 }
     ensures moved { move_of result machine.new
-        ≡ begun statements.now d variable terminal parameters.first parameters.last parameters.step machine.old.cells.items machine.old.turns.items }
+        ≡ begun statements.now d variable terminal parameters.first parameters.last parameters.step
+        machine.old.cells.items machine.old.turns.items }
     ensures lengths { KeepsLengths machine.old machine.new }
 {
     let Parameters { first, last, step } = parameters;
@@ -273,13 +288,15 @@ fn increment(
     turn: Turn,
     machine: &mut Machine,
 ) -> Result<Control, Fault>
-    requires statements { all_within (length machine.old.cells.items) (length machine.old.turns.items) statements.now ≡ true }
+    requires statements { all_within (length machine.old.cells.items) (length machine.old.turns.items) statements.now
+        ≡ true }
     requires terminal { terminal < length statements.now }
     requires variable { variable < length machine.old.cells.items }
     requires within { d < length machine.old.turns.items }
     requires number { d + 1 < 2 ^ 64 }
     ensures moved { (first last step : Number) → move_of result machine.new
-        ≡ incremented statements.now d (Loop variable first last step terminal) turn machine.old.cells.items machine.old.turns.items }
+        ≡ incremented statements.now d (Loop variable first last step terminal) turn machine.old.cells.items
+        machine.old.turns.items }
     ensures lengths { KeepsLengths machine.old machine.new }
 {
     let value = held_number(&machine.cells, variable)?;
@@ -302,12 +319,15 @@ pub(crate) fn execute(
 ) -> Result<Control, Fault>
     requires number { i + 1 < 2 ^ 64 }
     requires executed { is_executed action.now ≡ true }
-    requires action { action_within (length machine.old.cells.items) (length machine.old.turns.items) action.now ≡ true }
+    requires action { action_within (length machine.old.cells.items) (length machine.old.turns.items) action.now
+        ≡ true }
     requires ends { are_below (length machine.old.turns.items) resolved.now.ends.items ≡ true }
-    requires statements { all_within (length machine.old.cells.items) (length machine.old.turns.items) statements.now ≡ true }
+    requires statements { all_within (length machine.old.cells.items) (length machine.old.turns.items) statements.now
+        ≡ true }
     requires long { length statements.now ≡ length machine.old.turns.items }
     requires within { i < length statements.now }
-    ensures moved { move_of result machine.new ≡ acted statements.now i resolved.now action.now machine.old.cells.items machine.old.turns.items }
+    ensures moved { move_of result machine.new
+        ≡ acted statements.now i resolved.now action.now machine.old.cells.items machine.old.turns.items }
     ensures lengths { KeepsLengths machine.old machine.new }
 {
     match action {
@@ -352,7 +372,8 @@ pub(crate) fn execute(
 /// One step.
 #[tactic(auto, using(crate::proofs::Steps::executed_within, crate::proofs::Steps::incremented_within))]
 pub(crate) fn step(statements: &[Shared<Resolved>], machine: &mut Machine) -> Result<Control, Fault>
-    requires statements { all_within (length machine.old.cells.items) (length machine.old.turns.items) statements.now ≡ true }
+    requires statements { all_within (length machine.old.cells.items) (length machine.old.turns.items) statements.now
+        ≡ true }
     requires long { length statements.now ≡ length machine.old.turns.items }
     requires short { length statements.now < 2 ^ 32 }
     requires moves { IsSome (moved statements.now (state_of machine.old)) }

@@ -3,9 +3,9 @@
 ghost use Rattle.std.specs.Prelude.{◌≡◌, ◌+◌, ◌≤◌, length, map, Some};
 ghost use Rattle.std.specs.Bool.{Decides};
 ghost use Rattle.std.specs.List.{zip};
-ghost use Rattle.f77_run.specs.Holding.{IsHeld, AreHeld};
+ghost use Rattle.f77_run.specs.code.Holding.{IsHeld, AreHeld};
 ghost use Rattle.f77_run.specs.Interpreter.{values_in};
-ghost use Rattle.f77_run.specs.Spans.{HaveRoom};
+ghost use Rattle.f77_run.specs.code.Spans.{HaveRoom};
 ghost use Rattle.f77_values.specs.declared.value.Value.TheVariants as held;
 
 use crate::argument::Arg;

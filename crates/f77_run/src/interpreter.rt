@@ -1,16 +1,19 @@
 //! Runs of checked programs.
 
-ghost use Rattle.std.specs.Prelude.{◌≡◌, ◌⊎◌, ◌≤◌, List, length, map, option_map, replicate, Some, None, Err, IfOk, IfErr, IfSome};
+ghost use Rattle.std.specs.Prelude.{◌≡◌, ◌⊎◌, ◌≤◌, List, length, map, option_map};
+ghost use Rattle.std.specs.Prelude.{replicate, Some, None, Err, IfOk, IfErr, IfSome};
 ghost use Rattle.f77_program.specs.Program.{line_of};
 ghost use Rattle.f77_legal.specs.Names.{bounds_of};
 ghost use Rattle.f77_check.specs.Checked.{IsChecked};
 ghost use Rattle.f77_check.specs.Slots.{slot_count};
 ghost use Rattle.f77_run.specs.Interpreter as meaning;
 ghost use Rattle.f77_run.specs.Interpreter.{AreFitting, AreArguments, IsOutcomeOf, Tells, refusal, values_in};
-ghost use Rattle.f77_run.specs.Running.{Site, IsRunning, ComesToCells, config_at, values_at};
-ghost use Rattle.f77_run.specs.Site.{site_of, held, HoldsDummies};
+ghost use Rattle.f77_run.specs.Running.{RunSite};
+ghost use Rattle.f77_run.specs.code.Running.{IsRunning, ComesToCells, config_at, values_at};
+ghost use Rattle.f77_run.specs.Site.{site_of, held};
+ghost use Rattle.f77_run.specs.code.Site.{HoldsDummies};
 ghost use Rattle.f77_run.specs.Start.{IsStart, constant_value};
-ghost use Rattle.f77_run.specs.Typed.{IsTyped};
+ghost use Rattle.f77_run.specs.code.Typed.{IsTyped};
 ghost use Rattle.f77_run.specs.declared.argument.Arg.{Arg};
 ghost use Rattle.f77_run.specs.declared.outcome.Outcome.{Outcome};
 ghost use Rattle.f77_run.specs.declared.outcome.RunFault.TheVariants as fault;
@@ -59,7 +62,7 @@ pub(crate) fn initial(
 
 /// The outcome of a run that failed.
 fn told(fault: Fault) -> Outcome
-    ensures { result ≡ meaning.told fault }
+    ensures { result ≡ meaning.told_outcome fault }
 {
     match fault {
         Fault::Overflow => Outcome::Overflow,
@@ -86,7 +89,8 @@ pub(crate) fn enter(checked: &Checked, machine: &mut Machine, arguments: &[Arg])
     requires turns { machine.old.turns.items ≡ replicate (length checked.now.program) None }
     requires fitting { AreFitting checked.now.arguments arguments.now }
     ensures running { IsRunning (site_of checked.now arguments.now) checked.now.statements machine.new }
-    ensures starts { IsStart (map line_of checked.now.program) (map values_in arguments.now) (config_at (site_of checked.now arguments.now) machine.new) }
+    ensures starts { IsStart (map line_of checked.now.program) (map values_in arguments.now)
+        (config_at (site_of checked.now arguments.now) machine.new) }
 {
     let start = checked.start();
     fill_all(&mut machine.cells, &start.dummies, arguments);
@@ -100,9 +104,11 @@ pub(crate) fn begin(
     arguments: &[Arg],
 ) -> Result<Machine, RunFault>
     requires { AreFitting checked.now.arguments arguments.now }
-    ensures running { IfOk result (λ machine. IsRunning (site_of checked.now arguments.now) checked.now.statements machine) }
+    ensures running { IfOk result
+        (λ machine. IsRunning (site_of checked.now arguments.now) checked.now.statements machine) }
     ensures starts { IfOk result
-        (λ machine. IsStart (map line_of checked.now.program) (map values_in arguments.now) (config_at (site_of checked.now arguments.now) machine)) }
+        (λ machine. IsStart (map line_of checked.now.program) (map values_in arguments.now)
+        (config_at (site_of checked.now arguments.now) machine)) }
     ensures memory { IfErr result (λ e. e ≡ fault.Memory) }
 {
     let cells = initial(alloc, &checked.start().initial)?;
@@ -120,7 +126,8 @@ pub(crate) fn begin(
 fn dummies(alloc: Global, checked: &Checked, machine: &Machine) -> Result<Values<Arg>, RunFault>
     requires { HoldsDummies checked.now machine.now }
     ensures arguments { IfOk result
-        (λ arguments. AreArguments (map line_of checked.now.program) (held checked.now machine.now.cells.items) arguments) }
+        (λ arguments. AreArguments (map line_of checked.now.program)
+        (held checked.now machine.now.cells.items) arguments) }
     ensures memory { IfErr result (λ e. e ≡ fault.Memory) }
 {
     held_arguments(
@@ -139,7 +146,8 @@ pub(crate) fn answer(
     machine: &Machine,
 ) -> Result<Outcome, RunFault>
     requires { HoldsDummies checked.now machine.now }
-    ensures tells { IfOk result (λ outcome. Tells (map line_of checked.now.program) finish (held checked.now machine.now.cells.items) outcome) }
+    ensures tells { IfOk result
+        (λ outcome. Tells (map line_of checked.now.program) finish (held checked.now machine.now.cells.items) outcome) }
     ensures memory { IfErr result (λ e. e ≡ fault.Memory) }
     ensures told { IfErr result (λ _. (finish ≡ Finish.Returned) ⊎ (finish ≡ Finish.Stopped)) }
 {
@@ -161,11 +169,12 @@ fn end_by_code(
     machine: &mut Machine,
     steps: u32,
 ) -> Result<End, RunFault>
-    ghost at: { Site }
+    ghost at: { RunSite }
     requires site { (arguments : List Arg) × (at ≡ site_of checked.now arguments) }
     requires running { IsRunning at checked.now.statements machine.old }
     requires typed { IsTyped at.program (values_at at machine.old.cells.items) }
-    ensures ends { IfOk result (λ end. ComesToCells at steps (config_at at machine.old) end.made end.finish machine.new.cells.items) }
+    ensures ends { IfOk result
+        (λ end. ComesToCells at steps (config_at at machine.old) end.made end.finish machine.new.cells.items) }
     ensures cells { IfOk result (λ _. length machine.new.cells.items ≡ slot_count (bounds_of at.program) at.names) }
     ensures memory { IfErr result (λ e. e ≡ fault.Memory) }
 {
@@ -193,12 +202,14 @@ fn end_of(
     machine: &mut Machine,
     steps: u32,
 ) -> Result<End, RunFault>
-    ghost at: { Site }
-    requires site { (arguments : List Arg) × (at ≡ site_of checked.now arguments) × AreFitting checked.now.arguments arguments
+    ghost at: { RunSite }
+    requires site { (arguments : List Arg)
+        × (at ≡ site_of checked.now arguments) × AreFitting checked.now.arguments arguments
         × IsStart (map line_of checked.now.program) (map values_in arguments) (config_at at machine.old) }
     requires running { IsRunning at checked.now.statements machine.old }
     ensures checked { IfOk result (λ _. IsChecked checked.now) }
-    ensures ends { IfOk result (λ end. ComesToCells at steps (config_at at machine.old) end.made end.finish machine.new.cells.items) }
+    ensures ends { IfOk result
+        (λ end. ComesToCells at steps (config_at at machine.old) end.made end.finish machine.new.cells.items) }
     ensures cells { IfOk result (λ _. length machine.new.cells.items ≡ slot_count (bounds_of at.program) at.names) }
     ensures memory { IfErr result (λ e. e ≡ fault.Memory) }
 {
@@ -219,11 +230,12 @@ fn outcome(
     arguments: &[Arg],
     steps: u32,
 ) -> Result<(Outcome, u32), RunFault>
-    ghost at: { Site }
+    ghost at: { RunSite }
     requires site { at ≡ site_of checked.now arguments.now }
     requires fitting { AreFitting checked.now.arguments arguments.now }
     ensures outcome { IfOk result (λ told. IsOutcomeOf (map line_of checked.now.program) arguments.now steps told.0) }
-    ensures made { IfOk result (λ told. (told.1 ≤ steps) × IsOutcomeOf (map line_of checked.now.program) arguments.now told.1 told.0) }
+    ensures made { IfOk result
+        (λ told. (told.1 ≤ steps) × IsOutcomeOf (map line_of checked.now.program) arguments.now told.1 told.0) }
     ensures memory { IfErr result (λ e. e ≡ fault.Memory) }
 {
     let mut machine = begin(alloc, checked, arguments)?;
@@ -231,8 +243,8 @@ fn outcome(
     Ok((answer(alloc, checked, end.finish, &machine)?, end.made))
 }
 
-/// Runs a program with these values of its dummy arguments, in order, for so many steps at most: its outcome, and how many steps were made to
-/// know it. A run that comes back to where it was never ends, and is left there.
+/// Runs a program with these values of its dummy arguments, in order, for so many steps at most: its outcome,
+/// and how many steps were made to know it. A run that comes back to where it was never ends, and is left there.
 ///
 /// N2 and N3 are told before any step, and want of memory, N1, in place of any outcome.
 pub fn counted_run(
@@ -242,7 +254,8 @@ pub fn counted_run(
     steps: u32,
 ) -> Result<(Outcome, u32), RunFault>
     ensures outcome { IfOk result (λ told. IsOutcomeOf (map line_of checked.now.program) arguments.now steps told.0) }
-    ensures made { IfOk result (λ told. (told.1 ≤ steps) × IsOutcomeOf (map line_of checked.now.program) arguments.now told.1 told.0) }
+    ensures made { IfOk result
+        (λ told. (told.1 ≤ steps) × IsOutcomeOf (map line_of checked.now.program) arguments.now told.1 told.0) }
     ensures refused { IfSome (refusal checked.now.arguments arguments.now) (λ e. result ≡ Err e) }
     ensures fault { IfErr result (λ e. (e ≡ fault.Memory) ⊎ (refusal checked.now.arguments arguments.now ≡ Some e)) }
 {
@@ -261,8 +274,10 @@ pub fn run(
     arguments: &[Arg],
     steps: u32,
 ) -> Result<Outcome, RunFault>
-    ensures outcome { IfOk result (λ outcome. IsOutcomeOf (map line_of checked.now.program) arguments.now steps outcome) }
-    ensures only { IfOk result (λ outcome. (other : Outcome) → IsOutcomeOf (map line_of checked.now.program) arguments.now steps other
+    ensures outcome { IfOk result
+        (λ outcome. IsOutcomeOf (map line_of checked.now.program) arguments.now steps outcome) }
+    ensures only { IfOk result
+        (λ outcome. (other : Outcome) → IsOutcomeOf (map line_of checked.now.program) arguments.now steps other
         → other ≡ outcome) }
     ensures refused { IfSome (refusal checked.now.arguments arguments.now) (λ e. result ≡ Err e) }
     ensures fault { IfErr result (λ e. (e ≡ fault.Memory) ⊎ (refusal checked.now.arguments arguments.now ≡ Some e)) }

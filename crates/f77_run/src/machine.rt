@@ -2,8 +2,8 @@
 
 ghost use Rattle.std.specs.Prelude.{◌≡◌, ◌<◌, ◌+◌, Some, Ok, true, length, slice_set, is_some, IfSome};
 ghost use Rattle.f77_code.specs.Evaluation.{held_in};
-ghost use Rattle.f77_run.specs.Machine.{placed};
-ghost use Rattle.f77_run.specs.Reached.{number_of};
+ghost use Rattle.f77_run.specs.Machine.{placed_in_run};
+ghost use Rattle.f77_run.specs.Reached.{statement_number};
 ghost use Rattle.f77_code.specs.Moves as moves;
 ghost use Rattle.f77_code.specs.Moves.{are_below};
 ghost use Rattle.f77_values.specs.Value.{whole, logic};
@@ -13,7 +13,7 @@ use f77_values::{Fault, Value};
 
 /// The statement where control is.
 pub(crate) fn number(place: Place) -> usize
-    ensures { result ≡ number_of (placed place) }
+    ensures { result ≡ statement_number (placed_in_run place) }
 {
     match place {
         Place::Execute(i) => i,

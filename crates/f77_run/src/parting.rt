@@ -5,11 +5,12 @@ ghost use Rattle.std.specs.Bool.{Decides};
 ghost use Rattle.f77_program.specs.Program.{line_of};
 ghost use Rattle.f77_code.specs.Program.{IsCode};
 ghost use Rattle.f77_run.specs.Changed.{IsChanged, IsCodeOf, changed_fields};
-ghost use Rattle.f77_run.specs.Effect.{AgreeBut};
+ghost use Rattle.f77_run.specs.code.Effect.{AgreeElsewhere};
 ghost use Rattle.f77_run.specs.Endless.{Reaches};
 ghost use Rattle.f77_run.specs.Interpreter.{IsOutcomeOf};
-ghost use Rattle.f77_run.specs.Parting.{Parting, IsParting, DoesAlikeIn, DoAlikeBefore, changed_site, parting_of, site_in, start_in};
-ghost use Rattle.f77_run.specs.Running.{IsRunning, config_at};
+ghost use Rattle.f77_run.specs.code.Parting.{Parting, IsParting, DoesAlikeIn, DoAlikeBefore};
+ghost use Rattle.f77_run.specs.code.Parting.{changed_site, parting_of, site_in, start_in};
+ghost use Rattle.f77_run.specs.code.Running.{IsRunning, config_at};
 ghost use Rattle.f77_run.specs.Start.{constant_value};
 ghost use Rattle.f77_run.specs.Visits.{AreVisits, IsVisit, config_in};
 ghost use Rattle.f77_run.specs.declared.outcome.Outcome.{Outcome};
@@ -37,9 +38,10 @@ fn does_alike(statements: &[Shared<Resolved>], changed: &[Shared<Resolved>], vis
     ghost parting: { Parting }
     requires parting { IsParting parting changed.now }
     requires statements { statements.now ≡ parting.checked.statements }
-    requires others { AgreeBut parting.place statements.now changed.now }
+    requires others { AgreeElsewhere parting.place statements.now changed.now }
     requires visit { IsVisit (site_in parting) parting.place (start_in parting) visit.now }
-    requires together { Reaches parting.program visit.now.made (start_in parting) (config_in (site_in parting) visit.now) }
+    requires together { Reaches parting.program visit.now.made (start_in parting)
+        (config_in (site_in parting) visit.now) }
     ensures { result ≡ true → DoesAlikeIn parting visit.now }
 {
     match visit.place {
@@ -57,8 +59,9 @@ pub(crate) fn first_other(
     ghost parting: { Parting }
     requires parting { IsParting parting changed.now }
     requires statements { statements.now ≡ parting.checked.statements }
-    requires others { AgreeBut parting.place statements.now changed.now }
-    requires visits { (n : ℕ) × (more : Bool) × AreVisits (site_in parting) parting.place (start_in parting) 0 n visits.now more }
+    requires others { AgreeElsewhere parting.place statements.now changed.now }
+    requires visits { (n : ℕ)
+        × (more : Bool) × AreVisits (site_in parting) parting.place (start_in parting) 0 n visits.now more }
     ensures within { IfSome result (λ k. k < length visits.now) }
     ensures before { IfSome result (DoAlikeBefore parting visits.now) }
     ensures all { IfNone result (DoAlikeBefore parting visits.now (length visits.now)) }
@@ -71,8 +74,8 @@ pub(crate) fn first_other(
     None
 }
 
-/// Whether the run of the changed program has this outcome, where the machine is in its state behind so many steps. The first state by
-/// which it may be known that the run comes back is kept behind `patience` more.
+/// Whether the run of the changed program has this outcome, where the machine is in its state behind so many
+/// steps. The first state by which it may be known that the run comes back is kept behind `patience` more.
 fn finish(
     checked: &Checked,
     changed: &[Shared<Resolved>],
@@ -89,7 +92,8 @@ fn finish(
     requires code { IsCode changed.now code.now }
     requires slots { code.now.constants.slots ≡ checked.now.slots }
     requires running { IsRunning (changed_site parting) changed.now space.old.machine }
-    requires behind { Reaches parting.program behind (start_in parting) (config_at (changed_site parting) space.old.machine) }
+    requires behind { Reaches parting.program behind (start_in parting)
+        (config_at (changed_site parting) space.old.machine) }
     requires within { behind ≤ steps }
     ensures outcome { IfOk result (λ same. (other : Outcome)
         × IsOutcomeOf parting.program parting.arguments steps other × Decides same (outcome.now ≡ other)) }
@@ -127,7 +131,8 @@ fn comes_by_code(
     requires own { IsCodeOf change.now.checked.now change.now.checked.now.statements codes.old.own }
     requires code { IfSome codes.old.changed (IsCodeOf change.now.checked.now change.now.statements.items) }
     requires running { IsRunning (changed_site parting) change.now.statements.items space.old.machine }
-    requires behind { Reaches parting.program behind (start_in parting) (config_at (changed_site parting) space.old.machine) }
+    requires behind { Reaches parting.program behind (start_in parting)
+        (config_at (changed_site parting) space.old.machine) }
     requires within { behind ≤ steps }
     ensures outcome { IfOk result (λ same. (other : Outcome)
         × IsOutcomeOf parting.program parting.arguments steps other × Decides same (outcome.now ≡ other)) }
@@ -153,8 +158,8 @@ fn comes_by_code(
     )
 }
 
-/// How many steps are made each by itself, behind so many and of so many that are left, where the program itself made so many in all: none,
-/// where it made many more.
+/// How many steps are made each by itself, behind so many and of so many that are
+/// left, where the program itself made so many in all: none, where it made many more.
 fn few_steps(made: u32, behind: u32, left: u32) -> u32
     ensures { result ≤ left }
 {
@@ -181,7 +186,8 @@ fn comes_from_there(
     requires own { IsCodeOf change.now.checked.now change.now.checked.now.statements codes.old.own }
     requires code { IfSome codes.old.changed (IsCodeOf change.now.checked.now change.now.statements.items) }
     requires running { IsRunning (changed_site parting) change.now.statements.items space.old.machine }
-    requires behind { Reaches parting.program behind (start_in parting) (config_at (changed_site parting) space.old.machine) }
+    requires behind { Reaches parting.program behind (start_in parting)
+        (config_at (changed_site parting) space.old.machine) }
     requires within { behind ≤ steps }
     ensures outcome { IfOk result (λ same. (other : Outcome)
         × IsOutcomeOf parting.program parting.arguments steps other × Decides same (outcome.now ≡ other)) }
@@ -214,7 +220,8 @@ fn comes_from(
     requires own { IsCodeOf change.now.checked.now change.now.checked.now.statements codes.old.own }
     requires code { IfSome codes.old.changed (IsCodeOf change.now.checked.now change.now.statements.items) }
     requires visit { IsVisit (site_in parting) parting.place (start_in parting) visit.now }
-    requires together { Reaches parting.program visit.now.made (start_in parting) (config_in (site_in parting) visit.now) }
+    requires together { Reaches parting.program visit.now.made (start_in parting)
+        (config_in (site_in parting) visit.now) }
     requires within { visit.now.made ≤ steps }
     ensures outcome { IfOk result (λ same. (other : Outcome)
         × IsOutcomeOf parting.program parting.arguments steps other × Decides same (outcome.now ≡ other)) }
@@ -245,7 +252,8 @@ fn comes_from_start(
     requires own { IsCodeOf change.now.checked.now change.now.checked.now.statements codes.old.own }
     requires code { IfSome codes.old.changed (IsCodeOf change.now.checked.now change.now.statements.items) }
     requires arguments { arguments.now ≡ parting.arguments }
-    requires initial { space.old.initial.items ≡ map (option_map constant_value) change.now.checked.now.start.initial.items }
+    requires initial { space.old.initial.items
+        ≡ map (option_map constant_value) change.now.checked.now.start.initial.items }
     ensures outcome { IfOk result (λ same. (other : Outcome)
         × IsOutcomeOf parting.program parting.arguments steps other × Decides same (outcome.now ≡ other)) }
     ensures code { IfSome codes.new.changed (IsCodeOf change.now.checked.now change.now.statements.items) }
@@ -262,8 +270,9 @@ fn comes_from_start(
     comes_from_there(change, codes, space, patience, 0, steps, outcome)
 }
 
-/// Whether the run of the changed program has the outcome of that of the program, by the times at which control was at the changed
-/// statement: begun at the first of them at which the two part, or at the last that is kept, and not made where they do not part.
+/// Whether the run of the changed program has the outcome of that of the program, by the
+/// times at which control was at the changed statement: begun at the first of them at
+/// which the two part, or at the last that is kept, and not made where they do not part.
 pub(crate) fn comes_alike(
     change: &Change<'_>,
     codes: &mut Recompiled,
@@ -277,11 +286,12 @@ pub(crate) fn comes_alike(
     ghost parting: { Parting }
     requires of { parting ≡ parting_of change.now arguments.now }
     requires parting { IsParting parting change.now.statements.items }
-    requires others { AgreeBut parting.place parting.checked.statements change.now.statements.items }
+    requires others { AgreeElsewhere parting.place parting.checked.statements change.now.statements.items }
     requires change { IsChanged (changed_fields change.now) change.now.statements.items change.now.own }
     requires own { IsCodeOf change.now.checked.now change.now.checked.now.statements codes.old.own }
     requires code { IfSome codes.old.changed (IsCodeOf change.now.checked.now change.now.statements.items) }
-    requires visits { AreVisits (site_in parting) parting.place (start_in parting) 0 steps visited.now.visits.items visited.now.more }
+    requires visits { AreVisits (site_in parting) parting.place (start_in parting) 0 steps
+        visited.now.visits.items visited.now.more }
     requires outcome { IsOutcomeOf (map line_of parting.checked.program) parting.arguments steps outcome.now }
     requires initial { space.old.initial.items ≡ map (option_map constant_value) parting.checked.start.initial.items }
     ensures outcome { IfOk result (λ same. (other : Outcome)

@@ -4,8 +4,9 @@ ghost use Rattle.std.specs.Prelude.{◌≡◌, ◌+◌, ◌≤◌, true, length,
 ghost use Rattle.std.specs.List.{list_all, zip};
 ghost use Rattle.f77_tree.specs.declared.tree.Kind.TheVariants as kind;
 ghost use Rattle.f77_run.specs.Interpreter.{AreFitting, has_shape, values_in};
-ghost use Rattle.f77_run.specs.Spans.{AllHold, AreWithin, HaveRoom, all_filled, filled, size_of, span};
-ghost use Rattle.f77_run.specs.Typed.{HasValues, has_kind};
+ghost use Rattle.f77_run.specs.code.Spans.{AllHold, AreWithin, HaveRoom, span};
+ghost use Rattle.f77_run.specs.Spans.{all_filled, filled, size_of};
+ghost use Rattle.f77_run.specs.code.Typed.{HasValues, has_kind};
 ghost use Rattle.f77_run.specs.declared.outcome.RunFault.TheVariants as fault;
 ghost use Rattle.f77_values.specs.declared.value.Value.TheVariants as held;
 
@@ -112,7 +113,8 @@ pub(crate) fn argument(
     requires within { first + size_of shape.now ≤ length cells.now }
     requires holds { HasValues shape.now.kind (size_of shape.now) (span first (size_of shape.now) cells.now) }
     ensures shape { IfOk result (λ argument. has_shape shape.now argument ≡ true) }
-    ensures values { IfOk result (λ argument. map (λ v. Some v) (values_in argument) ≡ span first (size_of shape.now) cells.now) }
+    ensures values { IfOk result
+        (λ argument. map (λ v. Some v) (values_in argument) ≡ span first (size_of shape.now) cells.now) }
     ensures memory { IfErr result (λ e. e ≡ fault.Memory) }
 {
     match (shape.kind, shape.elements) {

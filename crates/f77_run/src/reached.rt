@@ -6,9 +6,11 @@ ghost use Rattle.f77_legal.specs.Names.{bounds_of};
 ghost use Rattle.f77_check.specs.Slots.{slot_count};
 ghost use Rattle.f77_run.specs.Interpreter.{AreFitting, refusal};
 ghost use Rattle.f77_run.specs.Reached.{AreReached};
-ghost use Rattle.f77_run.specs.Running.{Site, IsRunning, ComesToEnd, values_at, config_at};
+ghost use Rattle.f77_run.specs.Running.{RunSite};
+ghost use Rattle.f77_run.specs.code.Running.{IsRunning, ComesToEnd, values_at, config_at};
 ghost use Rattle.f77_run.specs.Site.{site_of};
-ghost use Rattle.f77_run.specs.Visits.{AreUnvisited, AreVisited};
+ghost use Rattle.f77_run.specs.code.Visits.{AreUnvisited};
+ghost use Rattle.f77_run.specs.Visits.{AreVisited};
 ghost use Rattle.f77_run.specs.declared.outcome.RunFault.TheVariants as fault;
 
 use crate::argument::Arg;
@@ -26,7 +28,8 @@ use f77_tree::Shared;
 use f77_values::Finish;
 use std::alloc::Global;
 
-/// At most so many steps, noting where control is at each: how they end. States are kept while there is room for so many values.
+/// At most so many steps, noting where control is at each: how they
+/// end. States are kept while there is room for so many values.
 pub(crate) fn follow(
     alloc: Global,
     statements: &[Shared<Resolved>],
@@ -35,7 +38,7 @@ pub(crate) fn follow(
     steps: u32,
     room: &mut usize,
 ) -> Result<End, RunFault>
-    ghost at: { Site }
+    ghost at: { RunSite }
     requires running { IsRunning at statements.now machine.old }
     requires none { AreUnvisited (length at.program) visits.old.list.items }
     ensures ends { let values = values_at at machine.new.cells.items in
@@ -63,10 +66,11 @@ fn followed(
     arguments: &[Arg],
     steps: u32,
 ) -> Result<Values<bool>, RunFault>
-    ghost at: { Site }
+    ghost at: { RunSite }
     requires site { at ≡ site_of checked.now arguments.now }
     requires fitting { AreFitting checked.now.arguments arguments.now }
-    ensures reached { IfOk result (λ reached. AreReached (map line_of checked.now.program) arguments.now steps reached) }
+    ensures reached { IfOk result
+        (λ reached. AreReached (map line_of checked.now.program) arguments.now steps reached) }
     ensures memory { IfErr result (λ e. e ≡ fault.Memory) }
 {
     let mut machine = begin(alloc, checked, arguments)?;
@@ -85,8 +89,8 @@ fn followed(
     Ok(Values::new(visits.reached(alloc)?))
 }
 
-/// Which statements control comes to in a run with these values of the dummy arguments, in order, for so many steps at most: one truth value
-/// for each statement, in order.
+/// Which statements control comes to in a run with these values of the dummy arguments,
+/// in order, for so many steps at most: one truth value for each statement, in order.
 ///
 /// N2 and N3 are told before any step, and want of memory, N1, in place of any answer.
 pub fn reached_statements(
@@ -95,7 +99,8 @@ pub fn reached_statements(
     arguments: &[Arg],
     steps: u32,
 ) -> Result<Values<bool>, RunFault>
-    ensures reached { IfOk result (λ reached. AreReached (map line_of checked.now.program) arguments.now steps reached) }
+    ensures reached { IfOk result
+        (λ reached. AreReached (map line_of checked.now.program) arguments.now steps reached) }
     ensures refused { IfSome (refusal checked.now.arguments arguments.now) (λ e. result ≡ Err e) }
     ensures fault { IfErr result (λ e. (e ≡ fault.Memory) ⊎ (refusal checked.now.arguments arguments.now ≡ Some e)) }
 {

@@ -49,7 +49,8 @@ impl Recompiled {
         requires changed { IsChanged (changed_fields change.now) change.now.statements.items change.now.own }
         requires own { IsCodeOf change.now.checked.now change.now.checked.now.statements self.old.own }
         requires code { IfSome self.old.changed (IsCodeOf change.now.checked.now change.now.statements.items) }
-        ensures code { OnOk result (MatchOption self.new.changed ⊥ (IsCodeOf change.now.checked.now change.now.statements.items)) }
+        ensures code { OnOk result
+            (MatchOption self.new.changed ⊥ (IsCodeOf change.now.checked.now change.now.statements.items)) }
         ensures kept { IfSome self.new.changed (IsCodeOf change.now.checked.now change.now.statements.items) }
         ensures own { self.new.own ≡ self.old.own }
         ensures memory { IfErr result (λ e. e ≡ fault.Memory) }

@@ -3,9 +3,9 @@
 ghost use Rattle.std.specs.Prelude.{◌≡◌, ◌≤◌, ◌<◌, ◌+◌, ◌++◌, drop, length, min, slice_set, take, true, IfErr, OnOk};
 ghost use Rattle.std.specs.List.{list_all};
 ghost use Rattle.f77_code.specs.Holds.{read_as};
-ghost use Rattle.f77_code.specs.Registers.{are_held, is_held, told};
-ghost use Rattle.f77_run.specs.Registers as meaning;
-ghost use Rattle.f77_run.specs.Registers.{counter_of, counters_of, loaded, shown, values_fit};
+ghost use Rattle.f77_code.specs.Registers.{are_held, is_held, told_by_register};
+ghost use Rattle.f77_run.specs.code.Registers as meaning;
+ghost use Rattle.f77_run.specs.code.Registers.{counter_of, counters_of, loaded, shown_cells, values_fit};
 ghost use Rattle.f77_run.specs.declared.outcome.RunFault.TheVariants as fault;
 ghost use Rattle.f77_values.specs.Number.{fits};
 ghost use Rattle.f77_values.specs.Told.{coded, is_fitting};
@@ -43,7 +43,7 @@ fn number(kind: Kind, cell: Option<Value>) -> i64
 /// What a slot of this kind holds, by its register.
 fn value(kind: Kind, register: i64) -> Option<Value>
     requires { is_held register ≡ true }
-    ensures { result ≡ meaning.shown_as kind (told register) }
+    ensures { result ≡ meaning.shown_as kind (told_by_register register) }
 {
     match kind {
         Kind::Integer => match i32::try_from(register) {
@@ -118,7 +118,7 @@ fn show_slots(cells: &mut Vec<Option<Value>>, kinds: &[Kind], registers: &[i64],
     requires count { count ≡ min (length kinds.now) (length registers.now) }
     requires room { count ≡ length cells.old.items }
     requires held { are_held registers.now ≡ true }
-    ensures { cells.new.items ≡ shown kinds.now registers.now }
+    ensures { cells.new.items ≡ shown_cells kinds.now registers.now }
 {
     'slots: for k in 0..count {
         hold(cells, k, value(kinds[k], registers[k]));
@@ -177,7 +177,8 @@ impl Registers {
     ) -> Result<(), RunFault>
         ensures items { OnOk result (self.new.items.items ≡ loaded kinds.now machine.now.cells.items ++ constants.now) }
         ensures held { OnOk result (are_held self.new.items.items ≡ true) }
-        ensures fitting { OnOk result ((values_fit kinds.now machine.now.cells.items ≡ true) × (list_all fits constants.now ≡ true)) }
+        ensures fitting { OnOk result
+            ((values_fit kinds.now machine.now.cells.items ≡ true) × (list_all fits constants.now ≡ true)) }
         ensures counters { OnOk result (self.new.counters.items ≡ counters_of statements.now machine.now.turns.items) }
         ensures memory { IfErr result (λ e. e ≡ fault.Memory) }
     {
@@ -196,7 +197,7 @@ impl Registers {
         cells: &mut Vec<Option<Value>>,
     ) -> Result<(), RunFault>
         requires { are_held self.now.items.items ≡ true }
-        ensures cells { OnOk result (cells.new.items ≡ shown kinds.now self.now.items.items) }
+        ensures cells { OnOk result (cells.new.items ≡ shown_cells kinds.now self.now.items.items) }
         ensures memory { IfErr result (λ e. e ≡ fault.Memory) }
     {
         let count = kinds.len().min(self.items.len());

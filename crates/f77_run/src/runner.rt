@@ -7,8 +7,10 @@ ghost use Rattle.f77_code.specs.Program.{IsCode};
 ghost use Rattle.f77_run.specs.Interpreter as meaning;
 ghost use Rattle.f77_run.specs.Interpreter.{AreArguments, AreFitting, IsOutcomeOf, Tells, refusal, values_in};
 ghost use Rattle.f77_run.specs.Reached.{AreReached};
-ghost use Rattle.f77_run.specs.Running.{Site, IsRunning, config_at};
-ghost use Rattle.f77_run.specs.Site.{site_of, held, HoldsDummies};
+ghost use Rattle.f77_run.specs.Running.{RunSite};
+ghost use Rattle.f77_run.specs.code.Running.{IsRunning, config_at};
+ghost use Rattle.f77_run.specs.Site.{site_of, held};
+ghost use Rattle.f77_run.specs.code.Site.{HoldsDummies};
 ghost use Rattle.f77_run.specs.Start.{IsStart, constant_value};
 ghost use Rattle.f77_run.specs.Visits.{IsFollowed};
 ghost use Rattle.f77_run.specs.declared.outcome.Outcome.{Outcome};
@@ -67,7 +69,8 @@ impl<'a> Model for Runner<'a> {
 
     ghost view = { λ runner. runner.checked.now };
 
-    ghost invariant = { λ runner. (runner.space.initial.items ≡ map (option_map constant_value) runner.checked.now.start.initial.items)
+    ghost invariant = { λ runner.
+        (runner.space.initial.items ≡ map (option_map constant_value) runner.checked.now.start.initial.items)
         × IsCode runner.checked.now.statements runner.code × (runner.code.constants.slots ≡ runner.checked.now.slots) };
 }
 
@@ -80,9 +83,11 @@ pub(crate) fn restart(
 ) -> Result<(), RunFault>
     requires initial { initial.now ≡ map (option_map constant_value) checked.now.start.initial.items }
     requires fitting { AreFitting checked.now.arguments arguments.now }
-    ensures running { IfOk result (λ _. IsRunning (site_of checked.now arguments.now) checked.now.statements machine.new) }
+    ensures running { IfOk result
+        (λ _. IsRunning (site_of checked.now arguments.now) checked.now.statements machine.new) }
     ensures starts { IfOk result
-        (λ _. IsStart (map line_of checked.now.program) (map values_in arguments.now) (config_at (site_of checked.now arguments.now) machine.new)) }
+        (λ _. IsStart (map line_of checked.now.program) (map values_in arguments.now)
+        (config_at (site_of checked.now arguments.now) machine.new)) }
     ensures memory { IfErr result (λ e. e ≡ fault.Memory) }
 {
     machine.cells.clear();
@@ -96,7 +101,8 @@ pub(crate) fn restart(
 /// Whether the dummy arguments hold these values.
 fn are_dummies(checked: &Checked, machine: &Machine, arguments: &[Arg]) -> bool
     requires { HoldsDummies checked.now machine.now }
-    ensures { Decides result (AreArguments (map line_of checked.now.program) (held checked.now machine.now.cells.items) arguments.now) }
+    ensures { Decides result
+        (AreArguments (map line_of checked.now.program) (held checked.now machine.now.cells.items) arguments.now) }
 {
     let start = checked.start();
     match fit(checked.arguments(), arguments) {
@@ -108,7 +114,7 @@ fn are_dummies(checked: &Checked, machine: &Machine, arguments: &[Arg]) -> bool
 
 /// Whether this is the outcome of a run that failed.
 fn is_fault(fault: Fault, outcome: &Outcome) -> bool
-    ensures { Decides result (outcome.now ≡ meaning.told fault) }
+    ensures { Decides result (outcome.now ≡ meaning.told_outcome fault) }
 {
     match outcome {
         Outcome::Overflow => matches!(fault, Fault::Overflow),
@@ -130,7 +136,8 @@ pub(crate) fn is_told(
     outcome: &Outcome,
 ) -> bool
     requires { HoldsDummies checked.now machine.now }
-    ensures { Decides result (Tells (map line_of checked.now.program) finish (held checked.now machine.now.cells.items) outcome.now) }
+    ensures { Decides result
+        (Tells (map line_of checked.now.program) finish (held checked.now machine.now.cells.items) outcome.now) }
 {
     match (finish, outcome) {
         (Finish::Returned, Outcome::Returned(arguments))
@@ -152,14 +159,15 @@ fn same_outcome(
     steps: u32,
     outcome: &Outcome,
 ) -> Result<bool, RunFault>
-    ghost at: { Site }
+    ghost at: { RunSite }
     requires site { at ≡ site_of checked.now arguments.now }
     requires initial { space.old.initial.items ≡ map (option_map constant_value) checked.now.start.initial.items }
     requires code { IsCode checked.now.statements code.now }
     requires slots { code.now.constants.slots ≡ checked.now.slots }
     requires fitting { AreFitting checked.now.arguments arguments.now }
     ensures outcome { IfOk result (λ same. (other : Outcome)
-        × IsOutcomeOf (map line_of checked.now.program) arguments.now steps other × Decides same (outcome.now ≡ other)) }
+        × IsOutcomeOf (map line_of checked.now.program) arguments.now steps other
+        × Decides same (outcome.now ≡ other)) }
     ensures initial { space.new.initial.items ≡ space.old.initial.items }
     ensures memory { IfErr result (λ e. e ≡ fault.Memory) }
 {
@@ -188,7 +196,7 @@ fn course_of(
     steps: u32,
     room: &mut usize,
 ) -> Result<Course, RunFault>
-    ghost at: { Site }
+    ghost at: { RunSite }
     requires site { at ≡ site_of checked.now arguments.now }
     requires initial { space.old.initial.items ≡ map (option_map constant_value) checked.now.start.initial.items }
     requires fitting { AreFitting checked.now.arguments arguments.now }
@@ -222,8 +230,8 @@ fn course_of(
 }
 
 impl<'a> Runner<'a> {
-    /// The runs of this program, which is compiled. All the memory that they need is taken here, but that of a course, that of registers,
-    /// which the first run takes, and that in which a state of a long run is kept.
+    /// The runs of this program, which is compiled. All the memory that they need is taken here, but that of a
+    /// course, that of registers, which the first run takes, and that in which a state of a long run is kept.
     pub fn of(alloc: Global, checked: &'a Checked) -> Result<Runner<'a>, RunFault>
         ensures program { IfOk result (λ runner. runner ≡ checked.now) }
         ensures memory { IfErr result (λ e. e ≡ fault.Memory) }
@@ -248,7 +256,8 @@ impl<'a> Runner<'a> {
     ) -> Result<bool, RunFault>
         ensures program { self.new ≡ self.old }
         ensures outcome { IfOk result (λ same. (other : Outcome)
-            × IsOutcomeOf (map line_of self.old.program) arguments.now steps other × Decides same (outcome.now ≡ other)) }
+            × IsOutcomeOf (map line_of self.old.program) arguments.now steps other
+            × Decides same (outcome.now ≡ other)) }
         ensures refused { IfSome (refusal self.old.arguments arguments.now) (λ e. result ≡ Err e) }
         ensures fault { IfErr result (λ e. (e ≡ fault.Memory) ⊎ (refusal self.old.arguments arguments.now ≡ Some e)) }
     {
@@ -267,8 +276,8 @@ impl<'a> Runner<'a> {
     }
 
     /// The course of the run with these values of the dummy arguments, in order, for so many steps at most. The
-    /// program is run once. Its first states at each statement are kept while there is room for so many values, which falls
-    /// by those of each state: one for each slot and one for each statement.
+    /// program is run once. Its first states at each statement are kept while there is room for so
+    /// many values, which falls by those of each state: one for each slot and one for each statement.
     ///
     /// N2 and N3 are told before any step, and want of memory, N1, in place of any answer.
     pub fn course(

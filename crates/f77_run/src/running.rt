@@ -3,15 +3,16 @@
 ghost use Rattle.std.specs.Prelude.{◌≡◌, ◌⊎◌, ◌≤◌, ◌<◌, None, length, true, IfOk, IfErr, OnOk};
 ghost use Rattle.f77_legal.specs.Names.{kind_of, bounds_of};
 ghost use Rattle.f77_check.specs.Slots.{slot_count, slot_kinds};
-ghost use Rattle.f77_code.specs.Block.{after, code_within};
-ghost use Rattle.f77_code.specs.Moves.{Turns};
+ghost use Rattle.f77_code.specs.Block.{code_after, code_within};
+ghost use Rattle.f77_code.specs.Moves.{TurnList};
 ghost use Rattle.f77_code.specs.Operation.{point};
 ghost use Rattle.f77_code.specs.Program.{IsCode};
 ghost use Rattle.f77_code.specs.Registers.{are_held};
-ghost use Rattle.f77_run.specs.Registers.{counters_of};
-ghost use Rattle.f77_run.specs.Running.{Site, IsRunning, ComesToCells, CameBack, config_at, values_at};
-ghost use Rattle.f77_run.specs.Snapshot.{kept};
-ghost use Rattle.f77_run.specs.Typed.{IsTyped};
+ghost use Rattle.f77_run.specs.code.Registers.{counters_of};
+ghost use Rattle.f77_run.specs.Running.{RunSite};
+ghost use Rattle.f77_run.specs.code.Running.{IsRunning, ComesToCells, CameBack, config_at, values_at};
+ghost use Rattle.f77_run.specs.code.Snapshot.{kept_point};
+ghost use Rattle.f77_run.specs.code.Typed.{IsTyped};
 ghost use Rattle.f77_run.specs.declared.outcome.RunFault.TheVariants as fault;
 
 use crate::machine::Machine;
@@ -39,7 +40,8 @@ impl End {
     }
 }
 
-/// Some instructions, so many at most: up to the next time that control comes to the place that is watched, if there is one.
+/// Some instructions, so many at most: up to the next time that
+/// control comes to the place that is watched, if there is one.
 fn some_more(
     code: &[Shared<Instruction>],
     registers: &mut [i64],
@@ -52,7 +54,8 @@ fn some_more(
     requires within { code_within (length registers.old) (length counters.old) code.now ≡ true }
     requires there { start < length code.now }
     requires most { 0 < most }
-    ensures stands { point result.place registers.new counters.new ≡ after code.now result.made (point start registers.old counters.old) }
+    ensures stands { point result.place registers.new counters.new
+        ≡ code_after code.now result.made (point start registers.old counters.old) }
     ensures some { 0 < result.made }
     ensures made { result.made ≤ most }
     ensures held { are_held registers.new ≡ true }
@@ -63,7 +66,8 @@ fn some_more(
     }
 }
 
-/// At most so many instructions, from a place on: in blocks, between which it is seen whether the code came back to where it stood.
+/// At most so many instructions, from a place on: in blocks, between
+/// which it is seen whether the code came back to where it stood.
 fn advance(
     code: &[Shared<Instruction>],
     registers: &mut [i64],
@@ -74,9 +78,9 @@ fn advance(
 ) -> Result<Stand, RunFault>
     requires held { are_held registers.old ≡ true }
     requires within { code_within (length registers.old) (length counters.old) code.now ≡ true }
-    requires none { kept earlier.old ≡ None }
+    requires none { kept_point earlier.old ≡ None }
     ensures stands { IfOk result (λ stand. point stand.place registers.new counters.new
-        ≡ after code.now stand.made (point start registers.old counters.old)) }
+        ≡ code_after code.now stand.made (point start registers.old counters.old)) }
     ensures made { IfOk result (λ stand. stand.made ≤ steps) }
     ensures ends { IfOk result (λ stand. stand.made < steps → (length code.now ≤ stand.place)
         ⊎ CameBack code.now (point start registers.old counters.old) stand.made) }
@@ -101,7 +105,8 @@ fn advance(
 /// The statements, or none of them where no DO is among them: then nothing has a counter.
 fn with_loops<'s>(statements: &'s [Shared<Resolved>], code: &Code) -> &'s [Shared<Resolved>]
     requires { IsCode statements.now code.now }
-    ensures { (turns : Turns) → length turns ≡ length statements.now → counters_of result.now turns ≡ counters_of statements.now turns }
+    ensures { (turns : TurnList)
+        → length turns ≡ length statements.now → counters_of result.now turns ≡ counters_of statements.now turns }
 {
     if code.instructions().len() == statements.len() {
         return &[];
@@ -109,8 +114,8 @@ fn with_loops<'s>(statements: &'s [Shared<Resolved>], code: &Code) -> &'s [Share
     statements
 }
 
-/// At most so many steps, by the code of the program: how they end, and what the slots of its dummy arguments hold then. A run that comes
-/// back to where it was never ends, and meets its limit.
+/// At most so many steps, by the code of the program: how they end, and what the slots of its dummy
+/// arguments hold then. A run that comes back to where it was never ends, and meets its limit.
 pub(crate) fn go(
     kinds: &[Kind],
     statements: &[Shared<Resolved>],
@@ -120,14 +125,15 @@ pub(crate) fn go(
     earlier: &mut Snapshot,
     steps: u32,
 ) -> Result<End, RunFault>
-    ghost at: { Site }
+    ghost at: { RunSite }
     requires running { IsRunning at statements.now machine.old }
     requires typed { IsTyped at.program (values_at at machine.old.cells.items) }
     requires kinds { kinds.now ≡ slot_kinds (kind_of at.program) (bounds_of at.program) at.names }
     requires code { IsCode statements.now code.now }
     requires slots { code.now.constants.slots ≡ length kinds.now }
-    requires none { kept earlier.old ≡ None }
-    ensures ends { IfOk result (λ end. ComesToCells at steps (config_at at machine.old) end.made end.finish machine.new.cells.items) }
+    requires none { kept_point earlier.old ≡ None }
+    ensures ends { IfOk result
+        (λ end. ComesToCells at steps (config_at at machine.old) end.made end.finish machine.new.cells.items) }
     ensures cells { OnOk result (length machine.new.cells.items ≡ slot_count (bounds_of at.program) at.names) }
     ensures memory { IfErr result (λ e. e ≡ fault.Memory) }
 {

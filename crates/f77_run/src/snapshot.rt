@@ -3,7 +3,7 @@
 ghost use Rattle.std.specs.Prelude.{◌≡◌, ◌⊎◌, ◌<◌, true, Some, None, IfOk, IfErr};
 ghost use Rattle.std.specs.Bool.{Decides};
 ghost use Rattle.f77_code.specs.Operation.{point};
-ghost use Rattle.f77_run.specs.Snapshot.{kept};
+ghost use Rattle.f77_run.specs.code.Snapshot.{kept_point};
 ghost use Rattle.f77_run.specs.declared.outcome.RunFault.TheVariants as fault;
 
 use crate::kept::Kept;
@@ -14,14 +14,16 @@ use std::alloc::Global;
 /// How many steps are made at least before a state is kept: a run that ends before them pays nothing.
 const FIRST: u32 = 64;
 
-/// For how many steps at least each state is looked for: a run that comes back within them is known as soon as by a look at each step.
+/// For how many steps at least each state is looked for: a run that
+/// comes back within them is known as soon as by a look at each step.
 const LEAST: u32 = 512;
 
 /// In a long run a state is looked for in one of so many steps, since a look takes half as long as a step.
 const PART: u32 = 32;
 
-/// A state that a run was in, if any is kept. Each is kept twice as many steps behind the start as the one before, so that a run that comes
-/// back within 512 steps is known after three times as many steps at most as it takes to come back for the first time.
+/// A state that a run was in, if any is kept. Each is kept twice as many steps behind
+/// the start as the one before, so that a run that comes back within 512 steps is known
+/// after three times as many steps at most as it takes to come back for the first time.
 #[derive(Drop)]
 pub(crate) struct Snapshot {
     pub(crate) place: Option<usize>,
@@ -45,7 +47,7 @@ fn same_place(one: Option<usize>, other: usize) -> bool
 impl Snapshot {
     /// No state is kept. It takes no memory.
     pub(crate) fn new(alloc: Global) -> Snapshot
-        ensures { kept result ≡ None }
+        ensures { kept_point result ≡ None }
     {
         Snapshot {
             place: None,
@@ -58,7 +60,7 @@ impl Snapshot {
 
     /// No state is kept any more, and the next one behind so many steps, or a few more. The memory stays.
     pub(crate) fn forget(&mut self, first: u32)
-        ensures { kept self.new ≡ None }
+        ensures { kept_point self.new ≡ None }
     {
         let first = first.max(FIRST);
         self.place = None;
@@ -68,8 +70,8 @@ impl Snapshot {
 
     /// Whether the code stands where it stood when it was kept.
     fn is_met(&mut self, place: usize, registers: &[i64], counters: &[Turn]) -> bool
-        ensures met { Decides result (kept self.old ≡ Some (point place registers.now counters.now)) }
-        ensures kept { kept self.new ≡ kept self.old }
+        ensures met { Decides result (kept_point self.old ≡ Some (point place registers.now counters.now)) }
+        ensures kept { kept_point self.new ≡ kept_point self.old }
     {
         if !same_place(self.place, place) {
             return false;
@@ -89,7 +91,7 @@ impl Snapshot {
         counters: &[Turn],
         steps: u32,
     ) -> Result<(), RunFault>
-        ensures kept { IfOk result (λ _. kept self.new ≡ Some (point place registers.now counters.now)) }
+        ensures kept { IfOk result (λ _. kept_point self.new ≡ Some (point place registers.now counters.now)) }
         ensures memory { IfErr result (λ e. e ≡ fault.Memory) }
     {
         self.registers.keep(registers)?;
@@ -100,8 +102,8 @@ impl Snapshot {
         Ok(())
     }
 
-    /// Whether the code, which stands there behind so many steps, came back to where it stood when it was kept. If not, it is kept where
-    /// that is due.
+    /// Whether the code, which stands there behind so many steps, came back to
+    /// where it stood when it was kept. If not, it is kept where that is due.
     #[inline(never)]
     pub(crate) fn is_seen_back(
         &mut self,
@@ -110,8 +112,10 @@ impl Snapshot {
         counters: &[Turn],
         steps: u32,
     ) -> Result<bool, RunFault>
-        ensures back { IfOk result (λ back. back ≡ true → kept self.old ≡ Some (point place registers.now counters.now)) }
-        ensures kept { IfOk result (λ _. (kept self.new ≡ kept self.old) ⊎ (kept self.new ≡ Some (point place registers.now counters.now))) }
+        ensures back { IfOk result
+            (λ back. back ≡ true → kept_point self.old ≡ Some (point place registers.now counters.now)) }
+        ensures kept { IfOk result (λ _. (kept_point self.new ≡ kept_point self.old)
+            ⊎ (kept_point self.new ≡ Some (point place registers.now counters.now))) }
         ensures memory { IfErr result (λ e. e ≡ fault.Memory) }
     {
         if self.is_met(place, registers, counters) {
@@ -123,7 +127,8 @@ impl Snapshot {
         Ok(false)
     }
 
-    /// The place at which a look is due, behind so many steps: where the code stood when it was kept, while that is looked for.
+    /// The place at which a look is due, behind so many steps: where
+    /// the code stood when it was kept, while that is looked for.
     pub(crate) fn watched(&self, steps: u32) -> Option<usize> {
         if steps < self.last { self.place } else { None }
     }

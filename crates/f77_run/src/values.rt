@@ -5,7 +5,8 @@ ghost use Rattle.std.specs.Cmp.Lexicographic.{pointwise, lists_equiv, lists_per}
 
 use std::marker::Model;
 
-/// Values in order: the elements of an array, the first subscript varying fastest (5.2.4), or one value for each dummy argument.
+/// Values in order: the elements of an array, the first subscript
+/// varying fastest (5.2.4), or one value for each dummy argument.
 #[derive(Debug, Drop)]
 pub struct Values<T> {
     items: Vec<T>,

@@ -1,10 +1,12 @@
 //! Where control was in a run: the first times that it came to each statement, with the states then.
 
-ghost use Rattle.std.specs.Prelude.{◌≡◌, ◌<◌, ◌+◌, ◌||◌, not, length, map, slice_set, slice_get, Some, IfOk, IfErr, OnOk};
-ghost use Rattle.f77_run.specs.Machine.{placed};
-ghost use Rattle.f77_run.specs.Machine.{state_of};
-ghost use Rattle.f77_run.specs.Reached.{number_of};
-ghost use Rattle.f77_run.specs.Visits.{AreUnvisited, Notes, is_visited, state_in};
+ghost use Rattle.std.specs.Prelude.{◌≡◌, ◌<◌, ◌+◌, ◌||◌, not, length, map};
+ghost use Rattle.std.specs.Prelude.{slice_set, slice_get, Some, IfOk, IfErr, OnOk};
+ghost use Rattle.f77_run.specs.Machine.{placed_in_run};
+ghost use Rattle.f77_run.specs.code.Machine.{state_of};
+ghost use Rattle.f77_run.specs.Reached.{statement_number};
+ghost use Rattle.f77_run.specs.code.Visits.{AreUnvisited, Notes, is_visited};
+ghost use Rattle.f77_run.specs.Visits.{state_in};
 ghost use Rattle.f77_run.specs.declared.outcome.RunFault.TheVariants as fault;
 ghost use Rattle.f77_run.specs.declared.visits.Visited.{Visited as VisitedModel};
 
@@ -64,7 +66,8 @@ pub(crate) struct Visited {
 }
 
 impl Visited {
-    /// Control is at the statement behind so many steps. The state is kept where few are, and where there is room for so many values.
+    /// Control is at the statement behind so many steps. The state is
+    /// kept where few are, and where there is room for so many values.
     fn note(
         &mut self,
         alloc: Global,
@@ -125,10 +128,12 @@ impl Visits {
         made: u32,
         room: &mut usize,
     ) -> Result<(), RunFault>
-        requires { number_of (placed machine.now.place) < length self.old.list.items }
-        ensures noted { OnOk result ((old : VisitedModel) → slice_get self.old.list.items (number_of (placed machine.now.place)) ≡ Some old
+        requires { statement_number (placed_in_run machine.now.place) < length self.old.list.items }
+        ensures noted { OnOk result ((old : VisitedModel)
+            → slice_get self.old.list.items (statement_number (placed_in_run machine.now.place)) ≡ Some old
             → (new : VisitedModel) × Notes made (state_of machine.now) old new
-            × (self.new.list.items ≡ slice_set self.old.list.items (number_of (placed machine.now.place)) new)) }
+            × (self.new.list.items
+            ≡ slice_set self.old.list.items (statement_number (placed_in_run machine.now.place)) new)) }
         ensures memory { IfErr result (λ e. e ≡ fault.Memory) }
     {
         self.list[number(machine.place)].note(alloc, machine, made, room)

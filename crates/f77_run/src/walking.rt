@@ -4,7 +4,8 @@ ghost use Rattle.std.specs.Prelude.{◌≡◌, ◌≤◌, ℕ, length, IfSome, I
 ghost use Rattle.f77_legal.specs.Names.{bounds_of};
 ghost use Rattle.f77_check.specs.Slots.{slot_count};
 ghost use Rattle.f77_run.specs.Endless.{Reaches};
-ghost use Rattle.f77_run.specs.Running.{Site, IsRunning, ComesToEnd, values_at, config_at};
+ghost use Rattle.f77_run.specs.Running.{RunSite};
+ghost use Rattle.f77_run.specs.code.Running.{IsRunning, ComesToEnd, values_at, config_at};
 
 use crate::execute::step;
 use crate::machine::{Control, Machine};
@@ -19,10 +20,11 @@ pub(crate) fn walk(
     machine: &mut Machine,
     steps: u32,
 ) -> Option<End>
-    ghost at: { Site }
+    ghost at: { RunSite }
     requires running { IsRunning at statements.now machine.old }
     ensures ends { IfSome result (λ end. (limit : ℕ) → steps ≤ limit
-        → ComesToEnd at.program limit (config_at at machine.old) end.made end.finish (values_at at machine.new.cells.items)) }
+        → ComesToEnd at.program limit (config_at at machine.old) end.made end.finish
+        (values_at at machine.new.cells.items)) }
     ensures running { IfNone result (IsRunning at statements.now machine.new) }
     ensures reaches { IfNone result (Reaches at.program steps (config_at at machine.old) (config_at at machine.new)) }
     ensures cells { length machine.new.cells.items ≡ slot_count (bounds_of at.program) at.names }

@@ -15,8 +15,8 @@ use f77_code::{Code, Place, compiled};
 use f77_values::Value;
 use std::alloc::Global;
 
-/// What DATA gives each slot, a machine, the registers and counters of its code, and where that stood, by which it is known that a run comes
-/// back.
+/// What DATA gives each slot, a machine, the registers and counters of its
+/// code, and where that stood, by which it is known that a run comes back.
 #[derive(Drop)]
 pub(crate) struct Workspace {
     pub(crate) initial: Vec<Option<Value>>,
@@ -41,7 +41,8 @@ fn room(alloc: Global, slots: usize, turns: usize) -> Result<Machine, RunFault>
 impl Workspace {
     /// What the runs of a program need.
     pub(crate) fn of(alloc: Global, checked: &Checked) -> Result<Workspace, RunFault>
-        ensures initial { IfOk result (λ space. space.initial.items ≡ map (option_map constant_value) checked.now.start.initial.items) }
+        ensures initial { IfOk result
+            (λ space. space.initial.items ≡ map (option_map constant_value) checked.now.start.initial.items) }
         ensures memory { IfErr result (λ e. e ≡ fault.Memory) }
     {
         let initial = initial(alloc, &checked.start().initial)?;

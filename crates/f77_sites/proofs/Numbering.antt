@@ -7,19 +7,19 @@ use Rattle.f77_tree.specs.declared.data.Value.{Value}
 use Rattle.f77_tree.specs.Tree.{Tree, Trees, GroupFields}
 use Rattle.f77_tree.specs.Statement.{Statement}
 use Rattle.f77_nodes.specs.Node.{NodeOf, parts, all_parts, tree_nodes, step_parts, group_nodes, label_nodes, nodes_behind, nodes_of}
-use Rattle.f77_sites.specs.Sites.{Site, node_at, within, fixed, list_sites, item_sites, tree_sites, step_sites, target_sites, label_sites, value_sites, group_sites, sites_behind, sites}
+use Rattle.f77_sites.specs.Sites.{Site, node_at, site_within, fixed, list_sites, item_sites, tree_sites, step_sites, target_sites, label_sites, value_sites, group_sites, sites_behind, sites}
 
-pub nodes_within : {X Y : Type 0} (f : X → Y) (xs : List (Site X)) → map node_at (map (within f) xs) ≡ map node_at xs
+pub nodes_within : {X Y : Type 0} (f : X → Y) (xs : List (Site X)) → map node_at (map (site_within f) xs) ≡ map node_at xs
 nodes_within f [] = refl
 nodes_within f (x ∷ xs) = ap (λ z. x.0 ∷ z) (nodes_within f xs)
 
 -- the sites of a part before others
-nodes_then : {X Z : Type 0} (f : X → Z) (xs : List (Site X)) (zs : List (Site Z)) → map node_at (map (within f) xs ++ zs) ≡ map node_at xs ++ map node_at zs
-nodes_then f xs zs = map-append node_at (map (within f) xs) zs ∙ ap (λ l. l ++ map node_at zs) (nodes_within f xs)
+nodes_then : {X Z : Type 0} (f : X → Z) (xs : List (Site X)) (zs : List (Site Z)) → map node_at (map (site_within f) xs ++ zs) ≡ map node_at xs ++ map node_at zs
+nodes_then f xs zs = map-append node_at (map (site_within f) xs) zs ∙ ap (λ l. l ++ map node_at zs) (nodes_within f xs)
 
 nodes_both : {X Y Z : Type 0} (f : X → Z) (g : Y → Z) (xs : List (Site X)) (ys : List (Site Y))
-    → map node_at (map (within f) xs ++ map (within g) ys) ≡ map node_at xs ++ map node_at ys
-nodes_both f g xs ys = nodes_then f xs (map (within g) ys) ∙ ap (λ l. map node_at xs ++ l) (nodes_within g ys)
+    → map node_at (map (site_within f) xs ++ map (site_within g) ys) ≡ map node_at xs ++ map node_at ys
+nodes_both f g xs ys = nodes_then f xs (map (site_within g) ys) ∙ ap (λ l. map node_at xs ++ l) (nodes_within g ys)
 
 nodes_fixed : {A X : Type 0} (x : X) (f : A → NodeOf) (names : List A) → map node_at (map (λ a. fixed x (f a)) names) ≡ map f names
 nodes_fixed x f [] = refl
@@ -71,8 +71,8 @@ group_numbering : (g : GroupFields) → map node_at (group_sites g) ≡ group_no
 group_numbering g =
     let values : List (Site (List Value)) = list_sites value_sites g.values in
     let whole : List Value → GroupFields = λ values. record { names = g.names; values = values } in
-    map-append node_at (map (λ name. fixed g (NodeOf.Named name)) g.names) (map (within whole) values)
-    ∙ ap (λ l. l ++ map node_at (map (within whole) values)) (nodes_fixed g NodeOf.Named g.names)
+    map-append node_at (map (λ name. fixed g (NodeOf.Named name)) g.names) (map (site_within whole) values)
+    ∙ ap (λ l. l ++ map node_at (map (site_within whole) values)) (nodes_fixed g NodeOf.Named g.names)
     ∙ ap (λ l. map NodeOf.Named g.names ++ l) (nodes_within whole values ∙ nodes_singles value_sites NodeOf.Initial (λ value. refl) g.values)
 
 target_numbering : (name : List ℕ) (items : Trees) → map node_at (target_sites (name, items)) ≡ NodeOf.Target name items ∷ map NodeOf.Part (all_parts items)

@@ -9,17 +9,17 @@ use Rattle.f77_nodes.specs.Node.{NodeOf}
 use Rattle.f77_tree.specs.Tree.{Tree, Trees}
 use Rattle.f77_tree.specs.Statement.{Statement}
 use Rattle.f77_tree.specs.View.{trees}
-use Rattle.f77_sites.specs.Sites.{Site, within, fixed, put, list_sites, tree_sites, item_sites, sites, changed}
-use Rattle.f77_sites.specs.Changing.{put_number, Passed}
+use Rattle.f77_sites.specs.Sites.{Site, site_within, fixed, put_node, list_sites, tree_sites, item_sites, sites, changed}
+use Rattle.f77_sites.specs.code.Changing.{put_number, Passed}
 
 -- one site replaced within something larger
-put_within : {X Y : Type 0} (f : X → Y) (o : Option (Site X)) (n : NodeOf) (x : X) → put (option_map (within f) o) n (f x) ≡ f (put o n x)
+put_within : {X Y : Type 0} (f : X → Y) (o : Option (Site X)) (n : NodeOf) (x : X) → put_node (option_map (site_within f) o) n (f x) ≡ f (put_node o n x)
 put_within f None n x = refl
 put_within f (Some s) n x = refl
 
-put_one : {X Y : Type 0} (f : X → Y) (xs : List (Site X)) (k : ℕ) (n : NodeOf) (x : X) → put_number (map (within f) xs) k n (f x) ≡ f (put_number xs k n x)
+put_one : {X Y : Type 0} (f : X → Y) (xs : List (Site X)) (k : ℕ) (n : NodeOf) (x : X) → put_number (map (site_within f) xs) k n (f x) ≡ f (put_number xs k n x)
 put_one f xs zero n x = refl
-put_one f xs (suc k) n x = ap (λ o. put o n (f x)) (slice_get-map (within f) xs k) ∙ put_within f (slice_get xs k) n x
+put_one f xs (suc k) n x = ap (λ o. put_node o n (f x)) (slice_get-map (site_within f) xs k) ∙ put_within f (slice_get xs k) n x
 
 -- a number among the first of two lists, or among the others
 put_front : {X : Type 0} (xs ys : List (Site X)) (k : ℕ) (n : NodeOf) (x : X) → k ≤ length xs → put_number (xs ++ ys) k n x ≡ put_number xs k n x
@@ -48,12 +48,12 @@ put_none xs k n x e = ap (λ j. put_number xs j n x) e
 
 -- two parts side by side
 put_two : {X Y Z : Type 0} (h : X → Y → Z) (xs : List (Site X)) (ys : List (Site Y)) (k : ℕ) (n : NodeOf) (x : X) (y : Y)
-    → put_number (map (within (λ u. h u y)) xs ++ map (within (h x)) ys) k n (h x y) ≡ h (put_number xs k n x) (put_number ys (k - length xs) n y)
+    → put_number (map (site_within (λ u. h u y)) xs ++ map (site_within (h x)) ys) k n (h x y) ≡ h (put_number xs k n x) (put_number ys (k - length xs) n y)
 put_two h xs ys k n x y = elim (cases_lt (length xs) k) [
-  | inr low ↦ put_front (map (within (λ u. h u y)) xs) (map (within (h x)) ys) k n (h x y) (omega (arith, low, length-map xs (within (λ u. h u y))))
+  | inr low ↦ put_front (map (site_within (λ u. h u y)) xs) (map (site_within (h x)) ys) k n (h x y) (omega (arith, low, length-map xs (site_within (λ u. h u y))))
       ∙ put_one (λ u. h u y) xs k n x ∙ ap (λ z. h (put_number xs k n x) z) (sym (put_none ys (k - length xs) n y (omega (arith, low))))
-  | inl high ↦ put_back (map (within (λ u. h u y)) xs) (map (within (h x)) ys) k n (h x y) (omega (arith, high, length-map xs (within (λ u. h u y))))
-      ∙ ap (λ j. put_number (map (within (h x)) ys) (k - j) n (h x y)) (length-map xs (within (λ u. h u y)))
+  | inl high ↦ put_back (map (site_within (λ u. h u y)) xs) (map (site_within (h x)) ys) k n (h x y) (omega (arith, high, length-map xs (site_within (λ u. h u y))))
+      ∙ ap (λ j. put_number (map (site_within (h x)) ys) (k - j) n (h x y)) (length-map xs (site_within (λ u. h u y)))
       ∙ put_one (h x) ys (k - length xs) n y ∙ ap (λ z. h z (put_number ys (k - length xs) n y)) (sym (put_past xs k n x high))
 ]
 
@@ -106,54 +106,54 @@ module _ {X : Type 0} where
   passed_all_fixed f names k j n x falls =
       subst (λ (l : List (Site X)). Passed l k j n x x) (append-nil (map (λ a. fixed x (f a)) names)) (passed_fixed f names [] k j j n x x falls (passed_nothing j n x))
 
-pub passed_one : {X Y : Type 0} (f : X → Y) (xs : List (Site X)) (k j : ℕ) (n : NodeOf) (x x' : X) → Passed xs k j n x x' → Passed (map (within f) xs) k j n (f x) (f x')
+pub passed_one : {X Y : Type 0} (f : X → Y) (xs : List (Site X)) (k j : ℕ) (n : NodeOf) (x x' : X) → Passed xs k j n x x' → Passed (map (site_within f) xs) k j n (f x) (f x')
 passed_one f xs k j n x x' p = record {
   made = ap f p.made ∙ sym (put_one f xs k n x);
-  counted = omega (arith, p.counted, length-map xs (within f));
+  counted = omega (arith, p.counted, length-map xs (site_within f));
 }
 
 pub passed_two : {X Y Z : Type 0} (h : X → Y → Z) (xs : List (Site X)) (ys : List (Site Y)) (k j i : ℕ) (n : NodeOf) (x x' : X) (y y' : Y)
-    → Passed xs k j n x x' → Passed ys j i n y y' → Passed (map (within (λ u. h u y)) xs ++ map (within (h x)) ys) k i n (h x y) (h x' y')
+    → Passed xs k j n x x' → Passed ys j i n y y' → Passed (map (site_within (λ u. h u y)) xs ++ map (site_within (h x)) ys) k i n (h x y) (h x' y')
 passed_two h xs ys k j i n x x' y y' p q = record {
   made = ap (λ u. h u y') p.made ∙ ap (h (put_number xs k n x)) (q.made ∙ ap (λ (m : ℕ). put_number ys m n y) p.counted) ∙ sym (put_two h xs ys k n x y);
   counted = omega (
     arith,
     p.counted,
     q.counted,
-    length-append (map (within (λ u. h u y)) xs) (map (within (h x)) ys),
-    length-map xs (within (λ u. h u y)),
-    length-map ys (within (h x)),
+    length-append (map (site_within (λ u. h u y)) xs) (map (site_within (h x)) ys),
+    length-map xs (site_within (λ u. h u y)),
+    length-map ys (site_within (h x)),
   );
 }
 
 -- sites of both of a pair
 abbrev pub pair_sites : {X Y : Type 0} → List (Site X) → List (Site Y) → X → Y → List (Site (X × Y))
-pair_sites xs ys x y = map (within (λ u. (u, y))) xs ++ map (within (λ v. (x, v))) ys
+pair_sites xs ys x y = map (site_within (λ u. (u, y))) xs ++ map (site_within (λ v. (x, v))) ys
 
 pub passed_pair : {X Y : Type 0} (xs : List (Site X)) (ys : List (Site Y)) (k j i : ℕ) (n : NodeOf) (x x' : X) (y y' : Y)
     → Passed xs k j n x x' → Passed ys j i n y y' → Passed (pair_sites xs ys x y) k i n (x, y) (x', y')
 passed_pair xs ys k j i n x x' y y' p q = passed_two (λ u v. (u, v)) xs ys k j i n x x' y y' p q
 
-within_within : {X Y Z : Type 0} (f : Y → Z) (g : X → Y) (xs : List (Site X)) → map (within f) (map (within g) xs) ≡ map (within (λ x. f (g x))) xs
+within_within : {X Y Z : Type 0} (f : Y → Z) (g : X → Y) (xs : List (Site X)) → map (site_within f) (map (site_within g) xs) ≡ map (site_within (λ x. f (g x))) xs
 within_within f g [] = refl
 within_within f g (s ∷ xs) = ap (λ l. (s.0, λ n. f (g (s.1 n))) ∷ l) (within_within f g xs)
 
 pub within_pair : {X Y Z : Type 0} (f : X × Y → Z) (xs : List (Site X)) (ys : List (Site Y)) (x : X) (y : Y)
-    → map (within f) (pair_sites xs ys x y) ≡ map (within (λ u. f (u, y))) xs ++ map (within (λ v. f (x, v))) ys
+    → map (site_within f) (pair_sites xs ys x y) ≡ map (site_within (λ u. f (u, y))) xs ++ map (site_within (λ v. f (x, v))) ys
 within_pair f xs ys x y =
-    map-append (within f) (map (within (λ u. (u, y))) xs) (map (within (λ v. (x, v))) ys)
-    ∙ ap (λ l. l ++ map (within f) (map (within (λ v. (x, v))) ys)) (within_within f (λ u. (u, y)) xs)
-    ∙ ap (λ l. map (within (λ u. f (u, y))) xs ++ l) (within_within f (λ v. (x, v)) ys)
+    map-append (site_within f) (map (site_within (λ u. (u, y))) xs) (map (site_within (λ v. (x, v))) ys)
+    ∙ ap (λ l. l ++ map (site_within f) (map (site_within (λ v. (x, v))) ys)) (within_within f (λ u. (u, y)) xs)
+    ∙ ap (λ l. map (site_within (λ u. f (u, y))) xs ++ l) (within_within f (λ v. (x, v)) ys)
 
 -- subscripts and arguments are a list too
-pub items_listed : (ts : List Tree) → item_sites (trees ts) ≡ map (within trees) (list_sites tree_sites ts)
+pub items_listed : (ts : List Tree) → item_sites (trees ts) ≡ map (site_within trees) (list_sites tree_sites ts)
 items_listed [] = refl
 items_listed (t ∷ ts) =
-    ap (λ l. map (within (λ u. Trees.Then u (trees ts))) (tree_sites t) ++ map (within (Trees.Then t)) l) (items_listed ts)
-    ∙ ap (λ l. map (within (λ u. Trees.Then u (trees ts))) (tree_sites t) ++ l) (within_within (Trees.Then t) trees (list_sites tree_sites ts))
-    ∙ sym (map-append (within trees) (map (within (λ u. u ∷ ts)) (tree_sites t)) (map (within (λ us. t ∷ us)) (list_sites tree_sites ts))
-    ∙ ap (λ l. l ++ map (within trees) (map (within (λ us. t ∷ us)) (list_sites tree_sites ts))) (within_within trees (λ u. u ∷ ts) (tree_sites t))
-    ∙ ap (λ l. map (within (λ u. Trees.Then u (trees ts))) (tree_sites t) ++ l) (within_within trees (λ us. t ∷ us) (list_sites tree_sites ts)))
+    ap (λ l. map (site_within (λ u. Trees.Then u (trees ts))) (tree_sites t) ++ map (site_within (Trees.Then t)) l) (items_listed ts)
+    ∙ ap (λ l. map (site_within (λ u. Trees.Then u (trees ts))) (tree_sites t) ++ l) (within_within (Trees.Then t) trees (list_sites tree_sites ts))
+    ∙ sym (map-append (site_within trees) (map (site_within (λ u. u ∷ ts)) (tree_sites t)) (map (site_within (λ us. t ∷ us)) (list_sites tree_sites ts))
+    ∙ ap (λ l. l ++ map (site_within trees) (map (site_within (λ us. t ∷ us)) (list_sites tree_sites ts))) (within_within trees (λ u. u ∷ ts) (tree_sites t))
+    ∙ ap (λ l. map (site_within (λ u. Trees.Then u (trees ts))) (tree_sites t) ++ l) (within_within trees (λ us. t ∷ us) (list_sites tree_sites ts)))
 
 pub passed_items : (ts ts' : List Tree) (k j : ℕ) (n : NodeOf) → Passed (list_sites tree_sites ts) k j n ts ts' → Passed (item_sites (trees ts)) k j n (trees ts) (trees ts')
 passed_items ts ts' k j n p =

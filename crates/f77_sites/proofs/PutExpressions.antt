@@ -16,8 +16,8 @@ use Rattle.f77_nodes.specs.Node.{NodeOf}
 use Rattle.f77_tree.specs.Tree.{Tree, Trees}
 use Rattle.f77_tree.specs.View.{trees, tree_of, expr_step, ref_step}
 use Rattle.f77_tree.proofs.Views.{signed_view, not_view, binary_view, reference_view, ref_view}
-use Rattle.f77_sites.specs.Sites.{within, parts_behind, item_sites, tree_sites, target_sites, part_or, target_or}
-use Rattle.f77_sites.specs.Changing.{Passed, target_of}
+use Rattle.f77_sites.specs.Sites.{site_within, parts_behind, item_sites, tree_sites, target_sites, part_or, target_or}
+use Rattle.f77_sites.specs.code.Changing.{Passed, assigned_reference}
 use Rattle.f77_sites.proofs.Passes.{passed_one, passed_two, passed_behind}
 
 call_view : (f : Intrinsic) (arguments : Vec Expr Global) → tree_of (views.Call f arguments) ≡ Tree.Call f (trees (map tree_of arguments.items))
@@ -84,22 +84,22 @@ module _ (e : Expr) (k i j : ℕ) (n : NodeOf) (other : k ≢ 1) (falls : i ≡ 
       (reference_view made ∙ ap (λ name. Tree.Reference name ts') named) other falls
       (passed_one (Tree.Reference place.name) (item_sites ts) i j n ts ts' p)
 
-target_view : (r : Ref) → target_of r ≡ (r.name, trees (map tree_of r.subscripts.items))
+target_view : (r : Ref) → assigned_reference r ≡ (r.name, trees (map tree_of r.subscripts.items))
 target_view r = ap (λ (p : List ℕ × List Tree). (p.0, trees p.1)) (ref_view r)
 
 pub passed_target : (place made : Ref) (k i j : ℕ) (n : NodeOf) (old : List Expr) → made.name ≡ place.name → old ≡ place.subscripts.items → k ≢ 1 → i ≡ k - 1
     → Passed (item_sites (trees (map tree_of old))) i j n (trees (map tree_of old)) (trees (map tree_of made.subscripts.items))
-    → Passed (target_sites (target_of place)) k j n (target_of place) (target_of made)
+    → Passed (target_sites (assigned_reference place)) k j n (assigned_reference place) (assigned_reference made)
 passed_target place made k i j n old named seen other falls p =
     let ts : Trees = trees (map tree_of old) in
     let ts' : Trees = trees (map tree_of made.subscripts.items) in
     let before : List ℕ × Trees = (place.name, ts) in
     let after : List ℕ × Trees = (place.name, ts') in
     let whole : Trees → List ℕ × Trees = λ items. (place.name, items) in
-    let was : target_of place ≡ before = target_view place ∙ ap (λ z. (place.name, trees (map tree_of z))) (sym seen) in
-    let is : target_of made ≡ after = target_view made ∙ ap (λ name. (name, ts')) named in
+    let was : assigned_reference place ≡ before = target_view place ∙ ap (λ z. (place.name, trees (map tree_of z))) (sym seen) in
+    let is : assigned_reference made ≡ after = target_view made ∙ ap (λ name. (name, ts')) named in
     let q : Passed (target_sites before) k j n before after =
-    passed_behind (NodeOf.Target place.name ts, target_or before) (map (within whole) (item_sites ts)) k i j n before after other falls
+    passed_behind (NodeOf.Target place.name ts, target_or before) (map (site_within whole) (item_sites ts)) k i j n before after other falls
     (passed_one whole (item_sites ts) i j n ts ts' p) in
-    subst (λ (x : List ℕ × Trees). Passed (target_sites x) k j n x (target_of made)) (sym was)
+    subst (λ (x : List ℕ × Trees). Passed (target_sites x) k j n x (assigned_reference made)) (sym was)
     (subst (λ (x : List ℕ × Trees). Passed (target_sites before) k j n before x) (sym is) q)

@@ -19,8 +19,8 @@ use Rattle.f77_tree.specs.Statement.{statement_of, Statement}
 use Rattle.f77_tree.specs.Tree.{Tree, Trees, GroupFields}
 use Rattle.f77_tree.specs.View.{tree_of}
 use Rattle.f77_tree.proofs.Views.{subroutine_view, declare_view, dimension_view, preset_view, assign_view, goto_view, computed_view, arithmetic_view, logical_view, block_view, else_if_view, loop_view}
-use Rattle.f77_sites.specs.Sites.{Site, within, list_sites, tree_sites, step_sites, target_sites, label_sites, name_sites, value_sites, group_sites, statement_or, sites_behind, sites}
-use Rattle.f77_sites.specs.Changing.{IsPut, Passed, target_of}
+use Rattle.f77_sites.specs.Sites.{Site, site_within, list_sites, tree_sites, step_sites, target_sites, label_sites, name_sites, value_sites, group_sites, statement_or, sites_behind, sites}
+use Rattle.f77_sites.specs.code.Changing.{IsPut, Passed, assigned_reference}
 use Rattle.f77_sites.proofs.Passes.{passed_one, passed_two, passed_pair, pair_sites, within_pair, passed_behind, passed_fixed, passed_all_fixed}
 
 pub passed_group : (group new : DataGroup) (k i j : ℕ) (n : NodeOf) (old : List Value) → new.names.items ≡ group.names.items → old ≡ group.values.items
@@ -32,7 +32,7 @@ passed_group group new k i j n old named seen falls p =
     let q : Passed (list_sites value_sites group.values.items) i j n group.values.items new.values.items =
     subst (λ (l : List Value). Passed (list_sites value_sites l) i j n l new.values.items) seen p in
     let r : Passed (group_sites (whole group.values.items)) k j n (whole group.values.items) (whole new.values.items) =
-    passed_fixed NodeOf.Named names (map (within whole) (list_sites value_sites group.values.items)) k i j n (whole group.values.items) (whole new.values.items) falls
+    passed_fixed NodeOf.Named names (map (site_within whole) (list_sites value_sites group.values.items)) k i j n (whole group.values.items) (whole new.values.items) falls
     (passed_one whole (list_sites value_sites group.values.items) i j n group.values.items new.values.items q) in
     subst (λ (x : List (List ℕ)). Passed (group_sites (data_group_of group)) k j n (data_group_of group) (record { names = x; values = new.values.items }))
     (sym named) r
@@ -61,12 +61,12 @@ module _ (k j : ℕ) (n : NodeOf) where
       seen_as (Statement.ElseIf t) (forms.ElseIf new) (Statement.ElseIf (tree_of new)) (else_if_view new) (passed_one Statement.ElseIf (tree_sites t) k j n t (tree_of new) p)
 
   module _ (i : ℕ) where
-    pub put_assignment : (place : List ℕ × Trees) (t : Tree) (target : Ref) (value : Expr) → Passed (target_sites place) k i n place (target_of target)
+    pub put_assignment : (place : List ℕ × Trees) (t : Tree) (target : Ref) (value : Expr) → Passed (target_sites place) k i n place (assigned_reference target)
         → Passed (tree_sites t) i j n t (tree_of value) → IsPut (Statement.Assign place.0 place.1 t) k j n (statement_of (forms.Assign target value))
     put_assignment place t target value p q =
-        seen_as (Statement.Assign place.0 place.1 t) (forms.Assign target value) (Statement.Assign (target_of target).0 (target_of target).1 (tree_of value))
+        seen_as (Statement.Assign place.0 place.1 t) (forms.Assign target value) (Statement.Assign (assigned_reference target).0 (assigned_reference target).1 (tree_of value))
         (assign_view target value)
-        (passed_two (λ (x : List ℕ × Trees) (u : Tree). Statement.Assign x.0 x.1 u) (target_sites place) (tree_sites t) k i j n place (target_of target) t (tree_of value) p q)
+        (passed_two (λ (x : List ℕ × Trees) (u : Tree). Statement.Assign x.0 x.1 u) (target_sites place) (tree_sites t) k i j n place (assigned_reference target) t (tree_of value) p q)
 
     pub put_computed : (labels : List ℕ) (t : Tree) (made : Vec ℕ Global) (value : Expr) → Passed (list_sites label_sites labels) k i n labels made.items
         → Passed (tree_sites t) i j n t (tree_of value) → IsPut (Statement.ComputedGoto labels t) k j n (statement_of (forms.ComputedGoto made value))
@@ -93,11 +93,11 @@ module _ (k j : ℕ) (n : NodeOf) where
       let fields : Passed all k j n (t, (a, (b, c))) (tree_of value, (a', (b', c'))) =
       passed_pair (tree_sites t) labels k k1 j n t (tree_of value) (a, (b, c)) (a', (b', c')) p
       (passed_pair (label_sites a) last k1 k2 j n a a' (b, c) (b', c') q (passed_pair (label_sites b) (label_sites c) k2 k3 j n b b' c c' r s)) in
-      let path : map (within whole) all ≡ sites_behind (Statement.ArithIf t a b c) =
+      let path : map (site_within whole) all ≡ sites_behind (Statement.ArithIf t a b c) =
       within_pair whole (tree_sites t) labels t (a, (b, c))
-      ∙ ap (λ z. map (within (λ u. Statement.ArithIf u a b c)) (tree_sites t) ++ z)
+      ∙ ap (λ z. map (site_within (λ u. Statement.ArithIf u a b c)) (tree_sites t) ++ z)
       (within_pair (λ v. whole (t, v)) (label_sites a) last a (b, c)
-      ∙ ap (λ z. map (within (λ l. Statement.ArithIf t l b c)) (label_sites a) ++ z)
+      ∙ ap (λ z. map (site_within (λ l. Statement.ArithIf t l b c)) (label_sites a) ++ z)
       (within_pair (λ v. whole (t, (a, v))) (label_sites b) (label_sites c) b c)) in
       seen_as (Statement.ArithIf t a b c) (forms.ArithIf value a' b' c') (Statement.ArithIf (tree_of value) a' b' c') (arithmetic_view value a' b' c')
       (subst (λ (l : List (Site Statement)). Passed l k j n (Statement.ArithIf t a b c) (Statement.ArithIf (tree_of value) a' b' c')) path
@@ -121,13 +121,13 @@ module _ (k j : ℕ) (n : NodeOf) where
       (passed_pair (name_sites name) parameters k1 k2 j n name name' (a, (b, c)) (a', (b', c')) q
       (passed_pair (tree_sites a) ends k2 k3 j n a a' (b, c) (b', c') r
       (passed_pair (tree_sites b) (step_sites c) k3 k4 j n b b' c c' s u))) in
-      let path : map (within whole) all ≡ sites_behind (Statement.Loop label name a b c) =
+      let path : map (site_within whole) all ≡ sites_behind (Statement.Loop label name a b c) =
       within_pair whole (label_sites label) control label (name, (a, (b, c)))
-      ∙ ap (λ z. map (within (λ l. Statement.Loop l name a b c)) (label_sites label) ++ z)
+      ∙ ap (λ z. map (site_within (λ l. Statement.Loop l name a b c)) (label_sites label) ++ z)
       (within_pair (λ v. whole (label, v)) (name_sites name) parameters name (a, (b, c))
-      ∙ ap (λ z. map (within (λ m. Statement.Loop label m a b c)) (name_sites name) ++ z)
+      ∙ ap (λ z. map (site_within (λ m. Statement.Loop label m a b c)) (name_sites name) ++ z)
       (within_pair (λ v. whole (label, (name, v))) (tree_sites a) ends a (b, c)
-      ∙ ap (λ z. map (within (λ t. Statement.Loop label name t b c)) (tree_sites a) ++ z)
+      ∙ ap (λ z. map (site_within (λ t. Statement.Loop label name t b c)) (tree_sites a) ++ z)
       (within_pair (λ v. whole (label, (name, (a, v)))) (tree_sites b) (step_sites c) b c))) in
       seen_as (Statement.Loop label name a b c) (forms.Loop label' name' first last step) (Statement.Loop label' name' a' b' c')
       (loop_view label' name' first last step)

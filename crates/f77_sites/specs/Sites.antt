@@ -1,5 +1,5 @@
--- The sites of a statement: its nodes in their order, each together with what the statement becomes when another node stands there. A position is
--- a place in this list, from 0.
+-- The sites of a statement: its nodes in their order, each together with what the statement
+-- becomes when another node stands there. A position is a place in this list, from 0.
 use Rattle.std.specs.Prelude.{ℕ, List, [], ◌∷◌, ◌++◌, map, Option, Some, None, slice_get}
 use Rattle.f77_tree.specs.declared.data.Value.{Value}
 use Rattle.f77_nodes.specs.Node.{NodeOf}
@@ -14,8 +14,8 @@ abbrev pub node_at : {X : Type 0} → Site X → NodeOf
 node_at site = site.0
 
 -- a site of a part as one of the whole
-abbrev pub within : {X Y : Type 0} → (X → Y) → Site X → Site Y
-within f site = (site.0, λ node. f (site.1 node))
+abbrev pub site_within : {X Y : Type 0} → (X → Y) → Site X → Site Y
+site_within f site = (site.0, λ node. f (site.1 node))
 
 -- a node in the place of one: it has to be of the same sort, else nothing changes
 abbrev pub part_or : Tree → NodeOf → Tree
@@ -49,7 +49,8 @@ fixed x node = (node, λ other. x)
 -- the sites of each item of a list
 abbrev pub list_sites : {X : Type 0} → (X → List (Site X)) → List X → List (Site (List X))
 list_sites sites [] = []
-list_sites sites (x ∷ xs) = map (within (λ y. y ∷ xs)) (sites x) ++ map (within (λ ys. x ∷ ys)) (list_sites sites xs)
+list_sites sites (x ∷ xs) = map (site_within (λ y. y ∷ xs)) (sites x)
+    ++ map (site_within (λ ys. x ∷ ys)) (list_sites sites xs)
 
 -- an expression before its parts
 abbrev pub part_then : Tree → List (Site Tree) → List (Site Tree)
@@ -60,18 +61,22 @@ abbrev mutual
   pub parts_behind : Tree → List (Site Tree)
   parts_behind (Tree.Number n) = []
   parts_behind (Tree.Truth b) = []
-  parts_behind (Tree.Reference name items) = map (within (Tree.Reference name)) (item_sites items)
-  parts_behind (Tree.Call f items) = map (within (Tree.Call f)) (item_sites items)
-  parts_behind (Tree.Signed sign t) = map (within (Tree.Signed sign)) (part_then t (parts_behind t))
-  parts_behind (Tree.Not t) = map (within Tree.Not) (part_then t (parts_behind t))
+  parts_behind (Tree.Reference name items) =
+      map (site_within (Tree.Reference name)) (item_sites items)
+  parts_behind (Tree.Call f items) = map (site_within (Tree.Call f)) (item_sites items)
+  parts_behind (Tree.Signed sign t) =
+      map (site_within (Tree.Signed sign)) (part_then t (parts_behind t))
+  parts_behind (Tree.Not t) = map (site_within Tree.Not) (part_then t (parts_behind t))
   parts_behind (Tree.Binary op a b) =
-      map (within (λ c. Tree.Binary op c b)) (part_then a (parts_behind a)) ++ map (within (Tree.Binary op a)) (part_then b (parts_behind b))
-  parts_behind (Tree.ZeroPush t) = map (within Tree.ZeroPush) (part_then t (parts_behind t))
+      map (site_within (λ c. Tree.Binary op c b)) (part_then a (parts_behind a))
+      ++ map (site_within (Tree.Binary op a)) (part_then b (parts_behind b))
+  parts_behind (Tree.ZeroPush t) = map (site_within Tree.ZeroPush) (part_then t (parts_behind t))
 
   pub item_sites : Trees → List (Site Trees)
   item_sites Trees.None = []
   item_sites (Trees.Then t ts) =
-      map (within (λ u. Trees.Then u ts)) (part_then t (parts_behind t)) ++ map (within (Trees.Then t)) (item_sites ts)
+      map (site_within (λ u. Trees.Then u ts)) (part_then t (parts_behind t))
+      ++ map (site_within (Trees.Then t)) (item_sites ts)
 
 -- an expression and its parts
 abbrev pub tree_sites : Tree → List (Site Tree)
@@ -79,11 +84,12 @@ tree_sites t = part_then t (parts_behind t)
 
 abbrev pub step_sites : Option Tree → List (Site (Option Tree))
 step_sites None = []
-step_sites (Some t) = map (within Some) (tree_sites t)
+step_sites (Some t) = map (site_within Some) (tree_sites t)
 
 -- the reference that an assignment assigns to, and the parts of its subscripts
 abbrev pub target_sites : List ℕ × Trees → List (Site (List ℕ × Trees))
-target_sites place = (NodeOf.Target place.0 place.1, target_or place) ∷ map (within (λ items. (place.0, items))) (item_sites place.1)
+target_sites place = (NodeOf.Target place.0 place.1, target_or place)
+    ∷ map (site_within (λ items. (place.0, items))) (item_sites place.1)
 
 abbrev pub label_sites : ℕ → List (Site ℕ)
 label_sites label = (NodeOf.Labelled label, label_or label) ∷ []
@@ -98,7 +104,8 @@ value_sites value = (NodeOf.Initial value, value_or value) ∷ []
 abbrev pub group_sites : GroupFields → List (Site GroupFields)
 group_sites group =
     map (λ name. fixed group (NodeOf.Named name)) group.names
-    ++ map (within (λ values. record { names = group.names; values = values })) (list_sites value_sites group.values)
+    ++ map (site_within (λ values. record { names = group.names; values = values }))
+    (list_sites value_sites group.values)
 
 -- a statement before what stands behind it
 abbrev pub statement_then : Statement → List (Site Statement) → List (Site Statement)
@@ -106,32 +113,38 @@ statement_then s rest = (NodeOf.Itself s, statement_or s) ∷ rest
 
 -- the nodes behind a statement's own: dummy arguments and declared names stay
 abbrev pub sites_behind : Statement → List (Site Statement)
-sites_behind (Statement.Subroutine name names) = map (λ n. fixed (Statement.Subroutine name names) (NodeOf.Named n)) names
-sites_behind (Statement.Declare kind ds) = map (λ d. fixed (Statement.Declare kind ds) (NodeOf.Declared d)) ds
-sites_behind (Statement.Dimension ds) = map (λ d. fixed (Statement.Dimension ds) (NodeOf.Declared d)) ds
-sites_behind (Statement.Preset gs) = map (within Statement.Preset) (list_sites group_sites gs)
+sites_behind (Statement.Subroutine name names) =
+    map (λ n. fixed (Statement.Subroutine name names) (NodeOf.Named n)) names
+sites_behind (Statement.Declare kind ds) =
+    map (λ d. fixed (Statement.Declare kind ds) (NodeOf.Declared d)) ds
+sites_behind (Statement.Dimension ds) =
+    map (λ d. fixed (Statement.Dimension ds) (NodeOf.Declared d)) ds
+sites_behind (Statement.Preset gs) = map (site_within Statement.Preset) (list_sites group_sites gs)
 sites_behind (Statement.Assign name items t) =
-    map (within (λ place. Statement.Assign place.0 place.1 t)) (target_sites (name, items)) ++ map (within (Statement.Assign name items)) (tree_sites t)
-sites_behind (Statement.Goto label) = map (within Statement.Goto) (label_sites label)
+    map (site_within (λ place. Statement.Assign place.0 place.1 t)) (target_sites (name, items))
+    ++ map (site_within (Statement.Assign name items)) (tree_sites t)
+sites_behind (Statement.Goto label) = map (site_within Statement.Goto) (label_sites label)
 sites_behind (Statement.ComputedGoto labels t) =
-    map (within (λ ls. Statement.ComputedGoto ls t)) (list_sites label_sites labels) ++ map (within (Statement.ComputedGoto labels)) (tree_sites t)
+    map (site_within (λ ls. Statement.ComputedGoto ls t)) (list_sites label_sites labels)
+    ++ map (site_within (Statement.ComputedGoto labels)) (tree_sites t)
 sites_behind (Statement.ArithIf t l m n) =
-    map (within (λ u. Statement.ArithIf u l m n)) (tree_sites t)
-    ++ (map (within (λ k. Statement.ArithIf t k m n)) (label_sites l)
-    ++ (map (within (λ k. Statement.ArithIf t l k n)) (label_sites m)
-    ++ map (within (Statement.ArithIf t l m)) (label_sites n)))
+    map (site_within (λ u. Statement.ArithIf u l m n)) (tree_sites t)
+    ++ (map (site_within (λ k. Statement.ArithIf t k m n)) (label_sites l)
+    ++ (map (site_within (λ k. Statement.ArithIf t l k n)) (label_sites m)
+    ++ map (site_within (Statement.ArithIf t l m)) (label_sites n)))
 sites_behind (Statement.LogicalIf t s) =
-    map (within (λ u. Statement.LogicalIf u s)) (tree_sites t) ++ map (within (Statement.LogicalIf t)) (statement_then s (sites_behind s))
-sites_behind (Statement.BlockIf t) = map (within Statement.BlockIf) (tree_sites t)
-sites_behind (Statement.ElseIf t) = map (within Statement.ElseIf) (tree_sites t)
+    map (site_within (λ u. Statement.LogicalIf u s)) (tree_sites t)
+    ++ map (site_within (Statement.LogicalIf t)) (statement_then s (sites_behind s))
+sites_behind (Statement.BlockIf t) = map (site_within Statement.BlockIf) (tree_sites t)
+sites_behind (Statement.ElseIf t) = map (site_within Statement.ElseIf) (tree_sites t)
 sites_behind Statement.Else = []
 sites_behind Statement.EndIf = []
 sites_behind (Statement.Loop label name a b c) =
-    map (within (λ l. Statement.Loop l name a b c)) (label_sites label)
-    ++ (map (within (λ n. Statement.Loop label n a b c)) (name_sites name)
-    ++ (map (within (λ u. Statement.Loop label name u b c)) (tree_sites a)
-    ++ (map (within (λ u. Statement.Loop label name a u c)) (tree_sites b)
-    ++ map (within (Statement.Loop label name a b)) (step_sites c))))
+    map (site_within (λ l. Statement.Loop l name a b c)) (label_sites label)
+    ++ (map (site_within (λ n. Statement.Loop label n a b c)) (name_sites name)
+    ++ (map (site_within (λ u. Statement.Loop label name u b c)) (tree_sites a)
+    ++ (map (site_within (λ u. Statement.Loop label name a u c)) (tree_sites b)
+    ++ map (site_within (Statement.Loop label name a b)) (step_sites c))))
 sites_behind Statement.Continue = []
 sites_behind Statement.Return = []
 sites_behind Statement.Stop = []
@@ -143,10 +156,10 @@ abbrev pub sites : Statement → List (Site Statement)
 sites s = statement_then s (sites_behind s)
 
 -- the whole with a node in the place of the one at a site, the whole itself where there is no site
-abbrev pub put : {X : Type 0} → Option (Site X) → NodeOf → X → X
-put None node x = x
-put (Some site) node x = site.1 node
+abbrev pub put_node : {X : Type 0} → Option (Site X) → NodeOf → X → X
+put_node None node x = x
+put_node (Some site) node x = site.1 node
 
 -- the statement with another node at this position
 abbrev pub changed : Statement → ℕ → NodeOf → Statement
-changed s position node = put (slice_get (sites s) position) node s
+changed s position node = put_node (slice_get (sites s) position) node s

@@ -5,7 +5,7 @@ ghost use Rattle.f77_tree.specs.Data.{data_group_of};
 ghost use Rattle.f77_nodes.specs.Node.{node_of};
 ghost use Rattle.f77_tree.specs.Statement.{statement_of, Statement};
 ghost use Rattle.f77_tree.specs.View.{tree_of};
-ghost use Rattle.f77_sites.specs.Changing.{IsPut, Passed, target_of};
+ghost use Rattle.f77_sites.specs.code.Changing.{IsPut, Passed, assigned_reference};
 ghost use Rattle.f77_sites.specs.Sites.{changed, label_sites, list_sites, sites, statement_or};
 
 use crate::changing_data::put_groups;
@@ -124,7 +124,8 @@ fn put_preset(
     number: &mut usize,
     node: Node<'_>,
 ) -> Result<Stmt, AllocError>
-    ensures { IfOk result (λ s. IsPut (Statement.Preset (map data_group_of groups.now)) number.old number.new (node_of node.entry) (statement_of s)) }
+    ensures { IfOk result (λ s. IsPut (Statement.Preset (map data_group_of groups.now)) number.old number.new
+        (node_of node.entry) (statement_of s)) }
 {
     let groups = put_groups(alloc, groups, number, node)?;
     Ok(Stmt::Preset { groups })
@@ -137,7 +138,8 @@ fn put_assignment(
     number: &mut usize,
     node: Node<'_>,
 ) -> Result<Stmt, AllocError>
-    ensures { IfOk result (λ s. IsPut (Statement.Assign (target_of target.now).0 (target_of target.now).1 (tree_of value.now))
+    ensures { IfOk result (λ s. IsPut
+        (Statement.Assign (assigned_reference target.now).0 (assigned_reference target.now).1 (tree_of value.now))
         number.old number.new (node_of node.entry) (statement_of s)) }
 {
     let target = put_target(alloc, target, number, node)?;
@@ -159,7 +161,8 @@ fn put_labels(
     number: &mut usize,
     node: Node<'_>,
 ) -> Result<Vec<u32>, AllocError>
-    ensures { IfOk result (λ new. Passed (list_sites label_sites labels.now) number.old number.new (node_of node.entry) labels.now new.items) }
+    ensures { IfOk result (λ new. Passed (list_sites label_sites labels.now) number.old number.new (node_of node.entry)
+        labels.now new.items) }
 {
     let mut made = Vec::new(alloc);
     for label in labels {
@@ -175,7 +178,8 @@ fn put_computed(
     number: &mut usize,
     node: Node<'_>,
 ) -> Result<Stmt, AllocError>
-    ensures { IfOk result (λ s. IsPut (Statement.ComputedGoto labels.now (tree_of value.now)) number.old number.new (node_of node.entry)
+    ensures { IfOk result
+        (λ s. IsPut (Statement.ComputedGoto labels.now (tree_of value.now)) number.old number.new (node_of node.entry)
         (statement_of s)) }
 {
     let labels = put_labels(alloc, labels, number, node)?;
@@ -192,7 +196,8 @@ fn put_arithmetic(
     number: &mut usize,
     node: Node<'_>,
 ) -> Result<Stmt, AllocError>
-    ensures { IfOk result (λ s. IsPut (Statement.ArithIf (tree_of value.now) negative zero positive) number.old number.new (node_of node.entry)
+    ensures { IfOk result (λ s. IsPut (Statement.ArithIf (tree_of value.now) negative zero positive) number.old
+        number.new (node_of node.entry)
         (statement_of s)) }
 {
     let value = put_expression(alloc, value, number, node)?;
@@ -213,7 +218,8 @@ fn put_block_if(
     number: &mut usize,
     node: Node<'_>,
 ) -> Result<Stmt, AllocError>
-    ensures { IfOk result (λ s. IsPut (Statement.BlockIf (tree_of condition.now)) number.old number.new (node_of node.entry) (statement_of s)) }
+    ensures { IfOk result (λ s. IsPut (Statement.BlockIf (tree_of condition.now)) number.old number.new
+        (node_of node.entry) (statement_of s)) }
 {
     let condition = put_expression(alloc, condition, number, node)?;
     Ok(Stmt::BlockIf { condition })
@@ -225,7 +231,8 @@ fn put_else_if(
     number: &mut usize,
     node: Node<'_>,
 ) -> Result<Stmt, AllocError>
-    ensures { IfOk result (λ s. IsPut (Statement.ElseIf (tree_of condition.now)) number.old number.new (node_of node.entry) (statement_of s)) }
+    ensures { IfOk result (λ s. IsPut (Statement.ElseIf (tree_of condition.now)) number.old number.new
+        (node_of node.entry) (statement_of s)) }
 {
     let condition = put_expression(alloc, condition, number, node)?;
     Ok(Stmt::ElseIf { condition })
@@ -241,7 +248,8 @@ fn put_loop(
     number: &mut usize,
     node: Node<'_>,
 ) -> Result<Stmt, AllocError>
-    ensures { IfOk result (λ s. IsPut (Statement.Loop label variable (tree_of first.now) (tree_of last.now) (option_map tree_of step.now))
+    ensures { IfOk result
+        (λ s. IsPut (Statement.Loop label variable (tree_of first.now) (tree_of last.now) (option_map tree_of step.now))
         number.old number.new (node_of node.entry) (statement_of s)) }
 {
     let label = put_label(label, number, node);

@@ -3,7 +3,7 @@
 ghost use Rattle.std.specs.Prelude.{◌≡◌, IfOk, map};
 ghost use Rattle.f77_tree.specs.Data.{data_group_of};
 ghost use Rattle.f77_nodes.specs.Node.{node_of};
-ghost use Rattle.f77_sites.specs.Changing.{Passed};
+ghost use Rattle.f77_sites.specs.code.Changing.{Passed};
 ghost use Rattle.f77_sites.specs.Sites.{group_sites, list_sites, value_sites};
 
 use crate::changing_node::put_value;
@@ -17,7 +17,8 @@ fn put_values(
     number: &mut usize,
     node: Node<'_>,
 ) -> Result<Vec<Value>, AllocError>
-    ensures { IfOk result (λ new. Passed (list_sites value_sites values.now) number.old number.new (node_of node.entry) values.now new.items) }
+    ensures { IfOk result (λ new. Passed (list_sites value_sites values.now) number.old number.new (node_of node.entry)
+        values.now new.items) }
 {
     let mut made = Vec::new(alloc);
     for value in values {
@@ -32,7 +33,8 @@ fn put_group(
     number: &mut usize,
     node: Node<'_>,
 ) -> Result<DataGroup, AllocError>
-    ensures { IfOk result (λ new. Passed (group_sites (data_group_of group.now)) number.old number.new (node_of node.entry)
+    ensures { IfOk result
+        (λ new. Passed (group_sites (data_group_of group.now)) number.old number.new (node_of node.entry)
         (data_group_of group.now) (data_group_of new)) }
 {
     *number = number.saturating_sub(group.names.len());
@@ -48,7 +50,8 @@ pub fn put_groups(
     number: &mut usize,
     node: Node<'_>,
 ) -> Result<Vec<DataGroup>, AllocError>
-    ensures { IfOk result (λ new. Passed (list_sites group_sites (map data_group_of groups.now)) number.old number.new (node_of node.entry)
+    ensures { IfOk result (λ new. Passed (list_sites group_sites (map data_group_of groups.now)) number.old number.new
+        (node_of node.entry)
         (map data_group_of groups.now) (map data_group_of new.items)) }
 {
     let mut made = Vec::new(alloc);

@@ -3,7 +3,7 @@
 ghost use Rattle.std.specs.Prelude.{◌≡◌, IfOk, map, option_map};
 ghost use Rattle.f77_nodes.specs.Node.{node_of};
 ghost use Rattle.f77_tree.specs.View.{tree_of, trees};
-ghost use Rattle.f77_sites.specs.Changing.{Passed, target_of};
+ghost use Rattle.f77_sites.specs.code.Changing.{Passed, assigned_reference};
 ghost use Rattle.f77_sites.specs.Sites.{item_sites, step_sites, target_sites, tree_sites};
 
 use crate::changing_node::is_next;
@@ -11,7 +11,8 @@ use f77_nodes::Node;
 use f77_tree::{Expr, Ref};
 use std::alloc::{AllocError, Global};
 
-/// The expression with this node in the place of the one with this number, from 1. The number falls by the nodes that were passed.
+/// The expression with this node in the place of the one with this
+/// number, from 1. The number falls by the nodes that were passed.
 #[cycle(put)]
 pub fn put_expression(
     alloc: Global,
@@ -19,7 +20,8 @@ pub fn put_expression(
     number: &mut usize,
     node: Node<'_>,
 ) -> Result<Expr, AllocError>
-    ensures { IfOk result (λ e. Passed (tree_sites (tree_of expr.now)) number.old number.new (node_of node.entry) (tree_of expr.now) (tree_of e)) }
+    ensures { IfOk result (λ e. Passed (tree_sites (tree_of expr.now)) number.old number.new (node_of node.entry)
+        (tree_of expr.now) (tree_of e)) }
 {
     if is_next(number) {
         return match node {
@@ -58,7 +60,8 @@ fn put_boxed(
     number: &mut usize,
     node: Node<'_>,
 ) -> Result<Box<Expr>, AllocError>
-    ensures { IfOk result (λ boxed. Passed (tree_sites (tree_of expr.now.value)) number.old number.new (node_of node.entry)
+    ensures { IfOk result
+        (λ boxed. Passed (tree_sites (tree_of expr.now.value)) number.old number.new (node_of node.entry)
         (tree_of expr.now.value) (tree_of boxed.value)) }
 {
     let new = put_expression(alloc, expr, number, node)?;
@@ -72,7 +75,8 @@ fn put_items(
     number: &mut usize,
     node: Node<'_>,
 ) -> Result<Vec<Expr>, AllocError>
-    ensures { IfOk result (λ new. Passed (item_sites (trees (map tree_of items.now))) number.old number.new (node_of node.entry)
+    ensures { IfOk result
+        (λ new. Passed (item_sites (trees (map tree_of items.now))) number.old number.new (node_of node.entry)
         (trees (map tree_of items.now)) (trees (map tree_of new.items))) }
 {
     let mut made = Vec::new(alloc);
@@ -90,7 +94,8 @@ pub fn put_step(
     number: &mut usize,
     node: Node<'_>,
 ) -> Result<Option<Expr>, AllocError>
-    ensures { IfOk result (λ new. Passed (step_sites (option_map tree_of step.now)) number.old number.new (node_of node.entry)
+    ensures { IfOk result
+        (λ new. Passed (step_sites (option_map tree_of step.now)) number.old number.new (node_of node.entry)
         (option_map tree_of step.now) (option_map tree_of new)) }
 {
     match step {
@@ -106,8 +111,9 @@ pub fn put_target(
     number: &mut usize,
     node: Node<'_>,
 ) -> Result<Ref, AllocError>
-    ensures { IfOk result (λ new. Passed (target_sites (target_of target.now)) number.old number.new (node_of node.entry)
-        (target_of target.now) (target_of new)) }
+    ensures { IfOk result
+        (λ new. Passed (target_sites (assigned_reference target.now)) number.old number.new (node_of node.entry)
+        (assigned_reference target.now) (assigned_reference new)) }
 {
     if is_next(number) {
         return match node {

@@ -2,7 +2,7 @@
 
 ghost use Rattle.std.specs.Prelude.{◌≡◌, ◌-◌, ◌↔◌, IsTrue};
 ghost use Rattle.f77_nodes.specs.Node.{node_of};
-ghost use Rattle.f77_sites.specs.Changing.{Passed};
+ghost use Rattle.f77_sites.specs.code.Changing.{Passed};
 ghost use Rattle.f77_sites.specs.Sites as model;
 
 use f77_nodes::Node;

@@ -1,5 +1,6 @@
 -- Columns read one after another: the number of a label, and the text of a statement.
-use Rattle.std.proofs.Common.{refl, ◌≡◌, ℕ, ◌+◌, ◌-◌, ◌*◌, ◌^◌, ◌<◌, ◌≤◌, Bool, true, false, not, List, [], ◌∷◌, ◌++◌, length, get_or, take, drop, map, filter, append_assoc, length-drop, arith, lit<, ap, ◌∙◌, append-nil}
+use Rattle.std.proofs.Common.{refl, ◌≡◌, ℕ, ◌+◌, ◌-◌, ◌*◌, ◌^◌, ◌<◌, ◌≤◌, Bool, true, false, not, List, [], ◌∷◌, ◌++◌, length}
+use Rattle.std.proofs.Common.{get_or, take, drop, map, filter, append_assoc, length-drop, arith, lit<, ap, ◌∙◌, append-nil}
 use Rattle.std.proofs.lemmas.List.{map-append}
 use Rattle.std.proofs.lemmas.Str.Ascii.{encode_ascii, uppercase_ascii}
 use Rattle.std.specs.List.{list_all, list_any}

@@ -5,10 +5,11 @@ use Rattle.std.proofs.lemmas.List.Elements.{All-head, All-tail}
 use Rattle.std.proofs.lemmas.Bool.Decides.{nat_tests}
 use Rattle.f77_source.specs.declared.line.LineKind.{LineKind}
 use Rattle.f77_source.specs.declared.line.LineKind.TheVariants.{Comment, Initial, Continuation}
-use Rattle.f77_source.specs.Card.{CardFields, extended}
+use Rattle.f77_source.specs.Card.{CardFields}
+use Rattle.f77_source.specs.code.Card.{extended}
 use Rattle.f77_source.specs.Line.{kind, own_fault}
 use Rattle.f77_source.specs.Read.{AreCards, no_lines, comment, statement, MayGoOn, is_initial, continuations}
-use Rattle.f77_source.specs.Reader.{Progress, all_cards, initial_card}
+use Rattle.f77_source.specs.code.Reader.{Progress, all_cards, initial_card}
 use Rattle.f77_source.proofs.Faults.{no_own_fault, comment_has_no_fault}
 use Rattle.f77_source.proofs.Runs.{taken_by, run}
 use Rattle.f77_source.proofs.Statements.{with_following}

@@ -1,5 +1,6 @@
 -- The first fault of the lines, and where the reader's run stops.
-use Rattle.std.proofs.Common.{◌≡◌, ℕ, zero, suc, ◌+◌, ◌<◌, ◌==◌, ◌||◌, not, List, [], ◌∷◌, ◌++◌, Option, Some, None, Result, Ok, Err, Bool, true, false, cond, ltb, refl, ap, ◌∙◌, sym, subst, length, get_or, take, reverse, append_assoc, append-nil, arith}
+use Rattle.std.proofs.Common.{◌≡◌, ℕ, zero, suc, ◌+◌, ◌<◌, ◌==◌, ◌||◌, not, List, [], ◌∷◌, ◌++◌, Option, Some, None, Result, Ok, Err, Bool}
+use Rattle.std.proofs.Common.{true, false, cond, ltb, refl, ap, ◌∙◌, sym, subst, length, get_or, take, reverse, append_assoc, append-nil, arith}
 use Rattle.std.specs.Option.{is_some, IfSome}
 use Rattle.std.specs.List.{list_any, take_while}
 use Rattle.std.proofs.lemmas.List.{reverse-append}
@@ -9,10 +10,11 @@ use Rattle.f77_source.specs.declared.fault.FormFault.{FormFault}
 use Rattle.f77_source.specs.declared.fault.FormFault.TheVariants.{TooManyContinuations}
 use Rattle.f77_source.specs.declared.line.LineKind.{LineKind}
 use Rattle.f77_source.specs.declared.line.LineKind.TheVariants.{Comment, Initial, Continuation}
-use Rattle.f77_source.specs.Card.{CardFields, extended}
+use Rattle.f77_source.specs.Card.{CardFields}
+use Rattle.f77_source.specs.code.Card.{extended}
 use Rattle.f77_source.specs.Line.{kind, own_fault}
-use Rattle.f77_source.specs.Read.{is_initial, is_initial_kind, continuations, since_initial, place_fault, line_fault, fault_at, IsFirstFault}
-use Rattle.f77_source.specs.Reader.{Progress, taken, current_gone_on}
+use Rattle.f77_source.specs.Read.{is_initial, is_initial_kind, continuations, since_initial, place_fault, line_fault, fault_of_card, IsFirstFormFault}
+use Rattle.f77_source.specs.code.Reader.{Progress, taken, current_gone_on}
 use Rattle.f77_source.proofs.Runs as runs
 use Rattle.f77_source.proofs.Runs.{Took, took, and_then, run}
 
@@ -169,10 +171,10 @@ ran (line ∷ lines) before n p m =
     ran_step before n line lines (λ q mq. ran lines (before ++ line ∷ []) (n + 1) q mq) (taken n line p) (step before n line p m)
 
 -- two first faults are one
-same_index : (all : List (List ℕ)) (f g : FormFault) (a : IsFirstFault all f) (b : IsFirstFault all g) → a.index < b.index → f ≡ g
+same_index : (all : List (List ℕ)) (f g : FormFault) (a : IsFirstFormFault all f) (b : IsFirstFormFault all g) → a.index < b.index → f ≡ g
 same_index all f g a b h = let none = b.first a.index h in let found = a.found in cc
 
-pub one_first : (all : List (List ℕ)) (f g : FormFault) → IsFirstFault all f → IsFirstFault all g → f ≡ g
+pub one_first : (all : List (List ℕ)) (f g : FormFault) → IsFirstFormFault all f → IsFirstFormFault all g → f ≡ g
 one_first all f g a b = by_order (ltb a.index b.index) refl (ltb b.index a.index) refl
   where
     by_order : (x : Bool) → ltb a.index b.index ≡ x → (y : Bool) → ltb b.index a.index ≡ y → f ≡ g
@@ -180,10 +182,10 @@ one_first all f g a b = by_order (ltb a.index b.index) refl (ltb b.index a.index
     by_order false is true other = sym (same_index all g f b a (grind (arith, nat_tests)))
     by_order false is false other =
         let e : a.index ≡ b.index = grind (arith, nat_tests) in
-        let s : Some f ≡ Some g = sym a.found ∙ ap (fault_at all) e ∙ b.found in cc
+        let s : Some f ≡ Some g = sym a.found ∙ ap (fault_of_card all) e ∙ b.found in cc
 
 -- in the words of the definition
-pub first_fault : (all : List (List ℕ)) (f : FormFault) → FirstFault [] 1 all f → IsFirstFault all f
+pub first_fault : (all : List (List ℕ)) (f : FormFault) → FirstFault [] 1 all f → IsFirstFormFault all f
 first_fault all f h = record {
   index = h.index;
   within = h.within;
@@ -191,7 +193,7 @@ first_fault all f h = record {
   first = λ i l. same_fault _ _ _ _ (get_or all i []) refl (omega arith) ∙ h.first i l;
 }
 
-pub no_first_fault : (all : List (List ℕ)) (f : FormFault) → NoFault [] 1 all → IsFirstFault all f → ⊥
+pub no_first_fault : (all : List (List ℕ)) (f : FormFault) → NoFault [] 1 all → IsFirstFormFault all f → ⊥
 no_first_fault all f none h =
     let found = h.found in
-    let is : fault_at all h.index ≡ None = same_fault _ _ _ _ (get_or all h.index []) refl (omega arith) ∙ none h.index h.within in cc
+    let is : fault_of_card all h.index ≡ None = same_fault _ _ _ _ (get_or all h.index []) refl (omega arith) ∙ none h.index h.within in cc

@@ -7,8 +7,8 @@ use Rattle.f77_source.specs.declared.fault.FormFault.TheVariants.{Memory, TooLar
 use Rattle.f77_source.specs.Card.{CardFields}
 use Rattle.f77_source.specs.Line.{kind, is_comment, own_fault, has_foreign, has_tab, fits_label_field}
 use Rattle.f77_source.specs.Law.{HasCardsOrFault}
-use Rattle.f77_source.specs.Read.{lines, AreCards, IsFirstFault, IsRefusedBy, is_continuation, is_initial, continuations, since_initial, place_fault, line_fault}
-use Rattle.f77_source.specs.Reader.{Progress, nothing_read, all_cards, Steps}
+use Rattle.f77_source.specs.Read.{lines, AreCards, IsFirstFormFault, IsRefusedBy, is_continuation, is_initial, continuations, since_initial, place_fault, line_fault}
+use Rattle.f77_source.specs.code.Reader.{Progress, nothing_read, all_cards, Steps}
 use Rattle.f77_source.proofs.Runs.{run}
 use Rattle.f77_source.proofs.Statements as statements
 use Rattle.f77_source.proofs.Completeness.{complete}
@@ -48,12 +48,12 @@ line_fault_of_a_line before n line f e = by_own (own_fault n line) refl e
 abbrev pub Stopped : List ℕ → FormFault → Type 0
 Stopped source fault = (fault ≡ Memory) ⊎ (run 1 nothing_read (lines source) ≡ Err fault)
 
-first_of : (source : List ℕ) (fault : FormFault) → run 1 nothing_read (lines source) ≡ Err fault → IsFirstFault (lines source) fault
+first_of : (source : List ℕ) (fault : FormFault) → run 1 nothing_read (lines source) ≡ Err fault → IsFirstFormFault (lines source) fault
 first_of source fault e =
     first_fault (lines source) fault
     (subst (λ r. Ran [] 1 (lines source) r) (e) (ran (lines source) [] 1 nothing_read record { begun = refl; count = tt }))
 
-refused_by : (source : List ℕ) (fault : FormFault) → length source ≤ 65536 → IsFirstFault (lines source) fault → of_a_line fault ≡ true → IsRefusedBy source fault
+refused_by : (source : List ℕ) (fault : FormFault) → length source ≤ 65536 → IsFirstFormFault (lines source) fault → of_a_line fault ≡ true → IsRefusedBy source fault
 refused_by source Memory h first e = tt
 refused_by source TooLarge h first e = cc
 refused_by source (NotAscii n) h first e = (h, first)
@@ -74,7 +74,7 @@ stopped_accepts source fault cards (inr e) h =
     let done = complete 1 (lines source) cards h nothing_read in
     let is = done.1 in cc
 
-pub stopped_first : (source : List ℕ) (fault other : FormFault) → Stopped source fault → IsFirstFault (lines source) other → (fault ≡ other) ⊎ (fault ≡ Memory)
+pub stopped_first : (source : List ℕ) (fault other : FormFault) → Stopped source fault → IsFirstFormFault (lines source) other → (fault ≡ other) ⊎ (fault ≡ Memory)
 stopped_first source fault other (inl e) h = inr e
 stopped_first source fault other (inr e) h = inl (one_first (lines source) fault other (first_of source fault e) h)
 
@@ -90,7 +90,7 @@ read_accepts source q cards e h =
     let same : q ≡ done.0 = (let is = done.1 in cc) in
     ap all_cards same ∙ done.2
 
-pub read_no_fault : (source : List ℕ) (q : Progress) (fault : FormFault) → run 1 nothing_read (lines source) ≡ Ok q → IsFirstFault (lines source) fault → ⊥
+pub read_no_fault : (source : List ℕ) (q : Progress) (fault : FormFault) → run 1 nothing_read (lines source) ≡ Ok q → IsFirstFormFault (lines source) fault → ⊥
 read_no_fault source q fault e h =
     no_first_fault (lines source) fault
     (subst (λ r. Ran [] 1 (lines source) r) (e) (ran (lines source) [] 1 nothing_read record { begun = refl; count = tt })) h
@@ -115,10 +115,10 @@ one_list source cards others are also =
     let same : one.0 ≡ two.0 = (let a = one.1 in let b = two.1 in cc) in
     sym one.2 ∙ ap all_cards same ∙ two.2
 
-pub one_first_fault : (source : List ℕ) (fault other : FormFault) → IsFirstFault (lines source) fault → IsFirstFault (lines source) other → fault ≡ other
+pub one_first_fault : (source : List ℕ) (fault other : FormFault) → IsFirstFormFault (lines source) fault → IsFirstFormFault (lines source) other → fault ≡ other
 one_first_fault source fault other = one_first (lines source) fault other
 
-pub cards_or_fault : (source : List ℕ) (cards : List CardFields) (fault : FormFault) → AreCards 1 (lines source) cards → IsFirstFault (lines source) fault → ⊥
+pub cards_or_fault : (source : List ℕ) (cards : List CardFields) (fault : FormFault) → AreCards 1 (lines source) cards → IsFirstFormFault (lines source) fault → ⊥
 cards_or_fault source cards fault are first =
     let one = complete 1 (lines source) cards are nothing_read in
     read_no_fault source one.0 fault one.1 first

@@ -1,5 +1,6 @@
 -- The parts of a written card.
-use Rattle.std.proofs.Common.{◌≡◌, ℕ, zero, suc, ◌+◌, ◌-◌, ◌*◌, ◌<◌, ◌≤◌, min, List, [], ◌∷◌, ◌++◌, length, get_or, take, drop, replicate, refl, ap, ◌∙◌, arith, add-one, length-drop, append-nil, Option, Some, None, Bool, true, false, cond, not, nat_lt}
+use Rattle.std.proofs.Common.{◌≡◌, ℕ, zero, suc, ◌+◌, ◌-◌, ◌*◌, ◌<◌, ◌≤◌, min, List, [], ◌∷◌, ◌++◌, length, get_or, take, drop, replicate}
+use Rattle.std.proofs.Common.{refl, ap, ◌∙◌, arith, add-one, length-drop, append-nil, Option, Some, None, Bool, true, false, cond, not, nat_lt}
 use Rattle.std.proofs.lemmas.Bool.Decides.{nat_tests}
 use Rattle.std.specs.List.{repeat, flat_map, range_with_len, slice_range}
 use lib.Utf8.{encode}

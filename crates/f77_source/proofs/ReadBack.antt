@@ -1,5 +1,6 @@
 -- Written cards are read again.
-use Rattle.std.proofs.Common.{◌≡◌, ℕ, zero, suc, ◌+◌, ◌-◌, ◌*◌, ◌/◌, ◌≤◌, ◌==◌, ◌&&◌, ◌||◌, not, cond, nat_lt, Bool, true, false, List, [], ◌∷◌, ◌++◌, length, get_or, take, drop, map, filter, Option, Some, None, refl, ap, ◌∙◌, sym, arith, append_assoc, take_all, length-append}
+use Rattle.std.proofs.Common.{◌≡◌, ℕ, zero, suc, ◌+◌, ◌-◌, ◌*◌, ◌/◌, ◌≤◌, ◌==◌, ◌&&◌, ◌||◌, not, cond, nat_lt, Bool, true, false, List, [], ◌∷◌, ◌++◌}
+use Rattle.std.proofs.Common.{length, get_or, take, drop, map, filter, Option, Some, None, refl, ap, ◌∙◌, sym, arith, append_assoc, take_all, length-append}
 use Rattle.std.specs.List.{All, list_all, flat_map, range_with_len, slice_split}
 use Rattle.std.specs.Option.{is_some}
 use Rattle.std.specs.Char.{to_ascii_uppercase}
@@ -22,7 +23,8 @@ use Rattle.f77_source.specs.Law.{squeezed, HasInitialLine, IsReadAs}
 use Rattle.f77_source.specs.declared.line.LineKind.TheVariants.{Initial, Continuation}
 use Rattle.f77_source.proofs.Pieces.{Writable, writable, no_fault_at}
 use Rattle.f77_source.proofs.Cuts.{terminated_more, parts_some, no_lines_left}
-use Rattle.f77_source.proofs.LabelTexts.{printable_at, printable_clean, label_text_length, label_text_blank, label_text_characters, label_text_printable, label_text_number, label_above_zero, label_character_at}
+use Rattle.f77_source.proofs.LabelTexts.{printable_at, printable_clean, label_text_length, label_text_blank, label_text_characters}
+use Rattle.f77_source.proofs.LabelTexts.{label_text_printable, label_text_number, label_above_zero, label_character_at}
 use Rattle.std.proofs.lemmas.List.{get_or_past, get_or_at, get_or_append_left}
 use Rattle.std.proofs.lemmas.List.Elements.{All-from_get_or}
 
@@ -302,5 +304,9 @@ read_all (card ∷ cards) n all =
 
 pub read_back : (cards : List CardFields) → card_faults cards ≡ [] → All HasInitialLine cards → IsReadAs (written cards) cards
 read_back cards none initial =
-    let h = read_all cards 1 (λ k d l. record { written = writable (get_or cards k d) (no_fault_at cards k (get_or cards k d) none l (get_or_default cards k d (get_or cards k d) l)); seen = initial k d l }) in
+    let h = read_all cards 1 (λ k d l. record {
+      written = writable (get_or cards k d)
+          (no_fault_at cards k (get_or cards k d) none l (get_or_default cards k d (get_or cards k d) l));
+      seen = initial k d l;
+    }) in
     record { read = h.read; are = h.are; labels = h.labels; texts = h.texts }

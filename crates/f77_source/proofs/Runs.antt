@@ -4,13 +4,13 @@ use Rattle.f77_source.specs.declared.fault.FormFault.{FormFault}
 use Rattle.f77_source.specs.declared.line.LineKind.{LineKind}
 use Rattle.f77_source.specs.declared.line.LineKind.TheVariants.{Comment, Initial, Continuation}
 use Rattle.f77_source.specs.Line.{kind, own_fault}
-use Rattle.f77_source.specs.Reader.{Progress, taken, taken_by_kind, begun, gone_on}
+use Rattle.f77_source.specs.code.Reader.{Progress, taken, taken_by_kind, card_begun, gone_on}
 
 -- what one line can do
 pub data Took (n : ℕ) (line : List ℕ) (p : Progress) : Result Progress FormFault → Type 0 where
   faulty : (fault : FormFault) → own_fault n line ≡ Some fault → Took n line p (Err fault)
   comment : own_fault n line ≡ None → kind line ≡ Comment → Took n line p (Ok p)
-  initial : own_fault n line ≡ None → kind line ≡ Initial → Took n line p (Ok (begun n line p))
+  initial : own_fault n line ≡ None → kind line ≡ Initial → Took n line p (Ok (card_begun n line p))
   continuation : own_fault n line ≡ None → kind line ≡ Continuation → Took n line p (gone_on n line p)
 
 -- a line with no fault of its own goes by its kind

@@ -1,15 +1,17 @@
 -- From the reader's run to the cards of the lines, and back.
-use Rattle.std.proofs.Common.{◌≡◌, ℕ, ◌+◌, ◌≤◌, ◌==◌, List, [], ◌∷◌, ◌++◌, Option, Some, None, Result, Ok, Err, Bool, true, false, cond, refl, ap, ◌∙◌, sym, subst, length, append_assoc, append-nil, arith}
+use Rattle.std.proofs.Common.{◌≡◌, ℕ, ◌+◌, ◌≤◌, ◌==◌, List, [], ◌∷◌, ◌++◌, Option, Some, None, Result, Ok, Err, Bool}
+use Rattle.std.proofs.Common.{true, false, cond, refl, ap, ◌∙◌, sym, subst, length, append_assoc, append-nil, arith}
 use Rattle.std.specs.List.{All, flat_map}
 use Rattle.std.proofs.lemmas.List.Elements.{All-cons, All-nil}
 use Rattle.f77_source.specs.declared.fault.FormFault.{FormFault}
 use Rattle.f77_source.specs.declared.fault.FormFault.TheVariants.{TooManyContinuations}
 use Rattle.std.proofs.lemmas.Bool.Decides.{nat_tests}
 use Rattle.f77_source.specs.declared.line.LineKind.TheVariants.{Comment, Initial, Continuation}
-use Rattle.f77_source.specs.Card.{CardFields, extended}
+use Rattle.f77_source.specs.Card.{CardFields}
+use Rattle.f77_source.specs.code.Card.{extended}
 use Rattle.f77_source.specs.Line.{kind, line_part, own_fault}
 use Rattle.f77_source.specs.Read.{AreCards, no_lines, comment, statement, MayGoOn, statement_card, continuations}
-use Rattle.f77_source.specs.Reader.{Progress, taken, begun, current_gone_on, all_cards, current_card, initial_card}
+use Rattle.f77_source.specs.code.Reader.{Progress, taken, card_begun, current_gone_on, all_cards, current_card, initial_card}
 use Rattle.f77_source.proofs.Faults.{well_formed}
 use Rattle.f77_source.proofs.Runs as runs
 use Rattle.f77_source.proofs.Runs.{Took, took, and_then, run}
@@ -107,7 +109,7 @@ sound_step lines ih line n p q within e = by_took (taken n line p) (took n line 
         let h = ih (n + 1) p q within e in
         (h.0, comment_rest n line p.current lines h.0 none is h.1, h.2)
     by_took r (runs.initial none is) e =
-        let h = ih (n + 1) (begun n line p) q (omega arith) e in (
+        let h = ih (n + 1) (card_begun n line p) q (omega arith) e in (
           current_card p.current ++ h.0,
           initial_rest n line p.current lines h.0 within (opened n line lines h.0 none is h.1),
           h.2 ∙ append_assoc p.cards (current_card p.current) h.0,

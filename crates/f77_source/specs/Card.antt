@@ -1,18 +1,13 @@
 -- A statement as it stands on its lines (ANSI X3.9-1978, 3.2 to 3.4).
-use Rattle.std.specs.Prelude.{ℕ, ◌==◌, nat_eq, List, ◌++◌, Option, Bool, ◌&&◌}
+use Rattle.std.specs.Prelude.{ℕ, ◌==◌, nat_eq, List, Option, Bool, ◌&&◌}
 use Rattle.std.specs.Option.{option_eq}
 use Rattle.std.specs.Str.{bytes_eq}
-use Rattle.f77_source.specs.Line.{line_part}
 
 -- the label where there is one, the text in codes of characters, and the number of the initial line
 pub record CardFields : Type 0 where
   pub label : Option ℕ
   pub text : List ℕ
   pub line : ℕ
-
--- the card with one more line of text
-abbrev pub extended : List ℕ → CardFields → CardFields
-extended line card = record card { text = card.text ++ line_part line }
 
 -- one label or none at both, one text and one line
 abbrev pub same_card : CardFields → CardFields → Bool

@@ -4,7 +4,7 @@ use Rattle.std.specs.List.{list_all}
 use Rattle.std.specs.Char.{to_ascii_uppercase}
 use Rattle.f77_source.specs.Card.{CardFields}
 use Rattle.f77_source.specs.Line.{is_blank}
-use Rattle.f77_source.specs.Read.{AreCards, IsFirstFault, lines}
+use Rattle.f77_source.specs.Read.{AreCards, IsFirstFormFault, lines}
 use Rattle.f77_source.specs.declared.fault.FormFault.{FormFault}
 use Rattle.f77_source.specs.Write.{piece}
 
@@ -26,4 +26,5 @@ pub record IsReadAs (source : List ℕ) (cards : List CardFields) : Type 0 where
 -- the lines of the source are cards, or one of them is the first that breaks the form
 abbrev pub HasCardsOrFault : List ℕ → Type 0
 HasCardsOrFault source =
-    ((cards : List CardFields) × AreCards 1 (lines source) cards) ⊎ ((fault : FormFault) × IsFirstFault (lines source) fault)
+    ((cards : List CardFields) × AreCards 1 (lines source) cards)
+    ⊎ ((fault : FormFault) × IsFirstFormFault (lines source) fault)

@@ -1,5 +1,5 @@
--- One line of a source (ANSI X3.9-1978, 3.2): its columns, its kind, its label and its part of a statement.
--- Columns are numbered from 1. Those from 73 on do not count.
+-- One line of a source (ANSI X3.9-1978, 3.2): its columns, its kind, its label and its
+-- part of a statement. Columns are numbered from 1. Those from 73 on do not count.
 use Rattle.std.specs.Prelude.{ℕ, ◌-◌, ◌==◌, ◌&&◌, ◌||◌, not, Bool, true, if◌then◌else◌}
 use Rattle.std.specs.Prelude.{List, take, drop, map, filter, Option, Some, None, slice_index_or}
 use Rattle.std.specs.List.{list_all, list_any}
@@ -31,7 +31,8 @@ column line n = slice_index_or line (n - 1) 32
 
 -- C or * in column 1, or only blanks
 unfoldable pub is_comment : List ℕ → Bool
-is_comment line = (column line 1 == 67) || (column line 1 == 99) || (column line 1 == 42) || list_all is_blank (counted line)
+is_comment line = (column line 1 == 67)
+    || (column line 1 == 99) || (column line 1 == 42) || list_all is_blank (counted line)
 
 -- a line that is no comment has a continuation mark where column 6 holds neither a blank nor 0
 unfoldable pub kind : List ℕ → LineKind
@@ -50,7 +51,8 @@ label line = if list_all is_blank (label_field line) then None else Some (field_
 abbrev pub is_label_character : ℕ → Bool
 is_label_character c = is_ascii_digit c || is_blank c
 
--- columns 1 to 5 of an initial line hold only digits and blanks, and where there are digits one is not zero
+-- columns 1 to 5 of an initial line hold only digits and
+-- blanks, and where there are digits one is not zero
 unfoldable pub is_label_field : List ℕ → Bool
 is_label_field line =
     list_all is_label_character (label_field line)
@@ -78,7 +80,8 @@ fits_label_field Comment line = true
 
 -- a comment is not looked at further
 unfoldable pub is_well_formed : List ℕ → Bool
-is_well_formed line = is_comment line || not (has_foreign line) && not (has_tab line) && fits_label_field (kind line) line
+is_well_formed line = is_comment line
+    || not (has_foreign line) && not (has_tab line) && fits_label_field (kind line) line
 
 -- what is wrong with line number n by itself
 unfoldable pub own_fault : ℕ → List ℕ → Option FormFault

@@ -1,14 +1,15 @@
--- Fixed source form (ANSI X3.9-1978, 3.2 and 3.3): which cards the lines of a source are, and which line is the
--- first that breaks the form.
-use Rattle.std.specs.Prelude.{◌≡◌, ℕ, ◌+◌, ◌<◌, ◌≤◌, ◌==◌, not, Bool, true, false, if◌then◌else◌}
-use Rattle.std.specs.Prelude.{List, [], ◌∷◌, ◌++◌, map, filter, take, reverse, length, Option, Some, None, slice_index_or}
+-- Fixed source form (ANSI X3.9-1978, 3.2 and 3.3): which cards the lines
+-- of a source are, and which line is the first that breaks the form.
+use Rattle.std.specs.Prelude.{◌≡◌, ℕ, ◌+◌, ◌<◌, ◌≤◌, ◌==◌, not, Bool, true, false, if◌then◌else◌, List, [], ◌∷◌}
+use Rattle.std.specs.Prelude.{◌++◌, map, filter, take, reverse, length, Option, Some, None, slice_index_or}
 use Rattle.std.specs.List.{All, list_any, flat_map, slice_split, take_while}
 use Rattle.std.specs.Option.{option_or}
 use Rattle.std.specs.Str.Lines.{strip_carriage_return}
 use Rattle.f77_source.specs.Card.{CardFields}
 use Rattle.f77_source.specs.Line.{kind, label, line_part, is_well_formed, own_fault}
 use Rattle.f77_source.specs.declared.fault.FormFault.{FormFault}
-use Rattle.f77_source.specs.declared.fault.FormFault.TheVariants.{Memory, TooLarge, LooseContinuation, TooManyContinuations}
+use Rattle.f77_source.specs.declared.fault.FormFault.TheVariants.{Memory, TooLarge, LooseContinuation}
+use Rattle.f77_source.specs.declared.fault.FormFault.TheVariants.{TooManyContinuations}
 use Rattle.f77_source.specs.declared.line.LineKind.{LineKind}
 use Rattle.f77_source.specs.declared.line.LineKind.TheVariants.{Comment, Initial, Continuation}
 
@@ -48,7 +49,8 @@ continuations lines = filter is_continuation lines
 abbrev pub MayGoOn : List ℕ → Type 0
 MayGoOn line = (is_initial line ≡ false) × (is_well_formed line ≡ true)
 
--- the card of the statement whose initial line is number n, with the lines that follow that line in it
+-- the card of the statement whose initial line is
+-- number n, with the lines that follow that line in it
 abbrev pub statement_card : ℕ → List ℕ → List (List ℕ) → CardFields
 statement_card n initial following = record {
   label = label initial;
@@ -56,13 +58,15 @@ statement_card n initial following = record {
   line = n;
 }
 
--- The lines from number n on are these cards: comments and statements. A statement is an initial line with its
--- continuation lines, of which there are at most 19, and the comments among them.
+-- The lines from number n on are these cards: comments and statements. A statement is an initial
+-- line with its continuation lines, of which there are at most 19, and the comments among them.
 pub data AreCards : ℕ → List (List ℕ) → List CardFields → Type 0 where
   no_lines : {n : ℕ} → AreCards n [] []
-  comment : {n : ℕ} {line : List ℕ} {rest : List (List ℕ)} {cards : List CardFields} → kind line ≡ Comment
+  comment : {n : ℕ} {line : List ℕ} {rest : List (List ℕ)} {cards : List CardFields}
+      → kind line ≡ Comment
       → AreCards (n + 1) rest cards → AreCards n (line ∷ rest) cards
-  statement : {n : ℕ} {initial : List ℕ} (following : List (List ℕ)) {rest : List (List ℕ)} {cards : List CardFields}
+  statement : {n : ℕ} {initial : List ℕ} (following : List (List ℕ)) {rest : List (List ℕ)}
+      {cards : List CardFields}
       → is_initial initial ≡ true → is_well_formed initial ≡ true
       → All MayGoOn following → length (continuations following) ≤ 19
       → AreCards (n + 1 + length following) rest cards
@@ -81,21 +85,22 @@ place_fault before n =
 
 -- what is wrong with line number n behind these lines
 unfoldable pub line_fault : List (List ℕ) → ℕ → List ℕ → Option FormFault
-line_fault before n line = option_or (own_fault n line) (if is_continuation line then place_fault before n else None)
+line_fault before n line =
+    option_or (own_fault n line) (if is_continuation line then place_fault before n else None)
 
 -- what is wrong with the line at this index, and so its number is one more
-abbrev pub fault_at : List (List ℕ) → ℕ → Option FormFault
-fault_at all i = line_fault (take i all) (i + 1) (slice_index_or all i [])
+abbrev pub fault_of_card : List (List ℕ) → ℕ → Option FormFault
+fault_of_card all i = line_fault (take i all) (i + 1) (slice_index_or all i [])
 
 -- the fault of one line, and none before it has one
-pub record IsFirstFault (all : List (List ℕ)) (fault : FormFault) : Type 0 where
+pub record IsFirstFormFault (all : List (List ℕ)) (fault : FormFault) : Type 0 where
   pub index : ℕ
   pub within : index < length all
-  pub found : fault_at all index ≡ Some fault
-  pub first : (i : ℕ) → i < index → fault_at all i ≡ None
+  pub found : fault_of_card all index ≡ Some fault
+  pub first : (i : ℕ) → i < index → fault_of_card all i ≡ None
 
 -- when a source is refused so: want of memory can come at any source
 abbrev pub IsRefusedBy : List ℕ → FormFault → Type 0
 IsRefusedBy source Memory = Unit {0}
 IsRefusedBy source TooLarge = 65536 < length source
-IsRefusedBy source fault = (length source ≤ 65536) × IsFirstFault (lines source) fault
+IsRefusedBy source fault = (length source ≤ 65536) × IsFirstFormFault (lines source) fault

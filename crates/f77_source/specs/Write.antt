@@ -1,4 +1,5 @@
--- Cards written as fixed-form lines (ANSI X3.9-1978, 3.2): one initial line a card, and its continuation lines.
+-- Cards written as fixed-form lines (ANSI X3.9-1978, 3.2):
+-- one initial line a card, and its continuation lines.
 use Rattle.std.specs.Prelude.{ℕ, ◌-◌, ◌*◌, ◌/◌, ◌==◌, ◌||◌, not, nat_lt, Bool, false, if◌then◌else◌}
 use Rattle.std.specs.Prelude.{List, [], ◌∷◌, ◌++◌, length, take, drop, replicate, Option, Some, None, codes}
 use Rattle.std.specs.List.{list_all, flat_map, filter_map, range_with_len}
@@ -28,7 +29,8 @@ abbrev pub continuation_line : List ℕ → ℕ → List ℕ
 continuation_line text k = codes "     +" ++ (piece text k ++ 10 ∷ [])
 
 unfoldable pub written_card : CardFields → List ℕ
-written_card card = initial_line card ++ flat_map (continuation_line card.text) (range_with_len 1 (continuation_count card.text))
+written_card card = initial_line card
+    ++ flat_map (continuation_line card.text) (range_with_len 1 (continuation_count card.text))
 
 -- the lines of the cards in order
 abbrev pub written : List CardFields → List ℕ

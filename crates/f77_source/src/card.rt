@@ -3,7 +3,8 @@
 ghost use Rattle.std.specs.Prelude.{◌≡◌, OnOk, false, string_bytes};
 ghost use Rattle.std.specs.Cmp.{partial_equiv_from_equiv};
 ghost use Rattle.f77_source.specs.Line.{has_foreign};
-ghost use Rattle.f77_source.specs.Card.{extended, same_card};
+ghost use Rattle.f77_source.specs.code.Card.{extended};
+ghost use Rattle.f77_source.specs.Card.{same_card};
 ghost use Rattle.f77_source.specs.SameCards.{same_card_equiv};
 
 use crate::line::append_line_part;

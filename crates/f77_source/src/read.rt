@@ -1,10 +1,11 @@
 //! Lines read into cards.
 
-ghost use Rattle.std.specs.Prelude.{◌≡◌, ◌≤◌, ◌<◌, ◌⊎◌, List, ℕ, [], ◌∷◌, length, IfOk, IfErr, MatchOption, MatchResult};
+ghost use Rattle.std.specs.Prelude.{◌≡◌, ◌≤◌, ◌<◌, ◌⊎◌, List, ℕ, [], ◌∷◌, length};
+ghost use Rattle.std.specs.Prelude.{IfOk, IfErr, MatchOption, MatchResult};
 ghost use Rattle.std.specs.List.{position_or_len};
 ghost use Rattle.std.specs.Str.Lines.{strip_carriage_return};
 ghost use Rattle.f77_source.specs.Card.{CardFields};
-ghost use Rattle.f77_source.specs.Read.{is_line_end, lines, AreCards, IsFirstFault, IsRefusedBy};
+ghost use Rattle.f77_source.specs.Read.{is_line_end, lines, AreCards, IsFirstFormFault, IsRefusedBy};
 
 use crate::card::Card;
 use crate::fault::FormFault;
@@ -37,7 +38,8 @@ fn first_line_length(source: &[u8]) -> usize
 
 /// The first line, and what stands behind its end.
 fn next_line(source: &[u8]) -> Option<(&[u8], &[u8])>
-    ensures { MatchOption result (source.now ≡ []) (λ x. (length x.1.now < length source.now) × (lines source.now ≡ x.0.now ∷ lines x.1.now)) }
+    ensures { MatchOption result (source.now ≡ [])
+        (λ x. (length x.1.now < length source.now) × (lines source.now ≡ x.0.now ∷ lines x.1.now)) }
 {
     if source.is_empty() {
         return None;
@@ -63,7 +65,7 @@ pub fn read_form(alloc: Global, source: &[u8]) -> Result<Vec<Card>, FormFault>
     // What is refused.
     ensures refused { IfErr result (λ fault. IsRefusedBy source.now fault) }
     ensures too_large { 65536 < length source.now → result ≡ Err FormFault.TooLarge }
-    ensures first_fault { (fault : FormFault) → length source.now ≤ 65536 → IsFirstFault (lines source.now) fault
+    ensures first_fault { (fault : FormFault) → length source.now ≤ 65536 → IsFirstFormFault (lines source.now) fault
         → (result ≡ Err fault) ⊎ (result ≡ Err FormFault.Memory) }
 {
     if source.len() > 65_536 {

@@ -3,7 +3,8 @@
 ghost use Rattle.std.specs.Prelude.{◌≡◌, ◌≤◌, OnOk, IfOk, true, false};
 ghost use Rattle.std.specs.List.{list_all};
 ghost use Rattle.f77_source.specs.Line.{kind, own_fault, has_foreign, label_field, is_label_character};
-ghost use Rattle.f77_source.specs.Reader.{progress_of, nothing_read, all_cards, initial_card, begun, gone_on, taken, Steps};
+ghost use Rattle.f77_source.specs.code.Reader.{progress_of, nothing_read, all_cards};
+ghost use Rattle.f77_source.specs.code.Reader.{initial_card, card_begun, gone_on, taken, Steps};
 ghost use Rattle.f77_source.specs.declared.line.LineKind.TheVariants.{Initial, Continuation};
 
 use crate::card::Card;
@@ -56,7 +57,7 @@ impl Reader {
     fn begin(&mut self, alloc: Global, line: &[u8], number: u32) -> Result<(), AllocError>
         requires printable { has_foreign line.now ≡ false }
         requires label { list_all is_label_character (label_field line.now) ≡ true }
-        ensures { OnOk result (progress_of self.new ≡ begun number line.now (progress_of self.old)) }
+        ensures { OnOk result (progress_of self.new ≡ card_begun number line.now (progress_of self.old)) }
     {
         let card = begin_card(alloc, line, number)?;
         if let Some(statement) = self.current.take() {

@@ -79,7 +79,8 @@ fn fault_of(card: &Card) -> Option<FormFault>
 
 /// What keeps the first card that has a fault from being written.
 fn first_fault(cards: &[Card]) -> Option<FormFault>
-    ensures { MatchOption result (card_faults cards.now ≡ []) (λ fault. slice_get (card_faults cards.now) 0 ≡ Some fault) }
+    ensures { MatchOption result (card_faults cards.now ≡ [])
+        (λ fault. slice_get (card_faults cards.now) 0 ≡ Some fault) }
 {
     for card in cards {
         if let Some(fault) = fault_of(card) {
@@ -155,9 +156,11 @@ fn push_card(out: &mut String, card: &Card) -> Result<(), AllocError>
 pub fn write_form(alloc: Global, cards: &[Card]) -> Result<String, FormFault>
     ensures text { IfOk result (λ text. string_bytes text ≡ written cards.now) }
     ensures accepted { IfOk result (λ _. card_faults cards.now ≡ []) }
-    ensures refused { IfErr result (λ fault. (slice_get (card_faults cards.now) 0 ≡ Some fault) ⊎ (fault ≡ FormFault.Memory)) }
+    ensures refused { IfErr result
+        (λ fault. (slice_get (card_faults cards.now) 0 ≡ Some fault) ⊎ (fault ≡ FormFault.Memory)) }
     // A fault is told before any memory is taken.
-    ensures told { (fault : FormFault) → slice_get (card_faults cards.now) 0 ≡ Some fault → IfErr result (λ found. found ≡ fault) }
+    ensures told { (fault : FormFault)
+        → slice_get (card_faults cards.now) 0 ≡ Some fault → IfErr result (λ found. found ≡ fault) }
 {
     if let Some(fault) = first_fault(cards) {
         return Err(fault);

@@ -4,11 +4,12 @@ use Rattle.f77_program.specs.declared.fault.SyntaxFault.{SyntaxFault}
 use Rattle.f77_program.specs.declared.fault.SyntaxFault.TheVariants.{Memory, Unknown, BadName}
 use Rattle.f77_tree.specs.Statement.{Statement}
 use Rattle.f77_tree.specs.StatementGrammar.{SpellsStatement}
-use Rattle.f77_syntax.specs.StatementView.{clip_statement}
+use Rattle.f77_syntax.specs.code.StatementView.{clip_statement}
 use Rattle.f77_syntax.specs.TextLimits.{character_count, most_characters, IsTooDeep}
 use Rattle.f77_nodes.specs.Names.{statement_names}
 use Rattle.f77_nodes.specs.Limits.{most_nodes, statement_constants, statement_nodes}
-use Rattle.f77_syntax.specs.Parsing.{IsAdmitted, IsOutside, IsRefused}
+use Rattle.f77_syntax.specs.Parsing.{IsAdmitted, IsCardRefused}
+use Rattle.f77_syntax.specs.code.Parsing.{IsOutside}
 use Rattle.f77_syntax.proofs.StatementClip.{statement_constants_clip, statement_nodes_clip, statement_kept}
 
 -- a text within the limits on texts, and the statement that was kept of it
@@ -21,22 +22,22 @@ pub record Kept (text : List ℕ) (got : Statement) : Type 0 where
 abbrev pub SaysNames : List ℕ → Statement → Bool → Type 0
 SaysNames text got b = (s : Statement) → SpellsStatement text s → got ≡ clip_statement s → b ≡ statement_names s
 
-pub bad_name : (line : ℕ) (text : List ℕ) (got : Statement) (b : Bool) → Kept text got → SaysNames text got b → b ≡ false → IsRefused line text (BadName line)
+pub bad_name : (line : ℕ) (text : List ℕ) (got : Statement) (b : Bool) → Kept text got → SaysNames text got b → b ≡ false → IsCardRefused line text (BadName line)
 bad_name line text got b k e f =
     let (s, p, same) = k.spells in
-    IsRefused.name k.characters k.flat p (sym (e s p same) ∙ f)
+    IsCardRefused.name k.characters k.flat p (sym (e s p same) ∙ f)
 
 -- a statement that is kept is outside the limits where the one that the text spells is
 pub outside : (line : ℕ) (text : List ℕ) (got : Statement) (b : Bool) {fault : SyntaxFault} → Kept text got → SaysNames text got b → b ≡ true
-    → IsOutside line got fault → (fault ≡ Memory) ⊎ IsRefused line text fault
+    → IsOutside line got fault → (fault ≡ Memory) ⊎ IsCardRefused line text fault
 outside line text got b k e f IsOutside.memory = inl refl
 outside line text got b k e f (IsOutside.constant h) =
     let (s, p, same) = k.spells in
-    inr (IsRefused.constant k.characters k.flat p (sym (e s p same) ∙ f) (sym (statement_constants_clip s) ∙ ap statement_constants (sym same) ∙ h))
+    inr (IsCardRefused.constant k.characters k.flat p (sym (e s p same) ∙ f) (sym (statement_constants_clip s) ∙ ap statement_constants (sym same) ∙ h))
 outside line text got b k e f (IsOutside.nodes h more) =
     let (s, p, same) = k.spells in
     let count : statement_nodes got ≡ statement_nodes s = ap statement_nodes same ∙ statement_nodes_clip s in
-    inr (IsRefused.nodes k.characters k.flat p (sym (e s p same) ∙ f)
+    inr (IsCardRefused.nodes k.characters k.flat p (sym (e s p same) ∙ f)
     (sym (statement_constants_clip s) ∙ ap statement_constants (sym same) ∙ h) (subst (λ n. most_nodes < n) count more))
 
 pub all_well : (text : List ℕ) (got : Statement) (b : Bool) → Kept text got → SaysNames text got b → b ≡ true
@@ -56,6 +57,6 @@ all_well text got b k e f h few =
     }
 
 pub not_spelled : (line : ℕ) (text : List ℕ) (fault : SyntaxFault) → character_count text ≤ most_characters → ¬ (IsTooDeep text)
-    → (fault ≡ Memory) ⊎ ((fault ≡ Unknown line) × ((s : Statement) → ¬ (SpellsStatement text s))) → (fault ≡ Memory) ⊎ IsRefused line text fault
+    → (fault ≡ Memory) ⊎ ((fault ≡ Unknown line) × ((s : Statement) → ¬ (SpellsStatement text s))) → (fault ≡ Memory) ⊎ IsCardRefused line text fault
 not_spelled line text fault h flat (inl e) = inl e
-not_spelled line text fault h flat (inr p) = inr (subst (λ f. IsRefused line text f) (sym p.0) (IsRefused.unknown h flat p.1))
+not_spelled line text fault h flat (inr p) = inr (subst (λ f. IsCardRefused line text f) (sym p.0) (IsCardRefused.unknown h flat p.1))

@@ -5,7 +5,8 @@ use Rattle.f77_tree.specs.declared.operator.Operator.{Operator}
 use Rattle.f77_tree.specs.Operator.{level, left_level, right_level}
 use Rattle.f77_tree.specs.Tree.{Tree}
 use Rattle.f77_tree.specs.Grammar.{is_name, is_number, word, past_word}
-use Rattle.f77_syntax.specs.Reading.{◌>>=◌, strip, operator_at, Readers, dotted_by, dotted_at, named_at, word_at, start_at, expr_at, climb_on, climb_at, more_at, items_at, within, reading}
+use Rattle.f77_syntax.specs.Reading.{◌>>=◌, strip}
+use Rattle.f77_syntax.specs.code.Reading.{operator_at, Readers, dotted_by, dotted_at, named_at, word_tree_at, start_at, expr_at, climb_on, climb_at, more_at, trees_at, within, reading}
 use Rattle.f77_syntax.proofs.Steps.{strip_is}
 use Rattle.f77_syntax.proofs.Sound.{Sound, sound_within}
 use Rattle.f77_syntax.proofs.Sound as sound
@@ -37,7 +38,7 @@ module _ (n : ℕ) (R Q : Readers) (short : Shorter R) (sound_R : Sound R) (agre
   named_same name (c ∷ r) h =
       same_when (c == 40) _ _ _ (λ _. same_bind (R.items r) (Q.items r) _ _ (agree.items r (omega arith)) (λ x e. refl))
 
-  word_same : (name r : List ℕ) → length r ≤ suc n → word_at R name r ≡ word_at Q name r
+  word_same : (name r : List ℕ) → length r ≤ suc n → word_tree_at R name r ≡ word_tree_at Q name r
   word_same name r h = same_cond (is_number name) _ _ _ _ refl (same_when (is_name name) _ _ _ (λ _. named_same name r h))
 
   dotted_same : (w : ℕ) (s : List ℕ) → length s ≤ suc n → dotted_at R w s ≡ dotted_at Q w s
@@ -81,8 +82,8 @@ module _ (n : ℕ) (R Q : Readers) (short : Shorter R) (sound_R : Sound R) (agre
           (λ _. same_bind (R.expr (right_level y.0) y.1) (Q.expr (right_level y.0) y.1) _ _ (agree.expr (right_level y.0) y.1 (omega arith))
           (λ z found. agree.climb w (Tree.Binary y.0 t z.0) (level y.0) z.1 (omega (arith, short.expr (right_level y.0) y.1 z found))))
 
-  items_same : (s : List ℕ) → length s ≤ suc n → items_at R s ≡ items_at Q s
-  unfolding items_at
+  items_same : (s : List ℕ) → length s ≤ suc n → trees_at R s ≡ trees_at Q s
+  unfolding trees_at
   items_same s h = same_bind (expr_at R 1 s) (expr_at Q 1 s) _ _ (expr_same 1 s h)
       (λ x e. let f = sound.expr_is R sound_R 1 s x e in more x.0 x.1 (omega (arith, ap length f.is, length-append f.text x.1, spelled_long f.spells)))
     where
@@ -92,7 +93,7 @@ module _ (n : ℕ) (R Q : Readers) (short : Shorter R) (sound_R : Sound R) (agre
 
 -- one more call in one another makes no difference
 more_calls : (n : ℕ) → Agree n (within n) (within (suc n))
-unfolding within expr_at start_at climb_at items_at operator_at
+unfolding within expr_at start_at climb_at trees_at operator_at
 more_calls zero = record {
   expr = none;
   climb = ends;
@@ -154,7 +155,7 @@ reading_climb w t own s =
     let n = length s in
     sym ((reads (suc n)).climb w t own s (omega arith)) ∙ climb_same n (within n) reading (shorter (within n) (sound_within n)) (sound_within n) (reads n) w t own s (omega arith)
 
-pub reading_items : (s : List ℕ) → reading.items s ≡ items_at reading s
+pub reading_items : (s : List ℕ) → reading.items s ≡ trees_at reading s
 unfolding within
 reading_items s =
     let n = length s in

@@ -7,18 +7,19 @@ use Rattle.f77_tree.specs.Tree.{Trees}
 use Rattle.f77_tree.specs.Statement.{Statement}
 use Rattle.f77_tree.specs.Grammar.{SpellsReference, is_name, word, past_word}
 use Rattle.f77_tree.specs.StatementGrammar.{SpellsAction}
-use Rattle.f77_syntax.specs.Reading.{◌>>=◌, after, close_at, reading}
-use Rattle.f77_syntax.specs.Assignment.{ended, reference_behind, reference_at, value_at, assign_at}
+use Rattle.f77_syntax.specs.Reading.{◌>>=◌}
+use Rattle.f77_syntax.specs.code.Reading.{tree_after, close_at, reading}
+use Rattle.f77_syntax.specs.code.Assignment.{value_ended, reference_behind, reference_at, value_at, assign_at}
 use Rattle.f77_syntax.proofs.Steps.{along, bind_ok, chosen, guarded}
 use Rattle.f77_tree.proofs.Words.{word_whole}
 use Rattle.f77_syntax.proofs.Sound.{sound_reading, close_is}
 
 -- nothing stands behind
-pub ended_is : {A : Type 0} (x : A) (rest : List ℕ) (y : A) → ended x rest ≡ Some y → (x ≡ y) × (rest ≡ [])
+pub ended_is : {A : Type 0} (x : A) (rest : List ℕ) (y : A) → value_ended x rest ≡ Some y → (x ≡ y) × (rest ≡ [])
 ended_is x [] y e = (same_Some x y e, refl)
 ended_is x (c ∷ rest) y e = absurd (let h = guarded (length (c ∷ rest) == 0) (Some x) y e in let z = eqb-true (length (c ∷ rest)) 0 h.0 in omega arith)
 
-pub after_is : (b : ℕ) (s r : List ℕ) → after b s ≡ Some r → s ≡ b ∷ r
+pub after_is : (b : ℕ) (s r : List ℕ) → tree_after b s ≡ Some r → s ≡ b ∷ r
 after_is b [] r e = absurd (none-some r e)
 after_is b (c ∷ s) r e =
     let (same, found) = guarded (c == b) (Some s) r e in
@@ -60,9 +61,9 @@ reference_is s x e =
 pub assign_is : (s : List ℕ) (t : Statement) → assign_at s ≡ Some t → SpellsAction s t
 unfolding assign_at
 assign_is s t e =
-    let (x, found, more) = bind_ok (reference_at s) (λ x. after 61 x.2 >>= λ y. value_at x.0 x.1 y) t e in
-    let (y, equals, value) = bind_ok (after 61 x.2) (λ y. value_at x.0 x.1 y) t more in
-    let (v, read, end) = bind_ok (reading.expr 1 y) (λ v. ended (Statement.Assign x.0 x.1 v.0) v.1) t value in
+    let (x, found, more) = bind_ok (reference_at s) (λ x. tree_after 61 x.2 >>= λ y. value_at x.0 x.1 y) t e in
+    let (y, equals, value) = bind_ok (tree_after 61 x.2) (λ y. value_at x.0 x.1 y) t more in
+    let (v, read, end) = bind_ok (reading.expr 1 y) (λ v. value_ended (Statement.Assign x.0 x.1 v.0) v.1) t value in
     let place = reference_is s x found in
     let front = sound_reading.expr 1 y v read in
     let (same, none) = ended_is (Statement.Assign x.0 x.1 v.0) v.1 t end in

@@ -22,19 +22,21 @@ use Rattle.f77_tree.specs.Tree.{Tree, DeclFields, GroupFields}
 use Rattle.f77_tree.specs.Statement.{Statement, statement_of}
 use Rattle.f77_tree.specs.Grammar.{is_digit, is_number, is_name, word, past_word}
 use Rattle.f77_tree.specs.StatementGrammar.{label_number}
-use Rattle.f77_syntax.specs.Reading.{◌>>=◌, strip, after, close_at, reading, past_comma}
-use Rattle.f77_syntax.specs.Label.{label_at, labels_at}
-use Rattle.f77_syntax.specs.Goto.{goto_at}
-use Rattle.f77_syntax.specs.Condition.{arithmetic_at, condition_at}
-use Rattle.f77_syntax.specs.DoLoop.{control_at, step_at, parameters_at, loop_at}
-use Rattle.f77_syntax.specs.Classification.{behind, class_of}
+use Rattle.f77_syntax.specs.Reading.{◌>>=◌, strip}
+use Rattle.f77_syntax.specs.code.Reading.{tree_after, close_at, reading, past_comma}
+use Rattle.f77_syntax.specs.code.Label.{label_at, labels_at}
+use Rattle.f77_syntax.specs.code.Goto.{goto_at}
+use Rattle.f77_syntax.specs.code.Condition.{arithmetic_at, condition_at}
+use Rattle.f77_syntax.specs.code.DoLoop.{control_at, step_at, parameters_at, loop_at}
+use Rattle.f77_syntax.specs.Classification.{behind_character, class_of}
 use Rattle.f77_program.specs.Formed.{is_action}
 use Rattle.f77_syntax.specs.declared.classification.Class.TheVariants.{Keyword}
-use Rattle.f77_syntax.specs.Statement.{word_statement, simple_at, actions_only, simple_action_at, action_at, begins_digit, branch_at, else_at, declared_at, dimension_at, preset_at, specification_at}
+use Rattle.f77_syntax.specs.code.Statement.{word_statement, simple_at, actions_only, simple_action_at, action_at, begins_digit}
+use Rattle.f77_syntax.specs.code.Statement.{branch_at, else_at, declared_at, dimension_at, data_at, specification_at}
 use Rattle.f77_tree.specs.Name.{cut}
 use Rattle.f77_tree.specs.View.{tree_of}
-use Rattle.f77_syntax.specs.View.{clip, clipped, Fails, Gives}
-use Rattle.f77_syntax.specs.StatementView.{clip_statement, IsStatement}
+use Rattle.f77_syntax.specs.code.View.{clip, clipped, Fails, Gives}
+use Rattle.f77_syntax.specs.code.StatementView.{clip_statement, IsStatement}
 use Rattle.f77_tree.proofs.Tests.{and_true}
 use Rattle.f77_syntax.proofs.Steps.{along}
 use Rattle.f77_tree.proofs.Views.{declare_view, dimension_view, preset_view, arithmetic_view, logical_view, block_view, else_if_view, loop_view}
@@ -43,9 +45,9 @@ use Rattle.f77_tree.specs.declared.tree.Kind.{Kind}
 use Rattle.f77_tree.specs.declared.declaration.Decl.{Decl}
 use Rattle.f77_tree.specs.declared.data.DataGroup.{DataGroup}
 use Rattle.f77_tree.specs.Declaration.{decl_of, all_bounded}
-use Rattle.f77_syntax.specs.Declaration.{clip_decl, declarations_at}
+use Rattle.f77_syntax.specs.code.Declaration.{clip_decl, declarations_at}
 use Rattle.f77_tree.specs.Data.{data_group_of}
-use Rattle.f77_syntax.specs.Data.{clip_group, groups_at}
+use Rattle.f77_syntax.specs.code.Data.{clip_group, groups_at}
 use Rattle.f77_syntax.proofs.DeclarationKept.{all_bounded_clip}
 
 -- an optional statement without constants as an answer
@@ -111,7 +113,7 @@ module _ (s : List ℕ) (e : strip (codes "INTEGER") s ≡ None) (f : strip (cod
   unfolding specification_at
   specification_dimension r g = rw (e, f, g) refl
 
-  pub specification_preset : (r : List ℕ) → strip (codes "DIMENSION") s ≡ None → strip (codes "DATA") s ≡ Some r → specification_at s ≡ preset_at r
+  pub specification_preset : (r : List ℕ) → strip (codes "DIMENSION") s ≡ None → strip (codes "DATA") s ≡ Some r → specification_at s ≡ data_at r
   unfolding specification_at
   specification_preset r g h = rw (e, f, g, h) refl
 
@@ -132,17 +134,17 @@ dimension_whole s items ds e same all =
     (Statement.Dimension ds, rw (e, bounded) refl, dimension_view items ∙ ap Statement.Dimension same)
 
 pub preset_whole : (s : List ℕ) (groups : Vec DataGroup Global) (gs : List GroupFields) → groups_at s ≡ Some gs → map data_group_of groups.items ≡ map clip_group gs
-    → (u : Statement) × (preset_at s ≡ Some u) × (statement_of (forms.Preset groups) ≡ clip_statement u)
+    → (u : Statement) × (data_at s ≡ Some u) × (statement_of (forms.Preset groups) ≡ clip_statement u)
 preset_whole s groups gs e same = (Statement.Preset gs, rw e refl, preset_view groups ∙ ap Statement.Preset same)
 
 -- what follows a character that is found
-pub behind_here : (b : ℕ) (text : List ℕ) (i d : ℕ) → behind b 0 text ≡ behind b d (drop i text) → i < length text
-    → d ≡ 0 → get_or text i 0 ≡ b → Some (take (length text - (i + 1)) (drop (i + 1) text)) ≡ behind b 0 text
+pub behind_here : (b : ℕ) (text : List ℕ) (i d : ℕ) → behind_character b 0 text ≡ behind_character b d (drop i text) → i < length text
+    → d ≡ 0 → get_or text i 0 ≡ b → Some (take (length text - (i + 1)) (drop (i + 1) text)) ≡ behind_character b 0 text
 behind_here b text i d same here zero found =
     let rest : drop i text ≡ b ∷ drop (i + 1) text = drop_more text i 0 here ∙ ap (λ z. z ∷ drop (i + 1) text) found in
     let equal : (b == b) ≡ true = grind (arith, nat_tests) in
-    let at : behind b d (b ∷ drop (i + 1) text) ≡ Some (drop (i + 1) text) = rw (zero, equal) refl in
-    ap Some (take_rest text (i + 1)) ∙ sym (same ∙ ap (behind b d) rest ∙ at)
+    let at : behind_character b d (b ∷ drop (i + 1) text) ≡ Some (drop (i + 1) text) = rw (zero, equal) refl in
+    ap Some (take_rest text (i + 1)) ∙ sym (same ∙ ap (behind_character b d) rest ∙ at)
 
 -- labels
 all_digits : (row : List ℕ) → list_all is_digit row ≡ true → AllDigits 10 row
@@ -230,25 +232,25 @@ module _ (s : List ℕ) where
       let n : is_name (word (past_comma x.1)) ≡ false = ap is_name (ap word (sym at) ∙ sym is) ∙ h in rw (e, n) refl
 
   pub control_no_equals : (x : ℕ × List ℕ) (r front rest : List ℕ) → label_at s ≡ Some x → r ≡ past_comma x.1 → front ≡ word r → rest ≡ past_word r → is_name front ≡ true
-      → after 61 rest ≡ None → control_at s ≡ None
+      → tree_after 61 rest ≡ None → control_at s ≡ None
   unfolding control_at
   control_no_equals x r front rest e at is end h no_sign =
       let n : is_name (word (past_comma x.1)) ≡ true = ap is_name (ap word (sym at) ∙ sym is) ∙ h in
-      let k : after 61 (past_word (past_comma x.1)) ≡ None = ap (after 61) (ap past_word (sym at) ∙ sym end) ∙ no_sign in
+      let k : tree_after 61 (past_word (past_comma x.1)) ≡ None = ap (tree_after 61) (ap past_word (sym at) ∙ sym end) ∙ no_sign in
       rw (e, n, k) refl
 
   pub control_whole : (x : ℕ × List ℕ) (r front rest got name : List ℕ) (label : ℕ) → label_at s ≡ Some x → label ≡ x.0 → r ≡ past_comma x.1 → front ≡ word r → rest ≡ past_word r
-      → is_name front ≡ true → after 61 rest ≡ Some got → name ≡ front
+      → is_name front ≡ true → tree_after 61 rest ≡ Some got → name ≡ front
       → (y : ℕ × List ℕ × List ℕ) × (control_at s ≡ Some y) × ((label ≡ y.0) × (name ≡ y.1) × (got ≡ y.2))
   unfolding control_at
   control_whole x r front rest got name label e same at is end h found called =
       let whole : word (past_comma x.1) ≡ front = ap word (sym at) ∙ sym is in
       let n : is_name (word (past_comma x.1)) ≡ true = ap is_name whole ∙ h in
-      let k : after 61 (past_word (past_comma x.1)) ≡ Some got = ap (after 61) (ap past_word (sym at) ∙ sym end) ∙ found in
+      let k : tree_after 61 (past_word (past_comma x.1)) ≡ Some got = ap (tree_after 61) (ap past_word (sym at) ∙ sym end) ∙ found in
       ((x.0, word (past_comma x.1), got), rw (e, n, k) refl, (same, called ∙ sym whole, refl))
 
 -- the parameters of a DO
-pub step_whole : (s rest end : List ℕ) (x : Tree × List ℕ) (c : Expr) → after 44 s ≡ Some rest → reading.expr 1 rest ≡ Some x → tree_of c ≡ clip x.0 → end ≡ x.1
+pub step_whole : (s rest end : List ℕ) (x : Tree × List ℕ) (c : Expr) → tree_after 44 s ≡ Some rest → reading.expr 1 rest ≡ Some x → tree_of c ≡ clip x.0 → end ≡ x.1
     → (length end == 0) ≡ true → (y : Option Tree) × (step_at s ≡ Some y) × (Some (tree_of c) ≡ option_map clip y)
 step_whole s rest end x c comma read same at none =
     let is : s ≡ 44 ∷ rest = after_is 44 s rest comma in
@@ -256,34 +258,35 @@ step_whole s rest end x c comma read same at none =
 
 module _ (label : ℕ) (name s : List ℕ) where
   abbrev behind_first : Tree × List ℕ → Option Statement
-  behind_first a = after 44 a.1 >>= λ r. reading.expr 1 r >>= λ b. step_at b.1 >>= λ c. Some (Statement.Loop label name a.0 b.0 c)
+  behind_first a = tree_after 44 a.1 >>= λ r. reading.expr 1 r >>= λ b. step_at b.1 >>= λ c. Some (Statement.Loop label name a.0 b.0 c)
 
   pub parameters_fail : (e : ReadError) → Fails e (reading.expr 1 s) → Fails e (parameters_at label name s)
   unfolding parameters_at
   parameters_fail e f = fails_bind e (reading.expr 1 s) behind_first f
 
-  pub parameters_one : (a : Tree × List ℕ) (rest : List ℕ) → reading.expr 1 s ≡ Some a → rest ≡ a.1 → after 44 rest ≡ None → parameters_at label name s ≡ None
+  pub parameters_one : (a : Tree × List ℕ) (rest : List ℕ) → reading.expr 1 s ≡ Some a → rest ≡ a.1 → tree_after 44 rest ≡ None → parameters_at label name s ≡ None
   unfolding parameters_at
   parameters_one a rest e at none = rw (e, ← at, none) refl
 
-  pub parameters_fail_last : (a : Tree × List ℕ) (rest r : List ℕ) (e : ReadError) → reading.expr 1 s ≡ Some a → rest ≡ a.1 → after 44 rest ≡ Some r
+  pub parameters_fail_last : (a : Tree × List ℕ) (rest r : List ℕ) (e : ReadError) → reading.expr 1 s ≡ Some a → rest ≡ a.1 → tree_after 44 rest ≡ Some r
       → Fails e (reading.expr 1 r) → Fails e (parameters_at label name s)
   unfolding parameters_at
   parameters_fail_last a rest r e read at comma f =
       rw (read, ← at, comma) (fails_bind e (reading.expr 1 r) (λ b. step_at b.1 >>= λ c. Some (Statement.Loop label name a.0 b.0 c)) f)
 
-  pub parameters_fail_step : (a b : Tree × List ℕ) (rest r end : List ℕ) (e : ReadError) → reading.expr 1 s ≡ Some a → rest ≡ a.1 → after 44 rest ≡ Some r
+  pub parameters_fail_step : (a b : Tree × List ℕ) (rest r end : List ℕ) (e : ReadError) → reading.expr 1 s ≡ Some a → rest ≡ a.1 → tree_after 44 rest ≡ Some r
       → reading.expr 1 r ≡ Some b → end ≡ b.1 → Fails e (step_at end) → Fails e (parameters_at label name s)
   unfolding parameters_at
-  parameters_fail_step a b rest r end e read at comma last behind f =
-      rw (read, ← at, comma, last, ← behind) (fails_bind e (step_at end) (λ c. Some (Statement.Loop label name a.0 b.0 c)) f)
+  parameters_fail_step a b rest r end e read at comma last behind_character f =
+      rw (read, ← at, comma, last, ← behind_character) (fails_bind e (step_at end) (λ c. Some (Statement.Loop label name a.0 b.0 c)) f)
 
-  pub parameters_whole : (a b : Tree × List ℕ) (rest r end : List ℕ) (c : Option Tree) (got : List ℕ) (first last : Expr) (third : Option Expr) → got ≡ cut name → reading.expr 1 s ≡ Some a → tree_of first ≡ clip a.0
-      → rest ≡ a.1 → after 44 rest ≡ Some r → reading.expr 1 r ≡ Some b → tree_of last ≡ clip b.0 → end ≡ b.1 → step_at end ≡ Some c → option_map tree_of third ≡ option_map clip c
+  pub parameters_whole : (a b : Tree × List ℕ) (rest r end : List ℕ) (c : Option Tree) (got : List ℕ) (first last : Expr) (third : Option Expr)
+      → got ≡ cut name → reading.expr 1 s ≡ Some a → tree_of first ≡ clip a.0
+      → rest ≡ a.1 → tree_after 44 rest ≡ Some r → reading.expr 1 r ≡ Some b → tree_of last ≡ clip b.0 → end ≡ b.1 → step_at end ≡ Some c → option_map tree_of third ≡ option_map clip c
       → (u : Statement) × (parameters_at label name s ≡ Some u) × (statement_of (forms.Loop label got first last third) ≡ clip_statement u)
   unfolding parameters_at
-  parameters_whole a b rest r end c got first last third named read one at comma more two behind stepped three =
-      (Statement.Loop label name a.0 b.0 c, rw (read, ← at, comma, more, ← behind, stepped) refl, loop_view label got first last third ∙ rw (named, one, two, three) refl)
+  parameters_whole a b rest r end c got first last third named read one at comma more two behind_character stepped three =
+      (Statement.Loop label name a.0 b.0 c, rw (read, ← at, comma, more, ← behind_character, stepped) refl, loop_view label got first last third ∙ rw (named, one, two, three) refl)
 
 module _ (s : List ℕ) where
   pub loop_none : strip (codes "DO") s ≡ None → loop_at s ≡ None

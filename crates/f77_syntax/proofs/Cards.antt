@@ -10,7 +10,7 @@ use Rattle.f77_program.specs.declared.group.Group.TheVariants.{End}
 use Rattle.f77_program.specs.declared.program.Line.{Line}
 use Rattle.f77_tree.specs.Statement.{statement_of, Statement}
 use Rattle.f77_program.specs.Group.{group_of, may_stand}
-use Rattle.f77_syntax.specs.Parsing.{IsAdmitted, line_with, AreLines, IsFirstFault, unfinished}
+use Rattle.f77_syntax.specs.Parsing.{IsAdmitted, line_with, AreLines, IsFirstSyntaxFault, unfinished}
 use Rattle.f77_program.specs.Program.{LineFields, line_of, IsProgram}
 use Rattle.f77_program.proofs.StatementForming.{spelled_is_formed}
 use Rattle.f77_syntax.proofs.Exact.{either_lines_or_fault, one_fault, one_program}
@@ -27,10 +27,10 @@ more_lines all cards others card last g before after s first p may same more kee
 
 pub more_faults : (all cards others : List CardFields) (card : CardFields) (last : Option Group) (g : Group) (s : Statement)
     → cards ≡ card ∷ others → IsAdmitted card.text s → may_stand last (group_of s) ≡ true → g ≡ group_of s
-    → ((fault : SyntaxFault) → IsFirstFault last cards fault → IsFirstFault None all fault)
-    → (fault : SyntaxFault) → IsFirstFault (Some g) others fault → IsFirstFault None all fault
+    → ((fault : SyntaxFault) → IsFirstSyntaxFault last cards fault → IsFirstSyntaxFault None all fault)
+    → (fault : SyntaxFault) → IsFirstSyntaxFault (Some g) others fault → IsFirstSyntaxFault None all fault
 more_faults all cards others card last g s first p may same keeps fault is =
-    keeps fault (subst (λ z. IsFirstFault last z fault) (sym first) (IsFirstFault.later p may (subst (λ z. IsFirstFault (Some z) others fault) same is)))
+    keeps fault (subst (λ z. IsFirstSyntaxFault last z fault) (sym first) (IsFirstSyntaxFault.later p may (subst (λ z. IsFirstSyntaxFault (Some z) others fault) same is)))
 
 pub are_program : {before : Option Group} {cards : List CardFields} {lines : List LineFields} → AreLines before cards lines → IsProgram before lines
 are_program AreLines.finished = IsProgram.finished
@@ -42,23 +42,23 @@ end_lines all rest last lines none end keeps =
     subst (λ z. AreLines None all z) (append-nil lines) (keeps [] (rw (none, end) AreLines.finished))
 
 end_fault : (all rest : List CardFields) (last : Option Group) (fault : SyntaxFault) → rest ≡ [] → last ≢ Some End → fault ≡ unfinished last
-    → ((fault : SyntaxFault) → IsFirstFault last rest fault → IsFirstFault None all fault) → IsFirstFault None all fault
-end_fault all rest last fault none at_end is keeps = keeps fault (rw (none, is) (IsFirstFault.unended at_end))
+    → ((fault : SyntaxFault) → IsFirstSyntaxFault last rest fault → IsFirstSyntaxFault None all fault) → IsFirstSyntaxFault None all fault
+end_fault all rest last fault none at_end is keeps = keeps fault (rw (none, is) (IsFirstSyntaxFault.unended at_end))
 
 -- the answer is what the cards say, unless memory ran out
 abbrev pub Exactly : List CardFields → Result (List Line) SyntaxFault → Type 0
-Exactly cards r = MatchResult r (λ program. AreLines None cards (map line_of program)) (λ fault. (fault ≡ Memory) ⊎ IsFirstFault None cards fault)
+Exactly cards r = MatchResult r (λ program. AreLines None cards (map line_of program)) (λ fault. (fault ≡ Memory) ⊎ IsFirstSyntaxFault None cards fault)
 
 pub refused_so : (all cards others : List CardFields) (card : CardFields) (last : Option Group) (fault : SyntaxFault) → cards ≡ card ∷ others
-    → (fault ≡ Memory) ⊎ ((more : List CardFields) → IsFirstFault last (card ∷ more) fault)
-    → ((fault : SyntaxFault) → IsFirstFault last cards fault → IsFirstFault None all fault) → (fault ≡ Memory) ⊎ IsFirstFault None all fault
+    → (fault ≡ Memory) ⊎ ((more : List CardFields) → IsFirstSyntaxFault last (card ∷ more) fault)
+    → ((fault : SyntaxFault) → IsFirstSyntaxFault last cards fault → IsFirstSyntaxFault None all fault) → (fault ≡ Memory) ⊎ IsFirstSyntaxFault None all fault
 refused_so all cards others card last fault first (inl e) keeps = inl e
-refused_so all cards others card last fault first (inr f) keeps = inr (keeps fault (subst (λ z. IsFirstFault last z fault) (sym first) (f others)))
+refused_so all cards others card last fault first (inr f) keeps = inr (keeps fault (subst (λ z. IsFirstSyntaxFault last z fault) (sym first) (f others)))
 
 pub ended_so : (all rest : List CardFields) (last : Option Group) (lines : List Line) (r : Result (List Line) SyntaxFault) → rest ≡ []
     → MatchResult r (λ program. (program ≡ lines) × (last ≡ Some End)) (λ fault. (last ≢ Some End) × (fault ≡ unfinished last))
     → ((more : List LineFields) → AreLines last rest more → AreLines None all (map line_of lines ++ more))
-    → ((fault : SyntaxFault) → IsFirstFault last rest fault → IsFirstFault None all fault) → Exactly all r
+    → ((fault : SyntaxFault) → IsFirstSyntaxFault last rest fault → IsFirstSyntaxFault None all fault) → Exactly all r
 ended_so all rest last lines (Ok program) none p keeps faults =
     subst (λ z. AreLines None all (map line_of z)) (sym p.0) (end_lines all rest last (map line_of lines) none p.1 keeps)
 ended_so all rest last lines (Err fault) none p keeps faults = inr (end_fault all rest last fault none p.0 p.1 faults)
@@ -67,7 +67,7 @@ pub exactly_lines : (cards : List CardFields) (r : Result (List Line) SyntaxFaul
 exactly_lines cards (Ok program) e = e
 exactly_lines cards (Err fault) e = tt
 
-pub exactly_refused : (cards : List CardFields) (r : Result (List Line) SyntaxFault) → Exactly cards r → IfErr r (λ fault. (fault ≡ Memory) ⊎ IsFirstFault None cards fault)
+pub exactly_refused : (cards : List CardFields) (r : Result (List Line) SyntaxFault) → Exactly cards r → IfErr r (λ fault. (fault ≡ Memory) ⊎ IsFirstSyntaxFault None cards fault)
 exactly_refused cards (Ok program) e = tt
 exactly_refused cards (Err fault) e = e
 
@@ -78,7 +78,7 @@ exactly_accepts cards (Err fault) (inl e) lines are = e
 exactly_accepts cards (Err fault) (inr f) lines are = either_lines_or_fault are f
 
 pub exactly_first : (cards : List CardFields) (r : Result (List Line) SyntaxFault) → Exactly cards r
-    → (fault : SyntaxFault) → IsFirstFault None cards fault → (r ≡ Err fault) ⊎ (r ≡ Err Memory)
+    → (fault : SyntaxFault) → IsFirstSyntaxFault None cards fault → (r ≡ Err fault) ⊎ (r ≡ Err Memory)
 exactly_first cards (Ok program) e fault first = either_lines_or_fault e first
 exactly_first cards (Err other) (inl e) fault first = inr (ap Err e)
 exactly_first cards (Err other) (inr f) fault first = inl (ap Err (one_fault f first))

@@ -5,7 +5,7 @@ use Rattle.std.specs.List.{list_all}
 use Rattle.std.proofs.lemmas.Bool.Decides.{nat_tests}
 use Rattle.std.proofs.lemmas.List.{take_all}
 use Rattle.f77_tree.specs.Tree.{Tree, Trees}
-use Rattle.f77_syntax.specs.View.{clipped, clip, clip_all}
+use Rattle.f77_syntax.specs.code.View.{clipped, clip, clip_all}
 use Rattle.f77_tree.specs.Name.{is_short, cut}
 use Rattle.f77_nodes.specs.Names.{short_names, all_short_names}
 use Rattle.f77_nodes.proofs.Constants.{small_constants, all_small_constants}

@@ -8,15 +8,17 @@ use Rattle.std.proofs.lemmas.Bool.{le-leb}
 use Rattle.std.proofs.lemmas.Bool.Decides.{nat_tests}
 use Rattle.std.proofs.lemmas.Option.{same_Some}
 use Rattle.f77_tree.specs.declared.operator.Operator.{Operator}
-use Rattle.f77_tree.specs.declared.operator.Operator.TheVariants.{Equivalent, NotEquivalent, Or, And, Less, LessOrEqual, Equal, NotEqual, GreaterOrEqual, Greater, Add, Subtract, Multiply, Divide, Power}
+use Rattle.f77_tree.specs.declared.operator.Operator.TheVariants.{Equivalent, NotEquivalent, Or, And, Less, LessOrEqual, Equal, NotEqual}
+use Rattle.f77_tree.specs.declared.operator.Operator.TheVariants.{GreaterOrEqual, Greater, Add, Subtract, Multiply, Divide, Power}
 use Rattle.f77_tree.specs.declared.operator.Sign.{Sign}
 use Rattle.f77_tree.specs.declared.operator.Sign.TheVariants.{Plus, Minus}
 use Rattle.f77_tree.specs.Operator.{symbol, sign_symbol, level, left_level, right_level}
 use Rattle.f77_tree.specs.Tree.{Tree, Trees}
 use Rattle.f77_tree.specs.Intrinsic.{function_name, function_named}
 use Rattle.f77_syntax.proofs.Functions.{function_found, function_is_name, not_function}
-use Rattle.f77_tree.specs.Grammar.{Spells, SpellsReference, SpellsAll, is_call, truth_text, is_letter, is_digit, is_word, is_name, is_number, word, past_word}
-use Rattle.f77_syntax.specs.Reading.{◌>>=◌, operator_at, listed_by, listed, named_at, word_at, start_at, expr_at, climb_on, climb_at, items_at, reading}
+use Rattle.f77_tree.specs.Grammar.{Spells, SpellsReference, SpellsAll, is_call, truth_constant_text, is_letter, is_digit, is_word, is_name, is_number, word, past_word}
+use Rattle.f77_syntax.specs.Reading.{◌>>=◌}
+use Rattle.f77_syntax.specs.code.Reading.{operator_at, listed_by, function_listed, named_at, word_tree_at, start_at, expr_at, climb_on, climb_at, trees_at, reading}
 use Rattle.f77_tree.proofs.Tests.{and_true}
 use Rattle.f77_tree.proofs.Words.{EndsWord, word_front, past_word_front, letter_word, name_words}
 use Rattle.f77_syntax.proofs.Shorter.{name_long, number_long}
@@ -195,14 +197,14 @@ no_list c s h = step (is_word c) (c == 40) h
     step false false h = refl
 
 -- a word, and what may follow it
-at_word : (w : ℕ) (text rest : List ℕ) → list_all is_word text ≡ true → 0 < length text → EndsWord rest → start_at reading w (text ++ rest) ≡ word_at reading text rest
+at_word : (w : ℕ) (text rest : List ℕ) → list_all is_word text ≡ true → 0 < length text → EndsWord rest → start_at reading w (text ++ rest) ≡ word_tree_at reading text rest
 unfolding start_at
 at_word w [] rest e h k = absurd (omega arith)
 at_word w (c ∷ s) rest e h k =
     let f = first_word c (and_true (is_word c) (list_all is_word s) e).0 in
     let front : word ((c ∷ s) ++ rest) ≡ c ∷ s = word_front (c ∷ s) rest e k in
     let past : past_word ((c ∷ s) ++ rest) ≡ rest = past_word_front (c ∷ s) rest e k in
-    rw (f.0, f.1, f.2, f.3) (ap (λ z. word_at reading z (past_word ((c ∷ s) ++ rest))) front ∙ ap (λ z. word_at reading (c ∷ s) z) past)
+    rw (f.0, f.1, f.2, f.3) (ap (λ z. word_tree_at reading z (past_word ((c ∷ s) ++ rest))) front ∙ ap (λ z. word_tree_at reading (c ∷ s) z) past)
 
 -- The text is read as the tree, of level own, whatever follows that its last operand does not want.
 pub record Reads (w : ℕ) (text : List ℕ) (t : Tree) : Type 0 where
@@ -240,13 +242,15 @@ scalar_read w name h n = record {
     alone [] f = refl
     alone (c ∷ s) f = rw (no_list c s f) refl
 
-truth_read : (w : ℕ) (b : Bool) → w ≤ 9 → Reads w (truth_text b) (Tree.Truth b)
+truth_read : (w : ℕ) (b : Bool) → w ≤ 9 → Reads w (truth_constant_text b) (Tree.Truth b)
 unfolding start_at
 truth_read w true h = record { own = 9; least = h; most = omega arith; reads = λ v rest k f. begins v (codes ".TRUE." ++ rest) (Tree.Truth true, 9, rest) refl }
 truth_read w false h = record { own = 9; least = h; most = omega arith; reads = λ v rest k f. begins v (codes ".FALSE." ++ rest) (Tree.Truth false, 9, rest) refl }
 
 -- a name with a list behind it
-listed_read : (w : ℕ) (name text : List ℕ) (items : Trees) → w ≤ 9 → is_name name ≡ true → ((rest : List ℕ) → reading.items (text ++ (41 ∷ rest)) ≡ Some (items, 41 ∷ rest)) → Reads w (name ++ (40 ∷ (text ++ 41 ∷ []))) (listed name items)
+listed_read : (w : ℕ) (name text : List ℕ) (items : Trees)
+    → w ≤ 9 → is_name name ≡ true → ((rest : List ℕ) → reading.items (text ++ (41 ∷ rest)) ≡ Some (items, 41 ∷ rest))
+    → Reads w (name ++ (40 ∷ (text ++ 41 ∷ []))) (function_listed name items)
 listed_read w name text items h n inner = record {
   own = 9;
   least = h;
@@ -254,7 +258,7 @@ listed_read w name text items h n inner = record {
   reads = λ v rest k f.
       let shape : (name ++ (40 ∷ (text ++ 41 ∷ []))) ++ rest ≡ name ++ (40 ∷ (text ++ (41 ∷ rest))) =
       append_assoc name (40 ∷ (text ++ 41 ∷ [])) rest ∙ ap (λ z. name ++ (40 ∷ z)) (append_assoc text (41 ∷ []) rest) in
-      rw shape (begins v (name ++ (40 ∷ (text ++ (41 ∷ rest)))) (listed name items, 9, rest)
+      rw shape (begins v (name ++ (40 ∷ (text ++ (41 ∷ rest)))) (function_listed name items, 9, rest)
       (at_word v name (40 ∷ (text ++ (41 ∷ rest))) (name_words name n) (name_long name n) refl ∙ rw (not_number name n, n, inner rest) refl));
 }
 
@@ -323,12 +327,12 @@ ends_item c rest (inl e) = rw e (omega arith)
 ends_item c rest (inr e) = rw e (omega arith)
 
 last_read : (text : List ℕ) (t : Tree) → Reads 1 text t → (rest : List ℕ) → reading.items (text ++ (41 ∷ rest)) ≡ Some (Trees.Then t Trees.None, 41 ∷ rest)
-unfolding items_at
+unfolding trees_at
 last_read text t r rest = reading_items (text ++ (41 ∷ rest)) ∙ rw (sym (reading_expr 1 (text ++ (41 ∷ rest))) ∙ operand_read 1 r (41 ∷ rest) (ends_item 41 rest (inl refl))) refl
 
 more_read : (text others : List ℕ) (t : Tree) (ts : Trees) → Reads 1 text t → (rest : List ℕ) → reading.items (others ++ (41 ∷ rest)) ≡ Some (ts, 41 ∷ rest)
     → reading.items ((text ++ (44 ∷ others)) ++ (41 ∷ rest)) ≡ Some (Trees.Then t ts, 41 ∷ rest)
-unfolding items_at
+unfolding trees_at
 more_read text others t ts r rest e =
     rw (append_assoc text (44 ∷ others) (41 ∷ rest)) (reading_items (text ++ (44 ∷ (others ++ (41 ∷ rest))))
     ∙ rw (sym (reading_expr 1 (text ++ (44 ∷ (others ++ (41 ∷ rest))))) ∙ operand_read 1 r (44 ∷ (others ++ (41 ∷ rest))) (ends_item 44 (others ++ (41 ∷ rest)) (inr refl)), e) refl)
@@ -346,7 +350,8 @@ mutual
   complete {w = w} h (Spells.reference c (SpellsReference.element {name = name} {text = text} {items = items} n l)) =
       subst (Reads w (name ++ (40 ∷ (text ++ 41 ∷ [])))) (ap (λ o. listed_by o name items) (not_called name items c l)) (listed_read w name text items h n (complete_all l))
   complete {w = w} h (Spells.call {text = text} {items = items} f l) =
-      subst (Reads w (function_name f ++ (40 ∷ (text ++ 41 ∷ [])))) (ap (λ o. listed_by o (function_name f) items) (function_found f)) (listed_read w (function_name f) text items h (function_is_name f) (complete_all l))
+      subst (Reads w (function_name f ++ (40 ∷ (text ++ 41 ∷ [])))) (ap (λ o. listed_by o (function_name f) items) (function_found f))
+      (listed_read w (function_name f) text items h (function_is_name f) (complete_all l))
   complete {w = w} {t = t} h (Spells.group {text = text} p) = group_read w text t h (complete (omega arith) p)
   complete {w = w} h (Spells.signed {text = text} {t = t} sign k p) = signed_read w sign text t k (complete (omega arith) p)
   complete {w = w} h (Spells.negated {text = text} {t = t} k p) = negated_read w text t k (complete (omega arith) p)

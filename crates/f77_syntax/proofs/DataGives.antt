@@ -8,14 +8,16 @@ use Rattle.f77_tree.specs.declared.data.Constant.{Constant}
 use Rattle.f77_tree.specs.declared.data.Value.{Value}
 use Rattle.f77_tree.specs.declared.data.DataGroup.{DataGroup}
 use Rattle.f77_tree.specs.Grammar.{is_name, word, past_word}
-use Rattle.f77_syntax.specs.Reading.{◌>>=◌, after, past_comma}
+use Rattle.f77_syntax.specs.Reading.{◌>>=◌}
+use Rattle.f77_syntax.specs.code.Reading.{tree_after, past_comma}
 use Rattle.f77_tree.specs.Name.{cut}
-use Rattle.f77_syntax.specs.View.{clipped, Fails}
-use Rattle.f77_syntax.specs.Names.{name_at, names_at}
-use Rattle.f77_syntax.specs.Declaration.{number_at}
+use Rattle.f77_syntax.specs.code.View.{clipped, Fails}
+use Rattle.f77_syntax.specs.code.Names.{name_at, names_at}
+use Rattle.f77_syntax.specs.code.Declaration.{bound_at}
 use Rattle.f77_tree.specs.Tree.{GroupFields}
 use Rattle.f77_tree.specs.Data.{data_group_of, negative}
-use Rattle.f77_syntax.specs.Data.{signed_at, truth_at, constant_at, repeat_at, value_at, data_values_at, with_values, group_at, with_groups, groups_within, groups_at, clip_constant, clip_value, clip_group, Finds}
+use Rattle.f77_syntax.specs.code.Data.{initial_constant_at, truth_at, constant_at, repeat_at, data_value_at, data_values_at, with_values}
+use Rattle.f77_syntax.specs.code.Data.{group_at, with_groups, groups_within, groups_at, clip_constant, clip_value, clip_group, Finds}
 use Rattle.f77_syntax.proofs.Gives.{fails_bind}
 use Rattle.f77_syntax.proofs.JoinedTexts.{kept_more, fronts_short}
 use Rattle.f77_syntax.proofs.DataTexts.{value_is, group_is, group_long}
@@ -43,11 +45,11 @@ unfolding constant_at
 constant_none [] h = refl
 constant_none (c ∷ s) h = absurd (omega arith)
 
-pub constant_plus : (s : List ℕ) → constant_at (43 ∷ s) ≡ signed_at pos s
+pub constant_plus : (s : List ℕ) → constant_at (43 ∷ s) ≡ initial_constant_at pos s
 unfolding constant_at
 constant_plus s = refl
 
-pub constant_minus : (s : List ℕ) → constant_at (45 ∷ s) ≡ signed_at negative s
+pub constant_minus : (s : List ℕ) → constant_at (45 ∷ s) ≡ initial_constant_at negative s
 unfolding constant_at
 constant_minus s = refl
 
@@ -55,24 +57,24 @@ pub constant_dot : (s : List ℕ) → constant_at (46 ∷ s) ≡ truth_at (46 �
 unfolding constant_at
 constant_dot s = refl
 
-pub constant_other : (c : ℕ) (s : List ℕ) → (c == 43) ≡ false → (c == 45) ≡ false → (c == 46) ≡ false → constant_at (c ∷ s) ≡ signed_at pos (c ∷ s)
+pub constant_other : (c : ℕ) (s : List ℕ) → (c == 43) ≡ false → (c == 45) ≡ false → (c == 46) ≡ false → constant_at (c ∷ s) ≡ initial_constant_at pos (c ∷ s)
 unfolding constant_at
 constant_other c s plus minus dot = rw (plus, minus, dot) refl
 
 -- repeats
-pub repeat_no_number : (s : List ℕ) → number_at s ≡ None → repeat_at s ≡ None
+pub repeat_no_number : (s : List ℕ) → bound_at s ≡ None → repeat_at s ≡ None
 unfolding repeat_at
-repeat_no_number s e = ap (λ o. o >>= λ x. after 42 x.1 >>= λ r. Some (x.0, r)) e
+repeat_no_number s e = ap (λ o. o >>= λ x. tree_after 42 x.1 >>= λ r. Some (x.0, r)) e
 
-pub repeat_no_star : (s rest : List ℕ) (x : ℕ × List ℕ) → number_at s ≡ Some x → rest ≡ x.1 → after 42 rest ≡ None → repeat_at s ≡ None
+pub repeat_no_star : (s rest : List ℕ) (x : ℕ × List ℕ) → bound_at s ≡ Some x → rest ≡ x.1 → tree_after 42 rest ≡ None → repeat_at s ≡ None
 unfolding repeat_at
-repeat_no_star s rest x e end h = ap (λ o. o >>= λ x. after 42 x.1 >>= λ r. Some (x.0, r)) e ∙ rw (← end, h) refl
+repeat_no_star s rest x e end h = ap (λ o. o >>= λ x. tree_after 42 x.1 >>= λ r. Some (x.0, r)) e ∙ rw (← end, h) refl
 
-pub repeat_whole : (s rest behind : List ℕ) (n : ℕ) (x : ℕ × List ℕ) → number_at s ≡ Some x → n ≡ clipped x.0 → rest ≡ x.1 → after 42 rest ≡ Some behind
+pub repeat_whole : (s rest behind : List ℕ) (n : ℕ) (x : ℕ × List ℕ) → bound_at s ≡ Some x → n ≡ clipped x.0 → rest ≡ x.1 → tree_after 42 rest ≡ Some behind
     → Some (n, behind) ≡ option_map {U = ℕ × List ℕ} (λ x. (clipped x.0, x.1)) (repeat_at s)
 unfolding repeat_at
 repeat_whole s rest behind n x e same end h =
-    let known : repeat_at s ≡ Some (x.0, behind) = ap (λ o. o >>= λ x. after 42 x.1 >>= λ r. Some (x.0, r)) e ∙ rw (← end, h) refl in
+    let known : repeat_at s ≡ Some (x.0, behind) = ap (λ o. o >>= λ x. tree_after 42 x.1 >>= λ r. Some (x.0, r)) e ∙ rw (← end, h) refl in
     rw (known, same) refl
 
 -- values
@@ -93,17 +95,17 @@ starts b o r found is = by_both o (repeat_at b.now) found is
 abbrev pub times_of : ℕ → Constant → Value
 times_of n k = record { times = n; constant = k }
 
-pub value_none : (s : List ℕ) → constant_at (start s).1 ≡ None → value_at s ≡ None
-unfolding value_at
+pub value_none : (s : List ℕ) → constant_at (start s).1 ≡ None → data_value_at s ≡ None
+unfolding data_value_at
 value_none s e = ap (λ o. o >>= λ y. Some (record { times = (start s).0; constant = y.0 }, y.1)) e
 
 pub value_whole : (s r : List ℕ) (n : ℕ) (k : Constant) (y : Constant × List ℕ) → constant_at (start s).1 ≡ Some y → n ≡ clipped (start s).0 → k ≡ clip_constant y.0 → r ≡ y.1
-    → (x : Value × List ℕ) × (value_at s ≡ Some x) × ((times_of n k ≡ clip_value x.0) × (r ≡ x.1))
-unfolding value_at
+    → (x : Value × List ℕ) × (data_value_at s ≡ Some x) × ((times_of n k ≡ clip_value x.0) × (r ≡ x.1))
+unfolding data_value_at
 value_whole s r n k y e times same end =
     ((times_of (start s).0 y.0, y.1), ap (λ o. o >>= λ y. Some (times_of (start s).0 y.0, y.1)) e, (rw (times, same) refl, end))
 
-pub value_shorter : (s : List ℕ) (x : Value × List ℕ) → value_at s ≡ Some x → length x.1 ≤ length s
+pub value_shorter : (s : List ℕ) (x : Value × List ℕ) → data_value_at s ≡ Some x → length x.1 ≤ length s
 value_shorter s x e = fronts_short (value_is s x e)
 
 -- names
@@ -119,43 +121,43 @@ group_fields names values = record { names = names; values = values }
 
 -- a group whose values have been read, before its last slash
 abbrev closing : List (List ℕ) → List Value × List ℕ → Option (GroupFields × List ℕ)
-closing names v = after 47 v.1 >>= λ z. Some (group_fields names v.0, z)
+closing names v = tree_after 47 v.1 >>= λ z. Some (group_fields names v.0, z)
 
-group_opened : (s behind inner : List ℕ) (x : List (List ℕ) × List ℕ) → names_at s ≡ Some x → behind ≡ x.1 → after 47 behind ≡ Some inner
+group_opened : (s behind inner : List ℕ) (x : List (List ℕ) × List ℕ) → names_at s ≡ Some x → behind ≡ x.1 → tree_after 47 behind ≡ Some inner
     → group_at s ≡ (data_values_at inner >>= closing x.0)
 unfolding group_at
 group_opened s behind inner x e is slash = rw (e, ← is, slash) refl
 
 pub group_fails_names : (s : List ℕ) (e : ReadError) → Fails e (names_at s) → Fails e (group_at s)
 unfolding group_at
-group_fails_names s e f = fails_bind e (names_at s) (λ x. after 47 x.1 >>= λ r. with_values x.0 r) f
+group_fails_names s e f = fails_bind e (names_at s) (λ x. tree_after 47 x.1 >>= λ r. with_values x.0 r) f
 
-opening : (s behind : List ℕ) (x : List (List ℕ) × List ℕ) → names_at s ≡ Some x → behind ≡ x.1 → group_at s ≡ (after 47 behind >>= λ r. with_values x.0 r)
+opening : (s behind : List ℕ) (x : List (List ℕ) × List ℕ) → names_at s ≡ Some x → behind ≡ x.1 → group_at s ≡ (tree_after 47 behind >>= λ r. with_values x.0 r)
 unfolding group_at
 opening s behind x found is = rw (found, is) refl
 
-pub group_fails_open : (s behind : List ℕ) (x : List (List ℕ) × List ℕ) (e : ReadError) → names_at s ≡ Some x → behind ≡ x.1 → Fails e (after 47 behind) → Fails e (group_at s)
-group_fails_open s behind x e found is f = subst (Fails e) (sym (opening s behind x found is)) (fails_bind e (after 47 behind) (λ r. with_values x.0 r) f)
+pub group_fails_open : (s behind : List ℕ) (x : List (List ℕ) × List ℕ) (e : ReadError) → names_at s ≡ Some x → behind ≡ x.1 → Fails e (tree_after 47 behind) → Fails e (group_at s)
+group_fails_open s behind x e found is f = subst (Fails e) (sym (opening s behind x found is)) (fails_bind e (tree_after 47 behind) (λ r. with_values x.0 r) f)
 
-pub group_fails_values : (s behind inner : List ℕ) (x : List (List ℕ) × List ℕ) (e : ReadError) → names_at s ≡ Some x → behind ≡ x.1 → after 47 behind ≡ Some inner
+pub group_fails_values : (s behind inner : List ℕ) (x : List (List ℕ) × List ℕ) (e : ReadError) → names_at s ≡ Some x → behind ≡ x.1 → tree_after 47 behind ≡ Some inner
     → Fails e (data_values_at inner) → Fails e (group_at s)
 group_fails_values s behind inner x e found is slash f =
     subst (Fails e) (sym (group_opened s behind inner x found is slash)) (fails_bind e (data_values_at inner) (closing x.0) f)
 
 pub group_fails_close : (s behind inner end : List ℕ) (x : List (List ℕ) × List ℕ) (v : List Value × List ℕ) (e : ReadError) → names_at s ≡ Some x → behind ≡ x.1
-    → after 47 behind ≡ Some inner → data_values_at inner ≡ Some v → end ≡ v.1 → Fails e (after 47 end) → Fails e (group_at s)
+    → tree_after 47 behind ≡ Some inner → data_values_at inner ≡ Some v → end ≡ v.1 → Fails e (tree_after 47 end) → Fails e (group_at s)
 group_fails_close s behind inner end x v e found is slash valued at f =
     subst (Fails e) (sym (group_opened s behind inner x found is slash ∙ ap (λ o. o >>= closing x.0) valued))
-    (fails_bind e (after 47 v.1) (λ z. Some (group_fields x.0 v.0, z)) (rw at at f))
+    (fails_bind e (tree_after 47 v.1) (λ z. Some (group_fields x.0 v.0, z)) (rw at at f))
 
 pub group_whole : (s behind inner end rest z : List ℕ) (names : List (List ℕ)) (values : List Value) (x : List (List ℕ) × List ℕ) (v : List Value × List ℕ)
-    → names_at s ≡ Some x → behind ≡ x.1 → after 47 behind ≡ Some inner → data_values_at inner ≡ Some v → end ≡ v.1 → after 47 end ≡ Some z
+    → names_at s ≡ Some x → behind ≡ x.1 → tree_after 47 behind ≡ Some inner → data_values_at inner ≡ Some v → end ≡ v.1 → tree_after 47 end ≡ Some z
     → names ≡ map cut x.0 → values ≡ map clip_value v.0 → rest ≡ z
     → (y : GroupFields × List ℕ) × (group_at s ≡ Some y) × ((group_fields names values ≡ clip_group y.0) × (rest ≡ y.1))
 group_whole s behind inner end rest z names values x v found is slash valued at close named same last =
     ((group_fields x.0 v.0, z), group_opened s behind inner x found is slash ∙ ap (λ o. o >>= closing x.0) valued ∙ closes v.1 (sym at) close, (rw (named, same) refl, last))
   where
-    closes : (r : List ℕ) → r ≡ end → after 47 end ≡ Some z → closing x.0 (v.0, r) ≡ Some (group_fields x.0 v.0, z)
+    closes : (r : List ℕ) → r ≡ end → tree_after 47 end ≡ Some z → closing x.0 (v.0, r) ≡ Some (group_fields x.0 v.0, z)
     closes r e h = rw (e, h) refl
 
 pub group_shorter : (s rest : List ℕ) (x : GroupFields × List ℕ) → group_at s ≡ Some x → rest ≡ x.1 → length rest < length s

@@ -7,22 +7,22 @@ use Rattle.std.proofs.lemmas.List.{length-map}
 use Rattle.f77_tree.specs.declared.data.Constant.{Constant}
 use Rattle.f77_tree.specs.declared.data.Constant.TheVariants.{Number, Truth}
 use Rattle.f77_tree.specs.declared.data.Value.{Value}
-use Rattle.f77_syntax.specs.View.{clipped}
+use Rattle.f77_syntax.specs.code.View.{clipped}
 use Rattle.f77_tree.specs.Name.{cut}
-use Rattle.f77_nodes.specs.Limits.{largest, size, small_constant, small_value}
+use Rattle.f77_nodes.specs.Limits.{largest, magnitude, small_constant, small_value}
 use Rattle.f77_tree.specs.Tree.{GroupFields}
-use Rattle.f77_nodes.specs.Names.{group_names, data_names}
+use Rattle.f77_nodes.specs.Names.{has_short_group_names, data_names}
 use Rattle.f77_nodes.proofs.Constants.{group_constants, data_constants}
 use Rattle.f77_syntax.proofs.NodeCounts.{data_nodes}
-use Rattle.f77_syntax.specs.Data.{kept, clip_constant, clip_value, clip_group}
+use Rattle.f77_syntax.specs.code.Data.{clipped_constant, clip_constant, clip_value, clip_group}
 use Rattle.f77_tree.proofs.Tests.{and_true}
 use Rattle.f77_syntax.proofs.Clip.{constant_clip, small_clipped, short_cuts}
 
 -- Keeping them changes no limit, and within the limits it changes nothing.
-number_clip : (z : ℤ) → nat_le (size (kept z)) largest ≡ nat_le (size z) largest
-number_clip z = either (nat_le (size z) largest) refl
+number_clip : (z : ℤ) → nat_le (magnitude (clipped_constant z)) largest ≡ nat_le (magnitude z) largest
+number_clip z = either (nat_le (magnitude z) largest) refl
   where
-    either : (b : Bool) → nat_le (size z) largest ≡ b → nat_le (size (cond b z (negsuc largest))) largest ≡ b
+    either : (b : Bool) → nat_le (magnitude z) largest ≡ b → nat_le (magnitude (cond b z (negsuc largest))) largest ≡ b
     either true e = e
     either false e = grind (arith, nat_tests)
 
@@ -66,6 +66,6 @@ data_nodes_clip (g ∷ gs) = rw (length-map g.names cut, length-map g.values cli
 pub data_kept : (gs : List GroupFields) → data_names gs ≡ true → data_constants gs ≡ true → map clip_group gs ≡ gs
 data_kept [] n h = refl
 data_kept (g ∷ gs) n h =
-    let (named, others_named) = and_true (group_names g) (data_names gs) n in
+    let (named, others_named) = and_true (has_short_group_names g) (data_names gs) n in
     let (first, others) = and_true (group_constants g) (data_constants gs) h in
     rw (short_cuts g.names named, values_same g.values first, data_kept gs others_named others) refl

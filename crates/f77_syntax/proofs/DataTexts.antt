@@ -1,5 +1,6 @@
 -- Initial values: what is read is spelled so, and what is spelled is read so.
-use Rattle.std.proofs.Common.{arith, ◌≡◌, inl, inr, ◌<◌, ℕ, zero, suc, length, length-append, List, [], ◌∷◌, ◌++◌, true, false, cond, refl, Option, Some, None, ap, sym, ◌∙◌, append_assoc, append-nil, subst}
+use Rattle.std.proofs.Common.{arith, ◌≡◌, inl, inr, ◌<◌, ℕ, zero, suc, length, length-append, List, [], ◌∷◌, ◌++◌, true}
+use Rattle.std.proofs.Common.{false, cond, refl, Option, Some, None, ap, sym, ◌∙◌, append_assoc, append-nil, subst}
 use Rattle.std.specs.Prelude.{ℤ, pos, ◌==◌, codes, unwrap_or}
 use Rattle.std.specs.List.{list_all, list_any}
 use Rattle.std.specs.Str.Parse.{digits_value}
@@ -10,14 +11,16 @@ use Rattle.std.proofs.lemmas.List.{nil_from_length}
 use Rattle.f77_tree.specs.declared.data.Constant.{Constant}
 use Rattle.f77_tree.specs.declared.data.Constant.TheVariants.{Number, Truth}
 use Rattle.f77_tree.specs.Grammar.{is_word, is_digit, is_letter, is_name, is_number}
-use Rattle.f77_syntax.specs.Reading.{◌>>=◌, strip, after, past_comma}
+use Rattle.f77_syntax.specs.Reading.{◌>>=◌, strip}
+use Rattle.f77_syntax.specs.code.Reading.{tree_after, past_comma}
 use Rattle.f77_tree.specs.Joined.{Joined}
 use Rattle.f77_tree.specs.Declaration.{SpellsName, SpellsNumber}
-use Rattle.f77_syntax.specs.Names.{name_at, names_at}
-use Rattle.f77_syntax.specs.Declaration.{number_at}
+use Rattle.f77_syntax.specs.code.Names.{name_at, names_at}
+use Rattle.f77_syntax.specs.code.Declaration.{bound_at}
 use Rattle.f77_tree.specs.Tree.{GroupFields}
 use Rattle.f77_tree.specs.Data.{negative, SpellsConstant, SpellsValue, SpellsGroup, SpellsGroups}
-use Rattle.f77_syntax.specs.Data.{signed_at, truth_by, truth_at, constant_at, repeat_at, times_at, value_at, data_values_at, with_values, group_at, with_groups, groups_within, groups_at}
+use Rattle.f77_syntax.specs.code.Data.{initial_constant_at, truth_by, truth_at, constant_at, repeat_at, times_at, data_value_at}
+use Rattle.f77_syntax.specs.code.Data.{data_values_at, with_values, group_at, with_groups, groups_within, groups_at}
 use Rattle.f77_syntax.proofs.Steps.{along, bind_ok, chosen, strip_is}
 use Rattle.f77_tree.proofs.Tests.{and_true}
 use Rattle.f77_tree.proofs.Words.{word_front, past_word_front, name_words}
@@ -29,17 +32,17 @@ use Rattle.std.proofs.lemmas.List.Folds.{list_any-append}
 use Rattle.f77_tree.specs.declared.data.Value.{Value}
 use Rattle.f77_syntax.proofs.WordTexts.{is_equals, words_no_equals}
 
-positive_is : (s : List ℕ) (x : Constant × List ℕ) → signed_at pos s ≡ Some x → Fronts SpellsConstant s x
+positive_is : (s : List ℕ) (x : Constant × List ℕ) → initial_constant_at pos s ≡ Some x → Fronts SpellsConstant s x
 positive_is s x e =
-    let (y, read, end) = bind_ok (number_at s) (λ y. Some (Number (pos y.0), y.1)) x e in
+    let (y, read, end) = bind_ok (bound_at s) (λ y. Some (Number (pos y.0), y.1)) x e in
     let f = number_is s y read in
     along (Fronts SpellsConstant s) (Number (pos y.0), y.1) x end (record { text = f.text; is = f.is; spells = unsigned_spelled f.spells })
 
 signed_front : (c : ℕ) (sign : ℕ → ℤ) (s : List ℕ) (x : Constant × List ℕ)
     → ((text : List ℕ) (n : ℕ) → SpellsNumber text n → SpellsConstant (c ∷ text) (Number (sign n)))
-    → signed_at sign s ≡ Some x → Fronts SpellsConstant (c ∷ s) x
+    → initial_constant_at sign s ≡ Some x → Fronts SpellsConstant (c ∷ s) x
 signed_front c sign s x spelled e =
-    let (y, read, end) = bind_ok (number_at s) (λ y. Some (Number (sign y.0), y.1)) x e in
+    let (y, read, end) = bind_ok (bound_at s) (λ y. Some (Number (sign y.0), y.1)) x e in
     let f = number_is s y read in
     along (Fronts SpellsConstant (c ∷ s)) (Number (sign y.0), y.1) x end (record { text = c ∷ f.text; is = ap (λ v. c ∷ v) f.is; spells = spelled f.text y.0 f.spells })
 
@@ -60,11 +63,11 @@ pub constant_is : IsSound SpellsConstant constant_at
 unfolding constant_at
 constant_is [] x e = absurd (none-some x e)
 constant_is (c ∷ s) x e =
-    elim (chosen (c == 43) (signed_at pos s) (cond (c == 45) (signed_at negative s) (cond (c == 46) (truth_at (c ∷ s)) (signed_at pos (c ∷ s)))) (Some x) e) [
+    elim (chosen (c == 43) (initial_constant_at pos s) (cond (c == 45) (initial_constant_at negative s) (cond (c == 46) (truth_at (c ∷ s)) (initial_constant_at pos (c ∷ s)))) (Some x) e) [
       | inl p ↦ subst (λ d. Fronts SpellsConstant (d ∷ s) x) (sym (eqb-true c 43 p.0)) (signed_front 43 pos s x plus_spelled p.1)
-      | inr p ↦ elim (chosen (c == 45) (signed_at negative s) (cond (c == 46) (truth_at (c ∷ s)) (signed_at pos (c ∷ s))) (Some x) p.1) [
+      | inr p ↦ elim (chosen (c == 45) (initial_constant_at negative s) (cond (c == 46) (truth_at (c ∷ s)) (initial_constant_at pos (c ∷ s))) (Some x) p.1) [
         | inl q ↦ subst (λ d. Fronts SpellsConstant (d ∷ s) x) (sym (eqb-true c 45 q.0)) (signed_front 45 negative s x minus_spelled q.1)
-        | inr q ↦ elim (chosen (c == 46) (truth_at (c ∷ s)) (signed_at pos (c ∷ s)) (Some x) q.1) [
+        | inr q ↦ elim (chosen (c == 46) (truth_at (c ∷ s)) (initial_constant_at pos (c ∷ s)) (Some x) q.1) [
           | inl r ↦ truth_is (c ∷ s) x r.1
           | inr r ↦ positive_is (c ∷ s) x r.1
         ]
@@ -80,13 +83,13 @@ record FrontsRepeat (s : List ℕ) (x : ℕ × List ℕ) : Type 0 where
 repeat_is : (s : List ℕ) (x : ℕ × List ℕ) → repeat_at s ≡ Some x → FrontsRepeat s x
 unfolding repeat_at
 repeat_is s x e =
-    let (y, read, more) = bind_ok (number_at s) (λ y. after 42 y.1 >>= λ r. Some (y.0, r)) x e in
-    let (r, star, end) = bind_ok (after 42 y.1) (λ r. Some (y.0, r)) x more in
+    let (y, read, more) = bind_ok (bound_at s) (λ y. tree_after 42 y.1 >>= λ r. Some (y.0, r)) x e in
+    let (r, star, end) = bind_ok (tree_after 42 y.1) (λ r. Some (y.0, r)) x more in
     let f = number_is s y read in
     along (FrontsRepeat s) (y.0, r) x end (record { digits = f.text; is = f.is ∙ ap (λ v. f.text ++ v) (after_is 42 y.1 r star); spells = f.spells })
 
-pub value_is : IsSound SpellsValue value_at
-unfolding value_at
+pub value_is : IsSound SpellsValue data_value_at
+unfolding data_value_at
 value_is s x e = by_repeat (repeat_at s) refl e
   where
     by_repeat : (o : Option (ℕ × List ℕ)) → repeat_at s ≡ o → times_at (unwrap_or o (1, s)) ≡ Some x → Fronts SpellsValue s x
@@ -111,10 +114,10 @@ data_values_is = items_is value_is
 pub group_is : IsSound SpellsGroup group_at
 unfolding group_at
 group_is s x e =
-    let (y, named, more) = bind_ok (names_at s) (λ y. after 47 y.1 >>= λ r. with_values y.0 r) x e in
-    let (r, slash, rest) = bind_ok (after 47 y.1) (λ r. with_values y.0 r) x more in
-    let (v, valued, others) = bind_ok (data_values_at r) (λ v. after 47 v.1 >>= λ z. Some (record { names = y.0; values = v.0 }, z)) x rest in
-    let (z, close, end) = bind_ok (after 47 v.1) (λ z. Some (record { names = y.0; values = v.0 }, z)) x others in
+    let (y, named, more) = bind_ok (names_at s) (λ y. tree_after 47 y.1 >>= λ r. with_values y.0 r) x e in
+    let (r, slash, rest) = bind_ok (tree_after 47 y.1) (λ r. with_values y.0 r) x more in
+    let (v, valued, others) = bind_ok (data_values_at r) (λ v. tree_after 47 v.1 >>= λ z. Some (record { names = y.0; values = v.0 }, z)) x rest in
+    let (z, close, end) = bind_ok (tree_after 47 v.1) (λ z. Some (record { names = y.0; values = v.0 }, z)) x others in
     let f = names_is s y named in
     let g = data_values_is r v valued in
     along (Fronts SpellsGroup s) (record { names = y.0; values = v.0 }, z) x end (record {
@@ -126,9 +129,9 @@ group_is s x e =
 
 -- a comma before other groups, or none
 behind_group : (text rest : List ℕ) (g : GroupFields) (gs : List GroupFields) → SpellsGroup text g → SpellsGroups (past_comma rest) gs → SpellsGroups (text ++ rest) (g ∷ gs)
-behind_group text rest g gs p q = by_comma (after 44 rest) refl q
+behind_group text rest g gs p q = by_comma (tree_after 44 rest) refl q
   where
-    by_comma : (o : Option (List ℕ)) → after 44 rest ≡ o → SpellsGroups (unwrap_or o rest) gs → SpellsGroups (text ++ rest) (g ∷ gs)
+    by_comma : (o : Option (List ℕ)) → tree_after 44 rest ≡ o → SpellsGroups (unwrap_or o rest) gs → SpellsGroups (text ++ rest) (g ∷ gs)
     by_comma None is q = SpellsGroups.more p q
     by_comma (Some r) is q = subst (λ v. SpellsGroups (text ++ v) (g ∷ gs)) (sym (after_is 44 rest r is)) (SpellsGroups.more_by_comma p q)
 
@@ -156,7 +159,7 @@ unfolding groups_at
 groups_is s gs e = within_is (suc (length s)) s gs e
 
 -- What is spelled is read so.
-no_star : (rest : List ℕ) → Stops rest → after 42 rest ≡ None
+no_star : (rest : List ℕ) → Stops rest → tree_after 42 rest ≡ None
 no_star [] h = refl
 no_star (c ∷ s) h = let other : (c == 42) ≡ false = grind (arith, nat_tests) in rw other refl
 
@@ -177,7 +180,7 @@ constant_read text x (SpellsConstant.logical false) rest stops = refl
 no_repeat : {text : List ℕ} {c : Constant} → SpellsConstant text c → (rest : List ℕ) → Stops rest → repeat_at (text ++ rest) ≡ None
 unfolding repeat_at
 no_repeat (SpellsConstant.unsigned {text = t} n) rest stops =
-    ap (λ o. o >>= λ y. after 42 y.1 >>= λ r. Some (y.0, r)) (number_read t (digits_value 10 t) (SpellsNumber.numeral n) rest stops) ∙ rw (no_star rest stops) refl
+    ap (λ o. o >>= λ y. tree_after 42 y.1 >>= λ r. Some (y.0, r)) (number_read t (digits_value 10 t) (SpellsNumber.numeral n) rest stops) ∙ rw (no_star rest stops) refl
 no_repeat (SpellsConstant.plus n) rest stops = refl
 no_repeat (SpellsConstant.minus n) rest stops = refl
 no_repeat (SpellsConstant.logical true) rest stops = refl
@@ -187,8 +190,8 @@ a_repeat : (digits r : List ℕ) → is_number digits ≡ true → repeat_at (di
 unfolding repeat_at
 a_repeat digits r h = rw (word_front digits (42 ∷ r) (number_words digits h) refl, past_word_front digits (42 ∷ r) (number_words digits h) refl, h) refl
 
-pub value_read : IsRead SpellsValue value_at
-unfolding value_at
+pub value_read : IsRead SpellsValue data_value_at
+unfolding data_value_at
 value_read text x (SpellsValue.once {text = t} {c = c} p) rest stops = rw (no_repeat p rest stops, constant_read t c p rest stops) refl
 value_read text x (SpellsValue.repeated digits {text = t} {c = c} h p) rest stops =
     rw (append_assoc digits (42 ∷ t) rest, a_repeat digits (t ++ rest) h, constant_read t c p rest stops) refl
@@ -200,26 +203,26 @@ group_read (SpellsGroup.group {x = x} {y = y} p q) rest =
       append_assoc x (47 ∷ (y ++ 47 ∷ [])) rest,
       append_assoc y (47 ∷ []) rest,
       items_read name_at name_read p (47 ∷ (y ++ (47 ∷ rest))) refl refl,
-      items_read value_at value_read q (47 ∷ rest) refl refl,
+      items_read data_value_at value_read q (47 ∷ rest) refl refl,
     ) refl
 
 -- a group begins with a letter, and so with no comma
-name_starts : (text rest : List ℕ) → is_name text ≡ true → after 44 (text ++ rest) ≡ None
+name_starts : (text rest : List ℕ) → is_name text ≡ true → tree_after 44 (text ++ rest) ≡ None
 name_starts [] rest h = cc
 name_starts (c ∷ text) rest h =
     let letter = (and_true (is_letter c) (list_all is_word text) h).0 in
     let other : (c == 44) ≡ false = grind (arith, nat_tests) in rw other refl
 
-names_start : {text : List ℕ} {names : List (List ℕ)} → Joined SpellsName text names → (rest : List ℕ) → after 44 (text ++ rest) ≡ None
+names_start : {text : List ℕ} {names : List (List ℕ)} → Joined SpellsName text names → (rest : List ℕ) → tree_after 44 (text ++ rest) ≡ None
 names_start (Joined.last (SpellsName.named {text = t} h)) rest = name_starts t rest h
 names_start (Joined.more {rest = others} (SpellsName.named {text = t} h) p) rest = rw (append_assoc t (44 ∷ others) rest) (name_starts t (44 ∷ (others ++ rest)) h)
 
-group_starts : {text : List ℕ} {g : GroupFields} → SpellsGroup text g → (rest : List ℕ) → after 44 (text ++ rest) ≡ None
+group_starts : {text : List ℕ} {g : GroupFields} → SpellsGroup text g → (rest : List ℕ) → tree_after 44 (text ++ rest) ≡ None
 group_starts (SpellsGroup.group {x = x} {y = y} p q) rest =
     rw (append_assoc x (47 ∷ (y ++ 47 ∷ [])) rest) (names_start p (47 ∷ ((y ++ 47 ∷ []) ++ rest)))
 
-groups_start : {text : List ℕ} {gs : List GroupFields} → SpellsGroups text gs → after 44 text ≡ None
-groups_start (SpellsGroups.last {text = text} p) = subst (λ v. after 44 v ≡ None) (append-nil text) (group_starts p [])
+groups_start : {text : List ℕ} {gs : List GroupFields} → SpellsGroups text gs → tree_after 44 text ≡ None
+groups_start (SpellsGroups.last {text = text} p) = subst (λ v. tree_after 44 v ≡ None) (append-nil text) (group_starts p [])
 groups_start (SpellsGroups.more {rest = rest} p q) = group_starts p rest
 groups_start (SpellsGroups.more_by_comma {rest = rest} p q) = group_starts p (44 ∷ rest)
 

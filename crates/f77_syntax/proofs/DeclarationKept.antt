@@ -3,14 +3,14 @@ use Rattle.std.proofs.Common.{◌≡◌, ℕ, List, [], ◌∷◌, true, refl}
 use Rattle.std.specs.Prelude.{map}
 use Rattle.std.specs.List.{list_all}
 use Rattle.std.proofs.lemmas.List.{length-map}
-use Rattle.f77_syntax.specs.View.{clipped}
+use Rattle.f77_syntax.specs.code.View.{clipped}
 use Rattle.f77_tree.specs.Tree.{DeclFields}
 use Rattle.f77_tree.specs.Declaration.{all_bounded}
 use Rattle.f77_nodes.specs.Names.{decl_name, declaration_names}
 use Rattle.f77_nodes.specs.Limits.{small_bound, decl_constants}
 use Rattle.f77_nodes.proofs.Constants.{declaration_constants}
 use Rattle.f77_syntax.proofs.NodeCounts.{declaration_nodes}
-use Rattle.f77_syntax.specs.Declaration.{clip_decl}
+use Rattle.f77_syntax.specs.code.Declaration.{clip_decl}
 use Rattle.f77_tree.proofs.Tests.{and_true}
 use Rattle.f77_syntax.proofs.Clip.{constant_clip, small_clipped, short_cut}
 

@@ -6,14 +6,15 @@ use Rattle.std.specs.Str.Parse.{digits_value}
 use Rattle.std.proofs.lemmas.Bool.Decides.{nat_tests}
 use Rattle.std.proofs.lemmas.Option.{same_Some}
 use Rattle.f77_tree.specs.Grammar.{is_word, is_digit, is_name, is_number, word, past_word}
-use Rattle.f77_syntax.specs.Reading.{◌>>=◌, after, close_at}
-use Rattle.f77_syntax.specs.Assignment.{ended}
+use Rattle.f77_syntax.specs.Reading.{◌>>=◌}
+use Rattle.f77_syntax.specs.code.Reading.{tree_after, close_at}
+use Rattle.f77_syntax.specs.code.Assignment.{value_ended}
 use Rattle.f77_tree.specs.Joined.{Joined}
-use Rattle.f77_syntax.specs.Joined.{items_at}
+use Rattle.f77_syntax.specs.code.Joined.{items_at}
 use Rattle.f77_tree.specs.Tree.{DeclFields}
 use Rattle.f77_tree.specs.Declaration.{SpellsName, SpellsNumber, SpellsDecl, SpellsDecls}
-use Rattle.f77_syntax.specs.Names.{name_at, names_at}
-use Rattle.f77_syntax.specs.Declaration.{number_at, bounds_at, with_bounds, decl_at, declarations_at}
+use Rattle.f77_syntax.specs.code.Names.{name_at, names_at}
+use Rattle.f77_syntax.specs.code.Declaration.{bound_at, bounds_at, read_bounds, decl_at, declarations_at}
 use Rattle.f77_syntax.proofs.Steps.{along, bind_ok, guarded}
 use Rattle.f77_tree.proofs.Tests.{and_true}
 use Rattle.f77_tree.proofs.Words.{EndsWord, word_whole, word_front, past_word_front, name_words}
@@ -34,7 +35,7 @@ pub names_is : IsSound (Joined SpellsName) names_at
 unfolding names_at
 names_is = items_is name_is
 
-pub number_is : IsSound SpellsNumber number_at
+pub number_is : IsSound SpellsNumber bound_at
 number_is s x e =
     let (n, found) = guarded (is_number (word s)) (Some (digits_value 10 (word s), past_word s)) x e in
     along (Fronts SpellsNumber s) (digits_value 10 (word s), past_word s) x found (record { text = word s; is = word_whole s; spells = SpellsNumber.numeral n })
@@ -43,7 +44,7 @@ pub bounds_is : IsSound (Joined SpellsNumber) bounds_at
 unfolding bounds_at
 bounds_is = items_is number_is
 
-with_bounds_is : (name rest : List ℕ) (o : Option (List ℕ)) (x : DeclFields × List ℕ) → is_name name ≡ true → after 40 rest ≡ o → with_bounds name rest o ≡ Some x
+with_bounds_is : (name rest : List ℕ) (o : Option (List ℕ)) (x : DeclFields × List ℕ) → is_name name ≡ true → tree_after 40 rest ≡ o → read_bounds name rest o ≡ Some x
     → Fronts SpellsDecl (name ++ rest) x
 with_bounds_is name rest None x n at e =
     along (Fronts SpellsDecl (name ++ rest)) (record { name = name; bounds = [] }, rest) x e (record { text = name; is = refl; spells = SpellsDecl.scalar n })
@@ -61,15 +62,16 @@ with_bounds_is name rest (Some inner) x n at e =
 pub decl_is : IsSound SpellsDecl decl_at
 unfolding decl_at
 decl_is s x e =
-    let (y, named, rest) = bind_ok (name_at s) (λ y. with_bounds y.0 y.1 (after 40 y.1)) x e in
+    let (y, named, rest) = bind_ok (name_at s) (λ y. read_bounds y.0 y.1 (tree_after 40 y.1)) x e in
     let (n, found) = guarded (is_name (word s)) (Some (word s, past_word s)) y named in
-    let read : with_bounds (word s) (past_word s) (after 40 (past_word s)) ≡ Some x = subst (λ v. with_bounds v.0 v.1 (after 40 v.1) ≡ Some x) (sym (same_Some (word s, past_word s) y found)) rest in
-    subst (λ v. Fronts SpellsDecl v x) (sym (word_whole s)) (with_bounds_is (word s) (past_word s) (after 40 (past_word s)) x n refl read)
+    let read : read_bounds (word s) (past_word s) (tree_after 40 (past_word s)) ≡ Some x =
+    subst (λ v. read_bounds v.0 v.1 (tree_after 40 v.1) ≡ Some x) (sym (same_Some (word s, past_word s) y found)) rest in
+    subst (λ v. Fronts SpellsDecl v x) (sym (word_whole s)) (with_bounds_is (word s) (past_word s) (tree_after 40 (past_word s)) x n refl read)
 
 pub declarations_is : (s : List ℕ) (ds : List DeclFields) → declarations_at s ≡ Some ds → SpellsDecls s ds
 unfolding declarations_at
 declarations_is s ds e =
-    let (x, read, end) = bind_ok (items_at decl_at s) (λ x. ended x.0 x.1) ds e in
+    let (x, read, end) = bind_ok (items_at decl_at s) (λ x. value_ended x.0 x.1) ds e in
     let f = items_is decl_is s x read in
     let (same, none) = ended_is x.0 x.1 ds end in
     let whole : s ≡ f.text = f.is ∙ ap (λ v. f.text ++ v) none ∙ append-nil f.text in
@@ -95,11 +97,11 @@ pub name_read : IsRead SpellsName name_at
 name_read text x (SpellsName.named n) rest stops =
     rw (word_front text rest (name_words text n) (stops_word rest stops), past_word_front text rest (name_words text n) (stops_word rest stops), n) refl
 
-pub number_read : IsRead SpellsNumber number_at
+pub number_read : IsRead SpellsNumber bound_at
 number_read text x (SpellsNumber.numeral n) rest stops =
     rw (word_front text rest (number_words text n) (stops_word rest stops), past_word_front text rest (number_words text n) (stops_word rest stops), n) refl
 
-no_list : (rest : List ℕ) → Stops rest → after 40 rest ≡ None
+no_list : (rest : List ℕ) → Stops rest → tree_after 40 rest ≡ None
 no_list [] h = refl
 no_list (c ∷ s) h = let other : (c == 40) ≡ false = grind (arith, nat_tests) in rw other refl
 
@@ -113,7 +115,7 @@ decl_read text x (SpellsDecl.array {name = name} {text = inner} n p) rest stops 
       word_front name (40 ∷ (inner ++ (41 ∷ rest))) (name_words name n) refl,
       past_word_front name (40 ∷ (inner ++ (41 ∷ rest))) (name_words name n) refl,
       n,
-      items_read number_at number_read p (41 ∷ rest) refl refl,
+      items_read bound_at number_read p (41 ∷ rest) refl refl,
     ) refl
 
 pub declarations_read : {s : List ℕ} {ds : List DeclFields} → SpellsDecls s ds → declarations_at s ≡ Some ds

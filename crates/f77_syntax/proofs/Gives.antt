@@ -23,8 +23,10 @@ use Rattle.f77_tree.specs.Grammar.{is_name, is_number, word, past_word}
 use Rattle.f77_tree.specs.Name.{cut}
 use Rattle.f77_tree.specs.Tree.{Tree, Trees}
 use Rattle.f77_tree.specs.View.{tree_of, trees}
-use Rattle.f77_syntax.specs.View.{clip, clip_all, clipped, Fails, Gives, IsStart}
-use Rattle.f77_syntax.specs.Reading.{◌>>=◌, strip, operator_at, after, close_at, closed, enclosed_at, signed_at, negated_at, dotted_at, listed_by, listed, named_at, word_at, start_at, expr_at, climb_on, climb_at, more_at, items_at, reading}
+use Rattle.f77_syntax.specs.code.View.{clip, clip_all, clipped, Fails, Gives, IsTreeStart}
+use Rattle.f77_syntax.specs.Reading.{◌>>=◌, strip}
+use Rattle.f77_syntax.specs.code.Reading.{operator_at, tree_after, close_at, closed, enclosed_at, signed_tree_at, negated_at, dotted_at, listed_by}
+use Rattle.f77_syntax.specs.code.Reading.{function_listed, named_at, word_tree_at, start_at, expr_at, climb_on, climb_at, more_at, trees_at, reading}
 use Rattle.f77_syntax.proofs.Steps.{guarded}
 use Rattle.f77_syntax.proofs.Sound.{sound_reading}
 use Rattle.f77_syntax.proofs.Sound as sound
@@ -45,7 +47,7 @@ pub expr_fails : (w : ℕ) (s : List ℕ) (e : ReadError) → Fails e (start_at 
 unfolding expr_at
 expr_fails w s e h = fails_along e _ (reading.expr w s) (sym (reading_expr w s)) (fails_bind e (start_at reading w s) (λ x. reading.climb w x.0 x.1 x.2) h)
 
-pub start_shorter : (w : ℕ) (s : List ℕ) (r : Result (Expr × ℕ × Bor (List ℕ)) ReadError) → Gives IsStart r (start_at reading w s) → IfOk r (λ x. length x.2.now < length s)
+pub start_shorter : (w : ℕ) (s : List ℕ) (r : Result (Expr × ℕ × Bor (List ℕ)) ReadError) → Gives IsTreeStart r (start_at reading w s) → IfOk r (λ x. length x.2.now < length s)
 start_shorter w s (Ok x) g =
     let f = sound.start_is reading sound_reading w s g.0 g.1 in
     rw (g.2.2) (omega (arith, ap length f.is, length-append f.text g.0.2, spelled_long f.spells))
@@ -81,7 +83,8 @@ pub climbing_goes_on : (w own : ℕ) (left : Expr) (op : Operator) (rest behind 
     → Climbing w (level op) (views.Binary op a b) after text
 climbing_goes_on w own left op rest behind text after right a b k at h x e same_right end a_is b_is short = record {
   tree = Tree.Binary op k.tree x.0;
-  same = binary_view op a b ∙ ap (λ z. Tree.Binary op (tree_of z) (tree_of b.value)) a_is ∙ ap (λ z. Tree.Binary op (tree_of left) (tree_of z)) b_is ∙ ap (λ z. Tree.Binary op z (tree_of right)) k.same ∙ ap (λ z. Tree.Binary op (clip k.tree) z) same_right;
+  same = binary_view op a b ∙ ap (λ z. Tree.Binary op (tree_of z) (tree_of b.value)) a_is ∙ ap (λ z. Tree.Binary op (tree_of left) (tree_of z)) b_is
+      ∙ ap (λ z. Tree.Binary op z (tree_of right)) k.same ∙ ap (λ z. Tree.Binary op (clip k.tree) z) same_right;
   reads = rw end (sym (climb_step w own k.tree op rest behind at h ∙ rw e refl) ∙ k.reads);
   short = short;
 }
@@ -109,11 +112,11 @@ pub start_group : (w : ℕ) (s : List ℕ) → start_at reading w (40 ∷ s) ≡
 unfolding start_at
 start_group w s = refl
 
-pub start_plus : (w : ℕ) (s : List ℕ) → start_at reading w (43 ∷ s) ≡ signed_at reading w Plus s
+pub start_plus : (w : ℕ) (s : List ℕ) → start_at reading w (43 ∷ s) ≡ signed_tree_at reading w Plus s
 unfolding start_at
 start_plus w s = refl
 
-pub start_minus : (w : ℕ) (s : List ℕ) → start_at reading w (45 ∷ s) ≡ signed_at reading w Minus s
+pub start_minus : (w : ℕ) (s : List ℕ) → start_at reading w (45 ∷ s) ≡ signed_tree_at reading w Minus s
 unfolding start_at
 start_minus w s = refl
 
@@ -121,12 +124,14 @@ pub start_dot : (w : ℕ) (s : List ℕ) → start_at reading w (46 ∷ s) ≡ d
 unfolding start_at
 start_dot w s = refl
 
-pub start_word : (w c : ℕ) (s : List ℕ) → (c == 40) ≡ false → (c == 43) ≡ false → (c == 45) ≡ false → (c == 46) ≡ false → start_at reading w (c ∷ s) ≡ word_at reading (word (c ∷ s)) (past_word (c ∷ s))
+pub start_word : (w c : ℕ) (s : List ℕ) → (c == 40) ≡ false
+    → (c == 43) ≡ false → (c == 45) ≡ false → (c == 46) ≡ false → start_at reading w (c ∷ s) ≡ word_tree_at reading (word (c ∷ s)) (past_word (c ∷ s))
 unfolding start_at
 start_word w c s a b d e = rw (a, b, d, e) refl
 
 -- a chosen start
-pub start_along : (w : ℕ) (s : List ℕ) (r : Result (Expr × ℕ × Bor (List ℕ)) ReadError) (o : Option (Tree × ℕ × List ℕ)) → start_at reading w s ≡ o → Gives IsStart r o → Gives IsStart r (start_at reading w s)
+pub start_along : (w : ℕ) (s : List ℕ) (r : Result (Expr × ℕ × Bor (List ℕ)) ReadError) (o : Option (Tree × ℕ × List ℕ))
+    → start_at reading w s ≡ o → Gives IsTreeStart r o → Gives IsTreeStart r (start_at reading w s)
 start_along w s r o e g = rw e g
 
 -- a group, a sign and .NOT.
@@ -134,12 +139,14 @@ pub group_whole : (s : List ℕ) (inner : Expr) (behind rest : List ℕ) (x : Tr
     → (a : Tree × ℕ × List ℕ) × (enclosed_at reading s ≡ Some a) × ((tree_of inner ≡ clip a.0) × (9 ≡ a.1) × (rest ≡ a.2))
 group_whole s inner behind rest x e same end close = ((x.0, 9, rest), rw (e, ← end, close) refl, (same, refl, refl))
 
-pub signed_whole : (w : ℕ) (sign : Sign) (s : List ℕ) (operand : Expr) (a : Box Expr Global) (rest : List ℕ) (x : Tree × List ℕ) → nat_le w 6 ≡ true → reading.expr 7 s ≡ Some x → tree_of operand ≡ clip x.0 → rest ≡ x.1 → a.value ≡ operand
-    → (y : Tree × ℕ × List ℕ) × (signed_at reading w sign s ≡ Some y) × ((tree_of (views.Signed sign a) ≡ clip y.0) × (6 ≡ y.1) × (rest ≡ y.2))
+pub signed_whole : (w : ℕ) (sign : Sign) (s : List ℕ) (operand : Expr) (a : Box Expr Global) (rest : List ℕ) (x : Tree × List ℕ)
+    → nat_le w 6 ≡ true → reading.expr 7 s ≡ Some x → tree_of operand ≡ clip x.0 → rest ≡ x.1 → a.value ≡ operand
+    → (y : Tree × ℕ × List ℕ) × (signed_tree_at reading w sign s ≡ Some y) × ((tree_of (views.Signed sign a) ≡ clip y.0) × (6 ≡ y.1) × (rest ≡ y.2))
 signed_whole w sign s operand a rest x low e same end a_is =
     ((Tree.Signed sign x.0, 6, x.1), rw (low, e) refl, (signed_view sign a ∙ ap (λ z. Tree.Signed sign (tree_of z)) a_is ∙ ap (λ z. Tree.Signed sign z) same, refl, end))
 
-pub negated_whole : (w : ℕ) (s : List ℕ) (operand : Expr) (a : Box Expr Global) (rest : List ℕ) (x : Tree × List ℕ) → nat_le w 4 ≡ true → reading.expr 5 s ≡ Some x → tree_of operand ≡ clip x.0 → rest ≡ x.1 → a.value ≡ operand
+pub negated_whole : (w : ℕ) (s : List ℕ) (operand : Expr) (a : Box Expr Global) (rest : List ℕ) (x : Tree × List ℕ)
+    → nat_le w 4 ≡ true → reading.expr 5 s ≡ Some x → tree_of operand ≡ clip x.0 → rest ≡ x.1 → a.value ≡ operand
     → (y : Tree × ℕ × List ℕ) × (negated_at reading w s ≡ Some y) × ((tree_of (views.Not a) ≡ clip y.0) × (4 ≡ y.1) × (rest ≡ y.2))
 negated_whole w s operand a rest x low e same end a_is =
     ((Tree.Not x.0, 4, x.1), rw (low, e) refl, (not_view a ∙ ap (λ z. Tree.Not (tree_of z)) a_is ∙ ap Tree.Not same, refl, end))
@@ -158,24 +165,36 @@ gives_along Is r o p e g = rw e g
 
 -- names and constants
 pub number_whole : (name rest : List ℕ) (n : ℕ) → is_number name ≡ true → n ≡ clipped (digits_value 10 name)
-    → (y : Tree × ℕ × List ℕ) × (word_at reading name rest ≡ Some y) × ((tree_of (Number n) ≡ clip y.0) × (9 ≡ y.1) × (rest ≡ y.2))
+    → (y : Tree × ℕ × List ℕ) × (word_tree_at reading name rest ≡ Some y) × ((tree_of (Number n) ≡ clip y.0) × (9 ≡ y.1) × (rest ≡ y.2))
 number_whole name rest n e same = ((Tree.Number (digits_value 10 name), 9, rest), rw e refl, (number_view n ∙ ap Tree.Number same, refl, refl))
 
-pub scalar_whole : (name rest : List ℕ) (r : Ref) → is_number name ≡ false → is_name name ≡ true → named_at reading name rest ≡ Some (Tree.Reference name Trees.None, 9, rest) → r.name ≡ cut name → r.subscripts.items ≡ []
-    → (y : Tree × ℕ × List ℕ) × (word_at reading name rest ≡ Some y) × ((tree_of (views.Reference r) ≡ clip y.0) × (9 ≡ y.1) × (rest ≡ y.2))
-scalar_whole name rest r e n h a b = ((Tree.Reference name Trees.None, 9, rest), rw (e, n) h, (reference_view r ∙ ap (λ z. Tree.Reference z (trees (map tree_of r.subscripts.items))) a ∙ ap (λ z. Tree.Reference (cut name) (trees (map tree_of z))) b, refl, refl))
+pub scalar_whole : (name rest : List ℕ) (r : Ref) → is_number name ≡ false
+    → is_name name ≡ true → named_at reading name rest ≡ Some (Tree.Reference name Trees.None, 9, rest) → r.name ≡ cut name → r.subscripts.items ≡ []
+    → (y : Tree × ℕ × List ℕ) × (word_tree_at reading name rest ≡ Some y) × ((tree_of (views.Reference r) ≡ clip y.0) × (9 ≡ y.1) × (rest ≡ y.2))
+scalar_whole name rest r e n h a b = (
+  (Tree.Reference name Trees.None, 9, rest),
+  rw (e, n) h,
+  (
+    reference_view r ∙ ap (λ z. Tree.Reference z (trees (map tree_of r.subscripts.items))) a
+        ∙ ap (λ z. Tree.Reference (cut name) (trees (map tree_of z))) b,
+    refl,
+    refl,
+  ),
+)
 
 -- no list follows a name
-pub alone_at : (name rest : List ℕ) → after 40 rest ≡ None → named_at reading name rest ≡ Some (Tree.Reference name Trees.None, 9, rest)
+pub alone_at : (name rest : List ℕ) → tree_after 40 rest ≡ None → named_at reading name rest ≡ Some (Tree.Reference name Trees.None, 9, rest)
 alone_at name [] h = refl
 alone_at name (c ∷ s) h = step (c == 40) h
   where
-    step : (b : Bool) → cond b (Some s) None ≡ None → cond b (reading.items s >>= λ x. closed (listed name x.0) x.1) (Some (Tree.Reference name Trees.None, 9, c ∷ s)) ≡ Some (Tree.Reference name Trees.None, 9, c ∷ s)
+    step : (b : Bool) → cond b (Some s) None ≡ None
+        → cond b (reading.items s >>= λ x. closed (function_listed name x.0) x.1) (Some (Tree.Reference name Trees.None, 9, c ∷ s))
+        ≡ Some (Tree.Reference name Trees.None, 9, c ∷ s)
     step true e = absurd (none-some s (sym e))
     step false e = refl
 
 -- no comma follows an item
-pub last_at : (t : Tree) (rest : List ℕ) → after 44 rest ≡ None → more_at reading t rest ≡ Some (Trees.Then t Trees.None, rest)
+pub last_at : (t : Tree) (rest : List ℕ) → tree_after 44 rest ≡ None → more_at reading t rest ≡ Some (Trees.Then t Trees.None, rest)
 last_at t [] h = refl
 last_at t (c ∷ s) h = step (c == 44) h
   where
@@ -186,7 +205,7 @@ last_at t (c ∷ s) h = step (c == 44) h
     step true e = absurd (none-some s (sym e))
     step false e = refl
 
-pub after_is : (b : ℕ) (s r : List ℕ) → after b s ≡ Some r → s ≡ b ∷ r
+pub after_is : (b : ℕ) (s r : List ℕ) → tree_after b s ≡ Some r → s ≡ b ∷ r
 after_is b [] r e = absurd (none-some r e)
 after_is b (c ∷ s) r e =
     let (same, found) = guarded (c == b) (Some s) r e in
@@ -194,7 +213,7 @@ after_is b (c ∷ s) r e =
     let tail : s ≡ r = same_Some s r found in
     cc
 
-clip_listed : (name : List ℕ) (items : Trees) → clip (listed name items) ≡ listed_by (function_named name) (cut name) (clip_all items)
+clip_listed : (name : List ℕ) (items : Trees) → clip (function_listed name items) ≡ listed_by (function_named name) (cut name) (clip_all items)
 clip_listed name items = by_name (function_named name)
   where
     by_name : (o : Option Intrinsic) → clip (listed_by o name items) ≡ listed_by o (cut name) (clip_all items)
@@ -204,13 +223,13 @@ clip_listed name items = by_name (function_named name)
 pub listed_whole : (name inner behind rest : List ℕ) (got : Tree) (items : List Expr) (x : Trees × List ℕ) → is_number name ≡ false → is_name name ≡ true
     → reading.items inner ≡ Some x → trees (map tree_of items) ≡ clip_all x.0 → behind ≡ x.1 → close_at behind ≡ Some rest
     → got ≡ listed_by (function_named name) (cut name) (trees (map tree_of items))
-    → (y : Tree × ℕ × List ℕ) × (word_at reading name (40 ∷ inner) ≡ Some y) × ((got ≡ clip y.0) × (9 ≡ y.1) × (rest ≡ y.2))
+    → (y : Tree × ℕ × List ℕ) × (word_tree_at reading name (40 ∷ inner) ≡ Some y) × ((got ≡ clip y.0) × (9 ≡ y.1) × (rest ≡ y.2))
 listed_whole name inner behind rest got items x e n found same end close is =
-    ((listed name x.0, 9, rest), rw (e, n, found, ← end, close) refl, (is ∙ ap (listed_by (function_named name) (cut name)) same ∙ sym (clip_listed name x.0), refl, refl))
+    ((function_listed name x.0, 9, rest), rw (e, n, found, ← end, close) refl, (is ∙ ap (listed_by (function_named name) (cut name)) same ∙ sym (clip_listed name x.0), refl, refl))
 
 -- lists
 item_equation : (s : List ℕ) → reading.items s ≡ (reading.expr 1 s >>= λ x. more_at reading x.0 x.1)
-unfolding items_at
+unfolding trees_at
 item_equation s = reading_items s ∙ rw (reading_expr 1 s) refl
 
 pub list_fails : (items : List Expr) (rest text : List ℕ) (e : ReadError) → Listing items rest text → Fails e (reading.expr 1 rest) → Fails e (reading.items text)
@@ -226,7 +245,8 @@ trees_before : (front : List Tree) → trees (map clip front) ≡ clip_all (befo
 trees_before [] = refl
 trees_before (t ∷ front) = ap (λ z. Trees.Then (clip t) z) (trees_before front)
 
-pushed : (items new : List Expr) (item : Expr) (front : List Tree) (t : Tree) → map tree_of items ≡ map clip front → tree_of item ≡ clip t → new ≡ items ++ item ∷ [] → map tree_of new ≡ map clip (front ++ t ∷ [])
+pushed : (items new : List Expr) (item : Expr) (front : List Tree) (t : Tree)
+    → map tree_of items ≡ map clip front → tree_of item ≡ clip t → new ≡ items ++ item ∷ [] → map tree_of new ≡ map clip (front ++ t ∷ [])
 pushed items new item front t h k e =
     rw e (map-append tree_of items (item ∷ []) ∙ ap (λ z. z ++ (tree_of item ∷ [])) h ∙ ap (λ z. map clip front ++ (z ∷ [])) k ∙ sym (map-append clip front (t ∷ [])))
 

@@ -7,14 +7,15 @@ use Rattle.f77_tree.specs.declared.tree.Expr.{Expr}
 use Rattle.f77_tree.specs.declared.statement.Stmt.TheVariants as forms
 use Rattle.f77_tree.specs.Tree.{Tree}
 use Rattle.f77_tree.specs.Statement.{Statement, statement_of}
-use Rattle.f77_syntax.specs.Reading.{◌>>=◌, after, close_at, past_comma, reading}
-use Rattle.f77_syntax.specs.Assignment.{ended}
-use Rattle.f77_syntax.specs.Joined.{items_at}
-use Rattle.f77_syntax.specs.Label.{label_at, last_label}
-use Rattle.f77_syntax.specs.Goto.{selector_at, computed_at, goto_at}
+use Rattle.f77_syntax.specs.Reading.{◌>>=◌}
+use Rattle.f77_syntax.specs.code.Reading.{tree_after, close_at, past_comma, reading}
+use Rattle.f77_syntax.specs.code.Assignment.{value_ended}
+use Rattle.f77_syntax.specs.code.Joined.{items_at}
+use Rattle.f77_syntax.specs.code.Label.{label_at, last_label}
+use Rattle.f77_syntax.specs.code.Goto.{selector_at, computed_at, goto_at}
 use Rattle.f77_tree.specs.View.{tree_of}
-use Rattle.f77_syntax.specs.View.{clip, Fails}
-use Rattle.f77_syntax.specs.StatementView.{clip_statement}
+use Rattle.f77_syntax.specs.code.View.{clip, Fails}
+use Rattle.f77_syntax.specs.code.StatementView.{clip_statement}
 use Rattle.f77_tree.proofs.Views.{computed_view}
 use Rattle.f77_syntax.proofs.Gives.{fails_bind}
 
@@ -22,7 +23,7 @@ use Rattle.f77_syntax.proofs.Gives.{fails_bind}
 module _ (labels s : List ℕ) where
   pub selector_fails : (e : ReadError) → Fails e (reading.expr 1 (past_comma s)) → Fails e (selector_at labels s)
   unfolding selector_at
-  selector_fails e f = fails_bind e (reading.expr 1 (past_comma s)) (λ x. ended (Statement.ComputedGoto labels x.0) x.1) f
+  selector_fails e f = fails_bind e (reading.expr 1 (past_comma s)) (λ x. value_ended (Statement.ComputedGoto labels x.0) x.1) f
 
   pub selector_more : (x : Tree × List ℕ) (end : List ℕ) → reading.expr 1 (past_comma s) ≡ Some x → end ≡ x.1 → (length end == 0) ≡ false → selector_at labels s ≡ None
   unfolding selector_at
@@ -51,14 +52,14 @@ module _ (s : List ℕ) where
 
 -- what stands behind the keyword
 module _ (s : List ℕ) where
-  pub goto_open : (r : List ℕ) → after 40 s ≡ Some r → goto_at s ≡ computed_at r
+  pub goto_open : (r : List ℕ) → tree_after 40 s ≡ Some r → goto_at s ≡ computed_at r
   unfolding goto_at
   goto_open r h = rw h refl
 
-  pub goto_fails : (e : ReadError) → after 40 s ≡ None → Fails e (last_label s) → Fails e (goto_at s)
+  pub goto_fails : (e : ReadError) → tree_after 40 s ≡ None → Fails e (last_label s) → Fails e (goto_at s)
   unfolding goto_at
   goto_fails e h f = rw h (fails_bind e (last_label s) (λ l. Some (Statement.Goto l)) f)
 
-  pub goto_whole : (l : ℕ) → after 40 s ≡ None → last_label s ≡ Some l → goto_at s ≡ Some (Statement.Goto l)
+  pub goto_whole : (l : ℕ) → tree_after 40 s ≡ None → last_label s ≡ Some l → goto_at s ≡ Some (Statement.Goto l)
   unfolding goto_at
   goto_whole l h read = rw (h, read) refl

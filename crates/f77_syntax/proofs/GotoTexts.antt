@@ -9,13 +9,14 @@ use Rattle.f77_tree.specs.Tree.{Tree}
 use Rattle.f77_tree.specs.Statement.{Statement}
 use Rattle.f77_tree.specs.Grammar.{Spells, is_digit, is_number}
 use Rattle.f77_tree.specs.StatementGrammar.{SpellsLabel, SpellsAction, optional_comma, label_number}
-use Rattle.f77_syntax.specs.Reading.{◌>>=◌, after, close_at, past_comma, start_at, expr_at, reading}
-use Rattle.f77_syntax.specs.Assignment.{ended}
+use Rattle.f77_syntax.specs.Reading.{◌>>=◌}
+use Rattle.f77_syntax.specs.code.Reading.{tree_after, close_at, past_comma, start_at, expr_at, reading}
+use Rattle.f77_syntax.specs.code.Assignment.{value_ended}
 use Rattle.f77_tree.specs.Joined.{Joined}
-use Rattle.f77_syntax.specs.Joined.{items_at}
-use Rattle.f77_syntax.specs.Label.{label_at, last_label}
-use Rattle.f77_syntax.specs.Goto.{selector_at, computed_at, goto_by, goto_at}
-use Rattle.f77_syntax.specs.Classification.{behind, class_of}
+use Rattle.f77_syntax.specs.code.Joined.{items_at}
+use Rattle.f77_syntax.specs.code.Label.{label_at, last_label}
+use Rattle.f77_syntax.specs.code.Goto.{selector_at, computed_at, goto_by, goto_at}
+use Rattle.f77_syntax.specs.Classification.{behind_character, class_of}
 use Rattle.f77_syntax.specs.declared.classification.Class.TheVariants.{Keyword}
 use Rattle.f77_syntax.proofs.Steps.{along, bind_ok}
 use Rattle.f77_tree.proofs.Tests.{and_true}
@@ -34,7 +35,7 @@ unfolding computed_at selector_at
 computed_is s u e =
     let (x, found, more) = bind_ok (items_at label_at s) (λ x. close_at x.1 >>= λ r. selector_at x.0 r) u e in
     let (r, close, rest) = bind_ok (close_at x.1) (λ r. selector_at x.0 r) u more in
-    let (v, read, end) = bind_ok (reading.expr 1 (past_comma r)) (λ v. ended (Statement.ComputedGoto x.0 v.0) v.1) u rest in
+    let (v, read, end) = bind_ok (reading.expr 1 (past_comma r)) (λ v. value_ended (Statement.ComputedGoto x.0 v.0) v.1) u rest in
     let (same, none) = ended_is (Statement.ComputedGoto x.0 v.0) v.1 u end in
     let f = items_is label_spelled s x found in
     let g = sound_reading.expr 1 (past_comma r) v read in
@@ -55,14 +56,14 @@ unconditional_is s u e =
 
 pub goto_is : (s : List ℕ) (u : Statement) → goto_at s ≡ Some u → SpellsAction (codes "GOTO" ++ s) u
 unfolding goto_at
-goto_is s u e = by_open (after 40 s) refl e
+goto_is s u e = by_open (tree_after 40 s) refl e
   where
-    by_open : (o : Option (List ℕ)) → after 40 s ≡ o → goto_by s o ≡ Some u → SpellsAction (codes "GOTO" ++ s) u
+    by_open : (o : Option (List ℕ)) → tree_after 40 s ≡ o → goto_by s o ≡ Some u → SpellsAction (codes "GOTO" ++ s) u
     by_open None is e = unconditional_is s u e
     by_open (Some r) is e = subst (λ z. SpellsAction (codes "GOTO" ++ z) u) (sym (after_is 40 s r is)) (computed_is r u e)
 
 -- What is spelled is read so: no label begins with a parenthesis, and no expression with a comma.
-not_open : (row : List ℕ) → is_number row ≡ true → after 40 row ≡ None
+not_open : (row : List ℕ) → is_number row ≡ true → tree_after 40 row ≡ None
 not_open [] n = refl
 not_open (c ∷ row) n =
     let digit = (and_true (is_digit c) (list_all is_digit row) n).0 in
@@ -105,17 +106,17 @@ computed_read comma {y = y} {labels = labels} l p =
 -- Their class: no equals sign stands in them.
 pub goto_class : (row : List ℕ) → is_number row ≡ true → class_of (codes "GOTO" ++ row) ≡ Keyword
 goto_class row n =
-    keyword_class (codes "GOTO" ++ row) refl (ap (behind 61 0) (sym (append-nil (codes "GOTO" ++ row))) ∙ pass_quiet 61 refl equals_other (codes "GOTO" ++ row) [] 0 (quiet_number row n))
+    keyword_class (codes "GOTO" ++ row) refl (ap (behind_character 61 0) (sym (append-nil (codes "GOTO" ++ row))) ∙ pass_quiet 61 refl equals_other (codes "GOTO" ++ row) [] 0 (quiet_number row n))
 
-labels_pass : {x labels : List ℕ} → Joined SpellsLabel x labels → (rest : List ℕ) → behind 61 1 (x ++ rest) ≡ behind 61 1 rest
+labels_pass : {x labels : List ℕ} → Joined SpellsLabel x labels → (rest : List ℕ) → behind_character 61 1 (x ++ rest) ≡ behind_character 61 1 rest
 labels_pass (Joined.last (SpellsLabel.digits row n)) rest = pass_quiet 61 refl equals_other row rest 1 (quiet_number row n)
 labels_pass (Joined.more {rest = others} (SpellsLabel.digits row n) q) rest =
-    ap (behind 61 1) (append_assoc row (44 ∷ others) rest)
+    ap (behind_character 61 1) (append_assoc row (44 ∷ others) rest)
     ∙ pass_quiet 61 refl equals_other row (44 ∷ (others ++ rest)) 1 (quiet_number row n) ∙ labels_pass q rest
 
-selector_pass : (comma : Bool) {y : List ℕ} {t : Tree} → Spells 1 y t → behind 61 0 (optional_comma comma ++ y) ≡ None
-selector_pass true {y = y} p = ap (behind 61 0) (sym (append-nil y)) ∙ pass 61 refl equals_other p [] 0
-selector_pass false {y = y} p = ap (behind 61 0) (sym (append-nil y)) ∙ pass 61 refl equals_other p [] 0
+selector_pass : (comma : Bool) {y : List ℕ} {t : Tree} → Spells 1 y t → behind_character 61 0 (optional_comma comma ++ y) ≡ None
+selector_pass true {y = y} p = ap (behind_character 61 0) (sym (append-nil y)) ∙ pass 61 refl equals_other p [] 0
+selector_pass false {y = y} p = ap (behind_character 61 0) (sym (append-nil y)) ∙ pass 61 refl equals_other p [] 0
 
 pub computed_class : (comma : Bool) {x y labels : List ℕ} {t : Tree} → Joined SpellsLabel x labels → Spells 1 y t
     → class_of (codes "GOTO(" ++ (x ++ (41 ∷ (optional_comma comma ++ y)))) ≡ Keyword

@@ -8,12 +8,12 @@ use Rattle.f77_tree.specs.Tree.{DeclFields, GroupFields}
 use Rattle.f77_tree.specs.Grammar.{is_name}
 use Rattle.f77_tree.specs.Joined.{Joined}
 use Rattle.f77_tree.specs.Declaration.{SpellsName, SpellsNumber, SpellsDecl, SpellsDecls}
-use Rattle.f77_nodes.specs.Names.{decl_name, declaration_names, group_names, data_names}
+use Rattle.f77_nodes.specs.Names.{decl_name, declaration_names, has_short_group_names, data_names}
 use Rattle.f77_tree.specs.Data.{SpellsConstant, SpellsValue, SpellsGroup, SpellsGroups}
 use Rattle.f77_tree.specs.Name.{is_short}
 use Rattle.f77_tree.specs.StatementGrammar.{SpellsLabel}
 use Rattle.f77_tree.proofs.Tests.{and_true}
-use Rattle.f77_syntax.specs.NameLengths.{has_short_words}
+use Rattle.f77_syntax.specs.code.NameLengths.{has_short_words}
 use Rattle.f77_syntax.proofs.WordLengths.{and_yes, joined_by, number_short, name_short, truth_short, listed_short}
 
 -- Items joined by commas.
@@ -78,7 +78,7 @@ preset_name text name (SpellsName.named m) = name_short text m
 
 -- a group and what follows it
 group_then : {text : List ℕ} {g : GroupFields} → SpellsGroup text g → (rest : List ℕ)
-    → has_short_words (text ++ rest) ≡ (group_names g && has_short_words rest)
+    → has_short_words (text ++ rest) ≡ (has_short_group_names g && has_short_words rest)
 group_then (SpellsGroup.group {x = x} {y = y} p q) rest =
     ap has_short_words (append_assoc x (47 ∷ (y ++ 47 ∷ [])) rest ∙ ap (λ z. x ++ (47 ∷ z)) (append_assoc y (47 ∷ []) rest))
     ∙ joined_by 47 x (y ++ (47 ∷ rest)) refl
@@ -91,6 +91,6 @@ comma_short rest = refl
 pub preset_names : {text : List ℕ} {gs : List GroupFields} → SpellsGroups text gs → has_short_words text ≡ data_names gs
 unfolding has_short_words
 preset_names (SpellsGroups.last {text = text} p) = ap has_short_words (sym (append-nil text)) ∙ group_then p []
-preset_names (SpellsGroups.more {rest = rest} {g = g} p q) = group_then p rest ∙ ap (λ b. group_names g && b) (preset_names q)
+preset_names (SpellsGroups.more {rest = rest} {g = g} p q) = group_then p rest ∙ ap (λ b. has_short_group_names g && b) (preset_names q)
 preset_names (SpellsGroups.more_by_comma {rest = rest} {g = g} p q) =
-    group_then p (44 ∷ rest) ∙ ap (λ b. group_names g && b) (comma_short rest ∙ preset_names q)
+    group_then p (44 ∷ rest) ∙ ap (λ b. has_short_group_names g && b) (comma_short rest ∙ preset_names q)

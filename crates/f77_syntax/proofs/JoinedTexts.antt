@@ -6,11 +6,12 @@ use Rattle.std.proofs.lemmas.Option.{none-some}
 use Rattle.std.proofs.lemmas.List.{map-append}
 use Rattle.std.proofs.lemmas.List.Folds.{list_any-append}
 use Rattle.f77_syntax.specs.declared.fault.ReadError.{ReadError}
-use Rattle.f77_syntax.specs.Reading.{◌>>=◌, after}
+use Rattle.f77_syntax.specs.Reading.{◌>>=◌}
+use Rattle.f77_syntax.specs.code.Reading.{tree_after}
 use Rattle.f77_syntax.proofs.WordTexts.{is_equals}
-use Rattle.f77_syntax.specs.View.{Fails}
+use Rattle.f77_syntax.specs.code.View.{Fails}
 use Rattle.f77_tree.specs.Joined.{Joined}
-use Rattle.f77_syntax.specs.Joined.{with_others, items_within, items_at}
+use Rattle.f77_syntax.specs.code.Joined.{with_others, items_within, items_at}
 use Rattle.f77_syntax.proofs.Steps.{along, bind_ok}
 use Rattle.f77_syntax.proofs.Gives.{after_is, fails_bind}
 
@@ -28,7 +29,7 @@ pub fronts_short : {A : Type 0} {SpellsItem : List ℕ → A → Type 0} {s : Li
 fronts_short {x = x} f = omega (arith, ap length f.is, length-append f.text x.1)
 
 behind_is : {A : Type 0} {SpellsItem : List ℕ → A → Type 0} (others : List ℕ → Option (List A × List ℕ)) → IsSound (Joined SpellsItem) others
-    → (s : List ℕ) (y : A × List ℕ) (x : List A × List ℕ) → Fronts SpellsItem s y → (o : Option (List ℕ)) → after 44 y.1 ≡ o
+    → (s : List ℕ) (y : A × List ℕ) (x : List A × List ℕ) → Fronts SpellsItem s y → (o : Option (List ℕ)) → tree_after 44 y.1 ≡ o
     → with_others others y.0 y.1 o ≡ Some x → Fronts (Joined SpellsItem) s x
 behind_is {SpellsItem = SpellsItem} others sound s y x f None none e =
     along (Fronts (Joined SpellsItem) s) (y.0 ∷ [], y.1) x e (record { text = f.text; is = f.is; spells = Joined.last f.spells })
@@ -44,8 +45,8 @@ behind_is {SpellsItem = SpellsItem} others sound s y x f (Some r) comma e =
 within_is : {A : Type 0} {SpellsItem : List ℕ → A → Type 0} {item : List ℕ → Option (A × List ℕ)} → IsSound SpellsItem item → (n : ℕ) → IsSound (Joined SpellsItem) (items_within item n)
 within_is sound zero s x e = absurd (none-some x e)
 within_is {item = item} sound (suc n) s x e =
-    let (y, first, others) = bind_ok (item s) (λ y. with_others (items_within item n) y.0 y.1 (after 44 y.1)) x e in
-    behind_is (items_within item n) (within_is sound n) s y x (sound s y first) (after 44 y.1) refl others
+    let (y, first, others) = bind_ok (item s) (λ y. with_others (items_within item n) y.0 y.1 (tree_after 44 y.1)) x e in
+    behind_is (items_within item n) (within_is sound n) s y x (sound s y first) (tree_after 44 y.1) refl others
 
 pub items_is : {A : Type 0} {SpellsItem : List ℕ → A → Type 0} {item : List ℕ → Option (A × List ℕ)} → IsSound SpellsItem item → IsSound (Joined SpellsItem) (items_at item)
 unfolding items_at
@@ -64,14 +65,14 @@ abbrev pub IsRead : {A : Type 0} → (List ℕ → A → Type 0) → (List ℕ �
 IsRead {A = A} SpellsItem item = (text : List ℕ) (x : A) → SpellsItem text x → (rest : List ℕ) → Stops rest → item (text ++ rest) ≡ Some (x, rest)
 
 within_read : {A : Type 0} {SpellsItem : List ℕ → A → Type 0} (item : List ℕ → Option (A × List ℕ)) → IsRead SpellsItem item → {text : List ℕ} {xs : List A} → Joined SpellsItem text xs
-    → (rest : List ℕ) → Stops rest → after 44 rest ≡ None → (n : ℕ) → length text < n → items_within item n (text ++ rest) ≡ Some (xs, rest)
+    → (rest : List ℕ) → Stops rest → tree_after 44 rest ≡ None → (n : ℕ) → length text < n → items_within item n (text ++ rest) ≡ Some (xs, rest)
 within_read item read p rest stops alone zero h = absurd (omega arith)
 within_read item read (Joined.last p) rest stops alone (suc n) h = rw (read _ _ p rest stops, alone) refl
 within_read item read (Joined.more {text = text} {rest = others} p q) rest stops alone (suc n) h =
     rw (append_assoc text (44 ∷ others) rest, read text _ p (44 ∷ (others ++ rest)) refl, within_read item read q rest stops alone n (omega (arith, length-append text (44 ∷ others)))) refl
 
 pub items_read : {A : Type 0} {SpellsItem : List ℕ → A → Type 0} (item : List ℕ → Option (A × List ℕ)) → IsRead SpellsItem item → {text : List ℕ} {xs : List A} → Joined SpellsItem text xs
-    → (rest : List ℕ) → Stops rest → after 44 rest ≡ None → items_at item (text ++ rest) ≡ Some (xs, rest)
+    → (rest : List ℕ) → Stops rest → tree_after 44 rest ≡ None → items_at item (text ++ rest) ≡ Some (xs, rest)
 unfolding items_at
 items_read item read {text = text} p rest stops alone = within_read item read p rest stops alone (suc (length (text ++ rest))) (omega (arith, length-append text rest))
 
@@ -101,14 +102,14 @@ module _ {X A B : Type 0} (view : X → B) (kept : A → B) (item : List ℕ →
   -- what reads nothing ends the reading
   first_fails : (n : ℕ) (s : List ℕ) (e : ReadError) → length s < n → Fails e (item s) → Fails e (items_within item n s)
   first_fails zero s e h f = absurd (omega arith)
-  first_fails (suc n) s e h f = fails_bind e (item s) (λ x. with_others (items_within item n) x.0 x.1 (after 44 x.1)) f
+  first_fails (suc n) s e h f = fails_bind e (item s) (λ x. with_others (items_within item n) x.0 x.1 (tree_after 44 x.1)) f
 
   pub listing_fails : (items : List X) (rest text : List ℕ) (e : ReadError) → Listing view kept item items rest text → Fails e (item rest) → Fails e (items_at item text)
   listing_fails items rest text e l f =
       subst (Fails e) l.reads (fails_bind e (items_within item l.fuel rest) (λ x. Some (l.front ++ x.0, x.1)) (first_fails l.fuel rest e l.enough f))
 
   pub listing_goes_on : (items new : List X) (got : X) (rest next text : List ℕ) (x : A × List ℕ) → Listing view kept item items rest text
-      → item rest ≡ Some x → view got ≡ kept x.0 → after 44 x.1 ≡ Some next → length x.1 ≤ length rest → new ≡ items ++ got ∷ [] → Listing view kept item new next text
+      → item rest ≡ Some x → view got ≡ kept x.0 → tree_after 44 x.1 ≡ Some next → length x.1 ≤ length rest → new ≡ items ++ got ∷ [] → Listing view kept item new next text
   listing_goes_on items new got rest next text x l e same comma short added = by_fuel l.fuel l.enough l.reads
     where
       shown : List A → List A × List ℕ → Option (List A × List ℕ)
@@ -129,7 +130,7 @@ module _ {X A B : Type 0} (view : X → B) (kept : A → B) (item : List ℕ →
       }
 
   pub listing_ends : (items new : List X) (got : X) (rest text : List ℕ) (x : A × List ℕ) → Listing view kept item items rest text
-      → item rest ≡ Some x → view got ≡ kept x.0 → after 44 x.1 ≡ None → new ≡ items ++ got ∷ []
+      → item rest ≡ Some x → view got ≡ kept x.0 → tree_after 44 x.1 ≡ None → new ≡ items ++ got ∷ []
       → (xs : List A) × (items_at item text ≡ Some (xs, x.1)) × (map view new ≡ map kept xs)
   listing_ends items new got rest text x l e same alone added =
       (l.front ++ x.0 ∷ [], by_fuel l.fuel l.enough l.reads, kept_more view kept items new got l.front x.0 l.same same added)

@@ -4,10 +4,11 @@ use Rattle.std.specs.Prelude.{◌==◌}
 use Rattle.f77_syntax.specs.declared.fault.ReadError.{ReadError}
 use Rattle.f77_tree.specs.Grammar.{is_number}
 use Rattle.f77_tree.specs.StatementGrammar.{label_number}
-use Rattle.f77_syntax.specs.Reading.{◌>>=◌, digits, past_digits, after}
-use Rattle.f77_syntax.specs.Assignment.{ended}
-use Rattle.f77_syntax.specs.Label.{label_at, last_label, label_comma, labels_at}
-use Rattle.f77_syntax.specs.View.{Fails}
+use Rattle.f77_syntax.specs.Reading.{◌>>=◌}
+use Rattle.f77_syntax.specs.code.Reading.{digits, past_digits, tree_after}
+use Rattle.f77_syntax.specs.code.Assignment.{value_ended}
+use Rattle.f77_syntax.specs.code.Label.{label_at, last_label, label_comma, labels_at}
+use Rattle.f77_syntax.specs.code.View.{Fails}
 use Rattle.f77_syntax.proofs.Gives.{fails_bind}
 use Rattle.f77_syntax.proofs.JoinedTexts.{fronts_short}
 use Rattle.f77_syntax.proofs.LabelTexts.{label_spelled}
@@ -28,7 +29,7 @@ module _ (s : List ℕ) where
   -- the last label
   pub last_fails : (e : ReadError) → Fails e (label_at s) → Fails e (last_label s)
   unfolding last_label
-  last_fails e f = fails_bind e (label_at s) (λ x. ended x.0 x.1) f
+  last_fails e f = fails_bind e (label_at s) (λ x. value_ended x.0 x.1) f
 
   pub last_more : (end : List ℕ) (x : ℕ × List ℕ) → label_at s ≡ Some x → end ≡ x.1 → (length end == 0) ≡ false → last_label s ≡ None
   unfolding last_label
@@ -41,13 +42,13 @@ module _ (s : List ℕ) where
   -- a label and a comma
   pub comma_fails : (e : ReadError) → Fails e (label_at s) → Fails e (label_comma s)
   unfolding label_comma
-  comma_fails e f = fails_bind e (label_at s) (λ x. after 44 x.1 >>= λ r. Some (x.0, r)) f
+  comma_fails e f = fails_bind e (label_at s) (λ x. tree_after 44 x.1 >>= λ r. Some (x.0, r)) f
 
-  pub comma_none : (behind : List ℕ) (x : ℕ × List ℕ) → label_at s ≡ Some x → behind ≡ x.1 → after 44 behind ≡ None → label_comma s ≡ None
+  pub comma_none : (behind : List ℕ) (x : ℕ × List ℕ) → label_at s ≡ Some x → behind ≡ x.1 → tree_after 44 behind ≡ None → label_comma s ≡ None
   unfolding label_comma
   comma_none behind x read at none = rw (read, ← at, none) refl
 
-  pub comma_whole : (behind rest : List ℕ) (x : ℕ × List ℕ) → label_at s ≡ Some x → behind ≡ x.1 → after 44 behind ≡ Some rest → label_comma s ≡ Some (x.0, rest)
+  pub comma_whole : (behind rest : List ℕ) (x : ℕ × List ℕ) → label_at s ≡ Some x → behind ≡ x.1 → tree_after 44 behind ≡ Some rest → label_comma s ≡ Some (x.0, rest)
   unfolding label_comma
   comma_whole behind rest x read at comma = rw (read, ← at, comma) refl
 

@@ -6,9 +6,10 @@ use Rattle.std.proofs.lemmas.Bool.{eqb-true}
 use Rattle.std.proofs.lemmas.Bool.Decides.{nat_tests}
 use Rattle.f77_tree.specs.Grammar.{is_digit, is_number}
 use Rattle.f77_tree.specs.StatementGrammar.{SpellsLabel, optional_comma, label_number}
-use Rattle.f77_syntax.specs.Reading.{◌>>=◌, digits, past_digits, after, past_comma}
-use Rattle.f77_syntax.specs.Assignment.{ended}
-use Rattle.f77_syntax.specs.Label.{label_at, last_label, label_comma}
+use Rattle.f77_syntax.specs.Reading.{◌>>=◌}
+use Rattle.f77_syntax.specs.code.Reading.{digits, past_digits, tree_after, past_comma}
+use Rattle.f77_syntax.specs.code.Assignment.{value_ended}
+use Rattle.f77_syntax.specs.code.Label.{label_at, last_label, label_comma}
 use Rattle.f77_syntax.proofs.Steps.{along, bind_ok, guarded}
 use Rattle.f77_tree.proofs.Tests.{and_true}
 use Rattle.f77_syntax.proofs.AssignmentSound.{after_is, ended_is}
@@ -39,15 +40,15 @@ label_is s x e =
 pub last_label_is : (s : List ℕ) (l : ℕ) → last_label s ≡ Some l → FrontsLabel s l []
 unfolding last_label
 last_label_is s l e =
-    let (x, found, end) = bind_ok (label_at s) (λ x. ended x.0 x.1) l e in
+    let (x, found, end) = bind_ok (label_at s) (λ x. value_ended x.0 x.1) l e in
     let (same, none) = ended_is x.0 x.1 l end in
     subst (λ z. FrontsLabel s l z) none (subst (λ z. FrontsLabel s z x.1) same (label_is s x found))
 
 pub label_comma_is : (s : List ℕ) (x : ℕ × List ℕ) → label_comma s ≡ Some x → FrontsLabel s x.0 (44 ∷ x.1)
 unfolding label_comma
 label_comma_is s x e =
-    let (y, found, more) = bind_ok (label_at s) (λ y. after 44 y.1 >>= λ r. Some (y.0, r)) x e in
-    let (r, comma, end) = bind_ok (after 44 y.1) (λ r. Some (y.0, r)) x more in
+    let (y, found, more) = bind_ok (label_at s) (λ y. tree_after 44 y.1 >>= λ r. Some (y.0, r)) x e in
+    let (r, comma, end) = bind_ok (tree_after 44 y.1) (λ r. Some (y.0, r)) x more in
     along (λ z. FrontsLabel s z.0 (44 ∷ z.1)) (y.0, r) x end (subst (λ z. FrontsLabel s y.0 z) (after_is 44 y.1 r comma) (label_is s y found))
 
 pub label_spelled : IsSound SpellsLabel label_at

@@ -7,7 +7,7 @@ use Rattle.std.specs.Char.{digit_value}
 use Rattle.std.proofs.lemmas.Int.Digits.{digits_value_more}
 use Rattle.std.proofs.lemmas.Bool.Decides.{nat_tests}
 use Rattle.f77_tree.specs.Grammar.{is_digit, is_number}
-use Rattle.f77_syntax.specs.View.{clipped}
+use Rattle.f77_syntax.specs.code.View.{clipped}
 use Rattle.f77_tree.proofs.Tests.{and_true}
 
 digit_at : (ds : List ℕ) (i : ℕ) → list_all is_digit ds ≡ true → i < length ds → is_digit (get_or ds i 0) ≡ true

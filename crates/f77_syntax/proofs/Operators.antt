@@ -5,7 +5,8 @@ use Rattle.std.specs.Borrow.{Bor}
 use lib.Pointwise.{pointwise}
 use Rattle.f77_tree.specs.declared.operator.Operator.{Operator}
 use Rattle.f77_tree.specs.Operator.{symbol}
-use Rattle.f77_syntax.specs.Reading.{strip, first_operator, operator_at}
+use Rattle.f77_syntax.specs.Reading.{strip}
+use Rattle.f77_syntax.specs.code.Reading.{first_operator, operator_at}
 use Rattle.f77_syntax.proofs.Steps.{strip_same, strip_other}
 use Rattle.f77_syntax.proofs.Shorter.{operator_shorter}
 

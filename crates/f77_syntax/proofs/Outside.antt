@@ -5,7 +5,8 @@ use Rattle.std.specs.Prelude.{◌==◌, ◌&&◌, not, codes}
 use Rattle.std.specs.List.{list_all, list_any}
 use Rattle.std.proofs.lemmas.Bool.Decides.{nat_tests}
 use Rattle.f77_tree.specs.declared.operator.Operator.{Operator}
-use Rattle.f77_tree.specs.declared.operator.Operator.TheVariants.{Equivalent, NotEquivalent, Or, And, Less, LessOrEqual, Equal, NotEqual, GreaterOrEqual, Greater, Add, Subtract, Multiply, Divide, Power}
+use Rattle.f77_tree.specs.declared.operator.Operator.TheVariants.{Equivalent, NotEquivalent, Or, And, Less, LessOrEqual, Equal, NotEqual}
+use Rattle.f77_tree.specs.declared.operator.Operator.TheVariants.{GreaterOrEqual, Greater, Add, Subtract, Multiply, Divide, Power}
 use Rattle.f77_tree.specs.declared.operator.Sign.{Sign}
 use Rattle.f77_tree.specs.declared.operator.Sign.TheVariants.{Plus, Minus}
 use Rattle.f77_tree.specs.declared.intrinsic.Intrinsic.{Intrinsic}
@@ -13,10 +14,10 @@ use Rattle.f77_tree.specs.declared.intrinsic.Intrinsic.TheVariants.{Mod, Iabs, M
 use Rattle.f77_tree.specs.Operator.{symbol, sign_symbol}
 use Rattle.f77_tree.specs.Intrinsic.{function_name}
 use Rattle.f77_tree.specs.Tree.{Tree, Trees}
-use Rattle.f77_tree.specs.Grammar.{Spells, SpellsReference, SpellsAll, is_word, is_digit, is_name, is_number, truth_text, past_word}
+use Rattle.f77_tree.specs.Grammar.{Spells, SpellsReference, SpellsAll, is_word, is_digit, is_name, is_number, truth_constant_text, past_word}
 use Rattle.f77_tree.specs.StatementGrammar.{optional_comma}
 use Rattle.f77_syntax.specs.Reading.{◌>>=◌, strip}
-use Rattle.f77_syntax.specs.Classification.{deeper, behind, begins_with, no_equals, begins_if, class_of}
+use Rattle.f77_syntax.specs.Classification.{deeper, behind_character, begins_with, no_equals, begins_if, class_of}
 use Rattle.f77_syntax.specs.declared.classification.Class.TheVariants.{If, Loop, Assignment, Keyword}
 use Rattle.f77_tree.proofs.Tests.{and_true}
 use Rattle.f77_syntax.proofs.Steps.{strip_is}
@@ -66,7 +67,7 @@ quiet_sign : (sign : Sign) → is_quiet (sign_symbol sign) ≡ true
 quiet_sign Plus = refl
 quiet_sign Minus = refl
 
-quiet_truth : (b : Bool) → list_all is_quiet (truth_text b) ≡ true
+quiet_truth : (b : Bool) → list_all is_quiet (truth_constant_text b) ≡ true
 quiet_truth true = refl
 quiet_truth false = refl
 
@@ -85,55 +86,55 @@ module _ (b : ℕ) (open_other : (40 == b) ≡ false) (quiet_other : (c : ℕ) �
   not_here true = refl
   not_here false = refl
 
-  pub pass_quiet : (text rest : List ℕ) (d : ℕ) → list_all is_quiet text ≡ true → behind b d (text ++ rest) ≡ behind b d rest
+  pub pass_quiet : (text rest : List ℕ) (d : ℕ) → list_all is_quiet text ≡ true → behind_character b d (text ++ rest) ≡ behind_character b d rest
   pass_quiet [] rest d h = refl
   pass_quiet (c ∷ text) rest d h =
       let (first, others) = and_true (is_quiet c) (list_all is_quiet text) h in
       rw (quiet_other c first, not_here (d == 0), same_depth d c first) (pass_quiet text rest d others)
 
-  pass_open : (rest : List ℕ) (d : ℕ) → behind b d (40 ∷ rest) ≡ behind b (suc d) rest
+  pass_open : (rest : List ℕ) (d : ℕ) → behind_character b d (40 ∷ rest) ≡ behind_character b (suc d) rest
   pass_open rest d = rw (open_other, not_here (d == 0)) refl
 
-  pass_close : (rest : List ℕ) (d : ℕ) → behind b (suc d) (41 ∷ rest) ≡ behind b d rest
+  pass_close : (rest : List ℕ) (d : ℕ) → behind_character b (suc d) (41 ∷ rest) ≡ behind_character b d rest
   pass_close rest d = let z : (suc d == 0) ≡ false = grind (arith, nat_tests) in let e : suc d - 1 ≡ d = omega arith in rw (z, e) refl
 
-  pass_comma : (rest : List ℕ) (d : ℕ) → behind b (suc d) (44 ∷ rest) ≡ behind b (suc d) rest
+  pass_comma : (rest : List ℕ) (d : ℕ) → behind_character b (suc d) (44 ∷ rest) ≡ behind_character b (suc d) rest
   pass_comma rest d = let z : (suc d == 0) ≡ false = grind (arith, nat_tests) in rw z refl
 
   -- a list in its parentheses
-  in_parentheses : (text rest : List ℕ) (d : ℕ) → behind b (suc d) (text ++ (41 ∷ rest)) ≡ behind b (suc d) (41 ∷ rest)
-      → behind b d ((40 ∷ (text ++ 41 ∷ [])) ++ rest) ≡ behind b d rest
+  in_parentheses : (text rest : List ℕ) (d : ℕ) → behind_character b (suc d) (text ++ (41 ∷ rest)) ≡ behind_character b (suc d) (41 ∷ rest)
+      → behind_character b d ((40 ∷ (text ++ 41 ∷ [])) ++ rest) ≡ behind_character b d rest
   in_parentheses text rest d h =
-      ap (λ z. behind b d (40 ∷ z)) (append_assoc text (41 ∷ []) rest) ∙ pass_open (text ++ (41 ∷ rest)) d ∙ h ∙ pass_close rest d
+      ap (λ z. behind_character b d (40 ∷ z)) (append_assoc text (41 ∷ []) rest) ∙ pass_open (text ++ (41 ∷ rest)) d ∙ h ∙ pass_close rest d
 
   mutual
-    pub pass : {w : ℕ} {text : List ℕ} {t : Tree} → Spells w text t → (rest : List ℕ) (d : ℕ) → behind b d (text ++ rest) ≡ behind b d rest
+    pub pass : {w : ℕ} {text : List ℕ} {t : Tree} → Spells w text t → (rest : List ℕ) (d : ℕ) → behind_character b d (text ++ rest) ≡ behind_character b d rest
     pass {text = text} (Spells.number n) rest d = pass_quiet text rest d (quiet_number text n)
-    pass (Spells.truth v) rest d = pass_quiet (truth_text v) rest d (quiet_truth v)
+    pass (Spells.truth v) rest d = pass_quiet (truth_constant_text v) rest d (quiet_truth v)
     pass (Spells.reference c p) rest d = pass_reference p rest d
     pass (Spells.call {text = text} f l) rest d =
-        ap (behind b d) (append_assoc (function_name f) (40 ∷ (text ++ 41 ∷ [])) rest)
+        ap (behind_character b d) (append_assoc (function_name f) (40 ∷ (text ++ 41 ∷ [])) rest)
         ∙ pass_quiet (function_name f) ((40 ∷ (text ++ 41 ∷ [])) ++ rest) d (quiet_function f) ∙ in_parentheses text rest d (pass_all l (41 ∷ rest) d)
     pass (Spells.group {text = text} p) rest d =
         in_parentheses text rest d (pass p (41 ∷ rest) (suc d))
     pass (Spells.signed {text = text} sign h p) rest d =
         pass_quiet (sign_symbol sign ∷ []) (text ++ rest) d (rw (quiet_sign sign) refl) ∙ pass p rest d
     pass (Spells.negated {text = text} h p) rest d =
-        ap (behind b d) (append_assoc (codes ".NOT.") text rest) ∙ pass_quiet (codes ".NOT.") (text ++ rest) d refl ∙ pass p rest d
+        ap (behind_character b d) (append_assoc (codes ".NOT.") text rest) ∙ pass_quiet (codes ".NOT.") (text ++ rest) d refl ∙ pass p rest d
     pass (Spells.binary {x = x} {y = y} op h p q) rest d =
-        ap (behind b d) (append_assoc x (symbol op ++ y) rest ∙ ap (λ z. x ++ z) (append_assoc (symbol op) y rest))
+        ap (behind_character b d) (append_assoc x (symbol op ++ y) rest ∙ ap (λ z. x ++ z) (append_assoc (symbol op) y rest))
         ∙ pass p (symbol op ++ (y ++ rest)) d ∙ pass_quiet (symbol op) (y ++ rest) d (quiet_symbol op) ∙ pass q rest d
 
-    pub pass_reference : {text name : List ℕ} {items : Trees} → SpellsReference text name items → (rest : List ℕ) (d : ℕ) → behind b d (text ++ rest) ≡ behind b d rest
+    pub pass_reference : {text name : List ℕ} {items : Trees} → SpellsReference text name items → (rest : List ℕ) (d : ℕ) → behind_character b d (text ++ rest) ≡ behind_character b d rest
     pass_reference (SpellsReference.scalar {name = name} n) rest d = pass_quiet name rest d (quiet_words name (name_words name n))
     pass_reference (SpellsReference.element {name = name} {text = text} n l) rest d =
-        ap (behind b d) (append_assoc name (40 ∷ (text ++ 41 ∷ [])) rest)
+        ap (behind_character b d) (append_assoc name (40 ∷ (text ++ 41 ∷ [])) rest)
         ∙ pass_quiet name ((40 ∷ (text ++ 41 ∷ [])) ++ rest) d (quiet_words name (name_words name n)) ∙ in_parentheses text rest d (pass_all l (41 ∷ rest) d)
 
-    pub pass_all : {text : List ℕ} {items : Trees} → SpellsAll text items → (rest : List ℕ) (d : ℕ) → behind b (suc d) (text ++ rest) ≡ behind b (suc d) rest
+    pub pass_all : {text : List ℕ} {items : Trees} → SpellsAll text items → (rest : List ℕ) (d : ℕ) → behind_character b (suc d) (text ++ rest) ≡ behind_character b (suc d) rest
     pass_all (SpellsAll.last p) rest d = pass p rest (suc d)
     pass_all (SpellsAll.more {text = text} {rest = others} p q) rest d =
-        ap (behind b (suc d)) (append_assoc text (44 ∷ others) rest) ∙ pass p (44 ∷ (others ++ rest)) (suc d) ∙ pass_comma (others ++ rest) d ∙ pass_all q rest d
+        ap (behind_character b (suc d)) (append_assoc text (44 ∷ others) rest) ∙ pass p (44 ∷ (others ++ rest)) (suc d) ∙ pass_comma (others ++ rest) d ∙ pass_all q rest d
 
 -- the three characters that are looked for
 close_other : (c : ℕ) → is_quiet c ≡ true → (c == 41) ≡ false
@@ -146,17 +147,17 @@ pub equals_other : (c : ℕ) → is_quiet c ≡ true → (c == 61) ≡ false
 equals_other c h = grind (arith, nat_tests)
 
 -- a list outside parentheses, where no comma is looked for
-list_close : {text : List ℕ} {items : Trees} → SpellsAll text items → (rest : List ℕ) → behind 41 0 (text ++ rest) ≡ behind 41 0 rest
+list_close : {text : List ℕ} {items : Trees} → SpellsAll text items → (rest : List ℕ) → behind_character 41 0 (text ++ rest) ≡ behind_character 41 0 rest
 list_close (SpellsAll.last p) rest = pass 41 refl close_other p rest 0
 list_close (SpellsAll.more {text = text} {rest = others} p q) rest =
-    ap (behind 41 0) (append_assoc text (44 ∷ others) rest) ∙ pass 41 refl close_other p (44 ∷ (others ++ rest)) 0 ∙ list_close q rest
+    ap (behind_character 41 0) (append_assoc text (44 ∷ others) rest) ∙ pass 41 refl close_other p (44 ∷ (others ++ rest)) 0 ∙ list_close q rest
 
 -- a text without an equals sign
-pub no_equals_sign : (text : List ℕ) (d : ℕ) → list_any (λ c. c == 61) text ≡ false → behind 61 d text ≡ None
+pub no_equals_sign : (text : List ℕ) (d : ℕ) → list_any (λ c. c == 61) text ≡ false → behind_character 61 d text ≡ None
 no_equals_sign [] d h = refl
 no_equals_sign (c ∷ text) d h = step (c == 61) refl (λ k. no_equals_sign text (deeper d c) k)
   where
-    step : (v : Bool) → (c == 61) ≡ v → (list_any (λ c. c == 61) text ≡ false → behind 61 (deeper d c) text ≡ None) → behind 61 d (c ∷ text) ≡ None
+    step : (v : Bool) → (c == 61) ≡ v → (list_any (λ c. c == 61) text ≡ false → behind_character 61 (deeper d c) text ≡ None) → behind_character 61 d (c ∷ text) ≡ None
     step true e more = let wrong : list_any (λ c. c == 61) (c ∷ text) ≡ true = rw e refl in cc
     step false e more =
         let others : list_any (λ c. c == 61) text ≡ false = rw e at h in
@@ -194,7 +195,7 @@ reference_no_if (SpellsReference.element {name = name} {text = text} n l) y = st
     shape : whole ≡ name ++ (40 ∷ (text ++ (41 ∷ (61 ∷ y))))
     shape = append_assoc name (40 ∷ (text ++ 41 ∷ [])) (61 ∷ y) ∙ ap (λ z. name ++ (40 ∷ z)) (append_assoc text (41 ∷ []) (61 ∷ y))
 
-    step : (o : Option (List ℕ)) → strip (codes "IF(") whole ≡ o → no_equals (o >>= behind 41 0) ≡ false
+    step : (o : Option (List ℕ)) → strip (codes "IF(") whole ≡ o → no_equals (o >>= behind_character 41 0) ≡ false
     step None e = refl
     step (Some r) e =
         let one : past_word whole ≡ 40 ∷ (text ++ (41 ∷ (61 ∷ y))) = ap past_word shape ∙ past_word_front name (40 ∷ (text ++ (41 ∷ (61 ∷ y)))) (name_words name n) refl in
@@ -205,7 +206,7 @@ reference_no_if (SpellsReference.element {name = name} {text = text} n l) y = st
 pub assign_class : {x name y : List ℕ} {items : Trees} {t : Tree} → SpellsReference x name items → Spells 1 y t → class_of (x ++ (61 ∷ y)) ≡ Assignment
 unfolding class_of
 assign_class {y = y} r p =
-    let none : behind 44 0 y ≡ None = ap (behind 44 0) (sym (append-nil y)) ∙ pass 44 refl comma_other p [] 0 in
+    let none : behind_character 44 0 y ≡ None = ap (behind_character 44 0) (sym (append-nil y)) ∙ pass 44 refl comma_other p [] 0 in
     rw (reference_no_if r y, pass_reference 61 refl equals_other r (61 ∷ y) 0, none) refl
 
 -- a DO: a comma follows the equals sign
@@ -214,17 +215,17 @@ pub loop_class : {x : List ℕ} {a : Tree} (row name rest : List ℕ) (comma : B
 unfolding class_of
 loop_class {x = x} row name rest comma n m p =
     let none : begins_if (codes "DO" ++ (row ++ (optional_comma comma ++ (name ++ (61 ∷ (x ++ (44 ∷ rest))))))) ≡ false = no_if_strip _ refl in
-    let front : behind 61 0 (codes "DO" ++ (row ++ (optional_comma comma ++ (name ++ (61 ∷ (x ++ (44 ∷ rest))))))) ≡ Some (x ++ (44 ∷ rest)) =
+    let front : behind_character 61 0 (codes "DO" ++ (row ++ (optional_comma comma ++ (name ++ (61 ∷ (x ++ (44 ∷ rest))))))) ≡ Some (x ++ (44 ∷ rest)) =
     pass_quiet 61 refl equals_other row (optional_comma comma ++ (name ++ (61 ∷ (x ++ (44 ∷ rest))))) 0 (quiet_number row n)
     ∙ past_optional comma (name ++ (61 ∷ (x ++ (44 ∷ rest))))
     ∙ pass_quiet 61 refl equals_other name (61 ∷ (x ++ (44 ∷ rest))) 0 (quiet_words name (name_words name m)) in
     rw (none, front, pass 44 refl comma_other p (44 ∷ rest) 0) refl
   where
-    past_optional : (comma : Bool) (s : List ℕ) → behind 61 0 (optional_comma comma ++ s) ≡ behind 61 0 s
+    past_optional : (comma : Bool) (s : List ℕ) → behind_character 61 0 (optional_comma comma ++ s) ≡ behind_character 61 0 s
     past_optional true s = refl
     past_optional false s = refl
 
 -- the rest by keywords
-pub keyword_class : (text : List ℕ) → strip (codes "IF(") text ≡ None → behind 61 0 text ≡ None → class_of text ≡ Keyword
+pub keyword_class : (text : List ℕ) → strip (codes "IF(") text ≡ None → behind_character 61 0 text ≡ None → class_of text ≡ Keyword
 unfolding class_of
 keyword_class text e f = rw (no_if_strip text e, f) refl

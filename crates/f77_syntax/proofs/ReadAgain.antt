@@ -12,7 +12,7 @@ use Rattle.f77_source.specs.declared.fault.FormFault.TheVariants.{BadLabel, TooM
 use Rattle.f77_tree.specs.StatementGrammar.{IsFormed}
 use Rattle.f77_nodes.specs.Names.{statement_names}
 use Rattle.f77_program.specs.Canonical.{statement_text}
-use Rattle.f77_program.specs.Formed.{statement_formed}
+use Rattle.f77_program.specs.code.Formed.{statement_formed}
 use Rattle.f77_program.specs.Printing.{card_of, printed, AreAlike, unnumbered}
 use Rattle.f77_program.specs.Program.{LineFields, IsProgram}
 use Rattle.f77_program.specs.declared.group.Group.{Group}

@@ -2,12 +2,13 @@
 use Rattle.std.proofs.Common.{arith, ◌≡◌, ◌<◌, ◌≤◌, ℕ, length, length-append, List, [], ◌∷◌, ◌++◌, true, false, Some, ap}
 use Rattle.std.specs.Prelude.{codes}
 use Rattle.f77_tree.specs.declared.operator.Operator.{Operator}
-use Rattle.f77_tree.specs.declared.operator.Operator.TheVariants.{Equivalent, NotEquivalent, Or, And, Less, LessOrEqual, Equal, NotEqual, GreaterOrEqual, Greater, Add, Subtract, Multiply, Divide, Power}
+use Rattle.f77_tree.specs.declared.operator.Operator.TheVariants.{Equivalent, NotEquivalent, Or, And, Less, LessOrEqual, Equal, NotEqual}
+use Rattle.f77_tree.specs.declared.operator.Operator.TheVariants.{GreaterOrEqual, Greater, Add, Subtract, Multiply, Divide, Power}
 use Rattle.f77_tree.specs.Operator.{symbol}
 use Rattle.f77_tree.specs.Tree.{Tree, Trees}
 use Rattle.f77_tree.specs.Intrinsic.{function_name}
 use Rattle.f77_tree.specs.Grammar.{Spells, SpellsReference, SpellsAll, is_name, is_number, word, past_word}
-use Rattle.f77_syntax.specs.Reading.{Readers, operator_at}
+use Rattle.f77_syntax.specs.code.Reading.{Readers, operator_at}
 use Rattle.f77_tree.proofs.Words.{word_whole}
 use Rattle.f77_syntax.proofs.Sound.{Sound, operator_is}
 

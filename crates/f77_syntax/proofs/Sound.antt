@@ -11,9 +11,11 @@ use Rattle.f77_tree.specs.Operator.{symbol, sign_symbol, level, left_level, righ
 use Rattle.f77_tree.specs.Tree.{Tree, Trees}
 use Rattle.f77_tree.specs.declared.intrinsic.Intrinsic.{Intrinsic}
 use Rattle.f77_tree.specs.Intrinsic.{function_named}
-use Rattle.f77_tree.specs.Grammar.{Spells, SpellsReference, SpellsAll, is_name, is_number, truth_text, word, past_word}
+use Rattle.f77_tree.specs.Grammar.{Spells, SpellsReference, SpellsAll, is_name, is_number, truth_constant_text, word, past_word}
 use Rattle.f77_syntax.proofs.Functions.{named_is, no_call}
-use Rattle.f77_syntax.specs.Reading.{◌>>=◌, strip, or_operator, first_operator, operators, operator_at, Readers, close_at, closed, enclosed_at, signed_at, negated_at, dotted_by, dotted_at, listed_by, listed, named_at, word_at, start_at, expr_at, climb_on, climb_at, more_at, items_at, within, reading}
+use Rattle.f77_syntax.specs.Reading.{◌>>=◌, strip}
+use Rattle.f77_syntax.specs.code.Reading.{or_operator, first_operator, operators, operator_at, Readers, close_at, closed, enclosed_at, signed_tree_at, negated_at, dotted_by}
+use Rattle.f77_syntax.specs.code.Reading.{dotted_at, listed_by, function_listed, named_at, word_tree_at, start_at, expr_at, climb_on, climb_at, more_at, trees_at, within, reading}
 use Rattle.f77_syntax.proofs.Steps.{along, bind_ok, chosen, guarded, strip_is}
 use Rattle.f77_tree.proofs.Tests.{and_true}
 use Rattle.f77_tree.proofs.Words.{word_whole}
@@ -55,7 +57,8 @@ pub operator_is : (s : List ℕ) (y : Operator × List ℕ) → operator_at s �
 unfolding operator_at
 operator_is s y e = among operators e
   where
-    choice : (op : Operator) (o : Option (List ℕ)) (other : Option (Operator × List ℕ)) → strip (symbol op) s ≡ o → (other ≡ Some y → s ≡ symbol y.0 ++ y.1) → or_operator op o other ≡ Some y → s ≡ symbol y.0 ++ y.1
+    choice : (op : Operator) (o : Option (List ℕ)) (other : Option (Operator × List ℕ))
+        → strip (symbol op) s ≡ o → (other ≡ Some y → s ≡ symbol y.0 ++ y.1) → or_operator op o other ≡ Some y → s ≡ symbol y.0 ++ y.1
     choice op None other at next e = next e
     choice op (Some r) other at next e = along (λ y. s ≡ symbol y.0 ++ y.1) (op, r) y e (strip_is (symbol op) s r at)
 
@@ -90,7 +93,7 @@ module _ (R : Readers) (sound : Sound R) where
         own = Spells.group spelled;
       }
 
-  signed_is : (w : ℕ) (sign : Sign) (s : List ℕ) (x : Tree × ℕ × List ℕ) → signed_at R w sign s ≡ Some x → Starts w (sign_symbol sign ∷ s) x
+  signed_is : (w : ℕ) (sign : Sign) (s : List ℕ) (x : Tree × ℕ × List ℕ) → signed_tree_at R w sign s ≡ Some x → Starts w (sign_symbol sign ∷ s) x
   signed_is w sign s x e =
       let (low, rest) = guarded (nat_le w 6) (R.expr 7 s >>= λ y. Some (Tree.Signed sign y.0, 6, y.1)) x e in
       let (y, inner, end) = bind_ok (R.expr 7 s) (λ y. Some (Tree.Signed sign y.0, 6, y.1)) x rest in
@@ -114,9 +117,9 @@ module _ (R : Readers) (sound : Sound R) where
         own = Spells.negated (omega arith) front.spells;
       })
 
-  truth_is : (w : ℕ) (b : Bool) (s r : List ℕ) (x : Tree × ℕ × List ℕ) → s ≡ truth_text b ++ r → Some (Tree.Truth b, 9, r) ≡ Some x → Starts w s x
+  truth_is : (w : ℕ) (b : Bool) (s r : List ℕ) (x : Tree × ℕ × List ℕ) → s ≡ truth_constant_text b ++ r → Some (Tree.Truth b, 9, r) ≡ Some x → Starts w s x
   truth_is w b s r x is e =
-      along (Starts w s) (Tree.Truth b, 9, r) x e (record { text = truth_text b; is = is; spells = Spells.truth b; own = Spells.truth b })
+      along (Starts w s) (Tree.Truth b, 9, r) x e (record { text = truth_constant_text b; is = is; spells = Spells.truth b; own = Spells.truth b })
 
   dotted_is : (w : ℕ) (s : List ℕ) (x : Tree × ℕ × List ℕ) → dotted_at R w s ≡ Some x → Starts w s x
   dotted_is w s x e = by_front (strip (codes ".TRUE.") s) refl (strip (codes ".FALSE.") s) refl (strip (codes ".NOT.") s) refl e
@@ -130,7 +133,7 @@ module _ (R : Readers) (sound : Sound R) where
 
   -- a name with a list behind it, in parentheses
   listed_is : (w : ℕ) (name text : List ℕ) (items : Trees) → is_name name ≡ true → SpellsAll text items
-      → Spells w (name ++ (40 ∷ (text ++ 41 ∷ []))) (listed name items)
+      → Spells w (name ++ (40 ∷ (text ++ 41 ∷ []))) (function_listed name items)
   listed_is w name text items n l = by_name (function_named name) refl
     where
       by_name : (o : Option Intrinsic) → function_named name ≡ o → Spells w (name ++ (40 ∷ (text ++ 41 ∷ []))) (listed_by o name items)
@@ -145,16 +148,18 @@ module _ (R : Readers) (sound : Sound R) where
     own = Spells.reference refl (SpellsReference.scalar n);
   })
   named_at_is w name (c ∷ r) x n e =
-      elim (chosen (c == 40) (R.items r >>= λ y. closed (listed name y.0) y.1) (Some (Tree.Reference name Trees.None, 9, c ∷ r)) (Some x) e) [
+      elim (chosen (c == 40) (R.items r >>= λ y. closed (function_listed name y.0) y.1) (Some (Tree.Reference name Trees.None, 9, c ∷ r)) (Some x) e) [
         | inl p ↦
-            let (y, inner, end) = bind_ok (R.items r) (λ y. closed (listed name y.0) y.1) x p.1 in
+            let (y, inner, end) = bind_ok (R.items r) (λ y. closed (function_listed name y.0) y.1) x p.1 in
             let front = sound.items r y inner in
-            let (close, same, nine) = closed_is (listed name y.0) y.1 x end in
+            let (close, same, nine) = closed_is (function_listed name y.0) y.1 x end in
             let open_is : c ≡ 40 = eqb-true c 40 p.0 in
             let text : List ℕ = name ++ (40 ∷ (front.text ++ 41 ∷ [])) in
             record {
               text = text;
-              is = ap (λ z. name ++ (z ∷ r)) open_is ∙ ap (λ z. name ++ (40 ∷ z)) (front.is ∙ ap (λ z. front.text ++ z) close ∙ sym (append_assoc front.text (41 ∷ []) x.2)) ∙ sym (append_assoc name (40 ∷ (front.text ++ 41 ∷ [])) x.2);
+              is = ap (λ z. name ++ (z ∷ r)) open_is
+                  ∙ ap (λ z. name ++ (40 ∷ z)) (front.is ∙ ap (λ z. front.text ++ z) close ∙ sym (append_assoc front.text (41 ∷ []) x.2))
+                  ∙ sym (append_assoc name (40 ∷ (front.text ++ 41 ∷ [])) x.2);
               spells = subst (λ t. Spells w text t) same (listed_is w name front.text y.0 n front.spells);
               own = subst (λ t. Spells x.1 text t) same (listed_is x.1 name front.text y.0 n front.spells);
             }
@@ -166,7 +171,7 @@ module _ (R : Readers) (sound : Sound R) where
         })
       ]
 
-  word_is : (w : ℕ) (name r : List ℕ) (x : Tree × ℕ × List ℕ) → word_at R name r ≡ Some x → Starts w (name ++ r) x
+  word_is : (w : ℕ) (name r : List ℕ) (x : Tree × ℕ × List ℕ) → word_tree_at R name r ≡ Some x → Starts w (name ++ r) x
   word_is w name r x e =
       elim (chosen (is_number name) (Some (Tree.Number (digits_value 10 name), 9, r)) (cond (is_name name) (named_at R name r) None) (Some x) e) [
         | inl p ↦ along (Starts w (name ++ r)) (Tree.Number (digits_value 10 name), 9, r) x p.1 (record {
@@ -203,8 +208,8 @@ module _ (R : Readers) (sound : Sound R) where
       let start = start_is w s y first in
       subst (λ z. Fronts w z x.0 x.1) (sym start.is) (sound.climb w y.0 y.1 start.text y.2 x start.spells start.own rest)
 
-  items_is : (s : List ℕ) (x : Trees × List ℕ) → items_at R s ≡ Some x → FrontsAll s x.0 x.1
-  unfolding items_at
+  items_is : (s : List ℕ) (x : Trees × List ℕ) → trees_at R s ≡ Some x → FrontsAll s x.0 x.1
+  unfolding trees_at
   items_is s x e =
       let (y, first, rest) = bind_ok (expr_at R 1 s) (λ y. more_at R y.0 y.1) x e in
       let front = expr_is 1 s y first in
@@ -240,9 +245,11 @@ module _ (R : Readers) (sound : Sound R) where
                 let left : Spells (left_level y.0) front t = weaken (left_level y.0) (leb-true (left_level y.0) own high) has in
                 let text : List ℕ = front ++ (symbol y.0 ++ operand.text) in
                 let is : front ++ s ≡ text ++ z.1 =
-                ap (λ v. front ++ v) (operator_is s y at ∙ ap (λ v. symbol y.0 ++ v) operand.is ∙ sym (append_assoc (symbol y.0) operand.text z.1)) ∙ sym (append_assoc front (symbol y.0 ++ operand.text) z.1) in
+                ap (λ v. front ++ v) (operator_is s y at ∙ ap (λ v. symbol y.0 ++ v) operand.is ∙ sym (append_assoc (symbol y.0) operand.text z.1))
+                ∙ sym (append_assoc front (symbol y.0 ++ operand.text) z.1) in
                 subst (λ v. Fronts w v x.0 x.1) (sym is)
-                (sound.climb w (Tree.Binary y.0 t z.0) (level y.0) text z.1 x (Spells.binary y.0 (leb-true w (level y.0) low) left operand.spells) (Spells.binary y.0 (omega arith) left operand.spells) rest)
+                (sound.climb w (Tree.Binary y.0 t z.0) (level y.0) text z.1 x (Spells.binary y.0 (leb-true w (level y.0) low) left operand.spells)
+                (Spells.binary y.0 (omega arith) left operand.spells) rest)
             | inr p ↦ along (λ x. Fronts w (front ++ s) x.0 x.1) (t, s) x p.1 (record { text = front; is = refl; spells = wanted })
           ]
 

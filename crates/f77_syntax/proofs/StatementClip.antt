@@ -5,8 +5,8 @@ use Rattle.std.specs.List.{list_all}
 use Rattle.std.proofs.lemmas.List.{length-map}
 use Rattle.f77_tree.specs.Tree.{Tree}
 use Rattle.f77_tree.specs.Statement.{Statement}
-use Rattle.f77_syntax.specs.View.{clip}
-use Rattle.f77_syntax.specs.StatementView.{clip_statement}
+use Rattle.f77_syntax.specs.code.View.{clip}
+use Rattle.f77_syntax.specs.code.StatementView.{clip_statement}
 use Rattle.f77_nodes.specs.Limits.{is_label, statement_constants, statement_nodes}
 use Rattle.f77_nodes.specs.Names.{of_value, statement_names, short_names, all_short_names}
 use Rattle.f77_syntax.proofs.NodeCounts.{step_nodes, count_by_part, counted_by_part}

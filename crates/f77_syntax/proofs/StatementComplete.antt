@@ -12,18 +12,18 @@ use Rattle.f77_tree.specs.Tree.{Tree, Trees, DeclFields, GroupFields}
 use Rattle.f77_tree.specs.Statement.{Statement}
 use Rattle.f77_tree.specs.Grammar.{Spells, SpellsReference, is_letter, is_digit, is_word, is_number, is_name, word, past_word}
 use Rattle.f77_tree.specs.StatementGrammar.{SpellsAction, SpellsStatement, optional_comma, label_number, kind_keyword}
-use Rattle.f77_syntax.specs.Reading.{reading, past_comma}
-use Rattle.f77_syntax.specs.Assignment.{reference_at, assign_at}
-use Rattle.f77_syntax.specs.Names.{name_at, names_at}
+use Rattle.f77_syntax.specs.code.Reading.{reading, past_comma}
+use Rattle.f77_syntax.specs.code.Assignment.{reference_at, assign_at}
+use Rattle.f77_syntax.specs.code.Names.{name_at, names_at}
 use Rattle.f77_tree.specs.Joined.{Joined}
-use Rattle.f77_syntax.specs.Joined.{items_at}
+use Rattle.f77_syntax.specs.code.Joined.{items_at}
 use Rattle.f77_syntax.proofs.JoinedTexts.{items_read}
-use Rattle.f77_syntax.specs.Subroutine.{dummies_at, before_close, subroutine_at}
-use Rattle.f77_syntax.specs.Label.{labels_at}
-use Rattle.f77_syntax.specs.Condition.{arithmetic_at, condition_at}
-use Rattle.f77_syntax.specs.DoLoop.{control_at, parameters_at, loop_at}
+use Rattle.f77_syntax.specs.code.Subroutine.{dummies_at, before_close, subroutine_at}
+use Rattle.f77_syntax.specs.code.Label.{labels_at}
+use Rattle.f77_syntax.specs.code.Condition.{arithmetic_at, condition_at}
+use Rattle.f77_syntax.specs.code.DoLoop.{control_at, parameters_at, loop_at}
 use Rattle.f77_syntax.specs.Classification.{begins_with, begins_if, class_of, statement_class}
-use Rattle.f77_syntax.specs.Statement.{word_statement, simple_at, simple_action_at, action_at, begins_digit, branch_at, else_at, specification_at, keyword_at, statement_at}
+use Rattle.f77_syntax.specs.code.Statement.{word_statement, simple_at, simple_action_at, action_at, begins_digit, branch_at, else_at, specification_at, keyword_at, statement_at}
 use Rattle.f77_syntax.specs.declared.classification.Class.TheVariants.{Keyword}
 use Rattle.f77_tree.proofs.Tests.{and_true}
 use Rattle.f77_tree.proofs.Words.{word_front, past_word_front, name_words}

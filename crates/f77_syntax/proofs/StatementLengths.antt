@@ -1,5 +1,6 @@
 -- The lengths of the names in a statement, by the words in that part of its text where they stand.
-use Rattle.std.proofs.Common.{arith, ◌≡◌, ◌⊎◌, inl, inr, ℕ, zero, suc, ◌+◌, ◌-◌, ◌<◌, ◌≤◌, length, List, [], ◌∷◌, ◌++◌, Bool, true, false, refl, ap, sym, ◌∙◌, get_or, take, length-append, append_assoc}
+use Rattle.std.proofs.Common.{arith, ◌≡◌, ◌⊎◌, inl, inr, ℕ, zero, suc, ◌+◌, ◌-◌, ◌<◌, ◌≤◌, length, List, [], ◌∷◌}
+use Rattle.std.proofs.Common.{◌++◌, Bool, true, false, refl, ap, sym, ◌∙◌, get_or, take, length-append, append_assoc}
 use Rattle.std.specs.Prelude.{◌&&◌, not, codes}
 use Rattle.std.specs.List.{list_all, before_last, suffix_len, join_with_byte}
 use Rattle.std.proofs.Math.Seq.{get_or-append_seam, take-append_seam}
@@ -13,11 +14,11 @@ use Rattle.f77_tree.specs.Grammar.{Spells, is_word, is_name, is_number}
 use Rattle.f77_tree.specs.Name.{is_short}
 use Rattle.f77_nodes.specs.Names.{short_names, all_short_names, statement_names}
 use Rattle.f77_tree.specs.StatementGrammar.{SpellsAction, SpellsStatement, optional_comma, kind_keyword}
-use Rattle.f77_syntax.specs.StatementView.{clip_statement}
+use Rattle.f77_syntax.specs.code.StatementView.{clip_statement}
 use Rattle.f77_tree.proofs.Tests.{and_true}
 use Rattle.f77_tree.proofs.Words.{name_words}
 use Rattle.f77_syntax.proofs.Complete.{number_words}
-use Rattle.f77_syntax.specs.NameLengths.{is_between, has_short_words, keyword_of, ends_without_name, names_part}
+use Rattle.f77_syntax.specs.code.NameLengths.{is_between, has_short_words, keyword_of, ends_without_name, names_part}
 use Rattle.f77_syntax.proofs.WordLengths.{and_yes, and_both, joined_by, word_alone, name_behind, number_short, name_short, listed_short, spelled_names, reference_names}
 use Rattle.f77_syntax.proofs.ItemLengths.{comma_short, labels_short, arguments_names, declared_names, preset_names}
 

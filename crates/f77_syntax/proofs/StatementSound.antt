@@ -11,26 +11,29 @@ use Rattle.f77_tree.specs.Tree.{Tree}
 use Rattle.f77_tree.specs.Statement.{Statement}
 use Rattle.f77_tree.specs.Grammar.{Spells, is_number, is_name, word, past_word}
 use Rattle.f77_tree.specs.StatementGrammar.{SpellsAction, SpellsStatement, optional_comma, label_number, kind_keyword}
-use Rattle.f77_syntax.specs.Reading.{◌>>=◌, strip, after, close_at, reading, past_comma}
-use Rattle.f77_syntax.specs.Assignment.{ended}
-use Rattle.f77_syntax.specs.Names.{names_at}
-use Rattle.f77_tree.specs.Joined.{Joined, some_all}
+use Rattle.f77_syntax.specs.Reading.{◌>>=◌, strip}
+use Rattle.f77_syntax.specs.code.Reading.{tree_after, close_at, reading, past_comma}
+use Rattle.f77_syntax.specs.code.Assignment.{value_ended}
+use Rattle.f77_syntax.specs.code.Names.{names_at}
+use Rattle.f77_tree.specs.Joined.{Joined}
+use Rattle.f77_tree.specs.code.Joined.{some_all}
 use Rattle.f77_program.proofs.JoinedForms.{joined_all}
-use Rattle.f77_syntax.specs.Subroutine.{dummies_at, before_close, arguments_at, subroutine_at}
-use Rattle.f77_syntax.specs.Label.{label_at, last_label, label_comma, labels_at}
-use Rattle.f77_syntax.specs.Condition.{arithmetic_at, condition_at}
-use Rattle.f77_syntax.specs.DoLoop.{control_at, step_at, parameters_at, loop_at}
+use Rattle.f77_syntax.specs.code.Subroutine.{dummies_at, before_close, arguments_at, subroutine_at}
+use Rattle.f77_syntax.specs.code.Label.{label_at, last_label, label_comma, labels_at}
+use Rattle.f77_syntax.specs.code.Condition.{arithmetic_at, condition_at}
+use Rattle.f77_syntax.specs.code.DoLoop.{control_at, step_at, parameters_at, loop_at}
 use Rattle.f77_program.specs.Formed.{is_action}
 use Rattle.f77_syntax.specs.Classification.{class_of}
-use Rattle.f77_syntax.specs.Statement.{word_statement, simple_by, simple_at, actions_only, simple_action_at, action_by, action_at, begins_digit, branch_at, else_at, declared_at, dimension_at, preset_at, specification_by, specification_at, keyword_by, keyword_at, statement_by, statement_at}
+use Rattle.f77_syntax.specs.code.Statement.{word_statement, simple_by, simple_at, actions_only, simple_action_at, action_by, action_at, begins_digit, branch_at, else_at}
+use Rattle.f77_syntax.specs.code.Statement.{declared_at, dimension_at, data_at, specification_by, specification_at, keyword_by, keyword_at, statement_by, statement_at}
 use Rattle.f77_syntax.specs.declared.classification.Class.{Class}
 use Rattle.f77_syntax.specs.declared.classification.Class.TheVariants.{If, Loop, Assignment, Keyword}
 use Rattle.f77_syntax.proofs.Steps.{along, bind_ok, chosen, guarded, strip_is}
 use Rattle.f77_tree.proofs.Words.{word_whole}
 use Rattle.f77_syntax.proofs.Sound.{sound_reading, close_is}
 use Rattle.f77_tree.specs.Declaration.{SpellsName, all_bounded}
-use Rattle.f77_syntax.specs.Declaration.{declarations_at}
-use Rattle.f77_syntax.specs.Data.{groups_at}
+use Rattle.f77_syntax.specs.code.Declaration.{declarations_at}
+use Rattle.f77_syntax.specs.code.Data.{groups_at}
 use Rattle.f77_tree.specs.declared.tree.Kind.{Kind}
 use Rattle.f77_tree.specs.declared.tree.Kind.TheVariants.{Integer, Logical}
 use Rattle.f77_syntax.proofs.LabelTexts.{label_is, last_label_is, label_comma_is, past_comma_is}
@@ -69,10 +72,10 @@ joined_names (Joined.more {xs = names} (SpellsName.named {text = n} h) p) =
 pub dummies_is : (s : List ℕ) (names : List (List ℕ)) → dummies_at s ≡ Some names → (s ≡ join_with_byte 44 names) × (list_all is_name names ≡ true)
 unfolding dummies_at
 dummies_is s names e =
-    elim (chosen (length s == 0) (Some []) (names_at s >>= λ x. ended x.0 x.1) (Some names) e) [
+    elim (chosen (length s == 0) (Some []) (names_at s >>= λ x. value_ended x.0 x.1) (Some names) e) [
       | inl p ↦ let none : s ≡ [] = nil_from_length s (eqb-true (length s) 0 p.0) in along (λ ns. (s ≡ join_with_byte 44 ns) × (list_all is_name ns ≡ true)) [] names p.1 (none, refl)
       | inr p ↦
-          let (x, read, end) = bind_ok (names_at s) (λ x. ended x.0 x.1) names p.1 in
+          let (x, read, end) = bind_ok (names_at s) (λ x. value_ended x.0 x.1) names p.1 in
           let f = names_is s x read in
           let (same, none) = ended_is x.0 x.1 names end in
           let (is, all) = joined_names f.spells in
@@ -226,7 +229,7 @@ dimension_is s u e =
     let (bounded, end) = guarded (all_bounded ds) (Some (Statement.Dimension ds)) u rest in
     along (SpellsStatement (codes "DIMENSION" ++ s)) (Statement.Dimension ds) u end (SpellsStatement.dimension (declarations_is s ds found) bounded)
 
-preset_is : (s : List ℕ) (u : Statement) → preset_at s ≡ Some u → SpellsStatement (codes "DATA" ++ s) u
+preset_is : (s : List ℕ) (u : Statement) → data_at s ≡ Some u → SpellsStatement (codes "DATA" ++ s) u
 preset_is s u e =
     let (gs, found, end) = bind_ok (groups_at s) (λ gs. Some (Statement.Preset gs)) u e in
     along (SpellsStatement (codes "DATA" ++ s)) (Statement.Preset gs) u end (SpellsStatement.preset (groups_is s gs found))
@@ -266,15 +269,16 @@ pub record FrontsControl (s : List ℕ) (label : ℕ) (name rest : List ℕ) : T
 control_is : (s : List ℕ) (x : ℕ × List ℕ × List ℕ) → control_at s ≡ Some x → FrontsControl s x.0 x.1 x.2
 unfolding control_at
 control_is s x e =
-    let (y, found, more) = bind_ok (label_at s) (λ y. cond (is_name (word (past_comma y.1))) (after 61 (past_word (past_comma y.1)) >>= λ r. Some (y.0, word (past_comma y.1), r)) None) x e in
-    let (n, rest) = guarded (is_name (word (past_comma y.1))) (after 61 (past_word (past_comma y.1)) >>= λ r. Some (y.0, word (past_comma y.1), r)) x more in
-    let (r, equals, end) = bind_ok (after 61 (past_word (past_comma y.1))) (λ r. Some (y.0, word (past_comma y.1), r)) x rest in
+    let (y, found, more) = bind_ok (label_at s) (λ y. cond (is_name (word (past_comma y.1))) (tree_after 61 (past_word (past_comma y.1)) >>= λ r. Some (y.0, word (past_comma y.1), r)) None) x e in
+    let (n, rest) = guarded (is_name (word (past_comma y.1))) (tree_after 61 (past_word (past_comma y.1)) >>= λ r. Some (y.0, word (past_comma y.1), r)) x more in
+    let (r, equals, end) = bind_ok (tree_after 61 (past_word (past_comma y.1))) (λ r. Some (y.0, word (past_comma y.1), r)) x rest in
     let f = label_is s y found in
     let (comma, behind) = past_comma_is y.1 in
     along (λ w. FrontsControl s w.0 w.1 w.2) (y.0, word (past_comma y.1), r) x end (record {
       row = f.row;
       comma = comma;
-      is = f.is ∙ ap (λ z. f.row ++ z) (behind ∙ ap (λ z. optional_comma comma ++ z) (word_whole (past_comma y.1) ∙ ap (λ z. word (past_comma y.1) ++ z) (after_is 61 (past_word (past_comma y.1)) r equals)));
+      is = f.is ∙ ap (λ z. f.row ++ z) (behind ∙ ap (λ z. optional_comma comma ++ z) (word_whole (past_comma y.1)
+          ∙ ap (λ z. word (past_comma y.1) ++ z) (after_is 61 (past_word (past_comma y.1)) r equals)));
       number = f.number;
       value = f.value;
       named = n;
@@ -284,8 +288,8 @@ control_is s x e =
 step_is : (s : List ℕ) (c : Option Tree) → step_at s ≡ Some c → ((s ≡ []) × (c ≡ None)) ⊎ ((z : List ℕ) × (t : Tree) × (s ≡ 44 ∷ z) × (c ≡ Some t) × Spells 1 z t)
 step_is [] c e = inl (refl, sym (same_Some None c e))
 step_is (d ∷ s) c e =
-    let (comma, rest) = guarded (d == 44) (reading.expr 1 s >>= λ x. ended (Some x.0) x.1) c e in
-    let (x, read, end) = bind_ok (reading.expr 1 s) (λ x. ended (Some x.0) x.1) c rest in
+    let (comma, rest) = guarded (d == 44) (reading.expr 1 s >>= λ x. value_ended (Some x.0) x.1) c e in
+    let (x, read, end) = bind_ok (reading.expr 1 s) (λ x. value_ended (Some x.0) x.1) c rest in
     let (same, none) = ended_is (Some x.0) x.1 c end in
     let f = sound_reading.expr 1 s x read in
     let whole : s ≡ f.text = f.is ∙ ap (λ z. f.text ++ z) none ∙ append-nil f.text in
@@ -294,8 +298,8 @@ step_is (d ∷ s) c e =
 loop_whole : (s name rest : List ℕ) (label : ℕ) (u : Statement) → FrontsControl s label name rest → parameters_at label name rest ≡ Some u → SpellsStatement (codes "DO" ++ s) u
 unfolding parameters_at
 loop_whole s name rest label u f e =
-    let (a, first, more) = bind_ok (reading.expr 1 rest) (λ a. after 44 a.1 >>= λ r. reading.expr 1 r >>= λ b. step_at b.1 >>= λ c. Some (Statement.Loop label name a.0 b.0 c)) u e in
-    let (r, comma, others) = bind_ok (after 44 a.1) (λ r. reading.expr 1 r >>= λ b. step_at b.1 >>= λ c. Some (Statement.Loop label name a.0 b.0 c)) u more in
+    let (a, first, more) = bind_ok (reading.expr 1 rest) (λ a. tree_after 44 a.1 >>= λ r. reading.expr 1 r >>= λ b. step_at b.1 >>= λ c. Some (Statement.Loop label name a.0 b.0 c)) u e in
+    let (r, comma, others) = bind_ok (tree_after 44 a.1) (λ r. reading.expr 1 r >>= λ b. step_at b.1 >>= λ c. Some (Statement.Loop label name a.0 b.0 c)) u more in
     let (b, second, last) = bind_ok (reading.expr 1 r) (λ b. step_at b.1 >>= λ c. Some (Statement.Loop label name a.0 b.0 c)) u others in
     let (c, third, end) = bind_ok (step_at b.1) (λ c. Some (Statement.Loop label name a.0 b.0 c)) u last in
     let p = sound_reading.expr 1 rest a first in
@@ -311,7 +315,8 @@ loop_whole s name rest label u f e =
           (subst (λ z. SpellsStatement (codes "DO" ++ z) (Statement.Loop label name a.0 b.0 None)) (sym is) (rw f.value at made))
       | inr k ↦
           let whole : rest ≡ p.text ++ (44 ∷ (q.text ++ (44 ∷ k.0))) = front ∙ ap (λ z. p.text ++ (44 ∷ z)) (q.is ∙ ap (λ z. q.text ++ z) k.2) in
-          let is : s ≡ f.row ++ (optional_comma f.comma ++ (name ++ (61 ∷ (p.text ++ (44 ∷ (q.text ++ (44 ∷ k.0))))))) = f.is ∙ ap (λ z. f.row ++ (optional_comma f.comma ++ (name ++ (61 ∷ z)))) whole in
+          let is : s ≡ f.row ++ (optional_comma f.comma ++ (name ++ (61 ∷ (p.text ++ (44 ∷ (q.text ++ (44 ∷ k.0))))))) =
+          f.is ∙ ap (λ z. f.row ++ (optional_comma f.comma ++ (name ++ (61 ∷ z)))) whole in
           let made = SpellsStatement.loop_by {name = name} f.row f.comma f.number f.named p.spells q.spells k.4 in
           subst (λ z. SpellsStatement (codes "DO" ++ s) (Statement.Loop label name a.0 b.0 z)) (sym k.3)
           (subst (λ z. SpellsStatement (codes "DO" ++ z) (Statement.Loop label name a.0 b.0 (Some k.1))) (sym is) (rw f.value at made))

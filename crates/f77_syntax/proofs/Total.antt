@@ -10,10 +10,10 @@ use Rattle.f77_program.specs.declared.group.Group.{Group}
 use Rattle.f77_program.specs.declared.group.Group.TheVariants.{Subroutine, Declaration, Data, Executable, End}
 use Rattle.f77_tree.specs.Statement.{Statement}
 use Rattle.f77_program.specs.Group.{group_of, may_stand}
-use Rattle.f77_syntax.specs.TextLimits.{count, most_open, character_count, most_characters, IsTooDeep}
+use Rattle.f77_syntax.specs.TextLimits.{occurrences, most_open, character_count, most_characters, IsTooDeep}
 use Rattle.f77_nodes.specs.Limits.{most_nodes, statement_constants, statement_nodes}
-use Rattle.f77_syntax.specs.Parsing.{IsAdmitted, IsRefused, line_with, AreLines, IsFirstFault, HasLinesOrFault, misplaced, unfinished}
-use Rattle.f77_syntax.specs.Statement.{statement_at}
+use Rattle.f77_syntax.specs.Parsing.{IsAdmitted, IsCardRefused, line_with, AreLines, IsFirstSyntaxFault, HasLinesOrFault, misplaced_statement, unfinished}
+use Rattle.f77_syntax.specs.code.Statement.{statement_at}
 use Rattle.f77_tree.specs.StatementGrammar.{SpellsStatement}
 use Rattle.f77_nodes.specs.Names.{statement_names}
 use Rattle.f77_syntax.proofs.Counts.{flat_none, flat_step}
@@ -22,21 +22,21 @@ use Rattle.f77_syntax.proofs.StatementSound.{statement_is}
 
 -- this beginning opens no more than 40 parentheses more than it closes
 abbrev IsFlatAt : List ℕ → ℕ → Type 0
-IsFlatAt text n = count 40 (take n text) ≤ count 41 (take n text) + most_open
+IsFlatAt text n = occurrences 40 (take n text) ≤ occurrences 41 (take n text) + most_open
 
 -- some beginning of at most this length is too deep, or none is
 deep_within : (text : List ℕ) (k : ℕ) → IsTooDeep text ⊎ ((n : ℕ) → n ≤ k → IsFlatAt text n)
 deep_within text zero = inr (flat_none text)
 deep_within text (suc k) = go_on (deep_within text k)
   where
-    by_test : (b : Bool) → nat_lt (count 41 (take (k + 1) text) + most_open) (count 40 (take (k + 1) text)) ≡ b
+    by_test : (b : Bool) → nat_lt (occurrences 41 (take (k + 1) text) + most_open) (occurrences 40 (take (k + 1) text)) ≡ b
         → ((n : ℕ) → n ≤ k → IsFlatAt text n) → IsTooDeep text ⊎ ((n : ℕ) → n ≤ suc k → IsFlatAt text n)
     by_test true e before = inl (k + 1, grind (arith, nat_tests))
     by_test false e before = inr (λ n h. flat_step text k before (grind (arith, nat_tests)) n (omega arith))
 
     go_on : IsTooDeep text ⊎ ((n : ℕ) → n ≤ k → IsFlatAt text n) → IsTooDeep text ⊎ ((n : ℕ) → n ≤ suc k → IsFlatAt text n)
     go_on (inl deep) = inl deep
-    go_on (inr before) = by_test (nat_lt (count 41 (take (k + 1) text) + most_open) (count 40 (take (k + 1) text))) refl before
+    go_on (inr before) = by_test (nat_lt (occurrences 41 (take (k + 1) text) + most_open) (occurrences 40 (take (k + 1) text))) refl before
 
 -- all beginnings are, where those up to the whole text are
 flat_everywhere : (text : List ℕ) → ((n : ℕ) → n ≤ length text → IsFlatAt text n) → (n : ℕ) → IsFlatAt text n
@@ -47,7 +47,7 @@ flat_everywhere text flat n = by_test (nat_le n (length text)) refl
     by_test false e =
         let long : length text ≤ n = grind (arith, nat_tests) in
         let same : take (length text) text ≡ take n text = take_all (length text) text (omega arith) ∙ sym (take_all n text long) in
-        subst (λ z. count 40 z ≤ count 41 z + most_open) same (flat (length text) (omega arith))
+        subst (λ z. occurrences 40 z ≤ occurrences 41 z + most_open) same (flat (length text) (omega arith))
 
 deep_or_flat : (text : List ℕ) → IsTooDeep text ⊎ (¬ (IsTooDeep text))
 deep_or_flat text = by (deep_within text (length text))
@@ -64,14 +64,14 @@ spelled_or_not text = by (statement_at text) refl
     by None e = inr (λ s p. let read = statement_read p in cc)
 
 abbrev Answer : ℕ → List ℕ → Type 0
-Answer line text = ((s : Statement) × IsAdmitted text s) ⊎ ((fault : SyntaxFault) × IsRefused line text fault)
+Answer line text = ((s : Statement) × IsAdmitted text s) ⊎ ((fault : SyntaxFault) × IsCardRefused line text fault)
 
 -- a text within the limits on texts, which spells this statement
 limited : (line : ℕ) (text : List ℕ) (s : Statement) → character_count text ≤ most_characters → ¬ (IsTooDeep text) → SpellsStatement text s
     → (names constants few : Bool) → statement_names s ≡ names → statement_constants s ≡ constants → nat_le (statement_nodes s) most_nodes ≡ few → Answer line text
-limited line text s h flat p false constants few e f g = inr (BadName line, IsRefused.name h flat p e)
-limited line text s h flat p true false few e f g = inr (BadConstant line, IsRefused.constant h flat p e f)
-limited line text s h flat p true true false e f g = inr (TooLong line, IsRefused.nodes h flat p e f (grind (arith, nat_tests)))
+limited line text s h flat p false constants few e f g = inr (BadName line, IsCardRefused.name h flat p e)
+limited line text s h flat p true false few e f g = inr (BadConstant line, IsCardRefused.constant h flat p e f)
+limited line text s h flat p true true false e f g = inr (TooLong line, IsCardRefused.nodes h flat p e f (grind (arith, nat_tests)))
 limited line text s h flat p true true true e f g =
     inl (s, record { characters = h; flat = flat; spells = p; names = e; constants = f; nodes = grind (arith, nat_tests) })
 
@@ -82,15 +82,15 @@ admitted_or_refused line text = by_length (nat_le (character_count text) most_ch
         → ((s : Statement) × SpellsStatement text s) ⊎ ((s : Statement) → ¬ (SpellsStatement text s)) → Answer line text
     by_spelling h flat (inl x) =
         limited line text x.0 h flat x.1 (statement_names x.0) (statement_constants x.0) (nat_le (statement_nodes x.0) most_nodes) refl refl refl
-    by_spelling h flat (inr none) = inr (Unknown line, IsRefused.unknown h flat none)
+    by_spelling h flat (inr none) = inr (Unknown line, IsCardRefused.unknown h flat none)
 
     by_depth : character_count text ≤ most_characters → IsTooDeep text ⊎ (¬ (IsTooDeep text)) → Answer line text
-    by_depth h (inl deep) = inr (TooDeep line, IsRefused.parentheses h deep)
+    by_depth h (inl deep) = inr (TooDeep line, IsCardRefused.parentheses h deep)
     by_depth h (inr flat) = by_spelling h flat (spelled_or_not text)
 
     by_length : (b : Bool) → nat_le (character_count text) most_characters ≡ b → Answer line text
     by_length true e = by_depth (grind (arith, nat_tests)) (deep_or_flat text)
-    by_length false e = inr (TooLong line, IsRefused.characters (grind (arith, nat_tests)))
+    by_length false e = inr (TooLong line, IsCardRefused.characters (grind (arith, nat_tests)))
 
 end_or_not : (before : Option Group) → (before ≡ Some End) ⊎ (before ≢ Some End)
 end_or_not None = inr (λ e. cc)
@@ -102,22 +102,22 @@ end_or_not (Some End) = inl refl
 
 no_cards : (before : Option Group) → (before ≡ Some End) ⊎ (before ≢ Some End) → HasLinesOrFault before []
 no_cards before (inl e) = inl ([], rw e AreLines.finished)
-no_cards before (inr h) = inr (unfinished before, IsFirstFault.unended h)
+no_cards before (inr h) = inr (unfinished before, IsFirstSyntaxFault.unended h)
 
 -- a card whose statement is admitted, with what is known of the cards behind it
 with_card : (before : Option Group) (card : CardFields) (cards : List CardFields) (s : Statement) → before ≢ Some End → IsAdmitted card.text s
     → HasLinesOrFault (Some (group_of s)) cards → (b : Bool) → may_stand before (group_of s) ≡ b → HasLinesOrFault before (card ∷ cards)
-with_card before card cards s h p rest false e = inr (misplaced before card.line, IsFirstFault.out_of_place h p e)
+with_card before card cards s h p rest false e = inr (misplaced_statement before card.line, IsFirstSyntaxFault.out_of_place h p e)
 with_card before card cards s h p (inl x) true e = inl (line_with card s ∷ x.0, AreLines.next s p e x.1)
-with_card before card cards s h p (inr x) true e = inr (x.0, IsFirstFault.later p e x.1)
+with_card before card cards s h p (inr x) true e = inr (x.0, IsFirstSyntaxFault.later p e x.1)
 
 -- one card more, where cards behind any statement are lines or have a first fault
 one_more : (card : CardFields) (cards : List CardFields) (before : Option Group) → ((behind : Option Group) → HasLinesOrFault behind cards)
     → (before ≡ Some End) ⊎ (before ≢ Some End) → Answer card.line card.text → HasLinesOrFault before (card ∷ cards)
-one_more card cards before rest (inl e) answer = inr (AfterEnd card.line, rw e IsFirstFault.behind_end)
+one_more card cards before rest (inl e) answer = inr (AfterEnd card.line, rw e IsFirstSyntaxFault.behind_end)
 one_more card cards before rest (inr h) (inl x) =
     with_card before card cards x.0 h x.1 (rest (Some (group_of x.0))) (may_stand before (group_of x.0)) refl
-one_more card cards before rest (inr h) (inr x) = inr (x.0, IsFirstFault.refused h x.1)
+one_more card cards before rest (inr h) (inr x) = inr (x.0, IsFirstSyntaxFault.refused h x.1)
 
 pub lines_or_fault : (cards : List CardFields) (before : Option Group) → HasLinesOrFault before cards
 lines_or_fault [] before = no_cards before (end_or_not before)

@@ -7,7 +7,8 @@ use Rattle.std.proofs.lemmas.List.Elements.{All-nil, All-cons}
 use Rattle.std.proofs.lemmas.List.Folds.{list_all-append}
 use Rattle.std.proofs.lemmas.List.Splits.{length-slice_split, slice_split_none}
 use Rattle.f77_tree.specs.declared.operator.Operator.{Operator}
-use Rattle.f77_tree.specs.declared.operator.Operator.TheVariants.{Equivalent, NotEquivalent, Or, And, Less, LessOrEqual, Equal, NotEqual, GreaterOrEqual, Greater, Add, Subtract, Multiply, Divide, Power}
+use Rattle.f77_tree.specs.declared.operator.Operator.TheVariants.{Equivalent, NotEquivalent, Or, And, Less, LessOrEqual, Equal, NotEqual}
+use Rattle.f77_tree.specs.declared.operator.Operator.TheVariants.{GreaterOrEqual, Greater, Add, Subtract, Multiply, Divide, Power}
 use Rattle.f77_tree.specs.declared.operator.Sign.{Sign}
 use Rattle.f77_tree.specs.declared.operator.Sign.TheVariants.{Plus, Minus}
 use Rattle.f77_tree.specs.declared.intrinsic.Intrinsic.{Intrinsic}
@@ -15,14 +16,14 @@ use Rattle.f77_tree.specs.declared.intrinsic.Intrinsic.TheVariants.{Mod, Iabs, M
 use Rattle.f77_tree.specs.Operator.{symbol, sign_symbol}
 use Rattle.f77_tree.specs.Intrinsic.{function_name}
 use Rattle.f77_tree.specs.Tree.{Tree, Trees}
-use Rattle.f77_tree.specs.Grammar.{Spells, SpellsReference, SpellsAll, is_letter, is_digit, is_word, is_name, is_number, truth_text}
+use Rattle.f77_tree.specs.Grammar.{Spells, SpellsReference, SpellsAll, is_letter, is_digit, is_word, is_name, is_number, truth_constant_text}
 use Rattle.f77_tree.specs.Name.{is_short}
 use Rattle.f77_nodes.specs.Names.{short_names, all_short_names}
-use Rattle.f77_syntax.specs.Reading.{past_digits}
+use Rattle.f77_syntax.specs.code.Reading.{past_digits}
 use Rattle.f77_tree.proofs.Tests.{and_true}
 use Rattle.f77_tree.proofs.Words.{name_words}
 use Rattle.f77_syntax.proofs.Complete.{number_words}
-use Rattle.f77_syntax.specs.NameLengths.{is_between, is_short_word, has_short_words}
+use Rattle.f77_syntax.specs.code.NameLengths.{is_between, is_short_word, has_short_words}
 
 pub and_yes : (b : Bool) → (b && true) ≡ b
 and_yes true = refl
@@ -94,7 +95,7 @@ pub name_short : (name : List ℕ) → is_name name ≡ true → has_short_words
 name_short name m = word_alone name (name_words name m) ∙ ap is_short (name_stays name m)
 
 -- Expressions.
-pub truth_short : (b : Bool) → has_short_words (truth_text b) ≡ true
+pub truth_short : (b : Bool) → has_short_words (truth_constant_text b) ≡ true
 unfolding has_short_words
 truth_short true = refl
 truth_short false = refl

@@ -1,5 +1,7 @@
--- What a statement is, from its text as a whole, since no word is reserved (ANSI X3.9-1978, 2.3 and 3.3).
-use Rattle.std.specs.Prelude.{ℕ, suc, ◌-◌, ◌==◌, List, [], ◌∷◌, Option, Some, None, Bool, false, ◌&&◌, not, is_some, if◌then◌else◌, codes}
+-- What a statement is, from its text as a whole, since
+-- no word is reserved (ANSI X3.9-1978, 2.3 and 3.3).
+use Rattle.std.specs.Prelude.{ℕ, suc, ◌-◌, ◌==◌, List, [], ◌∷◌, Option, Some, None}
+use Rattle.std.specs.Prelude.{Bool, false, ◌&&◌, not, is_some, if◌then◌else◌, codes}
 use Rattle.f77_syntax.specs.Reading.{◌>>=◌, strip}
 use Rattle.f77_tree.specs.Statement.{Statement}
 use Rattle.f77_syntax.specs.declared.classification.Class.{Class}
@@ -9,10 +11,12 @@ use Rattle.f77_syntax.specs.declared.classification.Class.TheVariants.{If, Loop,
 abbrev pub deeper : ℕ → ℕ → ℕ
 deeper depth c = if c == 40 then suc depth else (if c == 41 then depth - 1 else depth)
 
--- what follows the first such character that stands outside parentheses, of which so many are open before
-abbrev pub behind : ℕ → ℕ → List ℕ → Option (List ℕ)
-behind b depth [] = None
-behind b depth (c ∷ s) = if (depth == 0) && (c == b) then Some s else behind b (deeper depth c) s
+-- what follows the first such character that stands
+-- outside parentheses, of which so many are open before
+abbrev pub behind_character : ℕ → ℕ → List ℕ → Option (List ℕ)
+behind_character b depth [] = None
+behind_character b depth (c ∷ s) =
+    if (depth == 0) && (c == b) then Some s else behind_character b (deeper depth c) s
 
 abbrev pub begins_with : ℕ → List ℕ → Bool
 begins_with b [] = false
@@ -24,16 +28,17 @@ no_equals (Some rest) = not (begins_with 61 rest)
 
 -- It begins IF( and the character after the matching parenthesis is no equals sign.
 unfoldable pub begins_if : List ℕ → Bool
-begins_if text = no_equals (strip (codes "IF(") text >>= behind 41 0)
+begins_if text = no_equals (strip (codes "IF(") text >>= behind_character 41 0)
 
 -- by what stands outside parentheses behind the equals sign that stands outside parentheses
 abbrev pub class_behind : Option (List ℕ) → Class
 class_behind None = Keyword
-class_behind (Some rest) = if is_some (behind 44 0 rest) then Loop else Assignment
+class_behind (Some rest) = if is_some (behind_character 44 0 rest) then Loop else Assignment
 
--- an IF statement, else a DO where a comma follows the equals sign, else an assignment where there is one, else by its keyword
+-- an IF statement, else a DO where a comma follows the equals
+-- sign, else an assignment where there is one, else by its keyword
 unfoldable pub class_of : List ℕ → Class
-class_of text = if begins_if text then If else class_behind (behind 61 0 text)
+class_of text = if begins_if text then If else class_behind (behind_character 61 0 text)
 
 -- the class of each statement
 abbrev pub statement_class : Statement → Class

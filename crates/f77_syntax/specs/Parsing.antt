@@ -8,7 +8,8 @@ use Rattle.f77_nodes.specs.Names.{statement_names}
 use Rattle.f77_program.specs.Group.{group_of, may_stand}
 use Rattle.f77_program.specs.Program.{LineFields}
 use Rattle.f77_program.specs.declared.fault.SyntaxFault.{SyntaxFault}
-use Rattle.f77_program.specs.declared.fault.SyntaxFault.TheVariants.{Memory, Unknown, BadName, BadConstant, TooDeep, TooLong, NoSubroutine, NoEnd, AfterEnd}
+use Rattle.f77_program.specs.declared.fault.SyntaxFault.TheVariants.{Unknown, BadName, BadConstant, TooDeep}
+use Rattle.f77_program.specs.declared.fault.SyntaxFault.TheVariants.{TooLong, NoSubroutine, NoEnd, AfterEnd}
 use Rattle.f77_program.specs.declared.group.Group.{Group}
 use Rattle.f77_program.specs.declared.group.Group.TheVariants.{End}
 use Rattle.f77_syntax.specs.TextLimits.{character_count, most_characters, IsTooDeep}
@@ -23,41 +24,43 @@ pub record IsAdmitted (text : List ℕ) (s : Statement) : Type 0 where
   pub nodes : statement_nodes s ≤ most_nodes
 
 -- why the text of the card with this line is not admitted
-pub data IsRefused (line : ℕ) (text : List ℕ) : SyntaxFault → Type 0 where
-  characters : most_characters < character_count text → IsRefused line text (TooLong line)
-  parentheses : character_count text ≤ most_characters → IsTooDeep text → IsRefused line text (TooDeep line)
-  unknown : character_count text ≤ most_characters → ¬ (IsTooDeep text) → ((s : Statement) → ¬ (SpellsStatement text s))
-      → IsRefused line text (Unknown line)
-  name : {s : Statement} → character_count text ≤ most_characters → ¬ (IsTooDeep text) → SpellsStatement text s
-      → statement_names s ≡ false → IsRefused line text (BadName line)
-  constant : {s : Statement} → character_count text ≤ most_characters → ¬ (IsTooDeep text) → SpellsStatement text s
-      → statement_names s ≡ true → statement_constants s ≡ false → IsRefused line text (BadConstant line)
-  nodes : {s : Statement} → character_count text ≤ most_characters → ¬ (IsTooDeep text) → SpellsStatement text s
+pub data IsCardRefused (line : ℕ) (text : List ℕ) : SyntaxFault → Type 0 where
+  characters : most_characters < character_count text → IsCardRefused line text (TooLong line)
+  parentheses : character_count text ≤ most_characters
+      → IsTooDeep text → IsCardRefused line text (TooDeep line)
+  unknown : character_count text ≤ most_characters
+      → ¬ (IsTooDeep text) → ((s : Statement) → ¬ (SpellsStatement text s))
+      → IsCardRefused line text (Unknown line)
+  name : {s : Statement}
+      → character_count text ≤ most_characters → ¬ (IsTooDeep text) → SpellsStatement text s
+      → statement_names s ≡ false → IsCardRefused line text (BadName line)
+  constant : {s : Statement}
+      → character_count text ≤ most_characters → ¬ (IsTooDeep text) → SpellsStatement text s
+      → statement_names s ≡ true
+      → statement_constants s ≡ false → IsCardRefused line text (BadConstant line)
+  nodes : {s : Statement}
+      → character_count text ≤ most_characters → ¬ (IsTooDeep text) → SpellsStatement text s
       → statement_names s ≡ true → statement_constants s ≡ true → most_nodes < statement_nodes s
-      → IsRefused line text (TooLong line)
-
--- why a statement is outside the limits that are asked of its nodes, or is not known to be within them
-pub data IsOutside (line : ℕ) (s : Statement) : SyntaxFault → Type 0 where
-  memory : IsOutside line s Memory
-  constant : statement_constants s ≡ false → IsOutside line s (BadConstant line)
-  nodes : statement_constants s ≡ true → most_nodes < statement_nodes s → IsOutside line s (TooLong line)
+      → IsCardRefused line text (TooLong line)
 
 -- the line that a card with this statement is
 abbrev pub line_with : CardFields → Statement → LineFields
 line_with card s = record { label = card.label; stmt = s; line = card.line }
 
--- The cards, behind a statement of this group or at the start, are the lines to the end of a program.
+-- The cards, behind a statement of this group or at
+-- the start, are the lines to the end of a program.
 pub data AreLines : Option Group → List CardFields → List LineFields → Type 0 where
   finished : AreLines (Some End) [] []
-  next : {before : Option Group} {card : CardFields} {cards : List CardFields} {lines : List LineFields} (s : Statement)
+  next : {before : Option Group} {card : CardFields} {cards : List CardFields}
+      {lines : List LineFields} (s : Statement)
       → IsAdmitted card.text s → may_stand before (group_of s) ≡ true
       → AreLines (Some (group_of s)) cards lines
       → AreLines before (card ∷ cards) (line_with card s ∷ lines)
 
 -- what is told of a statement out of its place
-abbrev pub misplaced : Option Group → ℕ → SyntaxFault
-misplaced None line = NoSubroutine
-misplaced (Some group) line = Unknown line
+abbrev pub misplaced_statement : Option Group → ℕ → SyntaxFault
+misplaced_statement None line = NoSubroutine
+misplaced_statement (Some group) line = Unknown line
 
 -- what is told where the cards end behind a statement of this group, which is not END, or at once
 abbrev pub unfinished : Option Group → SyntaxFault
@@ -65,19 +68,27 @@ unfinished None = NoSubroutine
 unfinished (Some group) = NoEnd
 
 -- The first fault of the cards, behind a statement of this group or at the start.
-pub data IsFirstFault : Option Group → List CardFields → SyntaxFault → Type 0 where
-  unended : {before : Option Group} → before ≢ Some End → IsFirstFault before [] (unfinished before)
-  behind_end : {card : CardFields} {cards : List CardFields} → IsFirstFault (Some End) (card ∷ cards) (AfterEnd card.line)
-  refused : {before : Option Group} {card : CardFields} {cards : List CardFields} {fault : SyntaxFault}
-      → before ≢ Some End → IsRefused card.line card.text fault → IsFirstFault before (card ∷ cards) fault
-  out_of_place : {before : Option Group} {card : CardFields} {cards : List CardFields} {s : Statement}
+pub data IsFirstSyntaxFault : Option Group → List CardFields → SyntaxFault → Type 0 where
+  unended : {before : Option Group}
+      → before ≢ Some End → IsFirstSyntaxFault before [] (unfinished before)
+  behind_end : {card : CardFields} {cards : List CardFields}
+      → IsFirstSyntaxFault (Some End) (card ∷ cards) (AfterEnd card.line)
+  refused : {before : Option Group} {card : CardFields} {cards : List CardFields}
+      {fault : SyntaxFault}
+      → before ≢ Some End
+      → IsCardRefused card.line card.text fault → IsFirstSyntaxFault before (card ∷ cards) fault
+  out_of_place : {before : Option Group} {card : CardFields}
+      {cards : List CardFields} {s : Statement}
       → before ≢ Some End → IsAdmitted card.text s → may_stand before (group_of s) ≡ false
-      → IsFirstFault before (card ∷ cards) (misplaced before card.line)
-  later : {before : Option Group} {card : CardFields} {cards : List CardFields} {s : Statement} {fault : SyntaxFault}
-      → IsAdmitted card.text s → may_stand before (group_of s) ≡ true → IsFirstFault (Some (group_of s)) cards fault
-      → IsFirstFault before (card ∷ cards) fault
+      → IsFirstSyntaxFault before (card ∷ cards) (misplaced_statement before card.line)
+  later : {before : Option Group} {card : CardFields} {cards : List CardFields} {s : Statement}
+      {fault : SyntaxFault}
+      → IsAdmitted card.text s
+      → may_stand before (group_of s) ≡ true → IsFirstSyntaxFault (Some (group_of s)) cards fault
+      → IsFirstSyntaxFault before (card ∷ cards) fault
 
 -- the cards are the lines to the end of a program, or have a first fault
 abbrev pub HasLinesOrFault : Option Group → List CardFields → Type 0
 HasLinesOrFault before cards =
-    ((lines : List LineFields) × AreLines before cards lines) ⊎ ((fault : SyntaxFault) × IsFirstFault before cards fault)
+    ((lines : List LineFields) × AreLines before cards lines)
+    ⊎ ((fault : SyntaxFault) × IsFirstSyntaxFault before cards fault)

@@ -12,7 +12,8 @@ use Rattle.f77_program.specs.Program.{LineFields}
 use Rattle.f77_syntax.specs.Parsing.{AreLines}
 use Rattle.f77_syntax.specs.TextLimits.{IsTooDeep}
 
--- a statement of an unmutated program, and its limits, those on names and on the length of its text aside
+-- a statement of an unmutated program, and its limits,
+-- those on names and on the length of its text aside
 pub record KeepsLimits (s : Statement) : Type 0 where
   pub unmutated : IsUnmutated s
   pub flat : ¬ (IsTooDeep (squeezed (statement_text s)))

@@ -13,9 +13,9 @@ most_characters = 1320
 abbrev pub most_open : ℕ
 most_open = 40
 
-unfoldable pub count : ℕ → List ℕ → ℕ
-count c text = length (filter (λ d. d == c) text)
+unfoldable pub occurrences : ℕ → List ℕ → ℕ
+occurrences c text = length (filter (λ d. d == c) text)
 
 -- some beginning of the text opens over 40 parentheses more than it closes
 abbrev pub IsTooDeep : List ℕ → Type 0
-IsTooDeep text = (n : ℕ) × (count 41 (take n text) + most_open < count 40 (take n text))
+IsTooDeep text = (n : ℕ) × (occurrences 41 (take n text) + most_open < occurrences 40 (take n text))

@@ -1,8 +1,8 @@
 //! Assignments read from texts.
 
-ghost use Rattle.f77_syntax.specs.Assignment.{reference_at, assign_at};
-ghost use Rattle.f77_syntax.specs.View.{Gives};
-ghost use Rattle.f77_syntax.specs.StatementView.{IsStatement, IsReference};
+ghost use Rattle.f77_syntax.specs.code.Assignment.{reference_at, assign_at};
+ghost use Rattle.f77_syntax.specs.code.View.{Gives};
+ghost use Rattle.f77_syntax.specs.code.StatementView.{IsStatement, IsReference};
 
 use crate::expression::{after_byte, closed, expression, list};
 use crate::fault::ReadError;

@@ -2,7 +2,7 @@
 
 ghost use Rattle.std.specs.Prelude.{◌≡◌, ◌<◌, option_map};
 ghost use Rattle.f77_syntax.specs.Classification as classification;
-ghost use Rattle.f77_syntax.specs.Classification.{behind, class_of};
+ghost use Rattle.f77_syntax.specs.Classification.{behind_character, class_of};
 
 /// The class of a statement: how it is told from the others (ANSI X3.9-1978, 3.3).
 #[derive(Clone, Copy, Debug, PartialEq, Eq)]
@@ -31,7 +31,7 @@ fn deeper(depth: usize, c: u8) -> usize
 
 /// What follows the first such character outside parentheses.
 pub(crate) fn behind(byte: u8, text: &[u8]) -> Option<&[u8]>
-    ensures { option_map (λ rest. rest.now) result ≡ behind byte 0 text.now }
+    ensures { option_map (λ rest. rest.now) result ≡ behind_character byte 0 text.now }
 {
     let mut depth: usize = 0;
     for (index, c) in text.iter().enumerate() {

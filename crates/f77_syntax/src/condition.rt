@@ -1,11 +1,11 @@
 //! The condition of an IF, and the labels of an arithmetic IF, read from texts.
 
-ghost use Rattle.f77_syntax.specs.Condition.{arithmetic_at, condition_at};
+ghost use Rattle.f77_syntax.specs.code.Condition.{arithmetic_at, condition_at};
 ghost use Rattle.std.specs.Prelude.{◌≡◌};
 ghost use Rattle.f77_tree.specs.Tree.{Tree};
 ghost use Rattle.f77_tree.specs.View.{tree_of};
-ghost use Rattle.f77_syntax.specs.View.{clip, Gives, IsTree};
-ghost use Rattle.f77_syntax.specs.StatementView.{IsStatement};
+ghost use Rattle.f77_syntax.specs.code.View.{clip, Gives, IsTree};
+ghost use Rattle.f77_syntax.specs.code.StatementView.{IsStatement};
 
 use crate::expression::{closed, expression};
 use crate::fault::ReadError;

@@ -1,10 +1,11 @@
 //! The constants of DATA, read from texts.
 
 ghost use Rattle.std.specs.Prelude.{◌≡◌, pos};
-ghost use Rattle.f77_syntax.specs.Declaration.{number_at};
+ghost use Rattle.f77_syntax.specs.code.Declaration.{bound_at};
 ghost use Rattle.f77_tree.specs.Data as initial;
-ghost use Rattle.f77_syntax.specs.Data.{signed_at, truth_at, constant_at, clip_constant, kept, Finds};
-ghost use Rattle.f77_syntax.specs.View.{clipped};
+ghost use Rattle.f77_syntax.specs.code.Data.{initial_constant_at, truth_at, constant_at};
+ghost use Rattle.f77_syntax.specs.code.Data.{clip_constant, clipped_constant, Finds};
+ghost use Rattle.f77_syntax.specs.code.View.{clipped};
 
 use crate::scan::number;
 use f77_tree::Constant;
@@ -12,14 +13,14 @@ use f77_tree::characters::{is_number, split_word};
 
 /// The number of this size, or -2147483648 where it is too large.
 fn above_zero(size: u32) -> i32
-    ensures { result ≡ kept (pos size) }
+    ensures { result ≡ clipped_constant (pos size) }
 {
     i32::try_from(size).unwrap_or(i32::MIN)
 }
 
 /// The number of this size with a minus sign, or -2147483648 where it is too large.
 fn below_zero(size: u32) -> i32
-    ensures { result ≡ kept (initial.negative size) }
+    ensures { result ≡ clipped_constant (initial.negative size) }
 {
     match i32::try_from(size) {
         Ok(number) => -number,
@@ -29,7 +30,7 @@ fn below_zero(size: u32) -> i32
 
 /// Reads digits, and what follows them.
 pub(crate) fn digits(text: &[u8]) -> Option<(u32, &[u8])>
-    ensures { Finds clipped result (number_at text.now) }
+    ensures { Finds clipped result (bound_at text.now) }
 {
     let (front, rest) = split_word(text);
     if !is_number(front) {
@@ -39,14 +40,14 @@ pub(crate) fn digits(text: &[u8]) -> Option<(u32, &[u8])>
 }
 
 fn positive(text: &[u8]) -> Option<(Constant, &[u8])>
-    ensures { Finds clip_constant result (signed_at pos text.now) }
+    ensures { Finds clip_constant result (initial_constant_at pos text.now) }
 {
     let (size, rest) = digits(text)?;
     Some((Constant::Number(above_zero(size)), rest))
 }
 
 fn negative(text: &[u8]) -> Option<(Constant, &[u8])>
-    ensures { Finds clip_constant result (signed_at initial.negative text.now) }
+    ensures { Finds clip_constant result (initial_constant_at initial.negative text.now) }
 {
     let (size, rest) = digits(text)?;
     Some((Constant::Number(below_zero(size)), rest))

@@ -1,10 +1,10 @@
 //! Names with their initial values, read from texts.
 
 ghost use Rattle.std.specs.Prelude.{◌≡◌, ◌<◌, ◌≤◌, length, IfOk};
-ghost use Rattle.f77_syntax.specs.Data.{repeat_at, value_at, data_values_at, group_at, groups_at};
-ghost use Rattle.f77_syntax.specs.Data.{Finds, IsValue, AreDataValues, IsGroup, AreGroups};
-ghost use Rattle.f77_syntax.specs.Reading.{after};
-ghost use Rattle.f77_syntax.specs.View.{clipped, Gives};
+ghost use Rattle.f77_syntax.specs.code.Data.{repeat_at, data_value_at, data_values_at, group_at, groups_at};
+ghost use Rattle.f77_syntax.specs.code.Data.{Finds, IsValue, AreDataValues, IsGroup, AreGroups};
+ghost use Rattle.f77_syntax.specs.code.Reading.{tree_after};
+ghost use Rattle.f77_syntax.specs.code.View.{clipped, Gives};
 
 use crate::constants::{digits, read_constant};
 use crate::expression::{after_byte, past_comma};
@@ -25,7 +25,7 @@ fn repeat(text: &[u8]) -> Option<(u32, &[u8])>
 
 /// Reads a constant with its repeat, and what follows.
 fn value(text: &[u8]) -> Result<(Value, &[u8]), ReadError>
-    ensures found { Gives IsValue result (value_at text.now) }
+    ensures found { Gives IsValue result (data_value_at text.now) }
     ensures shorter { IfOk result (λ x. length x.1.now ≤ length text.now) }
 {
     let (times, behind) = repeat(text).unwrap_or((1, text));
@@ -44,7 +44,7 @@ fn values(alloc: Global, text: &[u8]) -> Result<(Vec<Value>, &[u8]), ReadError>
 
 /// What follows a slash.
 fn past_slash(text: &[u8]) -> Result<&[u8], ReadError>
-    ensures { Gives (λ x s. x.now ≡ s) result (after 47 text.now) }
+    ensures { Gives (λ x s. x.now ≡ s) result (tree_after 47 text.now) }
 {
     after_byte(text, b'/').ok_or(ReadError::Unknown)
 }

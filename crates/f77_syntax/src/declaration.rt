@@ -1,8 +1,9 @@
 //! Declared names with their bounds, read from texts.
 
 ghost use Rattle.std.specs.Prelude.{◌≡◌, ◌≤◌, length, IfOk};
-ghost use Rattle.f77_syntax.specs.Declaration.{number_at, bounds_at, decl_at, declarations_at, AreBounds, IsDecl, AreDecls};
-ghost use Rattle.f77_syntax.specs.View.{clipped, Gives};
+ghost use Rattle.f77_syntax.specs.code.Declaration.{bound_at, bounds_at, decl_at};
+ghost use Rattle.f77_syntax.specs.code.Declaration.{declarations_at, AreBounds, IsDecl, AreDecls};
+ghost use Rattle.f77_syntax.specs.code.View.{clipped, Gives};
 
 use crate::expression::{after_byte, closed};
 use crate::fault::ReadError;
@@ -14,7 +15,7 @@ use std::alloc::Global;
 
 /// Reads a bound, and what follows it.
 fn bound(text: &[u8]) -> Result<(u32, &[u8]), ReadError>
-    ensures found { Gives (λ x a. (x.0 ≡ clipped a.0) × (x.1.now ≡ a.1)) result (number_at text.now) }
+    ensures found { Gives (λ x a. (x.0 ≡ clipped a.0) × (x.1.now ≡ a.1)) result (bound_at text.now) }
     ensures shorter { IfOk result (λ x. length x.1.now ≤ length text.now) }
 {
     let (front, rest) = split_word(text);

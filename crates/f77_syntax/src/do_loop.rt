@@ -1,10 +1,10 @@
 //! DO statements read from texts.
 
 ghost use Rattle.std.specs.Prelude.{◌≡◌, true, IfOk};
-ghost use Rattle.f77_syntax.specs.DoLoop.{control_at, step_at, parameters_at, loop_at};
+ghost use Rattle.f77_syntax.specs.code.DoLoop.{control_at, step_at, parameters_at, loop_at};
 ghost use Rattle.f77_tree.specs.Grammar.{is_name};
-ghost use Rattle.f77_syntax.specs.View.{Gives};
-ghost use Rattle.f77_syntax.specs.StatementView.{IsStatement, IsControl, IsStep};
+ghost use Rattle.f77_syntax.specs.code.View.{Gives};
+ghost use Rattle.f77_syntax.specs.code.StatementView.{IsStatement, IsControl, IsIncrementationRead};
 
 use crate::expression::{after_byte, expression, past_comma};
 use crate::fault::ReadError;
@@ -31,7 +31,7 @@ fn control(text: &[u8]) -> Result<(u32, &[u8], &[u8]), ReadError>
 
 /// Reads the third parameter, where there is one.
 fn step(alloc: Global, text: &[u8]) -> Result<Option<Expr>, ReadError>
-    ensures { Gives IsStep result (step_at text.now) }
+    ensures { Gives IsIncrementationRead result (step_at text.now) }
 {
     if text.is_empty() {
         return Ok(None);

@@ -1,14 +1,15 @@
 //! Expressions read from texts, by recursive descent.
 
 ghost use Rattle.std.specs.Prelude.{◌≡◌, ◌<◌, ◌≤◌, true, length, map, codes, IfOk, option_map};
-ghost use Rattle.f77_syntax.specs.Reading.{reading, close_at, after, past_comma};
+ghost use Rattle.f77_syntax.specs.code.Reading.{reading, close_at, tree_after, past_comma};
 ghost use Rattle.f77_tree.specs.Grammar.{word, past_word};
-ghost use Rattle.f77_syntax.specs.Reading.{start_at, enclosed_at, signed_at, negated_at, dotted_at, word_at, listed_by};
+ghost use Rattle.f77_syntax.specs.code.Reading.{start_at, enclosed_at, signed_tree_at};
+ghost use Rattle.f77_syntax.specs.code.Reading.{negated_at, dotted_at, word_tree_at, listed_by};
 ghost use Rattle.f77_tree.specs.Grammar.{is_name};
 ghost use Rattle.f77_tree.specs.Intrinsic.{function_named};
 ghost use Rattle.f77_tree.specs.Name.{cut};
 ghost use Rattle.f77_tree.specs.View.{tree_of, trees};
-ghost use Rattle.f77_syntax.specs.View.{Gives, IsTree, IsStart, IsList};
+ghost use Rattle.f77_syntax.specs.code.View.{Gives, IsTree, IsTreeStart, IsTreeList};
 
 use crate::fault::ReadError;
 use crate::scan::{next_operator, number};
@@ -40,7 +41,7 @@ pub(crate) fn expression(alloc: Global, wanted: u8, text: &[u8]) -> Result<(Expr
 /// Reads what an expression begins with: that, its level, and what follows it.
 #[cycle(parser)]
 fn start(alloc: Global, wanted: u8, text: &[u8]) -> Result<(Expr, u8, &[u8]), ReadError>
-    ensures found { Gives IsStart result (start_at reading wanted text.now) }
+    ensures found { Gives IsTreeStart result (start_at reading wanted text.now) }
     ensures shorter { IfOk result (λ x. length x.2.now < length text.now) }
 {
     let Some((first, behind)) = text.split_first() else {
@@ -57,7 +58,7 @@ fn start(alloc: Global, wanted: u8, text: &[u8]) -> Result<(Expr, u8, &[u8]), Re
 
 #[cycle(parser)]
 fn group(alloc: Global, text: &[u8]) -> Result<(Expr, u8, &[u8]), ReadError>
-    ensures { Gives IsStart result (enclosed_at reading text.now) }
+    ensures { Gives IsTreeStart result (enclosed_at reading text.now) }
 {
     let (inner, rest) = expression(alloc, 1, text)?;
     let rest = closed(rest)?;
@@ -71,7 +72,7 @@ fn signed(
     sign: Sign,
     text: &[u8],
 ) -> Result<(Expr, u8, &[u8]), ReadError>
-    ensures { Gives IsStart result (signed_at reading wanted sign text.now) }
+    ensures { Gives IsTreeStart result (signed_tree_at reading wanted sign text.now) }
 {
     if wanted > 6 {
         return Err(ReadError::Unknown);
@@ -83,7 +84,7 @@ fn signed(
 /// Reads what begins with a dot: a LOGICAL constant, or `.NOT.` and its operand.
 #[cycle(parser)]
 fn dotted(alloc: Global, wanted: u8, text: &[u8]) -> Result<(Expr, u8, &[u8]), ReadError>
-    ensures { Gives IsStart result (dotted_at reading wanted text.now) }
+    ensures { Gives IsTreeStart result (dotted_at reading wanted text.now) }
 {
     if let Some(rest) = text.strip_prefix(b".TRUE.") {
         return Ok((Expr::Truth(true), 9, rest));
@@ -99,7 +100,7 @@ fn dotted(alloc: Global, wanted: u8, text: &[u8]) -> Result<(Expr, u8, &[u8]), R
 
 #[cycle(parser)]
 fn negated(alloc: Global, wanted: u8, text: &[u8]) -> Result<(Expr, u8, &[u8]), ReadError>
-    ensures { Gives IsStart result (negated_at reading wanted text.now) }
+    ensures { Gives IsTreeStart result (negated_at reading wanted text.now) }
 {
     if wanted > 4 {
         return Err(ReadError::Unknown);
@@ -111,7 +112,7 @@ fn negated(alloc: Global, wanted: u8, text: &[u8]) -> Result<(Expr, u8, &[u8]), 
 /// Reads a constant, a name, or a name with a list.
 #[cycle(parser)]
 fn operand(alloc: Global, text: &[u8]) -> Result<(Expr, u8, &[u8]), ReadError>
-    ensures { Gives IsStart result (word_at reading (word text.now) (past_word text.now)) }
+    ensures { Gives IsTreeStart result (word_tree_at reading (word text.now) (past_word text.now)) }
 {
     let (front, rest) = split_word(text);
     if is_number(front) {
@@ -147,7 +148,7 @@ fn with_list(name: &[u8], items: Vec<Expr>) -> Expr
 /// Reads expressions joined by commas, and what follows them.
 #[cycle(parser)]
 pub(crate) fn list(alloc: Global, text: &[u8]) -> Result<(Vec<Expr>, &[u8]), ReadError>
-    ensures { Gives IsList result (reading.items text.now) }
+    ensures { Gives IsTreeList result (reading.items text.now) }
 {
     let mut items = Vec::new(alloc);
     let mut rest = text;
@@ -170,7 +171,7 @@ pub(crate) fn closed(text: &[u8]) -> Result<&[u8], ReadError>
 
 /// What follows this byte, where the text begins with it.
 pub(crate) fn after_byte(text: &[u8], byte: u8) -> Option<&[u8]>
-    ensures { option_map (λ rest. rest.now) result ≡ after byte text.now }
+    ensures { option_map (λ rest. rest.now) result ≡ tree_after byte text.now }
 {
     let (first, rest) = text.split_first()?;
     (*first == byte).then_some(rest)

@@ -1,10 +1,10 @@
 //! GO TO statements, unconditional and computed, read from texts (ANSI X3.9-1978, 11.1 and 11.2).
 
-ghost use Rattle.f77_syntax.specs.Goto.{selector_at, computed_at, goto_at};
-ghost use Rattle.f77_syntax.specs.Joined.{items_at};
-ghost use Rattle.f77_syntax.specs.Label.{label_at};
-ghost use Rattle.f77_syntax.specs.View.{Gives};
-ghost use Rattle.f77_syntax.specs.StatementView.{IsStatement, AreLabels};
+ghost use Rattle.f77_syntax.specs.code.Goto.{selector_at, computed_at, goto_at};
+ghost use Rattle.f77_syntax.specs.code.Joined.{items_at};
+ghost use Rattle.f77_syntax.specs.code.Label.{label_at};
+ghost use Rattle.f77_syntax.specs.code.View.{Gives};
+ghost use Rattle.f77_syntax.specs.code.StatementView.{IsStatement, AreLabels};
 
 use crate::expression::{after_byte, closed, expression, past_comma};
 use crate::fault::ReadError;

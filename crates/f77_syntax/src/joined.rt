@@ -1,7 +1,7 @@
 //! Items joined by commas, read from texts.
 
 ghost use Rattle.std.specs.Prelude.{MatchResult};
-ghost use Rattle.f77_syntax.specs.Joined.{Joins, Breaks, Shortens};
+ghost use Rattle.f77_syntax.specs.code.Joined.{JoinsItems, Breaks, Shortens};
 
 use crate::expression::after_byte;
 use crate::fault::ReadError;
@@ -16,7 +16,7 @@ pub(crate) fn joined<'a, T: Drop, F: Fn(&'a [u8]) -> Result<(T, &'a [u8]), ReadE
     requires callable { F.IsAlwaysCallable item }
     requires shorter { Shortens (F.post item) }
     ensures { MatchResult result
-        (λ x. Joins (F.post item) text.now x.0.items x.1.now)
+        (λ x. JoinsItems (F.post item) text.now x.0.items x.1.now)
         (λ e. Breaks (F.post item) text.now e) }
 {
     let mut items = Vec::new(alloc);

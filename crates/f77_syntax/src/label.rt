@@ -2,10 +2,10 @@
 
 ghost use Rattle.std.specs.Prelude.{◌≡◌, ◌≤◌, true, length, IfOk};
 ghost use Rattle.f77_tree.specs.Grammar as grammar;
-ghost use Rattle.f77_syntax.specs.Label as labels;
-ghost use Rattle.f77_syntax.specs.Label.{label_at, IsLabel};
+ghost use Rattle.f77_syntax.specs.code.Label as labels;
+ghost use Rattle.f77_syntax.specs.code.Label.{label_at, IsLabel};
 ghost use Rattle.f77_tree.specs.StatementGrammar.{label_number};
-ghost use Rattle.f77_syntax.specs.View.{Gives};
+ghost use Rattle.f77_syntax.specs.code.View.{Gives};
 
 use crate::expression::after_byte;
 use crate::fault::ReadError;

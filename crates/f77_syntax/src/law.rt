@@ -6,7 +6,7 @@ ghost use Rattle.f77_tree.specs.Grammar.{Spells};
 ghost use Rattle.f77_tree.specs.StatementGrammar.{SpellsStatement};
 ghost use Rattle.f77_syntax.specs.Classification.{class_of, statement_class};
 ghost use Rattle.f77_program.specs.Program.{LineFields, IsProgram};
-ghost use Rattle.f77_syntax.specs.Parsing.{AreLines, HasLinesOrFault, IsFirstFault};
+ghost use Rattle.f77_syntax.specs.Parsing.{AreLines, HasLinesOrFault, IsFirstSyntaxFault};
 ghost use Rattle.f77_program.specs.Group.{group_of, AreInOrder};
 ghost use Rattle.f77_tree.specs.Tree.{Tree};
 ghost use Rattle.f77_tree.specs.Statement.{Statement};
@@ -35,18 +35,22 @@ pub fn one_class()
 /// Cards are one program, or have one first fault, and not both.
 pub fn one_program()
     ensures some { (cards : List CardFields) → HasLinesOrFault None cards }
-    ensures lines { (cards : List CardFields) (lines others : List LineFields) → AreLines None cards lines → AreLines None cards others
+    ensures lines { (cards : List CardFields) (lines others : List LineFields)
+        → AreLines None cards lines → AreLines None cards others
         → lines ≡ others }
-    ensures fault { (cards : List CardFields) (fault other : SyntaxFault) → IsFirstFault None cards fault → IsFirstFault None cards other
+    ensures fault { (cards : List CardFields) (fault other : SyntaxFault)
+        → IsFirstSyntaxFault None cards fault → IsFirstSyntaxFault None cards other
         → fault ≡ other }
-    ensures either { (cards : List CardFields) (lines : List LineFields) (fault : SyntaxFault) → AreLines None cards lines
-        → ¬ (IsFirstFault None cards fault) }
+    ensures either { (cards : List CardFields) (lines : List LineFields) (fault : SyntaxFault)
+        → AreLines None cards lines
+        → ¬ (IsFirstSyntaxFault None cards fault) }
 {}
 
 /// SUBROUTINE stands first, then declarations, then DATA, then what is executed, and END last (ANSI X3.9-1978, 3.5).
 #[tactic(auto, using(crate::proofs::InOrder::are_in_order))]
 pub fn statements_are_in_order()
-    ensures { (program : List LineFields) → IsProgram None program → AreInOrder (map (λ line. group_of line.stmt) program) }
+    ensures { (program : List LineFields)
+        → IsProgram None program → AreInOrder (map (λ line. group_of line.stmt) program) }
 {}
 
 /// The number of nodes that is limited is the number of those that an edit may name.

@@ -1,4 +1,5 @@
-//! Statements and programs read from the texts of cards, and that there is one reading. What the statements are is said by `f77_tree`.
+//! Statements and programs read from the texts of cards, and that there
+//! is one reading. What the statements are is said by `f77_tree`.
 #![tactic(auto)]
 
 mod assignment;

@@ -5,9 +5,9 @@ ghost use Rattle.std.specs.List.{before_last};
 ghost use Rattle.f77_tree.specs.Statement.{Statement, statement_of};
 ghost use Rattle.f77_tree.specs.StatementGrammar.{SpellsStatement};
 ghost use Rattle.f77_nodes.specs.Names.{statement_names};
-ghost use Rattle.f77_syntax.specs.StatementView.{clip_statement};
-ghost use Rattle.f77_syntax.specs.NameLengths as lengths;
-ghost use Rattle.f77_syntax.specs.NameLengths.{is_between, names_part};
+ghost use Rattle.f77_syntax.specs.code.StatementView.{clip_statement};
+ghost use Rattle.f77_syntax.specs.code.NameLengths as lengths;
+ghost use Rattle.f77_syntax.specs.code.NameLengths.{is_between, names_part};
 
 use crate::scan::split_digits;
 use f77_tree::characters::is_word;
@@ -80,7 +80,8 @@ fn names_part<'a>(stmt: &Stmt, text: &'a [u8]) -> &'a [u8]
 
 /// Whether each name in the text of this statement has six characters at most (ANSI X3.9-1978, 2.2).
 pub(crate) fn has_short_names(stmt: &Stmt, text: &[u8]) -> bool
-    ensures { (s : Statement) → SpellsStatement text.now s → statement_of stmt.now ≡ clip_statement s → result ≡ statement_names s }
+    ensures { (s : Statement)
+        → SpellsStatement text.now s → statement_of stmt.now ≡ clip_statement s → result ≡ statement_names s }
 {
     has_short_words(names_part(stmt, text))
 }

@@ -1,8 +1,8 @@
 //! Names joined by commas, read from texts.
 
 ghost use Rattle.std.specs.Prelude.{◌≤◌, length, IfOk};
-ghost use Rattle.f77_syntax.specs.Names.{name_at, names_at, IsName, AreNames};
-ghost use Rattle.f77_syntax.specs.View.{Gives};
+ghost use Rattle.f77_syntax.specs.code.Names.{name_at, names_at, IsName, AreNames};
+ghost use Rattle.f77_syntax.specs.code.View.{Gives};
 
 use crate::fault::ReadError;
 use crate::joined::joined;

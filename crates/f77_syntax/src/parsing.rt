@@ -1,15 +1,18 @@
 //! Programs read from cards.
 
-ghost use Rattle.std.specs.Prelude.{◌≡◌, ◌≢◌, ◌≤◌, ◌⊎◌, List, ◌∷◌, [], ◌++◌, true, false, IfOk, IfErr, MatchResult, map, Some, None, Err};
+ghost use Rattle.std.specs.Prelude.{◌≡◌, ◌≢◌, ◌≤◌, ◌⊎◌, List, ◌∷◌, [], ◌++◌, true, false};
+ghost use Rattle.std.specs.Prelude.{IfOk, IfErr, MatchResult, map, Some, None, Err};
 ghost use Rattle.f77_source.specs.Card.{CardFields};
 ghost use Rattle.f77_tree.specs.StatementGrammar.{SpellsStatement};
 ghost use Rattle.f77_program.specs.Group.{group_of, may_stand};
 ghost use Rattle.f77_syntax.specs.TextLimits.{character_count, most_characters};
 ghost use Rattle.f77_nodes.specs.Limits.{most_nodes, statement_constants, statement_nodes};
-ghost use Rattle.f77_syntax.specs.Parsing.{IsAdmitted, IsOutside, IsRefused, IsFirstFault, AreLines, misplaced, unfinished};
+ghost use Rattle.f77_syntax.specs.Parsing.{IsAdmitted, IsCardRefused, IsFirstSyntaxFault};
+ghost use Rattle.f77_syntax.specs.Parsing.{AreLines, misplaced_statement, unfinished};
+ghost use Rattle.f77_syntax.specs.code.Parsing.{IsOutside};
 ghost use Rattle.f77_program.specs.Program.{IsProgram, LineFields, line_of};
 ghost use Rattle.f77_tree.specs.Statement.{Statement, statement_of};
-ghost use Rattle.f77_syntax.specs.StatementView.{clip_statement};
+ghost use Rattle.f77_syntax.specs.code.StatementView.{clip_statement};
 ghost use Rattle.f77_program.specs.declared.group.Group.TheVariants.{End};
 
 use crate::fault::ReadError;
@@ -28,7 +31,8 @@ const MOST_NODES: usize = 200;
 fn spelled(alloc: Global, line: u32, text: &[u8]) -> Result<Stmt, SyntaxFault>
     ensures { MatchResult result
         (λ stmt. (s : Statement) × SpellsStatement text.now s × (statement_of stmt ≡ clip_statement s))
-        (λ fault. (fault ≡ SyntaxFault.Memory) ⊎ ((fault ≡ SyntaxFault.Unknown line) × ((s : Statement) → ¬ (SpellsStatement text.now s)))) }
+        (λ fault. (fault ≡ SyntaxFault.Memory)
+        ⊎ ((fault ≡ SyntaxFault.Unknown line) × ((s : Statement) → ¬ (SpellsStatement text.now s)))) }
 {
     match statement(alloc, text) {
         Ok(stmt) => Ok(stmt),
@@ -59,7 +63,7 @@ fn limited(alloc: Global, line: u32, text: &[u8]) -> Result<Stmt, SyntaxFault>
     requires { character_count text.now ≤ most_characters }
     ensures { MatchResult result
         (λ stmt. IsAdmitted text.now (statement_of stmt))
-        (λ fault. (fault ≡ SyntaxFault.Memory) ⊎ IsRefused line text.now fault) }
+        (λ fault. (fault ≡ SyntaxFault.Memory) ⊎ IsCardRefused line text.now fault) }
 {
     if is_too_deep(text) {
         return Err(SyntaxFault::TooDeep(line));
@@ -76,7 +80,7 @@ fn limited(alloc: Global, line: u32, text: &[u8]) -> Result<Stmt, SyntaxFault>
 pub(crate) fn admitted(alloc: Global, line: u32, text: &str) -> Result<Stmt, SyntaxFault>
     ensures { MatchResult result
         (λ stmt. IsAdmitted text.now (statement_of stmt))
-        (λ fault. (fault ≡ SyntaxFault.Memory) ⊎ IsRefused line text.now fault) }
+        (λ fault. (fault ≡ SyntaxFault.Memory) ⊎ IsCardRefused line text.now fault) }
 {
     if character_count(text) > MOST_CHARACTERS {
         return Err(SyntaxFault::TooLong(line));
@@ -85,7 +89,7 @@ pub(crate) fn admitted(alloc: Global, line: u32, text: &str) -> Result<Stmt, Syn
 }
 
 fn misplaced(before: Option<Group>, line: u32) -> SyntaxFault
-    ensures { result ≡ misplaced before line }
+    ensures { result ≡ misplaced_statement before line }
 {
     match before {
         None => SyntaxFault::NoSubroutine,
@@ -96,8 +100,10 @@ fn misplaced(before: Option<Group>, line: u32) -> SyntaxFault
 /// The statement of a card that stands behind a statement of this group, or first.
 fn in_place(alloc: Global, before: Option<Group>, card: &Card) -> Result<Stmt, SyntaxFault>
     ensures { MatchResult result
-        (λ stmt. IsAdmitted card.now.text (statement_of stmt) × (may_stand before (group_of (statement_of stmt)) ≡ true))
-        (λ fault. (fault ≡ SyntaxFault.Memory) ⊎ ((cards : List CardFields) → IsFirstFault before (card.now ∷ cards) fault)) }
+        (λ stmt. IsAdmitted card.now.text (statement_of stmt)
+        × (may_stand before (group_of (statement_of stmt)) ≡ true))
+        (λ fault. (fault ≡ SyntaxFault.Memory)
+        ⊎ ((cards : List CardFields) → IsFirstSyntaxFault before (card.now ∷ cards) fault)) }
 {
     if is_end(before) {
         return Err(SyntaxFault::AfterEnd(card.line()));
@@ -134,8 +140,8 @@ pub fn parse(alloc: Global, cards: &[Card]) -> Result<Program, SyntaxFault>
         → MatchResult result (λ program. map line_of program ≡ lines) (λ fault. fault ≡ SyntaxFault.Memory) }
 
     // What is refused.
-    ensures refused { IfErr result (λ fault. (fault ≡ SyntaxFault.Memory) ⊎ IsFirstFault None cards.now fault) }
-    ensures first_fault { (fault : SyntaxFault) → IsFirstFault None cards.now fault
+    ensures refused { IfErr result (λ fault. (fault ≡ SyntaxFault.Memory) ⊎ IsFirstSyntaxFault None cards.now fault) }
+    ensures first_fault { (fault : SyntaxFault) → IsFirstSyntaxFault None cards.now fault
         → (result ≡ Err fault) ⊎ (result ≡ Err SyntaxFault.Memory) }
 {
     let mut lines = Vec::new(alloc);

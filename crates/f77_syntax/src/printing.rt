@@ -17,7 +17,8 @@ use std::alloc::Global;
 pub fn print(alloc: Global, program: &Program) -> Result<String, SyntaxFault>
     ensures text { IfOk result (λ text. string_bytes text ≡ printed (map line_of program.now)) }
     ensures accepted { IfOk result (λ _. print_faults (map line_of program.now) ≡ []) }
-    ensures refused { IfErr result (λ fault. (slice_get (print_faults (map line_of program.now)) 0 ≡ Some fault) ⊎ (fault ≡ SyntaxFault.Memory)) }
+    ensures refused { IfErr result
+        (λ fault. (slice_get (print_faults (map line_of program.now)) 0 ≡ Some fault) ⊎ (fault ≡ SyntaxFault.Memory)) }
     // What is printed is read as a program that is alike.
     ensures back { IfOk result (λ text. All (λ line. KeepsLimits line.stmt) (map line_of program.now)
         → ReadsBack (string_bytes text) (map line_of program.now)) }

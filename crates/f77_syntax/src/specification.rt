@@ -1,8 +1,8 @@
 //! INTEGER, LOGICAL, DIMENSION and DATA statements read from texts.
 
-ghost use Rattle.f77_syntax.specs.Statement.{declared_at, dimension_at, preset_at};
-ghost use Rattle.f77_syntax.specs.View.{Gives};
-ghost use Rattle.f77_syntax.specs.StatementView.{IsStatement};
+ghost use Rattle.f77_syntax.specs.code.Statement.{declared_at, dimension_at, data_at};
+ghost use Rattle.f77_syntax.specs.code.View.{Gives};
+ghost use Rattle.f77_syntax.specs.code.StatementView.{IsStatement};
 
 use crate::data::groups;
 use crate::declaration::declarations;
@@ -31,7 +31,7 @@ pub(crate) fn dimension(alloc: Global, text: &[u8]) -> Result<Stmt, ReadError>
 
 /// Reads what follows the keyword DATA.
 pub(crate) fn preset(alloc: Global, text: &[u8]) -> Result<Stmt, ReadError>
-    ensures { Gives IsStatement result (preset_at text.now) }
+    ensures { Gives IsStatement result (data_at text.now) }
 {
     let groups = groups(alloc, text)?;
     Ok(Stmt::Preset { groups })

@@ -2,13 +2,14 @@
 
 ghost use Rattle.std.specs.Prelude.{◌≡◌, option_map};
 ghost use Rattle.std.specs.Str.{bytes_eq};
-ghost use Rattle.f77_syntax.specs.Statement as reading;
-ghost use Rattle.f77_syntax.specs.Statement.{simple_at, simple_action_at, action_at, branch_at, else_at, specification_at, keyword_at, statement_at};
+ghost use Rattle.f77_syntax.specs.code.Statement as reading;
+ghost use Rattle.f77_syntax.specs.code.Statement.{simple_at, simple_action_at, action_at, branch_at};
+ghost use Rattle.f77_syntax.specs.code.Statement.{else_at, specification_at, keyword_at, statement_at};
 ghost use Rattle.f77_tree.specs.Tree.{Tree};
 ghost use Rattle.f77_tree.specs.View.{tree_of};
-ghost use Rattle.f77_syntax.specs.View.{clip, Gives};
+ghost use Rattle.f77_syntax.specs.code.View.{clip, Gives};
 ghost use Rattle.f77_tree.specs.Statement.{statement_of};
-ghost use Rattle.f77_syntax.specs.StatementView.{IsStatement};
+ghost use Rattle.f77_syntax.specs.code.StatementView.{IsStatement};
 
 use crate::assignment::assignment;
 use crate::classification::{Class, class_of};
@@ -29,7 +30,7 @@ fn spells(text: &[u8], word: &str) -> bool
 }
 
 /// A statement of one keyword alone.
-#[tactic(auto, unfolding(crate::specs::Statement::word_statement))]
+#[tactic(auto, unfolding(crate::specs::code::Statement::word_statement))]
 fn word_statement(text: &[u8]) -> Option<Stmt>
     ensures { option_map statement_of result ≡ reading.word_statement text.now }
 {
@@ -52,7 +53,7 @@ fn word_statement(text: &[u8]) -> Option<Stmt>
 }
 
 /// Reads a GO TO, or a statement of one keyword alone.
-#[tactic(auto, unfolding(crate::specs::Statement::simple_at))]
+#[tactic(auto, unfolding(crate::specs::code::Statement::simple_at))]
 fn simple(alloc: Global, text: &[u8]) -> Result<Stmt, ReadError>
     ensures { Gives IsStatement result (simple_at text.now) }
 {
@@ -63,7 +64,7 @@ fn simple(alloc: Global, text: &[u8]) -> Result<Stmt, ReadError>
 }
 
 /// Reads the same, where it may stand in a logical IF.
-#[tactic(auto, unfolding(crate::specs::Statement::simple_action_at))]
+#[tactic(auto, unfolding(crate::specs::code::Statement::simple_action_at))]
 fn simple_action(alloc: Global, text: &[u8]) -> Result<Stmt, ReadError>
     ensures { Gives IsStatement result (simple_action_at text.now) }
 {
@@ -75,7 +76,7 @@ fn simple_action(alloc: Global, text: &[u8]) -> Result<Stmt, ReadError>
 }
 
 /// Reads a statement that may stand in a logical IF.
-#[tactic(auto, unfolding(crate::specs::Statement::action_at))]
+#[tactic(auto, unfolding(crate::specs::code::Statement::action_at))]
 fn action(alloc: Global, text: &[u8]) -> Result<Stmt, ReadError>
     ensures { Gives IsStatement result (action_at text.now) }
 {
@@ -100,7 +101,7 @@ fn begins_digit(text: &[u8]) -> bool
 }
 
 /// Reads what stands behind the condition of an IF.
-#[tactic(auto, unfolding(crate::specs::Statement::branch_at))]
+#[tactic(auto, unfolding(crate::specs::code::Statement::branch_at))]
 fn branch(alloc: Global, condition: Expr, text: &[u8]) -> Result<Stmt, ReadError>
     ensures { (t : Tree) → tree_of condition ≡ clip t → Gives IsStatement result (branch_at t text.now) }
 {
@@ -118,7 +119,7 @@ fn branch(alloc: Global, condition: Expr, text: &[u8]) -> Result<Stmt, ReadError
 }
 
 /// Reads what stands behind the keyword ELSE.
-#[tactic(auto, unfolding(crate::specs::Statement::else_at))]
+#[tactic(auto, unfolding(crate::specs::code::Statement::else_at))]
 fn otherwise(alloc: Global, text: &[u8]) -> Result<Stmt, ReadError>
     ensures { Gives IsStatement result (else_at text.now) }
 {
@@ -133,7 +134,7 @@ fn otherwise(alloc: Global, text: &[u8]) -> Result<Stmt, ReadError>
 }
 
 /// Reads a declaration or DATA, or else a GO TO or a statement of one keyword alone.
-#[tactic(auto, unfolding(crate::specs::Statement::specification_at))]
+#[tactic(auto, unfolding(crate::specs::code::Statement::specification_at))]
 fn specification(alloc: Global, text: &[u8]) -> Result<Stmt, ReadError>
     ensures { Gives IsStatement result (specification_at text.now) }
 {
@@ -153,7 +154,7 @@ fn specification(alloc: Global, text: &[u8]) -> Result<Stmt, ReadError>
 }
 
 /// Reads a statement by its keyword.
-#[tactic(auto, unfolding(crate::specs::Statement::keyword_at))]
+#[tactic(auto, unfolding(crate::specs::code::Statement::keyword_at))]
 fn keyword(alloc: Global, text: &[u8]) -> Result<Stmt, ReadError>
     ensures { Gives IsStatement result (keyword_at text.now) }
 {
@@ -167,7 +168,7 @@ fn keyword(alloc: Global, text: &[u8]) -> Result<Stmt, ReadError>
 }
 
 /// Reads a statement.
-#[tactic(auto, unfolding(crate::specs::Statement::statement_at))]
+#[tactic(auto, unfolding(crate::specs::code::Statement::statement_at))]
 pub(crate) fn statement(alloc: Global, text: &[u8]) -> Result<Stmt, ReadError>
     ensures { Gives IsStatement result (statement_at text.now) }
 {

@@ -1,9 +1,9 @@
 //! SUBROUTINE statements read from texts.
 
 ghost use Rattle.std.specs.Prelude.{◌≡◌, length, option_map};
-ghost use Rattle.f77_syntax.specs.Subroutine.{dummies_at, before_close, subroutine_at, AreDummies};
-ghost use Rattle.f77_syntax.specs.View.{Gives};
-ghost use Rattle.f77_syntax.specs.StatementView.{IsStatement};
+ghost use Rattle.f77_syntax.specs.code.Subroutine.{dummies_at, before_close, subroutine_at, AreDummies};
+ghost use Rattle.f77_syntax.specs.code.View.{Gives};
+ghost use Rattle.f77_syntax.specs.code.StatementView.{IsStatement};
 
 use crate::expression::after_byte;
 use crate::fault::ReadError;

@@ -11,7 +11,9 @@ use Rattle.f77_tree.specs.declared.tree.Expr.TheViews as views
 use Rattle.f77_tree.specs.declared.tree.Expr.TheOpen.{Expr-F}
 use Rattle.f77_tree.specs.declared.tree.Expr.TheFolds.{fold-roll-Expr, fold_out-Ref}
 use Rattle.f77_tree.specs.declared.statement.Stmt.{Stmt}
-use Rattle.f77_tree.specs.declared.statement.Stmt.TheVariants.{rolls-Subroutine, rolls-Declare, rolls-Dimension, rolls-Preset, rolls-Assign, rolls-ComputedGoto, rolls-ArithIf, rolls-LogicalIf, rolls-BlockIf, rolls-ElseIf, rolls-Else, rolls-Loop, rolls-Goto, rolls-EndIf, rolls-Continue, rolls-Return, rolls-Stop, rolls-Trap, rolls-End}
+use Rattle.f77_tree.specs.declared.statement.Stmt.TheVariants.{rolls-Subroutine, rolls-Declare, rolls-Dimension, rolls-Preset, rolls-Assign, rolls-ComputedGoto}
+use Rattle.f77_tree.specs.declared.statement.Stmt.TheVariants.{rolls-ArithIf, rolls-LogicalIf, rolls-BlockIf, rolls-ElseIf, rolls-Else, rolls-Loop, rolls-Goto}
+use Rattle.f77_tree.specs.declared.statement.Stmt.TheVariants.{rolls-EndIf, rolls-Continue, rolls-Return, rolls-Stop, rolls-Trap, rolls-End}
 use Rattle.f77_tree.specs.declared.statement.Stmt.TheVariants as forms
 use Rattle.f77_tree.specs.declared.statement.Stmt.TheViews as boxed
 use Rattle.f77_tree.specs.declared.statement.Stmt as inside
@@ -19,7 +21,7 @@ use Rattle.f77_tree.specs.declared.statement.Stmt.TheOpen.{Stmt-F}
 use Rattle.f77_tree.specs.declared.statement.Stmt.TheFolds.{fold-roll-Stmt, fold_out-Stmt}
 use Rattle.f77_tree.specs.Tree.{Tree}
 use Rattle.f77_tree.specs.Statement.{Statement, stmt_step, statement_of}
-use Rattle.f77_tree.specs.View.{trees, expr_step, ref_step, tree_of, place_of}
+use Rattle.f77_tree.specs.View.{trees, expr_step, ref_step, tree_of, reference_fields}
 use Rattle.f77_tree.specs.declared.tree.Kind.{Kind}
 use Rattle.f77_tree.specs.declared.declaration.Decl.{Decl}
 use Rattle.f77_tree.specs.declared.data.DataGroup.{DataGroup}
@@ -46,7 +48,7 @@ reference_view r =
     ap tree_of (sym (rolls-Reference r)) ∙ fold-roll-Expr Tree (List ℕ × List Tree) expr_step ref_step (Expr-F.Reference r)
     ∙ ap (λ x. Tree.Reference x.0 (trees x.1)) (fold_out-Ref Tree (List ℕ × List Tree) expr_step ref_step r)
 
-pub ref_view : (r : Ref) → place_of r ≡ (r.name, map tree_of r.subscripts.items)
+pub ref_view : (r : Ref) → reference_fields r ≡ (r.name, map tree_of r.subscripts.items)
 ref_view r = fold_out-Ref Tree (List ℕ × List Tree) expr_step ref_step r
 
 -- the statement of each form
@@ -62,7 +64,7 @@ dimension_view items = ap statement_of (sym (rolls-Dimension items)) ∙ fold-ro
 pub preset_view : (groups : Vec DataGroup Global) → statement_of (forms.Preset groups) ≡ Statement.Preset (map data_group_of groups.items)
 preset_view groups = ap statement_of (sym (rolls-Preset groups)) ∙ fold-roll-Stmt Statement stmt_step (Stmt-F.Preset groups)
 
-pub assign_view : (target : Ref) (value : Expr) → statement_of (forms.Assign target value) ≡ Statement.Assign (place_of target).0 (trees (place_of target).1) (tree_of value)
+pub assign_view : (target : Ref) (value : Expr) → statement_of (forms.Assign target value) ≡ Statement.Assign (reference_fields target).0 (trees (reference_fields target).1) (tree_of value)
 assign_view target value = ap statement_of (sym (rolls-Assign target value)) ∙ fold-roll-Stmt Statement stmt_step (Stmt-F.Assign target value)
 
 pub computed_view : (labels : Vec ℕ Global) (value : Expr) → statement_of (forms.ComputedGoto labels value) ≡ Statement.ComputedGoto labels.items (tree_of value)

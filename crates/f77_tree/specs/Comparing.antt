@@ -18,10 +18,10 @@ use Rattle.f77_tree.specs.declared.tree.Kind.TheVariants.{Integer, Logical}
 use Rattle.f77_tree.specs.Tree.{Tree, Trees, DeclFields, GroupFields}
 use Rattle.f77_tree.specs.View.{trees}
 
-abbrev pub same_kind : Kind → Kind → Bool
-same_kind Integer Integer = true
-same_kind Logical Logical = true
-same_kind _ _ = false
+abbrev pub is_same_kind : Kind → Kind → Bool
+is_same_kind Integer Integer = true
+is_same_kind Logical Logical = true
+is_same_kind _ _ = false
 
 abbrev pub same_sign : Sign → Sign → Bool
 same_sign Plus Plus = true
@@ -65,11 +65,13 @@ abbrev mutual
   pub same_tree : Tree → Tree → Bool
   same_tree (Tree.Number n) (Tree.Number m) = n == m
   same_tree (Tree.Truth a) (Tree.Truth b) = beq a b
-  same_tree (Tree.Reference name items) (Tree.Reference other others) = bytes_eq name other && same_trees items others
+  same_tree (Tree.Reference name items) (Tree.Reference other others) =
+      bytes_eq name other && same_trees items others
   same_tree (Tree.Call f items) (Tree.Call g others) = same_function f g && same_trees items others
   same_tree (Tree.Signed sign t) (Tree.Signed other u) = same_sign sign other && same_tree t u
   same_tree (Tree.Not t) (Tree.Not u) = same_tree t u
-  same_tree (Tree.Binary op a b) (Tree.Binary other c d) = same_operator op other && (same_tree a c && same_tree b d)
+  same_tree (Tree.Binary op a b) (Tree.Binary other c d) =
+      same_operator op other && (same_tree a c && same_tree b d)
   same_tree (Tree.ZeroPush t) (Tree.ZeroPush u) = same_tree t u
   same_tree _ _ = false
 

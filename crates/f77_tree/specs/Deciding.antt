@@ -5,7 +5,8 @@ use Rattle.std.specs.Option.{option_eq}
 use Rattle.std.proofs.Common.{true≢false, sym, ap, subst}
 
 -- a test that holds of equal values alone, and of each value and itself
-pub decided_by : {K : Type 0} (test : K → K → Bool) → ((x y : K) → test x y ≡ true → x ≡ y) → ((x : K) → test x x ≡ true)
+pub decided_by : {K : Type 0} (test : K → K → Bool)
+    → ((x y : K) → test x y ≡ true → x ≡ y) → ((x : K) → test x x ≡ true)
     → (x y : K) → Decides (test x y) (x ≡ y)
 decided_by test same own x y = (same x y, λ e. subst (λ z. test x z ≡ true) e (own x))
 

@@ -1,4 +1,5 @@
--- Declared names with their bounds (ANSI X3.9-1978, 8.1 and 8.4). Names and bounds are of any length and size in a text.
+-- Declared names with their bounds (ANSI X3.9-1978, 8.1 and
+-- 8.4). Names and bounds are of any length and size in a text.
 use Rattle.std.specs.Prelude.{◌≡◌, ℕ, List, [], ◌∷◌, ◌++◌, length, Bool, true, not, ◌==◌}
 use Rattle.std.specs.List.{list_all}
 use Rattle.std.specs.Str.Parse.{digits_value}
@@ -18,8 +19,10 @@ pub data SpellsNumber : List ℕ → ℕ → Type 0 where
   numeral : {text : List ℕ} → is_number text ≡ true → SpellsNumber text (digits_value 10 text)
 
 pub data SpellsDecl : List ℕ → DeclFields → Type 0 where
-  scalar : {name : List ℕ} → is_name name ≡ true → SpellsDecl name (record { name = name; bounds = [] })
-  array : {name text : List ℕ} {bounds : List ℕ} → is_name name ≡ true → Joined SpellsNumber text bounds
+  scalar : {name : List ℕ}
+      → is_name name ≡ true → SpellsDecl name (record { name = name; bounds = [] })
+  array : {name text : List ℕ} {bounds : List ℕ}
+      → is_name name ≡ true → Joined SpellsNumber text bounds
       → SpellsDecl (name ++ (40 ∷ (text ++ 41 ∷ []))) (record { name = name; bounds = bounds })
 
 abbrev pub SpellsDecls : List ℕ → List DeclFields → Type 0

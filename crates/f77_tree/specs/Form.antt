@@ -2,8 +2,8 @@
 use Rattle.std.specs.Prelude.{Bool, true, false}
 use Rattle.f77_tree.specs.declared.form.Form.{Form}
 
--- Statements of this form may stand in a logical IF (ANSI X3.9-1978, 11.5): executable ones, but for DO, block IF, ELSE IF, ELSE, END IF, END
--- and another logical IF.
+-- Statements of this form may stand in a logical IF (ANSI X3.9-1978, 11.5): executable
+-- ones, but for DO, block IF, ELSE IF, ELSE, END IF, END and another logical IF.
 abbrev pub acts : Form → Bool
 acts Form.Subroutine = false
 acts Form.Declare = false

@@ -1,6 +1,7 @@
--- Which blank-free texts spell which expressions (ANSI X3.9-1978, sections 5 and 6). Names and constants are of any
--- length here.
-use Rattle.std.specs.Prelude.{◌≡◌, ℕ, ◌≤◌, List, [], ◌∷◌, ◌++◌, Bool, true, false, ◌&&◌, ◌||◌, nat_le, is_some, codes, if◌then◌else◌}
+-- Which blank-free texts spell which expressions (ANSI X3.9-1978,
+-- sections 5 and 6). Names and constants are of any length here.
+use Rattle.std.specs.Prelude.{◌≡◌, ℕ, ◌≤◌, List, [], ◌∷◌, ◌++◌, Bool, true, false}
+use Rattle.std.specs.Prelude.{◌&&◌, ◌||◌, nat_le, is_some, codes, if◌then◌else◌}
 use Rattle.std.specs.List.{list_all}
 use Rattle.std.specs.Str.Parse.{digits_value}
 use Rattle.f77_tree.specs.declared.intrinsic.Intrinsic.{Intrinsic}
@@ -38,9 +39,9 @@ abbrev pub past_word : List ℕ → List ℕ
 past_word [] = []
 past_word (c ∷ s) = if is_word c then past_word s else c ∷ s
 
-abbrev pub truth_text : Bool → List ℕ
-truth_text true = codes ".TRUE."
-truth_text false = codes ".FALSE."
+abbrev pub truth_constant_text : Bool → List ℕ
+truth_constant_text true = codes ".TRUE."
+truth_constant_text false = codes ".FALSE."
 
 -- a function's name with a list behind it is a call, in an expression
 abbrev pub is_call : List ℕ → Trees → Bool
@@ -48,15 +49,18 @@ is_call name Trees.None = false
 is_call name (Trees.Then t ts) = is_some (function_named name)
 
 mutual
-  -- the text spells the tree, where a form of this level or a tighter one is wanted (level 1 is the loosest)
+  -- the text spells the tree, where a form of this level
+  -- or a tighter one is wanted (level 1 is the loosest)
   pub data Spells : ℕ → List ℕ → Tree → Type 0 where
-    number : {w : ℕ} {text : List ℕ} → is_number text ≡ true → Spells w text (Tree.Number (digits_value 10 text))
-    truth : {w : ℕ} (b : Bool) → Spells w (truth_text b) (Tree.Truth b)
+    number : {w : ℕ} {text : List ℕ}
+        → is_number text ≡ true → Spells w text (Tree.Number (digits_value 10 text))
+    truth : {w : ℕ} (b : Bool) → Spells w (truth_constant_text b) (Tree.Truth b)
     reference : {w : ℕ} {text name : List ℕ} {items : Trees} → is_call name items ≡ false
         → SpellsReference text name items → Spells w text (Tree.Reference name items)
     call : {w : ℕ} {text : List ℕ} {items : Trees} (f : Intrinsic) → SpellsAll text items
         → Spells w (function_name f ++ (40 ∷ (text ++ 41 ∷ []))) (Tree.Call f items)
-    group : {w : ℕ} {text : List ℕ} {t : Tree} → Spells 1 text t → Spells w (40 ∷ (text ++ 41 ∷ [])) t
+    group : {w : ℕ} {text : List ℕ} {t : Tree}
+        → Spells 1 text t → Spells w (40 ∷ (text ++ 41 ∷ [])) t
     signed : {w : ℕ} {text : List ℕ} {t : Tree} (sign : Sign) → w ≤ 6 → Spells 7 text t
         → Spells w (sign_symbol sign ∷ text) (Tree.Signed sign t)
     negated : {w : ℕ} {text : List ℕ} {t : Tree} → w ≤ 4 → Spells 5 text t

@@ -1,6 +1,5 @@
 -- Items joined by commas: which texts spell them, and how they are written.
 use Rattle.std.specs.Prelude.{ℕ, List, [], ◌∷◌, ◌++◌, Bool, true, false, codes}
-use Rattle.std.specs.List.{list_all}
 
 -- the text spells one item or more, joined by commas
 pub data Joined {A : Type 0} (SpellsItem : List ℕ → A → Type 0) : List ℕ → List A → Type 0 where
@@ -12,11 +11,6 @@ pub data Joined {A : Type 0} (SpellsItem : List ℕ → A → Type 0) : List ℕ
 abbrev pub has_items : {A : Type 0} → List A → Bool
 has_items [] = false
 has_items (x ∷ xs) = true
-
--- one item or more, and each of them so
-abbrev pub some_all : {A : Type 0} → (A → Bool) → List A → Bool
-some_all p [] = false
-some_all p (x ∷ xs) = list_all p (x ∷ xs)
 
 -- this text before the first item, and a comma before each other
 abbrev pub separated : {A : Type 0} → (A → List ℕ) → List ℕ → List A → List ℕ

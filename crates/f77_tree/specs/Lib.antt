@@ -13,3 +13,4 @@ pub mod Statement
 pub mod StatementGrammar
 pub mod Deciding
 pub mod SameTrees
+pub mod code

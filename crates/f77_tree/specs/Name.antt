@@ -1,4 +1,5 @@
--- Names (ANSI X3.9-1978, 2.2), and the six characters in which a name lies: its letters and digits, and blanks behind them.
+-- Names (ANSI X3.9-1978, 2.2), and the six characters in which
+-- a name lies: its letters and digits, and blanks behind them.
 use Rattle.std.specs.Prelude.{◌≡◌, ℕ, ◌-◌, List, Bool, ◌++◌, length, nat_le, replicate, take, true}
 use Rattle.f77_tree.specs.Grammar.{is_name, word}
 

@@ -1,8 +1,9 @@
 -- The operators: their texts, their levels and the levels that they want of their operands.
 use Rattle.std.specs.Prelude.{ℕ, List, codes}
 use Rattle.f77_tree.specs.declared.operator.Operator.{Operator}
-use Rattle.f77_tree.specs.declared.operator.Operator.TheVariants.{Equivalent, NotEquivalent, Or, And, Less, LessOrEqual, Equal, NotEqual}
-use Rattle.f77_tree.specs.declared.operator.Operator.TheVariants.{GreaterOrEqual, Greater, Add, Subtract, Multiply, Divide, Power}
+use Rattle.f77_tree.specs.declared.operator.Operator.TheVariants.{Equivalent, NotEquivalent, Or, And, Less}
+use Rattle.f77_tree.specs.declared.operator.Operator.TheVariants.{LessOrEqual, Equal, NotEqual, GreaterOrEqual}
+use Rattle.f77_tree.specs.declared.operator.Operator.TheVariants.{Greater, Add, Subtract, Multiply, Divide, Power}
 use Rattle.f77_tree.specs.declared.operator.Sign.{Sign}
 use Rattle.f77_tree.specs.declared.operator.Sign.TheVariants.{Plus, Minus}
 

@@ -1,5 +1,6 @@
 -- Statements as trees, apart from where they lie in memory (ANSI X3.9-1978, section 7).
-use Rattle.std.specs.Prelude.{ℕ, ◌==◌, nat_eq, List, [], ◌∷◌, Bool, true, false, ◌&&◌, Option, Some, None, option_map, map}
+use Rattle.std.specs.Prelude.{ℕ, ◌==◌, nat_eq, List, [], ◌∷◌, Bool, true}
+use Rattle.std.specs.Prelude.{false, ◌&&◌, Option, Some, None, option_map, map}
 use Rattle.std.specs.Cmp.Lexicographic.{pointwise}
 use Rattle.std.specs.Option.{option_eq}
 use Rattle.std.specs.Str.{bytes_eq}
@@ -8,12 +9,12 @@ use Rattle.f77_tree.specs.declared.statement.Stmt.{Stmt}
 use Rattle.f77_tree.specs.declared.statement.Stmt.TheOpen.{Stmt-F}
 use Rattle.f77_tree.specs.declared.statement.Stmt.TheFolds.{fold-Stmt}
 use Rattle.f77_tree.specs.declared.tree.Kind.{Kind}
-use Rattle.f77_tree.specs.Comparing.{same_kind, same_tree, same_trees, same_decl, same_group}
+use Rattle.f77_tree.specs.Comparing.{is_same_kind, same_tree, same_trees, same_decl, same_group}
 use Rattle.f77_tree.specs.Data.{data_group_of}
 use Rattle.f77_tree.specs.Declaration.{decl_of}
 use Rattle.f77_tree.specs.Joined.{has_items}
 use Rattle.f77_tree.specs.Tree.{Tree, Trees, DeclFields, GroupFields}
-use Rattle.f77_tree.specs.View.{trees, tree_of, place_of}
+use Rattle.f77_tree.specs.View.{trees, tree_of, reference_fields}
 
 pub data Statement : Type 0 where
   Subroutine : List ℕ → List (List ℕ) → Statement
@@ -41,16 +42,20 @@ stmt_step (Stmt-F.Subroutine name arguments) = Statement.Subroutine name argumen
 stmt_step (Stmt-F.Declare kind items) = Statement.Declare kind (map decl_of items.items)
 stmt_step (Stmt-F.Dimension items) = Statement.Dimension (map decl_of items.items)
 stmt_step (Stmt-F.Preset groups) = Statement.Preset (map data_group_of groups.items)
-stmt_step (Stmt-F.Assign target value) = Statement.Assign (place_of target).0 (trees (place_of target).1) (tree_of value)
+stmt_step (Stmt-F.Assign target value) =
+    Statement.Assign (reference_fields target).0 (trees (reference_fields target).1) (tree_of value)
 stmt_step (Stmt-F.Goto label) = Statement.Goto label
 stmt_step (Stmt-F.ComputedGoto labels value) = Statement.ComputedGoto labels.items (tree_of value)
-stmt_step (Stmt-F.ArithIf value negative zero positive) = Statement.ArithIf (tree_of value) negative zero positive
-stmt_step (Stmt-F.LogicalIf condition statement) = Statement.LogicalIf (tree_of condition) statement.value
+stmt_step (Stmt-F.ArithIf value negative zero positive) =
+    Statement.ArithIf (tree_of value) negative zero positive
+stmt_step (Stmt-F.LogicalIf condition statement) =
+    Statement.LogicalIf (tree_of condition) statement.value
 stmt_step (Stmt-F.BlockIf condition) = Statement.BlockIf (tree_of condition)
 stmt_step (Stmt-F.ElseIf condition) = Statement.ElseIf (tree_of condition)
 stmt_step Stmt-F.Else = Statement.Else
 stmt_step Stmt-F.EndIf = Statement.EndIf
-stmt_step (Stmt-F.Loop label variable first last step) = Statement.Loop label variable (tree_of first) (tree_of last) (option_map tree_of step)
+stmt_step (Stmt-F.Loop label variable first last step) =
+    Statement.Loop label variable (tree_of first) (tree_of last) (option_map tree_of step)
 stmt_step Stmt-F.Continue = Statement.Continue
 stmt_step Stmt-F.Return = Statement.Return
 stmt_step Stmt-F.Stop = Statement.Stop
@@ -83,7 +88,8 @@ form_of Statement.Stop = Form.Stop
 form_of Statement.Trap = Form.Trap
 form_of Statement.End = Form.End
 
--- the expression of a statement that has one: what it assigns, tests or chooses by; a DO has parameters instead
+-- the expression of a statement that has one: what it
+-- assigns, tests or chooses by; a DO has parameters instead
 abbrev pub value_of : Statement → Option Tree
 value_of (Statement.Assign name items t) = Some t
 value_of (Statement.ComputedGoto labels t) = Some t
@@ -106,7 +112,8 @@ abbrev pub has_labels : Statement → Bool
 has_labels (Statement.ComputedGoto labels t) = has_items labels
 has_labels _ = true
 
--- What is put in the place of each part of a statement: its names, what it declares and presets, subscripts, expressions, labels.
+-- What is put in the place of each part of a statement: its names,
+-- what it declares and presets, subscripts, expressions, labels.
 pub record Change : Type 0 where
   pub name : List ℕ → List ℕ
   pub names : List (List ℕ) → List (List ℕ)
@@ -119,33 +126,44 @@ pub record Change : Type 0 where
 
 -- the statement of the same form with each part changed
 abbrev pub changed_by : Change → Statement → Statement
-changed_by change (Statement.Subroutine name names) = Statement.Subroutine (change.name name) (change.names names)
+changed_by change (Statement.Subroutine name names) =
+    Statement.Subroutine (change.name name) (change.names names)
 changed_by change (Statement.Declare kind ds) = Statement.Declare kind (change.declared ds)
 changed_by change (Statement.Dimension ds) = Statement.Dimension (change.declared ds)
 changed_by change (Statement.Preset gs) = Statement.Preset (change.groups gs)
-changed_by change (Statement.Assign name items t) = Statement.Assign (change.name name) (change.items items) (change.tree t)
+changed_by change (Statement.Assign name items t) =
+    Statement.Assign (change.name name) (change.items items) (change.tree t)
 changed_by change (Statement.Goto label) = Statement.Goto (change.label label)
-changed_by change (Statement.ComputedGoto labels t) = Statement.ComputedGoto (change.labels labels) (change.tree t)
-changed_by change (Statement.ArithIf t l m n) = Statement.ArithIf (change.tree t) (change.label l) (change.label m) (change.label n)
-changed_by change (Statement.LogicalIf t s) = Statement.LogicalIf (change.tree t) (changed_by change s)
+changed_by change (Statement.ComputedGoto labels t) =
+    Statement.ComputedGoto (change.labels labels) (change.tree t)
+changed_by change (Statement.ArithIf t l m n) =
+    Statement.ArithIf (change.tree t) (change.label l) (change.label m) (change.label n)
+changed_by change (Statement.LogicalIf t s) =
+    Statement.LogicalIf (change.tree t) (changed_by change s)
 changed_by change (Statement.BlockIf t) = Statement.BlockIf (change.tree t)
 changed_by change (Statement.ElseIf t) = Statement.ElseIf (change.tree t)
 changed_by change (Statement.Loop label name a b c) =
-    Statement.Loop (change.label label) (change.name name) (change.tree a) (change.tree b) (option_map change.tree c)
+    Statement.Loop (change.label label) (change.name name) (change.tree a) (change.tree b)
+    (option_map change.tree c)
 changed_by change statement = statement
 
 -- Statements are the same that have one form and the same parts.
 abbrev pub same_statement : Statement → Statement → Bool
-same_statement (Statement.Subroutine name names) (Statement.Subroutine other others) = bytes_eq name other && pointwise bytes_eq names others
-same_statement (Statement.Declare kind ds) (Statement.Declare other es) = same_kind kind other && pointwise same_decl ds es
+same_statement (Statement.Subroutine name names) (Statement.Subroutine other others) =
+    bytes_eq name other && pointwise bytes_eq names others
+same_statement (Statement.Declare kind ds) (Statement.Declare other es) =
+    is_same_kind kind other && pointwise same_decl ds es
 same_statement (Statement.Dimension ds) (Statement.Dimension es) = pointwise same_decl ds es
 same_statement (Statement.Preset gs) (Statement.Preset hs) = pointwise same_group gs hs
 same_statement (Statement.Assign name items t) (Statement.Assign other others u) =
     (bytes_eq name other && same_trees items others) && same_tree t u
 same_statement (Statement.Goto l) (Statement.Goto m) = l == m
-same_statement (Statement.ComputedGoto ls t) (Statement.ComputedGoto ms u) = pointwise nat_eq ls ms && same_tree t u
-same_statement (Statement.ArithIf t l m n) (Statement.ArithIf u i j k) = same_tree t u && (l == i && (m == j && n == k))
-same_statement (Statement.LogicalIf t a) (Statement.LogicalIf u b) = same_tree t u && same_statement a b
+same_statement (Statement.ComputedGoto ls t) (Statement.ComputedGoto ms u) =
+    pointwise nat_eq ls ms && same_tree t u
+same_statement (Statement.ArithIf t l m n) (Statement.ArithIf u i j k) =
+    same_tree t u && (l == i && (m == j && n == k))
+same_statement (Statement.LogicalIf t a) (Statement.LogicalIf u b) =
+    same_tree t u && same_statement a b
 same_statement (Statement.BlockIf t) (Statement.BlockIf u) = same_tree t u
 same_statement (Statement.ElseIf t) (Statement.ElseIf u) = same_tree t u
 same_statement Statement.Else Statement.Else = true

@@ -1,5 +1,7 @@
--- Which blank-free texts spell which statements (ANSI X3.9-1978, sections 7 to 11). Labels are of any length here.
-use Rattle.std.specs.Prelude.{◌≡◌, ℕ, List, [], ◌∷◌, ◌++◌, length, Bool, true, false, nat_le, if◌then◌else◌, Some, None, map, codes}
+-- Which blank-free texts spell which statements (ANSI
+-- X3.9-1978, sections 7 to 11). Labels are of any length here.
+use Rattle.std.specs.Prelude.{◌≡◌, ℕ, List, [], ◌∷◌, ◌++◌, length, Bool, true}
+use Rattle.std.specs.Prelude.{false, nat_le, if◌then◌else◌, Some, None, map, codes}
 use Rattle.std.specs.List.{list_all, join_with_byte}
 use Rattle.std.specs.Str.Parse.{digits_value}
 use Rattle.f77_tree.specs.declared.intrinsic.Intrinsic.TheVariants.{Iabs}
@@ -27,12 +29,17 @@ optional_comma false = []
 
 -- the text spells a statement that may stand in a logical IF
 pub data SpellsAction : List ℕ → Statement → Type 0 where
-  assign : {x y name : List ℕ} {items : Trees} {t : Tree} → SpellsReference x name items → Spells 1 y t
+  assign : {x y name : List ℕ} {items : Trees} {t : Tree}
+      → SpellsReference x name items → Spells 1 y t
       → SpellsAction (x ++ (61 ∷ y)) (Statement.Assign name items t)
-  go_to : (row : List ℕ) → is_number row ≡ true → SpellsAction (codes "GOTO" ++ row) (Statement.Goto (label_number row))
-  computed_go_to : {x y : List ℕ} {labels : List ℕ} {t : Tree} (comma : Bool) → Joined SpellsLabel x labels → Spells 1 y t
-      → SpellsAction (codes "GOTO(" ++ (x ++ (41 ∷ (optional_comma comma ++ y)))) (Statement.ComputedGoto labels t)
-  arithmetic_if : {x : List ℕ} {t : Tree} (l m n : List ℕ) → Spells 1 x t → is_number l ≡ true → is_number m ≡ true → is_number n ≡ true
+  go_to : (row : List ℕ) → is_number row ≡ true
+      → SpellsAction (codes "GOTO" ++ row) (Statement.Goto (label_number row))
+  computed_go_to : {x y : List ℕ} {labels : List ℕ} {t : Tree} (comma : Bool)
+      → Joined SpellsLabel x labels → Spells 1 y t
+      → SpellsAction (codes "GOTO(" ++ (x ++ (41 ∷ (optional_comma comma ++ y))))
+      (Statement.ComputedGoto labels t)
+  arithmetic_if : {x : List ℕ} {t : Tree} (l m n : List ℕ)
+      → Spells 1 x t → is_number l ≡ true → is_number m ≡ true → is_number n ≡ true
       → SpellsAction (codes "IF(" ++ (x ++ (41 ∷ (l ++ (44 ∷ (m ++ (44 ∷ n)))))))
       (Statement.ArithIf t (label_number l) (label_number m) (label_number n))
   go_on : SpellsAction (codes "CONTINUE") Statement.Continue
@@ -44,30 +51,41 @@ abbrev pub kind_keyword : Kind → List ℕ
 kind_keyword Integer = codes "INTEGER"
 kind_keyword Logical = codes "LOGICAL"
 
--- The text spells the statement. No word is reserved: which rule serves is a matter of the whole text.
+-- The text spells the statement. No word is reserved:
+-- which rule serves is a matter of the whole text.
 pub data SpellsStatement : List ℕ → Statement → Type 0 where
   action : {text : List ℕ} {s : Statement} → SpellsAction text s → SpellsStatement text s
   subroutine : {name : List ℕ} → is_name name ≡ true
       → SpellsStatement (codes "SUBROUTINE" ++ name) (Statement.Subroutine name [])
-  subroutine_of : {name : List ℕ} (names : List (List ℕ)) → is_name name ≡ true → list_all is_name names ≡ true
-      → SpellsStatement (codes "SUBROUTINE" ++ (name ++ (40 ∷ (join_with_byte 44 names ++ 41 ∷ [])))) (Statement.Subroutine name names)
+  subroutine_of : {name : List ℕ} (names : List (List ℕ))
+      → is_name name ≡ true → list_all is_name names ≡ true
+      → SpellsStatement
+      (codes "SUBROUTINE" ++ (name ++ (40 ∷ (join_with_byte 44 names ++ 41 ∷ []))))
+      (Statement.Subroutine name names)
   declare : {text : List ℕ} {ds : List DeclFields} (kind : Kind) → SpellsDecls text ds
       → SpellsStatement (kind_keyword kind ++ text) (Statement.Declare kind ds)
   dimension : {text : List ℕ} {ds : List DeclFields} → SpellsDecls text ds → all_bounded ds ≡ true
       → SpellsStatement (codes "DIMENSION" ++ text) (Statement.Dimension ds)
-  preset : {text : List ℕ} {gs : List GroupFields} → SpellsGroups text gs → SpellsStatement (codes "DATA" ++ text) (Statement.Preset gs)
+  preset : {text : List ℕ} {gs : List GroupFields}
+      → SpellsGroups text gs → SpellsStatement (codes "DATA" ++ text) (Statement.Preset gs)
   logical_if : {x y : List ℕ} {t : Tree} {s : Statement} → Spells 1 x t → SpellsAction y s
       → SpellsStatement (codes "IF(" ++ (x ++ (41 ∷ y))) (Statement.LogicalIf t s)
-  block_if : {x : List ℕ} {t : Tree} → Spells 1 x t → SpellsStatement (codes "IF(" ++ (x ++ codes ")THEN")) (Statement.BlockIf t)
-  else_if : {x : List ℕ} {t : Tree} → Spells 1 x t → SpellsStatement (codes "ELSEIF(" ++ (x ++ codes ")THEN")) (Statement.ElseIf t)
+  block_if : {x : List ℕ} {t : Tree}
+      → Spells 1 x t → SpellsStatement (codes "IF(" ++ (x ++ codes ")THEN")) (Statement.BlockIf t)
+  else_if : {x : List ℕ} {t : Tree} → Spells 1 x t
+      → SpellsStatement (codes "ELSEIF(" ++ (x ++ codes ")THEN")) (Statement.ElseIf t)
   otherwise : SpellsStatement (codes "ELSE") Statement.Else
   end_if : SpellsStatement (codes "ENDIF") Statement.EndIf
-  loop : {name x y : List ℕ} {a b : Tree} (row : List ℕ) (comma : Bool) → is_number row ≡ true → is_name name ≡ true → Spells 1 x a → Spells 1 y b
-      → SpellsStatement (codes "DO" ++ (row ++ (optional_comma comma ++ (name ++ (61 ∷ (x ++ (44 ∷ y)))))))
+  loop : {name x y : List ℕ} {a b : Tree} (row : List ℕ) (comma : Bool)
+      → is_number row ≡ true → is_name name ≡ true → Spells 1 x a → Spells 1 y b
+      → SpellsStatement
+      (codes "DO" ++ (row ++ (optional_comma comma ++ (name ++ (61 ∷ (x ++ (44 ∷ y)))))))
       (Statement.Loop (label_number row) name a b None)
-  loop_by : {name x y z : List ℕ} {a b c : Tree} (row : List ℕ) (comma : Bool) → is_number row ≡ true → is_name name ≡ true
+  loop_by : {name x y z : List ℕ} {a b c : Tree} (row : List ℕ) (comma : Bool)
+      → is_number row ≡ true → is_name name ≡ true
       → Spells 1 x a → Spells 1 y b → Spells 1 z c
-      → SpellsStatement (codes "DO" ++ (row ++ (optional_comma comma ++ (name ++ (61 ∷ (x ++ (44 ∷ (y ++ (44 ∷ z)))))))))
+      → SpellsStatement (codes "DO"
+      ++ (row ++ (optional_comma comma ++ (name ++ (61 ∷ (x ++ (44 ∷ (y ++ (44 ∷ z)))))))))
       (Statement.Loop (label_number row) name a b (Some c))
   end : SpellsStatement (codes "END") Statement.End
 

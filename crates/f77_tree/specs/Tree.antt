@@ -1,4 +1,5 @@
--- Expressions as trees, apart from where they lie in memory, and the parts of declarations. Parentheses leave no trace.
+-- Expressions as trees, apart from where they lie in memory,
+-- and the parts of declarations. Parentheses leave no trace.
 use Rattle.std.specs.Prelude.{ℕ, List, Bool}
 use Rattle.f77_tree.specs.declared.intrinsic.Intrinsic.{Intrinsic}
 use Rattle.f77_tree.specs.declared.operator.Operator.{Operator}

@@ -26,5 +26,5 @@ ref_step r = (r.name, r.subscripts.items)
 abbrev pub tree_of : Expr → Tree
 tree_of = fold-Expr Tree (List ℕ × List Tree) expr_step ref_step
 
-abbrev pub place_of : Ref → List ℕ × List Tree
-place_of = fold-Ref Tree (List ℕ × List Tree) expr_step ref_step
+abbrev pub reference_fields : Ref → List ℕ × List Tree
+reference_fields = fold-Ref Tree (List ℕ × List Tree) expr_step ref_step

@@ -7,7 +7,7 @@ ghost use Rattle.std.specs.Cmp.{on_equiv, partial_equiv_from_equiv};
 ghost use Rattle.std.specs.Ordering.{on};
 ghost use Rattle.f77_tree.specs.Comparing.{same_tree, same_trees, same_place, same_decl, same_group};
 ghost use Rattle.f77_tree.specs.SameTrees.{tree_equiv, place_equiv, decl_equiv, group_equiv};
-ghost use Rattle.f77_tree.specs.View.{trees, tree_of, place_of};
+ghost use Rattle.f77_tree.specs.View.{trees, tree_of, reference_fields};
 ghost use Rattle.f77_tree.specs.Declaration.{decl_of};
 ghost use Rattle.f77_tree.specs.Data.{data_group_of};
 
@@ -47,9 +47,9 @@ impl Eq for Expr {
 }
 
 impl PartialEq for Ref {
-    ghost eq = { on place_of same_place };
+    ghost eq = { on reference_fields same_place };
 
-    ghost laws = { partial_equiv_from_equiv (on_equiv place_of place_equiv) };
+    ghost laws = { partial_equiv_from_equiv (on_equiv reference_fields place_equiv) };
 
     #[cycle(comparing)]
     fn eq(&self, other: &Ref) -> bool {
@@ -58,7 +58,7 @@ impl PartialEq for Ref {
 }
 
 impl Eq for Ref {
-    ghost laws = { on_equiv place_of place_equiv };
+    ghost laws = { on_equiv reference_fields place_equiv };
 }
 
 /// A comparison by `Vec`'s own `eq` would leave the cycle.

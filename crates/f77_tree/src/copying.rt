@@ -3,7 +3,7 @@
 //! They are written out, since a derived `clone` says nothing of a type that holds itself.
 
 ghost use Rattle.std.specs.Prelude.{◌≡◌, map, IfOk};
-ghost use Rattle.f77_tree.specs.View.{tree_of, place_of};
+ghost use Rattle.f77_tree.specs.View.{tree_of, reference_fields};
 ghost use Rattle.f77_tree.specs.Declaration.{decl_of};
 ghost use Rattle.f77_tree.specs.Data.{data_group_of};
 
@@ -35,7 +35,7 @@ impl Clone for Expr {
 }
 
 impl Clone for Ref {
-    ghost is_clone = { λ source copy. place_of copy ≡ place_of source };
+    ghost is_clone = { λ source copy. reference_fields copy ≡ reference_fields source };
 
     #[cycle(copying)]
     fn clone(&self) -> Result<Ref, AllocError> {

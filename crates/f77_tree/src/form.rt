@@ -47,8 +47,8 @@ pub enum Form {
 }
 
 impl Form {
-    /// Whether a statement of this form may stand in a logical IF (11.5): it is executable, and no DO, no block IF and nothing
-    /// of its, no logical IF and not END.
+    /// Whether a statement of this form may stand in a logical IF (11.5): it is
+    /// executable, and no DO, no block IF and nothing of its, no logical IF and not END.
     pub fn acts(self) -> bool
         ensures { result ≡ acts self }
     {

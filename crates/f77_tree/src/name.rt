@@ -108,7 +108,8 @@ impl Name {
         Name { letters: field }
     }
 
-    /// The name that is written so, where it is 1 to 6 letters and digits and the first is a letter. It takes no memory.
+    /// The name that is written so, where it is 1 to 6 letters
+    /// and digits and the first is a letter. It takes no memory.
     pub fn new(letters: &str) -> Option<Name>
         ensures { result ≡ (if grammar.is_name letters.now && is_short letters.now then Some letters.now else None) }
     {

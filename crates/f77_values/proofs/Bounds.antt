@@ -7,7 +7,7 @@ use Rattle.std.proofs.lemmas.Int.{ints}
 use Rattle.f77_values.specs.declared.finish.Fault.{Fault}
 use Rattle.f77_values.specs.declared.finish.Fault.TheVariants.{Overflow, DivideByZero, ZeroPower, BadSubscript, ZeroStep, Undefined, Trapped}
 use Rattle.f77_values.specs.Number.{fits}
-use Rattle.f77_values.specs.Told.{Tells, IsTold, number_of, code, truth}
+use Rattle.f77_values.specs.Told.{TellsResult, IsValueOrFault, fault_number, code, truth_number}
 
 -- the range, as bounds
 pub record Within (z : ℤ) : Type 0 where
@@ -18,7 +18,7 @@ pub within : (z : ℤ) → fits z ≡ true → Within z
 within (pos n) e = let below : n < 2 ^ 31 = ltb-true n (2 ^ 31) e in record { low = omega (arith, ints); high = omega (arith, ints) }
 within (negsuc n) e = let below : n < 2 ^ 31 = ltb-true n (2 ^ 31) e in record { low = omega (arith, ints); high = omega (arith, ints) }
 
-pub few_faults : (f : Fault) → number_of f ≤ 6
+pub few_faults : (f : Fault) → fault_number f ≤ 6
 few_faults Undefined = omega arith
 few_faults Overflow = omega arith
 few_faults BadSubscript = omega arith
@@ -27,19 +27,19 @@ few_faults Trapped = omega arith
 few_faults DivideByZero = omega arith
 few_faults ZeroPower = omega arith
 
-pub told_value : (z : ℤ) → fits z ≡ true → IsTold z
+pub told_value : (z : ℤ) → fits z ≡ true → IsValueOrFault z
 told_value z e = let w = within z e in record { low = w.low; high = omega (arith, ints); gap = λ h. w.high }
 
-pub told_code : (f : Fault) → IsTold (pos (code f))
+pub told_code : (f : Fault) → IsValueOrFault (pos (code f))
 told_code f = let few = few_faults f in record { low = omega (arith, ints); high = omega (arith, ints); gap = λ h. absurd (omega (arith, ints)) }
 
-pub tells_value : (z : ℤ) → fits z ≡ true → Tells z (Ok z)
+pub tells_value : (z : ℤ) → fits z ≡ true → TellsResult z (Ok z)
 tells_value z e = record { is = refl; fitting = e; told = told_value z e }
 
-pub tells_fault : (f : Fault) → Tells (pos (code f)) (Err f)
+pub tells_fault : (f : Fault) → TellsResult (pos (code f)) (Err f)
 tells_fault f = record { is = refl; fitting = refl; told = told_code f }
 
-pub fits_truth : (b : Bool) → fits (truth b) ≡ true
+pub fits_truth : (b : Bool) → fits (truth_number b) ≡ true
 fits_truth true = refl
 fits_truth false = refl
 

@@ -1,5 +1,6 @@
 -- Powers: a power that is beyond the range stays beyond it, and the powers of 1 and of -1.
-use Rattle.std.proofs.Common.{arith, ◌≡◌, ◌≤◌, ◌<◌, ◌≢◌, ℕ, zero, suc, ◌+◌, ◌-◌, ◌*◌, ◌/◌, ◌%◌, ◌^◌, ℤ, pos, negsuc, ◌*ℤ◌, ◌<ℤ◌, int_div, int_rem, unsigned_abs, Bool, true, false, refl, sym, ◌∙◌, ap, zero-add}
+use Rattle.std.proofs.Common.{arith, ◌≡◌, ◌≤◌, ◌<◌, ◌≢◌, ℕ, zero, suc, ◌+◌, ◌-◌, ◌*◌, ◌/◌, ◌%◌, ◌^◌, ℤ, pos, negsuc, ◌*ℤ◌}
+use Rattle.std.proofs.Common.{◌<ℤ◌, int_div, int_rem, unsigned_abs, Bool, true, false, refl, sym, ◌∙◌, ap, zero-add}
 use Rattle.std.specs.Prelude.{Ok, Err}
 use Rattle.std.proofs.Math.Nat.{div-eq_of_lt, mul-le-mul}
 use Rattle.std.proofs.lemmas.Bool.{lt-ltb, ltb-true, false≢true}

@@ -1,6 +1,6 @@
 -- INTEGER values: the exact number first, then the range (ANSI X3.9-1978, 4.3, 6.1.5 and 15.10).
-use Rattle.std.specs.Prelude.{◌^◌, ◌==◌, if◌then◌else◌, ◌∷◌, ◌+ℤ◌, ◌-ℤ◌, ◌*ℤ◌}
-use Rattle.std.specs.Prelude.{ℕ, zero, suc, Bool, true, false, nat_lt, List, [], ℤ, pos, negsuc, int_div, int_rem, Result, Ok, Err}
+use Rattle.std.specs.Prelude.{◌^◌, ◌==◌, if◌then◌else◌, ◌∷◌, ◌+ℤ◌, ◌-ℤ◌, ◌*ℤ◌, ℕ, zero, suc, Bool, true}
+use Rattle.std.specs.Prelude.{false, nat_lt, List, [], ℤ, pos, negsuc, int_div, int_rem, Result, Ok, Err}
 use Rattle.f77_tree.specs.declared.intrinsic.Intrinsic.{Intrinsic}
 use Rattle.f77_tree.specs.declared.intrinsic.Intrinsic.TheVariants.{Mod, Iabs, Min0, Max0}
 use Rattle.f77_tree.specs.declared.operator.Sign.{Sign}
@@ -64,9 +64,9 @@ is_same (pos a) (negsuc b) = false
 is_same (negsuc a) (pos b) = false
 is_same (negsuc a) (negsuc b) = a == b
 
-abbrev pub size : ℤ → ℤ
-size (pos n) = pos n
-size (negsuc n) = pos (suc n)
+abbrev pub without_sign : ℤ → ℤ
+without_sign (pos n) = pos n
+without_sign (negsuc n) = pos (suc n)
 
 abbrev pub least : ℤ → List ℤ → ℤ
 least a [] = a
@@ -79,7 +79,7 @@ greatest a (b ∷ bs) = greatest (if is_below a b then b else a) bs
 -- The value of a call. No legal program has another number of arguments.
 abbrev pub called : Intrinsic → List ℤ → Result ℤ Fault
 called Mod (a ∷ (b ∷ [])) = modulus a b
-called Iabs (a ∷ []) = in_range (size a)
+called Iabs (a ∷ []) = in_range (without_sign a)
 called Min0 (a ∷ rest) = Ok (least a rest)
 called Max0 (a ∷ rest) = Ok (greatest a rest)
 called f rest = Err Undefined

@@ -1,5 +1,7 @@
--- What variables and array elements hold, and how values are used (ANSI X3.9-1978, sections 5 and 6).
-use Rattle.std.specs.Prelude.{◌+◌, ◌*◌, if◌then◌else◌, ◌∷◌, ℕ, zero, suc, Bool, true, false, not, nat_lt, List, [], Option, Some, ℤ, pos, Result, Ok, Err}
+-- What variables and array elements hold, and how
+-- values are used (ANSI X3.9-1978, sections 5 and 6).
+use Rattle.std.specs.Prelude.{◌+◌, ◌*◌, if◌then◌else◌, ◌∷◌, ℕ, zero, suc, Bool, true, false}
+use Rattle.std.specs.Prelude.{not, nat_lt, List, [], Option, Some, ℤ, pos, Result, Ok, Err}
 use Rattle.f77_values.specs.declared.finish.Fault.{Fault}
 use Rattle.f77_values.specs.declared.finish.Fault.TheVariants.{BadSubscript, Undefined, Trapped}
 use Rattle.f77_values.specs.declared.value.Value.TheVariants as held
@@ -11,7 +13,8 @@ given (Ok x) f = f x
 given (Err e) f = Err e
 
 -- both operands, from left to right, before the operator
-abbrev pub both : {A B : Type 0} → (A → A → Result B Fault) → Result A Fault → Result A Fault → Result B Fault
+abbrev pub both : {A B : Type 0}
+    → (A → A → Result B Fault) → Result A Fault → Result A Fault → Result B Fault
 both f a b = given a (λ x. given b (λ y. f x y))
 
 abbrev pub whole : Option Value → Result ℤ Fault
@@ -26,7 +29,8 @@ logic _ = Err Undefined
 abbrev pub element : List ℕ → List ℤ → Result ℕ Fault
 element [] [] = Ok 0
 element (bound ∷ bounds) (pos (suc n) ∷ zs) =
-    if nat_lt n bound then given (element bounds zs) (λ rest. Ok (n + bound * rest)) else Err BadSubscript
+    if nat_lt n bound
+    then given (element bounds zs) (λ rest. Ok (n + bound * rest)) else Err BadSubscript
 element _ _ = Err BadSubscript
 
 abbrev pub same_truth : Bool → Bool → Bool

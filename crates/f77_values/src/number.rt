@@ -1,6 +1,7 @@
 //! INTEGER arithmetic: the exact number, where the range holds it (ANSI X3.9-1978, 4.3, 6.1.5 and 15.10).
 
-ghost use Rattle.std.specs.Prelude.{◌≡◌, ◌≢◌, ◌+ℤ◌, ◌-ℤ◌, ◌*ℤ◌, ◌^◌, ◌<◌, ◌≤◌, pos, negsuc, int_div, unsigned_abs, if◌then◌else◌};
+ghost use Rattle.std.specs.Prelude.{◌≡◌, ◌≢◌, ◌+ℤ◌, ◌-ℤ◌, ◌*ℤ◌, ◌^◌, ◌<◌, ◌≤◌, pos};
+ghost use Rattle.std.specs.Prelude.{negsuc, int_div, unsigned_abs, if◌then◌else◌};
 ghost use Rattle.f77_values.specs.Number as exact;
 ghost use Rattle.f77_values.specs.Value as meaning;
 
@@ -66,7 +67,7 @@ pub fn negated(a: i32) -> Result<i32, Fault>
 
 /// IABS.
 pub fn absolute(a: i32) -> Result<i32, Fault>
-    ensures { result ≡ exact.in_range (exact.size a) }
+    ensures { result ≡ exact.in_range (exact.without_sign a) }
 {
     narrow(i64::from(a).abs())
 }

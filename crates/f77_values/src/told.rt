@@ -1,11 +1,12 @@
-//! Operations on numbers that tell values or faults: one of 64 bits tells both, so that no test is made for a fault but that of the range.
+//! Operations on numbers that tell values or faults: one of 64 bits tells
+//! both, so that no test is made for a fault but that of the range.
 
 ghost use Rattle.std.specs.Prelude.{◌≡◌, ◌+ℤ◌, ◌-ℤ◌, ◌*ℤ◌, if◌then◌else◌, not, ℤ, Result, Ok, Err};
 ghost use Rattle.f77_values.specs.declared.finish.Fault.{Fault};
 ghost use Rattle.f77_values.specs.Number as exact;
 ghost use Rattle.f77_values.specs.Number.{fits, in_range, is_below};
 ghost use Rattle.f77_values.specs.Told as meaning;
-ghost use Rattle.f77_values.specs.Told.{Tells, IsTold, HasValue, first_fault};
+ghost use Rattle.f77_values.specs.Told.{TellsResult, IsValueOrFault, HasValue, operation_fault};
 ghost use Rattle.f77_values.specs.Value as values;
 ghost use Rattle.f77_values.specs.Value.{given, both};
 
@@ -40,7 +41,7 @@ fn is_value(x: i64) -> bool
 #[inline(never)]
 #[tactic(auto, using(crate::proofs::Faults::unfit_left, crate::proofs::Faults::unfit_right, crate::proofs::Faults::unfit_neither))]
 pub fn unfit(x: i64, y: i64) -> i64
-    ensures { (r q : Result ℤ Fault) → Tells x r → Tells y q → Tells result (first_fault r q) }
+    ensures { (r q : Result ℤ Fault) → TellsResult x r → TellsResult y q → TellsResult result (operation_fault r q) }
 {
     if UNDEFINED <= x {
         return x;
@@ -54,9 +55,10 @@ pub fn unfit(x: i64, y: i64) -> i64
 /// A sum with what tells a fault is beyond the range, so the range alone is tested.
 #[inline(always)]
 pub fn sum(x: i64, y: i64) -> i64
-    requires x { IsTold x }
-    requires y { IsTold y }
-    ensures { (r q : Result ℤ Fault) → Tells x r → Tells y q → Tells result (both (λ a b. in_range (a +ℤ b)) r q) }
+    requires x { IsValueOrFault x }
+    requires y { IsValueOrFault y }
+    ensures { (r q : Result ℤ Fault)
+        → TellsResult x r → TellsResult y q → TellsResult result (both (λ a b. in_range (a +ℤ b)) r q) }
 {
     let z = x + y;
     if is_value(z) { z } else { unfit(x, y) }
@@ -65,9 +67,10 @@ pub fn sum(x: i64, y: i64) -> i64
 /// A difference to what tells a fault may be in the range, so the right operand is tested too.
 #[inline(always)]
 pub fn difference(x: i64, y: i64) -> i64
-    requires x { IsTold x }
-    requires y { IsTold y }
-    ensures { (r q : Result ℤ Fault) → Tells x r → Tells y q → Tells result (both (λ a b. in_range (a -ℤ b)) r q) }
+    requires x { IsValueOrFault x }
+    requires y { IsValueOrFault y }
+    ensures { (r q : Result ℤ Fault)
+        → TellsResult x r → TellsResult y q → TellsResult result (both (λ a b. in_range (a -ℤ b)) r q) }
 {
     if UNDEFINED <= y {
         return unfit(x, y);
@@ -79,9 +82,10 @@ pub fn difference(x: i64, y: i64) -> i64
 /// A product with what tells a fault may be in the range, or beyond 64 bits, so both operands are tested.
 #[inline(always)]
 pub fn product(x: i64, y: i64) -> i64
-    requires x { IsTold x }
-    requires y { IsTold y }
-    ensures { (r q : Result ℤ Fault) → Tells x r → Tells y q → Tells result (both (λ a b. in_range (a *ℤ b)) r q) }
+    requires x { IsValueOrFault x }
+    requires y { IsValueOrFault y }
+    ensures { (r q : Result ℤ Fault)
+        → TellsResult x r → TellsResult y q → TellsResult result (both (λ a b. in_range (a *ℤ b)) r q) }
 {
     if UNDEFINED <= x {
         return unfit(x, y);
@@ -97,7 +101,7 @@ pub fn product(x: i64, y: i64) -> i64
 #[cold]
 #[inline(never)]
 fn code(fault: Fault) -> i64
-    ensures { Tells result (Err fault) }
+    ensures { TellsResult result (Err fault) }
 {
     match fault {
         Fault::Overflow => OVERFLOW,
@@ -113,7 +117,7 @@ fn code(fault: Fault) -> i64
 /// The number that tells this.
 #[inline(always)]
 fn told(outcome: Result<i32, Fault>) -> i64
-    ensures { Tells result outcome }
+    ensures { TellsResult result outcome }
 {
     match outcome {
         Ok(value) => i64::from(value),
@@ -124,7 +128,7 @@ fn told(outcome: Result<i32, Fault>) -> i64
 /// A truth value as a number.
 #[inline(always)]
 pub fn truth(truth: bool) -> i64
-    ensures { result ≡ meaning.truth truth }
+    ensures { result ≡ meaning.truth_number truth }
 {
     if truth { 1 } else { 0 }
 }
@@ -132,8 +136,9 @@ pub fn truth(truth: bool) -> i64
 /// What an operation on these two gives, if it gives this on values.
 #[inline(always)]
 pub fn settled(x: i64, y: i64, z: i64) -> i64
-    ensures { (f : ℤ → ℤ → Result ℤ Fault) (r q : Result ℤ Fault) → (HasValue x → HasValue y → Tells z (f x y)) → Tells x r → Tells y q
-        → Tells result (both f r q) }
+    ensures { (f : ℤ → ℤ → Result ℤ Fault) (r q : Result ℤ Fault)
+        → (HasValue x → HasValue y → TellsResult z (f x y)) → TellsResult x r → TellsResult y q
+        → TellsResult result (both f r q) }
 {
     if UNDEFINED <= x {
         return unfit(x, y);
@@ -147,7 +152,7 @@ pub fn settled(x: i64, y: i64, z: i64) -> i64
 /// A value in 32 bits. What is no value is 0 there.
 #[inline(always)]
 fn narrow(x: i64) -> i32
-    requires { IsTold x }
+    requires { IsValueOrFault x }
     ensures { HasValue x → result ≡ x }
 {
     i32::try_from(x).unwrap_or(0)
@@ -156,9 +161,10 @@ fn narrow(x: i64) -> i32
 /// The quotient, truncated toward zero (6.1.5).
 #[inline(always)]
 pub fn quotient(x: i64, y: i64) -> i64
-    requires x { IsTold x }
-    requires y { IsTold y }
-    ensures { (r q : Result ℤ Fault) → Tells x r → Tells y q → Tells result (both exact.quotient r q) }
+    requires x { IsValueOrFault x }
+    requires y { IsValueOrFault y }
+    ensures { (r q : Result ℤ Fault)
+        → TellsResult x r → TellsResult y q → TellsResult result (both exact.quotient r q) }
 {
     settled(x, y, told(number::quotient(narrow(x), narrow(y))))
 }
@@ -166,9 +172,9 @@ pub fn quotient(x: i64, y: i64) -> i64
 /// The power, that of a negative exponent truncated toward zero (6.1.5).
 #[inline(always)]
 pub fn power(x: i64, y: i64) -> i64
-    requires x { IsTold x }
-    requires y { IsTold y }
-    ensures { (r q : Result ℤ Fault) → Tells x r → Tells y q → Tells result (both exact.power r q) }
+    requires x { IsValueOrFault x }
+    requires y { IsValueOrFault y }
+    ensures { (r q : Result ℤ Fault) → TellsResult x r → TellsResult y q → TellsResult result (both exact.power r q) }
 {
     settled(x, y, told(number::power(narrow(x), narrow(y))))
 }
@@ -176,9 +182,9 @@ pub fn power(x: i64, y: i64) -> i64
 /// MOD (15.10).
 #[inline(always)]
 pub fn modulus(x: i64, y: i64) -> i64
-    requires x { IsTold x }
-    requires y { IsTold y }
-    ensures { (r q : Result ℤ Fault) → Tells x r → Tells y q → Tells result (both exact.modulus r q) }
+    requires x { IsValueOrFault x }
+    requires y { IsValueOrFault y }
+    ensures { (r q : Result ℤ Fault) → TellsResult x r → TellsResult y q → TellsResult result (both exact.modulus r q) }
 {
     settled(x, y, told(number::modulus(narrow(x), narrow(y))))
 }
@@ -200,9 +206,10 @@ fn greatest(x: i64, y: i64) -> i64
 /// MIN0 (15.10).
 #[inline(always)]
 pub fn lesser(x: i64, y: i64) -> i64
-    requires x { IsTold x }
-    requires y { IsTold y }
-    ensures { (r q : Result ℤ Fault) → Tells x r → Tells y q → Tells result (both (λ a b. Ok (if is_below b a then b else a)) r q) }
+    requires x { IsValueOrFault x }
+    requires y { IsValueOrFault y }
+    ensures { (r q : Result ℤ Fault) → TellsResult x r
+        → TellsResult y q → TellsResult result (both (λ a b. Ok (if is_below b a then b else a)) r q) }
 {
     settled(x, y, least(x, y))
 }
@@ -210,9 +217,10 @@ pub fn lesser(x: i64, y: i64) -> i64
 /// MAX0 (15.10).
 #[inline(always)]
 pub fn greater(x: i64, y: i64) -> i64
-    requires x { IsTold x }
-    requires y { IsTold y }
-    ensures { (r q : Result ℤ Fault) → Tells x r → Tells y q → Tells result (both (λ a b. Ok (if is_below a b then b else a)) r q) }
+    requires x { IsValueOrFault x }
+    requires y { IsValueOrFault y }
+    ensures { (r q : Result ℤ Fault) → TellsResult x r
+        → TellsResult y q → TellsResult result (both (λ a b. Ok (if is_below a b then b else a)) r q) }
 {
     settled(x, y, greatest(x, y))
 }
@@ -220,8 +228,8 @@ pub fn greater(x: i64, y: i64) -> i64
 /// A minus before a number (6.1).
 #[inline(always)]
 pub fn negated(x: i64) -> i64
-    requires { IsTold x }
-    ensures { (r : Result ℤ Fault) → Tells x r → Tells result (given r (λ z. in_range (exact.negated z))) }
+    requires { IsValueOrFault x }
+    ensures { (r : Result ℤ Fault) → TellsResult x r → TellsResult result (given r (λ z. in_range (exact.negated z))) }
 {
     if UNDEFINED <= x {
         return x;
@@ -232,8 +240,9 @@ pub fn negated(x: i64) -> i64
 /// IABS (15.10).
 #[inline(always)]
 pub fn absolute(x: i64) -> i64
-    requires { IsTold x }
-    ensures { (r : Result ℤ Fault) → Tells x r → Tells result (given r (λ z. in_range (exact.size z))) }
+    requires { IsValueOrFault x }
+    ensures { (r : Result ℤ Fault)
+        → TellsResult x r → TellsResult result (given r (λ z. in_range (exact.without_sign z))) }
 {
     if UNDEFINED <= x {
         return x;
@@ -244,8 +253,8 @@ pub fn absolute(x: i64) -> i64
 /// The number, unless it is zero, which springs a mutant's trap.
 #[inline(always)]
 pub fn pushed(x: i64) -> i64
-    requires { IsTold x }
-    ensures { (r : Result ℤ Fault) → Tells x r → Tells result (given r values.pushed) }
+    requires { IsValueOrFault x }
+    ensures { (r : Result ℤ Fault) → TellsResult x r → TellsResult result (given r values.pushed) }
 {
     if UNDEFINED <= x {
         return x;
@@ -256,8 +265,8 @@ pub fn pushed(x: i64) -> i64
 /// `.NOT.` of a truth value as a number (6.4).
 #[inline(always)]
 pub fn negation(x: i64) -> i64
-    requires { IsTold x }
-    ensures { (r : Result ℤ Fault) → Tells x r → Tells result (given r (λ z. Ok (meaning.negation z))) }
+    requires { IsValueOrFault x }
+    ensures { (r : Result ℤ Fault) → TellsResult x r → TellsResult result (given r (λ z. Ok (meaning.negation z))) }
 {
     if UNDEFINED <= x {
         return x;

@@ -1,5 +1,6 @@
-//! Operations on values, each as its definition has it: exact numbers, and then the range (f77_values/specs/Number.antt). An `i64` holds all
-//! exact numbers here but powers, where numbers that it does not hold are out of the range like those that stand for them.
+//! Operations on values, each as its definition has it: exact numbers, and then the range
+//! (f77_values/specs/Number.antt). An `i64` holds all exact numbers here but powers, where
+//! numbers that it does not hold are out of the range like those that stand for them.
 
 use f77_run::Fault;
 use f77_tree::{Intrinsic, Operator};
@@ -29,7 +30,8 @@ fn modulus(a: i32, b: i32) -> Result<i32, Fault> {
     }
 }
 
-/// `exact_power`: one factor after another. Those of -1 come in pairs, and any other base that is left is out of the range after 32.
+/// `exact_power`: one factor after another. Those of -1 come in pairs,
+/// and any other base that is left is out of the range after 32.
 fn exact_power(a: i64, factors: u32) -> i64 {
     let factors = match a {
         1 => 0,

@@ -1,4 +1,5 @@
-//! Where control may go: labels, the ranges of DOs, and the branches of blocks. All is looked up in the statements at each use.
+//! Where control may go: labels, the ranges of DOs, and the branches
+//! of blocks. All is looked up in the statements at each use.
 
 use crate::unit::Unit;
 use f77_tree::Stmt;
@@ -29,7 +30,8 @@ pub(crate) fn is_left(unit: &Unit<'_>, i: usize, j: usize, d: usize) -> bool {
     range_holds(unit, d, i) && !range_holds(unit, d, j)
 }
 
-/// `is_level` (f77_legal/specs/Blocks.antt; 11.6.1): between `i` and `j`, which stands behind it, each block that opens is closed.
+/// `is_level` (f77_legal/specs/Blocks.antt; 11.6.1): between `i` and
+/// `j`, which stands behind it, each block that opens is closed.
 fn is_level(unit: &Unit<'_>, i: usize, j: usize) -> bool {
     let mut opened: usize = 0;
     let mut closed: usize = 0;
@@ -49,7 +51,8 @@ fn block_end(unit: &Unit<'_>, i: usize) -> Option<usize> {
         && is_level(unit, i, *j))
 }
 
-/// `branch_end` (f77_legal/specs/Blocks.antt; 11.6 to 11.9): the next ELSE IF, ELSE or END IF of the block of which `i` begins a branch.
+/// `branch_end` (f77_legal/specs/Blocks.antt; 11.6 to 11.9): the next
+/// ELSE IF, ELSE or END IF of the block of which `i` begins a branch.
 pub(crate) fn branch_end(unit: &Unit<'_>, i: usize) -> Option<usize> {
     (0..unit.lines.len()).find(|j| {
         matches!(
@@ -59,7 +62,8 @@ pub(crate) fn branch_end(unit: &Unit<'_>, i: usize) -> Option<usize> {
     })
 }
 
-/// `behind` (f77_legal/specs/Blocks.antt; 11.6 to 11.9): the next statement, or the END IF of the block where the next one begins a branch.
+/// `behind` (f77_legal/specs/Blocks.antt; 11.6 to 11.9): the next statement,
+/// or the END IF of the block where the next one begins a branch.
 pub(crate) fn behind(unit: &Unit<'_>, i: usize) -> Option<usize> {
     let next = i.saturating_add(1);
     match unit.statement(next) {

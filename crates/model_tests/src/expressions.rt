@@ -1,5 +1,5 @@
-//! The values of expressions (f77_run/specs/Value.antt). Each operand is evaluated, from left to right, before its operator is applied, and
-//! the first fault is the expression's: a `?` is `given` of f77_values/specs/Value.antt.
+//! The values of expressions (f77_run/specs/Value.antt). Each operand is evaluated, from left to right, before its
+//! operator is applied, and the first fault is the expression's: a `?` is `given` of f77_values/specs/Value.antt.
 
 use crate::arithmetic::{arithmetic, called, connected, in_range, is_relation, related};
 use crate::store::Store;

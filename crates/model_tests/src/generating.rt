@@ -1,5 +1,5 @@
-//! Programs made by chance: DOs and blocks are opened and closed, and in them stand statements of each kind. Jumps lead to the terminal
-//! statement of the innermost DO, or to statements outside of all. I, J and L are the variables of DOs.
+//! Programs made by chance: DOs and blocks are opened and closed, and in them stand statements of each kind. Jumps lead
+//! to the terminal statement of the innermost DO, or to statements outside of all. I, J and L are the variables of DOs.
 
 use crate::chance::Chance;
 use crate::grammar::{expanded, replaced};

@@ -1,5 +1,5 @@
-//! Programs whose outcomes are known from the rules of the language. A case is a program and the rows below it; a row is arguments, a limit
-//! on steps, and the outcome to which the model and `run` come.
+//! Programs whose outcomes are known from the rules of the language. A case is a program and the rows
+//! below it; a row is arguments, a limit on steps, and the outcome to which the model and `run` come.
 
 use crate::comparing::agreed;
 use f77_check::Checked;
@@ -79,8 +79,8 @@ fn values_are_those_of_the_standard(rt: HostRuntime) -> Result<(), Fail> {
     assert_cases(&rt, VALUES)
 }
 
-// Quotients and remainders go toward zero, powers associate to the right, the first subscript varies fastest, both operands of .OR. are
-// evaluated, and the subscripts of a target before its value.
+// Quotients and remainders go toward zero, powers associate to the right, the first subscript varies
+// fastest, both operands of .OR. are evaluated, and the subscripts of a target before its value.
 const VALUES: &str = "
 SUBROUTINE S(I,J,K); K=MOD(I,J)*100+I/J; END
 7 2 0 within 2 => Returned 7 2 103
@@ -124,8 +124,8 @@ fn loops_are_those_of_the_standard(rt: HostRuntime) -> Result<(), Fail> {
     assert_cases(&rt, LOOPS)
 }
 
-// Behind a DO its variable has the value that ended it, also where there was no pass. Passes are counted before the first one. The parameters
-// are evaluated in order. STOP and RETURN end a run.
+// Behind a DO its variable has the value that ended it, also where there was no pass. Passes are
+// counted before the first one. The parameters are evaluated in order. STOP and RETURN end a run.
 const LOOPS: &str = "
 SUBROUTINE S(M,N,I,K); DO 10 J=M,N,I; K=K+1; 10 CONTINUE; I=J; END
 1 3 1 0 within 99 => Returned 1 3 4 3

@@ -1,6 +1,6 @@
-//! A plain model of runs, and tests that hold `run` to it. The model is the definitions of `f77_run` as a slow interpreter: it looks up
-//! names and labels in the statements at each step, and has no slots and no code. The comment at each case names the definition that it is
-//! read off, and the section of ANSI X3.9-1978.
+//! A plain model of runs, and tests that hold `run` to it. The model is the definitions of `f77_run` as a slow
+//! interpreter: it looks up names and labels in the statements at each step, and has no slots and no code. The
+//! comment at each case names the definition that it is read off, and the section of ANSI X3.9-1978.
 #![tactic(auto)]
 
 #[cfg(test)]

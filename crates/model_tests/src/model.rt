@@ -1,5 +1,5 @@
-//! Runs of the model: where a run starts (f77_run/specs/Start.antt), how it ends (f77_run/specs/Outcome.antt), and what is told of that
-//! (f77_run/specs/Interpreter.antt).
+//! Runs of the model: where a run starts (f77_run/specs/Start.antt), how it ends
+//! (f77_run/specs/Outcome.antt), and what is told of that (f77_run/specs/Interpreter.antt).
 
 use crate::expressions::{logic, whole};
 use crate::statements::{Config, Place, step};
@@ -71,7 +71,8 @@ fn preset_name(unit: &Unit<'_>, s: &mut Store, group: &DataGroup, name: &Name, f
     }
 }
 
-/// `presets_of` (f77_check/specs/Start.antt; section 9): the elements of all names of a group, in order, get its constants.
+/// `presets_of` (f77_check/specs/Start.antt; section 9): the
+/// elements of all names of a group, in order, get its constants.
 fn preset(unit: &Unit<'_>, s: &mut Store, group: &DataGroup) {
     let mut first: usize = 0;
     for name in &group.names {

@@ -7,7 +7,7 @@ use Rattle.mothra_app.specs.Reporting.{IsPlanOf}
 use Rattle.mothra_codes.specs.declared.op.Op.{Op}
 use Rattle.mothra_ops.specs.Edits.{IsCountedList}
 use Rattle.mothra_ops.specs.Mutants.{program_of}
-use Rattle.mothra_ops.specs.Plan.{ListFields, PlanFields, asked, edits_of, list_of, whole_of}
+use Rattle.mothra_ops.specs.Plan.{ListFields, PlanFields, asked, edits_of, list_of_operator, whole_of}
 use Rattle.mothra_ops.specs.declared.edit.Edit.{Edit}
 use Rattle.mothra_app.proofs.OneListing.{one_of}
 use Rattle.mothra_app.proofs.OneProgram.{Laws}
@@ -63,8 +63,8 @@ same_lists : {program : List LineFields} {ops : List Op} {every : ℕ} (one othe
     → (edits_of one op ≡ edits_of other op) × (whole_of one op ≡ whole_of other op)
 same_lists one other laws p q op true is also = same_counted laws (counted one p op is) (counted other q op also)
 same_lists one other laws p q op false is also = (
-  no_edits (list_of one op) is ∙ sym (no_edits (list_of other op) also),
-  no_whole (list_of one op) is ∙ sym (no_whole (list_of other op) also),
+  no_edits (list_of_operator one op) is ∙ sym (no_edits (list_of_operator other op) also),
+  no_whole (list_of_operator one op) is ∙ sym (no_whole (list_of_operator other op) also),
 )
 
 pub alike : {program : List LineFields} {ops : List Op} {every : ℕ} (one other : PlanFields) → Laws → IsPlanOf program ops every one

@@ -8,12 +8,14 @@ use Rattle.clap.specs.Kinds.{HasKind, IsAmong}
 use Rattle.clap.specs.Values.{kind_of}
 use Rattle.clap.specs.declared.error.Error.{Error}
 use Rattle.clap.specs.declared.error.kind.ErrorKind.TheVariants as kind
-use Rattle.mothra_app.specs.Answer.{IsTold, IsAnswer, IsReady, IsRefusal, IsReportAnswer}
+use Rattle.mothra_app.specs.Answer.{IsToldAnswer, IsAnswer, IsRefusal}
+use Rattle.mothra_app.specs.code.Answer.{IsReadyAnswer, IsReportAnswer}
 use Rattle.mothra_cli.specs.Command.{mothra}
 use Rattle.mothra_cli.specs.Input.{limit, AreAll, IsRead, ReadsUpTo}
-use Rattle.mothra_job.specs.Job.{faults, job_of}
+use Rattle.mothra_job.specs.Job.{job_faults, job_of}
 use Rattle.mothra_cli.specs.Request.{HasBadOperators}
-use Rattle.mothra_app.specs.Serving.{AsksFor, MayBeWritten, IsReadFor, IsAnswered, IsReadyBy, IsReadyFor, bad_operators}
+use Rattle.mothra_app.specs.Serving.{AsksFor, MayBeWritten, IsReadFor, IsAnswered, bad_operators}
+use Rattle.mothra_app.specs.code.Serving.{IsReadyBy, IsReadyFor}
 use Rattle.mothra_app.specs.declared.answer.Ready.{Ready}
 use Rattle.mothra_app.specs.declared.answer.Ready.TheVariants as ready
 use Rattle.mothra_bench.specs.Bench.{BenchFields}
@@ -26,7 +28,7 @@ use Rattle.mothra_app.proofs.Outcomes.{report_answered, within}
 
 job_at : (xs v : List ℕ) (b : Bool) → nat_lt 1048576 (length v) ≡ b → length v ≤ length xs
     → (length v < 1048577 → xs ≡ v) → job_of xs ≡ job_of v
-unfolding job_of faults
+unfolding job_of job_faults
 job_at xs v true is longer same = rw (is, lt-ltb 1048576 (length xs) (let more : 1048576 < length v = ltb-true _ _ is in omega arith)) refl
 job_at xs v false is longer same = ap job_of (same (let few : length v ≤ 1048576 = ltb-false _ _ is in omega arith))
 
@@ -36,14 +38,14 @@ job_same xs v rest split end = job_at xs v (nat_lt 1048576 (length v)) refl
     (λ few. split ∙ ap (λ l. v ++ l) (end few) ∙ append-nil v)
 
 -- what is ready for what was read is ready for all the bytes
-pub ready_by : (old new : Option (List ℕ)) (v : List ℕ) (request : Request) (r : Ready) → ReadsUpTo limit old new v → IsReady request (job_of v) r
+pub ready_by : (old new : Option (List ℕ)) (v : List ℕ) (request : Request) (r : Ready) → ReadsUpTo limit old new v → IsReadyAnswer request (job_of v) r
     → IsReadyBy request old r
 ready_by None new v request r reads is = record { bytes = v; all = tt; is = is }
 ready_by (Some xs) None v request r reads is = absurd reads.0
 ready_by (Some xs) (Some rest) v request r reads is = record {
   bytes = xs;
   all = refl;
-  is = subst (λ read. IsReady request read r) (sym (job_same xs v rest reads.0 reads.2)) is;
+  is = subst (λ read. IsReadyAnswer request read r) (sym (job_same xs v rest reads.0 reads.2)) is;
 }
 
 -- ---- what may be written
@@ -51,8 +53,8 @@ ready_by (Some xs) (Some rest) v request r reads is = record {
 -- a text that answers a request is a report or a fault
 read_for : (request : Request) (bytes : List ℕ) (left now : Option (List ℕ)) (s : Status) (t : List ℕ) → IsAnswer request (job_of bytes) s t
     → IsRead limit left now → IsReadFor s left now
-read_for request bytes left now s t (IsAnswer.told (IsTold.report is)) read = read
-read_for request bytes left now s t (IsAnswer.told (IsTold.fault f is)) read = read
+read_for request bytes left now s t (IsAnswer.told (IsToldAnswer.report is)) read = read
+read_for request bytes left now s t (IsAnswer.told (IsToldAnswer.fault f is)) read = read
 read_for request bytes left now s t (IsAnswer.broken_off f is) read = read
 
 answered : (words : List Text) (left now : Option (List ℕ)) (request : Request) (bytes : List ℕ) (s : Status) (t : List ℕ) → AsksFor words request

@@ -8,7 +8,7 @@ use Rattle.f77_run.specs.declared.argument.Arg.{Arg}
 use Rattle.f77_run.specs.declared.outcome.Outcome.{Outcome}
 use Rattle.f77_run.specs.declared.outcome.RunFault.{RunFault}
 use Rattle.f77_run.specs.declared.outcome.RunFault.TheVariants as run
-use Rattle.mothra_app.specs.Executing.{IsRun, IsExecuted}
+use Rattle.mothra_app.specs.Executing.{IsRunLine, IsExecuted}
 use Rattle.mothra_app.specs.Fault.{of_legal_programs, of_runs}
 use Rattle.mothra_job.specs.Job.{JobFields, test_at}
 use Rattle.mothra_app.specs.OutcomeLine.{outcome_line}
@@ -19,9 +19,9 @@ use Rattle.mothra_app.proofs.Memory.{legal_in_runs, run_in}
 
 pub run_refused : (program : List LineFields) (arguments : List Arg) (steps : ℕ) (fault : RunFault)
     → (fault ≡ run.Memory) ⊎ (refusal (shapes program) arguments ≡ Some fault)
-    → IsRun program arguments steps (Err (Run fault)) ⊎ Contains of_runs (Run fault)
+    → IsRunLine program arguments steps (Err (Run fault)) ⊎ Contains of_runs (Run fault)
 run_refused program arguments steps fault (inl memory) = inr (subst (λ f. Contains of_runs (Run f)) (sym memory) run_in)
-run_refused program arguments steps fault (inr misfit) = inl (IsRun.misfit misfit)
+run_refused program arguments steps fault (inr misfit) = inl (IsRunLine.misfit misfit)
 
 pub fits : (told : Option RunFault) (answer : Outcome) → (let ok : Result Outcome RunFault = Ok answer in IfSome told (λ fault. ok ≡ Err fault))
     → told ≡ None
@@ -30,9 +30,9 @@ fits (Some fault) answer is = absurd (cc)
 
 pub run_is : (program : List LineFields) (arguments : List Arg) (steps : ℕ) (answer : Outcome) (text : List ℕ)
     → refusal (shapes program) arguments ≡ None → IsOutcomeOf program arguments steps answer → text ≡ outcome_line answer
-    → IsRun program arguments steps (Ok text)
+    → IsRunLine program arguments steps (Ok text)
 run_is program arguments steps answer text fitting is written =
-    subst (λ line. IsRun program arguments steps (Ok line)) (sym written) (IsRun.outcome fitting is)
+    subst (λ line. IsRunLine program arguments steps (Ok line)) (sym written) (IsRunLine.outcome fitting is)
 
 pub executed_refused : (job : JobFields) (test steps : ℕ) (fault : Fault) → IsLegalProgramOf job.source (Err fault) ⊎ Contains of_legal_programs fault
     → IsExecuted job test steps (Err fault) ⊎ Contains of_runs fault
@@ -42,7 +42,7 @@ executed_refused job test steps fault (inr memory) = inr (legal_in_runs fault me
 -- a test comes to what its run comes to
 pub run_executed : (job : JobFields) (test steps : ℕ) (program : List LineFields) (arguments : List Arg) (line : Result (String Global) Fault)
     → IsLegalProgramOf job.source (Ok program) → test_at job.suite test ≡ Some arguments
-    → MatchResult line (λ text. IsRun program arguments steps (Ok (string_bytes text))) (λ fault. IsRun program arguments steps (Err fault) ⊎ Contains of_runs fault)
+    → MatchResult line (λ text. IsRunLine program arguments steps (Ok (string_bytes text))) (λ fault. IsRunLine program arguments steps (Err fault) ⊎ Contains of_runs fault)
     → MatchResult line (λ text. IsExecuted job test steps (Ok (string_bytes text))) (λ fault. IsExecuted job test steps (Err fault) ⊎ Contains of_runs fault)
 run_executed job test steps program arguments (Ok text) of_source some is = IsExecuted.run of_source some is
 run_executed job test steps program arguments (Err fault) of_source some (inl is) = inl (IsExecuted.run of_source some is)

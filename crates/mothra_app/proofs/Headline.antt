@@ -3,7 +3,7 @@ use Rattle.std.proofs.Common.{ℕ, List, refl, Ok, Err}
 use Rattle.clap.specs.Words.{Text}
 use Rattle.mothra_codes.specs.declared.op.Op.{Op}
 use Rattle.mothra_cli.specs.declared.request.Request.TheVariants as command
-use Rattle.mothra_app.specs.Answer.{IsTold}
+use Rattle.mothra_app.specs.Answer.{IsToldAnswer}
 use Rattle.mothra_job.specs.Job.{JobFields, JobRead, job_of}
 use Rattle.mothra_app.specs.Law.{ReportsJob}
 use Rattle.mothra_app.specs.Reporting.{IsReported}
@@ -18,9 +18,9 @@ of_job job operators every steps text (IsReported.report {bench = bench} of is) 
     record { job = job; is_job = refl; bench = bench; of_job = of; report = is }
 
 told : (operators : List Op) (every steps workers : ℕ) (read : JobRead) (text : List ℕ)
-    → IsTold (command.Run operators every steps workers) read status.Report text → ReportsJob read operators every steps text
-told operators every steps workers (Ok job) text (IsTold.report is) = of_job job operators every steps text is
-told operators every steps workers (Err fault) text (IsTold.report is) = not_both text (Job fault) is
+    → IsToldAnswer (command.Run operators every steps workers) read status.Report text → ReportsJob read operators every steps text
+told operators every steps workers (Ok job) text (IsToldAnswer.report is) = of_job job operators every steps text is
+told operators every steps workers (Err fault) text (IsToldAnswer.report is) = not_both text (Job fault) is
 
 pub reported : (words : List Text) (operators : List Op) (every steps workers : ℕ) (bytes text : List ℕ)
     → AsksFor words (command.Run operators every steps workers) → IsServed words bytes status.Report text

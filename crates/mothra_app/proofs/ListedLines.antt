@@ -1,13 +1,16 @@
 -- The lines of a list, from one of the mutants or operators on.
-use Rattle.std.proofs.Common.{arith, ◌≡◌, ◌∙◌, ◌<◌, inl, inr, ◌≤◌, ◌+◌, ◌++◌, ℕ, suc, true, false, cond, List, [], ◌∷◌, length, drop, map, get_or, drop-cons, add-one, append_assoc, sym, ap, refl, Some, codes}
+use Rattle.std.proofs.Common.{arith, ◌≡◌, ◌∙◌, ◌<◌, inl, inr, ◌≤◌, ◌+◌, ◌++◌, ℕ, suc, true, false, cond, List, [], ◌∷◌}
+use Rattle.std.proofs.Common.{length, drop, map, get_or, drop-cons, add-one, append_assoc, sym, ap, refl, Some, codes}
 use Rattle.std.specs.Prelude.{Contains, IsTrue, ◌↔◌, filter, flat_map, slice_get, sum}
 use Rattle.std.specs.List.{enumerate_from}
 use Rattle.std.proofs.lemmas.List.{drop_all}
 use Rattle.std.proofs.lemmas.List.Elements.{filter_agree}
 use Rattle.std.proofs.lemmas.List.Sums.{sum_by-cons, sum-map}
 use Rattle.std.proofs.lemmas.Option.{slice_get_cases}
-use Rattle.mothra_app.specs.Listing.{asked_ops, chosen, mutant_line, plan_lines}
-use Rattle.mothra_codes.specs.Op.{all_ops, op_at}
+use Rattle.mothra_app.specs.Listing.{asked_ops, operators_chosen, listed_line}
+use Rattle.mothra_app.specs.code.Listing.{plan_lines}
+use Rattle.mothra_codes.specs.Op.{all_ops}
+use Rattle.mothra_codes.specs.code.Op.{op_at}
 use Rattle.mothra_codes.specs.declared.op.Op.{Op}
 use Rattle.mothra_ops.specs.Mutants.{edit_text, mutant_text, program_of}
 use Rattle.mothra_ops.specs.Plan.{PlanFields, asked, edits_of}
@@ -23,7 +26,7 @@ part_more old new part rest after all is front so_far =
 
 -- the lines of the mutants that stand behind the first ones
 abbrev pub lines_behind : PlanFields → Op → ℕ → List ℕ
-lines_behind plan op i = flat_map (mutant_line (program_of plan) plan.every op) (enumerate_from (i + 1) (drop i (edits_of plan op)))
+lines_behind plan op i = flat_map (listed_line (program_of plan) plan.every op) (enumerate_from (i + 1) (drop i (edits_of plan op)))
 
 split : (edits : List Edit) (i : ℕ) (edit : Edit) → i < length edits → get_or edits i edit ≡ edit → drop i edits ≡ edit ∷ drop (i + 1) edits
 split edits i edit within at = rw add-one (drop-cons edits i edit within ∙ ap (λ e. e ∷ drop (suc i) edits) at)
@@ -43,7 +46,7 @@ mutant_more plan op i within = elim (slice_get_cases (edits_of plan op) i).1 [
 ]
 
 pub no_mutant_more : (plan : PlanFields) (op : Op) (i : ℕ) → length (edits_of plan op) ≤ i → lines_behind plan op i ≡ []
-no_mutant_more plan op i over = ap (λ edits. flat_map (mutant_line (program_of plan) plan.every op) (enumerate_from (i + 1) edits)) (drop_all i (edits_of plan op) over)
+no_mutant_more plan op i over = ap (λ edits. flat_map (listed_line (program_of plan) plan.every op) (enumerate_from (i + 1) edits)) (drop_all i (edits_of plan op) over)
 
 -- ---- operators
 
@@ -89,5 +92,5 @@ pub counts_as_before : (plan : PlanFields) (i : ℕ) → i < 22 → asked plan (
 counts_as_before plan i within is = ap (λ ops. sum (map (λ op. length (edits_of plan op)) ops)) (operator_passed plan i within is)
 
 -- the operators that a plan was asked for are those that were named
-pub asked_are_chosen : (plan : PlanFields) (ops : List Op) → ((op : Op) → IsTrue (asked plan op) ↔ Contains ops op) → asked_ops plan ≡ chosen ops
+pub asked_are_chosen : (plan : PlanFields) (ops : List Op) → ((op : Op) → IsTrue (asked plan op) ↔ Contains ops op) → asked_ops plan ≡ operators_chosen ops
 asked_are_chosen plan ops named = filter_agree (asked plan) _ (test_is_named (asked plan) ops named) all_ops

@@ -3,7 +3,8 @@ use Rattle.std.proofs.Common.{◌≡◌, ◌∙◌, ◌⊎◌, inl, inr, ℕ, Li
 use Rattle.std.specs.Prelude.{Contains, IsTrue, ◌↔◌}
 use Rattle.f77_program.specs.Program.{LineFields}
 use Rattle.mothra_app.specs.Fault.{of_legal_programs, of_mutants}
-use Rattle.mothra_app.specs.Listing.{IsListed, chosen, list_text, plan_text}
+use Rattle.mothra_app.specs.Listing.{IsListed, operators_chosen, listing_text}
+use Rattle.mothra_app.specs.code.Listing.{plan_text}
 use Rattle.mothra_app.specs.Program.{IsLegalProgramOf}
 use Rattle.mothra_app.specs.declared.fault.Fault.{Fault}
 use Rattle.mothra_app.specs.declared.fault.Fault.TheVariants.{Ops}
@@ -34,9 +35,9 @@ plan_listed source text named every program plan is own q passes planned written
     let lists : (op : Op) → Contains named op → IsList op program every (edits_of plan op) =
     λ op has. subst (λ p. IsList op p every (edits_of plan op)) own
     (subst (λ k. IsList op (program_of plan) k (edits_of plan op)) q (planned.lists op ((passes op).1 has)).list) in
-    let same : text ≡ list_text program every (chosen named) (edits_of plan) =
+    let same : text ≡ listing_text program every (operators_chosen named) (edits_of plan) =
     written
-    ∙ ap (λ ops. list_text (program_of plan) plan.every ops (edits_of plan)) (asked_are_chosen plan named passes)
-    ∙ ap (λ p. list_text p plan.every (chosen named) (edits_of plan)) own
-    ∙ ap (λ k. list_text program k (chosen named) (edits_of plan)) q in
+    ∙ ap (λ ops. listing_text (program_of plan) plan.every ops (edits_of plan)) (asked_are_chosen plan named passes)
+    ∙ ap (λ p. listing_text p plan.every (operators_chosen named) (edits_of plan)) own
+    ∙ ap (λ k. listing_text program k (operators_chosen named) (edits_of plan)) q in
     subst (λ t. IsListed source named every (Ok t)) (sym same) (IsListed.text is lists)

@@ -3,9 +3,9 @@ use Rattle.std.proofs.Common.{◌≡◌, ◌∙◌, ℕ, List, sym, ap, refl, su
 use Rattle.std.specs.List.{slice_get}
 use Rattle.clap.specs.Words.{Text}
 use Rattle.f77_program.specs.Printing.{printed, print_faults}
-use Rattle.mothra_app.specs.Answer.{Outcome, IsOutcome, IsTold}
+use Rattle.mothra_app.specs.Answer.{Outcome, IsRequestOutcome, IsToldAnswer}
 use Rattle.mothra_job.specs.Job.{JobRead, job_of}
-use Rattle.mothra_app.specs.Line.{line_of}
+use Rattle.mothra_app.specs.Line.{fault_line}
 use Rattle.mothra_app.specs.Printing.{IsPrinted}
 use Rattle.mothra_cli.specs.Request.{IsBounded, request_of}
 use Rattle.mothra_app.specs.Serving.{AsksFor, IsServed}
@@ -39,8 +39,8 @@ one_printed laws (IsPrinted.text p none) (IsPrinted.no_text q first) =
     first_of_none _ _ (sym (ap print_faults same) ∙ none) first
 one_printed laws (IsPrinted.text p none) (IsPrinted.text q also) = ap (λ program. Ok (printed program)) (same_program _ _ (one_read laws p q))
 
-one_outcome : (request : Request) (read : JobRead) (outcome other : Outcome) → Laws → IsBounded request → IsOutcome request read outcome
-    → IsOutcome request read other → outcome ≡ other
+one_outcome : (request : Request) (read : JobRead) (outcome other : Outcome) → Laws → IsBounded request → IsRequestOutcome request read outcome
+    → IsRequestOutcome request read other → outcome ≡ other
 one_outcome request (Err fault) outcome other laws bounded is also = is ∙ sym also
 one_outcome command.Print (Ok job) outcome other laws bounded is also = one_printed laws is also
 one_outcome (command.Exec test steps) (Ok job) outcome other laws bounded is also = one_executed laws is also
@@ -57,15 +57,15 @@ pub not_both : {A : Type 0} (text : List ℕ) (f : Fault) → (let one : Outcome
 not_both text f e = absurd (cc)
 
 one_told : (request : Request) (read : JobRead) (status other : Status) (text also : List ℕ) → Laws → IsBounded request
-    → IsTold request read status text → IsTold request read other also → (status ≡ other) × (text ≡ also)
-one_told request read status other text also laws bounded (IsTold.report is) (IsTold.report as_well) =
+    → IsToldAnswer request read status text → IsToldAnswer request read other also → (status ≡ other) × (text ≡ also)
+one_told request read status other text also laws bounded (IsToldAnswer.report is) (IsToldAnswer.report as_well) =
     (refl, same_text _ _ (one_outcome request read _ _ laws bounded is as_well))
-one_told request read status other text also laws bounded (IsTold.report is) (IsTold.fault f as_well) =
+one_told request read status other text also laws bounded (IsToldAnswer.report is) (IsToldAnswer.fault f as_well) =
     not_both _ f (one_outcome request read _ _ laws bounded is as_well)
-one_told request read status other text also laws bounded (IsTold.fault f is) (IsTold.report as_well) =
+one_told request read status other text also laws bounded (IsToldAnswer.fault f is) (IsToldAnswer.report as_well) =
     not_both _ f (one_outcome request read _ _ laws bounded as_well is)
-one_told request read status other text also laws bounded (IsTold.fault f is) (IsTold.fault g as_well) =
-    (refl, ap line_of (same_line f g (one_outcome request read _ _ laws bounded is as_well)))
+one_told request read status other text also laws bounded (IsToldAnswer.fault f is) (IsToldAnswer.fault g as_well) =
+    (refl, ap fault_line (same_line f g (one_outcome request read _ _ laws bounded is as_well)))
 
 same_request : (a b : Request) (asked : Option Request) → asked ≡ Some a → asked ≡ Some b → a ≡ b
 same_request a b asked is also = cc
@@ -74,25 +74,25 @@ pub one_answer : (words : List Text) (bytes : List ℕ) (status other : Status) 
     → IsServed words bytes status text → IsServed words bytes other also → (status ≡ other) × (text ≡ also)
 one_answer words bytes status other text also laws one two =
     let same = same_request one.0 two.0 (request_of words) one.1.is two.1.is in
-    one_told two.0 (job_of bytes) status other text also laws two.1.bounded (subst (λ request. IsTold request (job_of bytes) status text) same one.2) two.2
+    one_told two.0 (job_of bytes) status other text also laws two.1.bounded (subst (λ request. IsToldAnswer request (job_of bytes) status text) same one.2) two.2
 
 -- ---- the number of workers
 
 module _ (operators : List Op) (every steps workers more : ℕ) where
-  other_outcome : (read : JobRead) (outcome : Outcome) → IsOutcome (command.Run operators every steps workers) read outcome
-      → IsOutcome (command.Run operators every steps more) read outcome
+  other_outcome : (read : JobRead) (outcome : Outcome) → IsRequestOutcome (command.Run operators every steps workers) read outcome
+      → IsRequestOutcome (command.Run operators every steps more) read outcome
   other_outcome (Ok job) outcome is = is
   other_outcome (Err fault) outcome is = is
 
-  other_told : {read : JobRead} {status : Status} {text : List ℕ} → IsTold (command.Run operators every steps workers) read status text
-      → IsTold (command.Run operators every steps more) read status text
-  other_told {read = read} (IsTold.report is) = IsTold.report (other_outcome read _ is)
-  other_told {read = read} (IsTold.fault f is) = IsTold.fault f (other_outcome read _ is)
+  other_told : {read : JobRead} {status : Status} {text : List ℕ} → IsToldAnswer (command.Run operators every steps workers) read status text
+      → IsToldAnswer (command.Run operators every steps more) read status text
+  other_told {read = read} (IsToldAnswer.report is) = IsToldAnswer.report (other_outcome read _ is)
+  other_told {read = read} (IsToldAnswer.fault f is) = IsToldAnswer.fault f (other_outcome read _ is)
 
 pub asked_told : (words : List Text) (bytes : List ℕ) (request : Request) (status : Status) (text : List ℕ) → AsksFor words request → IsServed words bytes status text
-    → IsTold request (job_of bytes) status text
+    → IsToldAnswer request (job_of bytes) status text
 asked_told words bytes request status text asks served =
-    subst (λ r. IsTold r (job_of bytes) status text) (same_request served.0 request (request_of words) served.1.is asks.is) served.2
+    subst (λ r. IsToldAnswer r (job_of bytes) status text) (same_request served.0 request (request_of words) served.1.is asks.is) served.2
 
 pub any_workers : (words others : List Text) (operators : List Op) (every steps workers more : ℕ) (bytes : List ℕ) (status other : Status) (text also : List ℕ)
     → Laws → AsksFor words (command.Run operators every steps workers) → AsksFor others (command.Run operators every steps more)

@@ -6,7 +6,7 @@ use Rattle.std.proofs.lemmas.List.Elements.{All-nil, All-cons, All-head, All-tai
 use Rattle.f77_program.specs.Program.{LineFields}
 use Rattle.f77_run.specs.declared.argument.Arg.{Arg}
 use Rattle.f77_run.specs.declared.outcome.Outcome.{Outcome}
-use Rattle.mothra_bench.specs.Bench.{AreFine, AreOutcomes, Ends, Fits, IsEnd, IsEntryTwice, IsFirstNot, IsKnownEntry, IsNoBench, IsUnknownEntry}
+use Rattle.mothra_bench.specs.Bench.{AreFine, AreOutcomes, EndsOn, FitsProgram, IsProgramEnd, IsEntryTwice, IsFirstNot, IsKnownEntry, IsNoBench, IsUnknownEntry}
 use Rattle.mothra_bench.specs.declared.fault.BenchFault.{BenchFault}
 use Rattle.mothra_bench.specs.declared.fault.BenchFault.TheVariants as bench
 use Rattle.mothra_codes.specs.declared.ticket.Ticket.{Ticket}
@@ -17,12 +17,12 @@ use Rattle.mothra_app.proofs.FirstBreaks.{all_hold, item_holds, one_cut, one_fir
 
 -- Why there is no bench, without want of memory.
 pub data IsRefused (plan : PlanFields) (tests : List (List Arg)) (steps : ℕ) (declared : List Ticket) : BenchFault → Type 0 where
-  misfit : {n : ℕ} → IsFirstNot (Fits (program_of plan)) tests n → IsRefused plan tests steps declared (bench.TestShape n)
-  failing : {n : ℕ} → All (Fits (program_of plan)) tests → IsFirstNot (Ends (program_of plan) steps) tests n
+  misfit : {n : ℕ} → IsFirstNot (FitsProgram (program_of plan)) tests n → IsRefused plan tests steps declared (bench.TestShape n)
+  failing : {n : ℕ} → All (FitsProgram (program_of plan)) tests → IsFirstNot (EndsOn (program_of plan) steps) tests n
       → IsRefused plan tests steps declared (bench.OriginalFails n)
-  unknown : {n : ℕ} → All (Fits (program_of plan)) tests → All (Ends (program_of plan) steps) tests → IsUnknownEntry plan declared n
+  unknown : {n : ℕ} → All (FitsProgram (program_of plan)) tests → All (EndsOn (program_of plan) steps) tests → IsUnknownEntry plan declared n
       → IsRefused plan tests steps declared (bench.EquivalentUnknown n)
-  twice : {n : ℕ} → All (Fits (program_of plan)) tests → All (Ends (program_of plan) steps) tests → IsEntryTwice plan declared n
+  twice : {n : ℕ} → All (FitsProgram (program_of plan)) tests → All (EndsOn (program_of plan) steps) tests → IsEntryTwice plan declared n
       → IsRefused plan tests steps declared (bench.EquivalentTwice n)
 
 pub refused : (plan : PlanFields) (tests : List (List Arg)) (steps : ℕ) (declared : List Ticket) (fault : BenchFault) → fault ≢ bench.Memory
@@ -115,20 +115,20 @@ one_refusal (IsRefused.twice fit end is) (IsRefused.twice fits ends also) = ap (
 
 -- where there is a bench, there is none
 pub never_refused : {plan : PlanFields} {tests : List (List Arg)} {steps : ℕ} {declared : List Ticket} {fault : BenchFault}
-    → IsRefused plan tests steps declared fault → All (Fits (program_of plan)) tests → All (Ends (program_of plan) steps) tests → AreFine plan declared → ⊥
+    → IsRefused plan tests steps declared fault → All (FitsProgram (program_of plan)) tests → All (EndsOn (program_of plan) steps) tests → AreFine plan declared → ⊥
 never_refused (IsRefused.misfit is) fit end fine = all_hold _ _ _ is fit
 never_refused (IsRefused.failing fits is) fit end fine = all_hold _ _ _ is end
 never_refused (IsRefused.unknown fits ends is) fit end fine = unknown_fails is (fine_behind is.before is.after is.entry is.cut fine)
 never_refused (IsRefused.twice fits ends is) fit end fine = twice_fails is (fine_behind is.before is.after is.entry is.cut fine)
 
 pub ends_all : (program : List LineFields) (steps : ℕ) (tests : List (List Arg)) (outcomes : List Outcome) → AreOutcomes program steps tests outcomes
-    → All IsEnd outcomes → All (Ends program steps) tests
-ends_all program steps [] [] are end = All-nil (Ends program steps)
+    → All IsProgramEnd outcomes → All (EndsOn program steps) tests
+ends_all program steps [] [] are end = All-nil (EndsOn program steps)
 ends_all program steps [] (outcome ∷ outcomes) are end = absurd are
 ends_all program steps (test ∷ tests) [] are end = absurd are
 ends_all program steps (test ∷ tests) (outcome ∷ outcomes) are end =
-    All-cons (Ends program steps) test tests (outcome, are.0, All-head IsEnd outcome outcomes end)
-    (ends_all program steps tests outcomes are.1 (All-tail IsEnd outcome outcomes end))
+    All-cons (EndsOn program steps) test tests (outcome, are.0, All-head IsProgramEnd outcome outcomes end)
+    (ends_all program steps tests outcomes are.1 (All-tail IsProgramEnd outcome outcomes end))
 
 -- ---- the same of a plan with the same lists
 
@@ -169,12 +169,12 @@ twice_moved one other entries n alike is = record {
 pub refused_moved : {tests : List (List Arg)} {steps : ℕ} {declared : List Ticket} {fault : BenchFault} (one other : PlanFields) → AreAlike one other
     → IsRefused one tests steps declared fault → IsRefused other tests steps declared fault
 refused_moved {tests} {steps} {declared} one other alike (IsRefused.misfit {n = n} is) =
-    IsRefused.misfit (subst (λ p. IsFirstNot (Fits p) tests n) alike.program is)
+    IsRefused.misfit (subst (λ p. IsFirstNot (FitsProgram p) tests n) alike.program is)
 refused_moved {tests} {steps} {declared} one other alike (IsRefused.failing {n = n} fit is) =
-    IsRefused.failing (subst (λ p. All (Fits p) tests) alike.program fit) (subst (λ p. IsFirstNot (Ends p steps) tests n) alike.program is)
+    IsRefused.failing (subst (λ p. All (FitsProgram p) tests) alike.program fit) (subst (λ p. IsFirstNot (EndsOn p steps) tests n) alike.program is)
 refused_moved {tests} {steps} {declared} one other alike (IsRefused.unknown {n = n} fit end is) =
-    IsRefused.unknown (subst (λ p. All (Fits p) tests) alike.program fit) (subst (λ p. All (Ends p steps) tests) alike.program end)
+    IsRefused.unknown (subst (λ p. All (FitsProgram p) tests) alike.program fit) (subst (λ p. All (EndsOn p steps) tests) alike.program end)
     (unknown_moved one other declared n alike is)
 refused_moved {tests} {steps} {declared} one other alike (IsRefused.twice {n = n} fit end is) =
-    IsRefused.twice (subst (λ p. All (Fits p) tests) alike.program fit) (subst (λ p. All (Ends p steps) tests) alike.program end)
+    IsRefused.twice (subst (λ p. All (FitsProgram p) tests) alike.program fit) (subst (λ p. All (EndsOn p steps) tests) alike.program end)
     (twice_moved one other declared n alike is)

@@ -3,7 +3,7 @@ use Rattle.std.proofs.Common.{◌≡◌, ◌∙◌, ℕ, List, sym, ap, refl, su
 use Rattle.f77_program.specs.Program.{LineFields}
 use Rattle.f77_run.specs.declared.argument.Arg.{Arg}
 use Rattle.f77_run.specs.declared.outcome.RunFault.{RunFault}
-use Rattle.mothra_app.specs.Executing.{IsRun, IsExecuted}
+use Rattle.mothra_app.specs.Executing.{IsRunLine, IsExecuted}
 use Rattle.mothra_job.specs.Job.{JobFields}
 use Rattle.mothra_app.specs.OutcomeLine.{outcome_line}
 use Rattle.mothra_app.specs.declared.fault.Fault.{Fault}
@@ -22,18 +22,18 @@ same_misfit f g o one two = cc
 same_arguments : (a b : List Arg) (o : Option (List Arg)) → o ≡ Some a → o ≡ Some b → a ≡ b
 same_arguments a b o one two = cc
 
-one_run : {program : List LineFields} {arguments : List Arg} {steps : ℕ} {line other : Line} → Laws → IsRun program arguments steps line
-    → IsRun program arguments steps other → line ≡ other
-one_run laws (IsRun.misfit is) (IsRun.misfit also) = ap (λ fault. Err (Run fault)) (same_misfit _ _ _ is also)
-one_run laws (IsRun.misfit is) (IsRun.outcome fits ends) = some_or_none _ _ is fits
-one_run laws (IsRun.outcome fits ends) (IsRun.misfit is) = some_or_none _ _ is fits
-one_run {program} {arguments} {steps} laws (IsRun.outcome fits ends) (IsRun.outcome also ends_too) =
+one_run : {program : List LineFields} {arguments : List Arg} {steps : ℕ} {line other : Line} → Laws → IsRunLine program arguments steps line
+    → IsRunLine program arguments steps other → line ≡ other
+one_run laws (IsRunLine.misfit is) (IsRunLine.misfit also) = ap (λ fault. Err (Run fault)) (same_misfit _ _ _ is also)
+one_run laws (IsRunLine.misfit is) (IsRunLine.outcome fits ends) = some_or_none _ _ is fits
+one_run laws (IsRunLine.outcome fits ends) (IsRunLine.misfit is) = some_or_none _ _ is fits
+one_run {program} {arguments} {steps} laws (IsRunLine.outcome fits ends) (IsRunLine.outcome also ends_too) =
     ap (λ answer. Ok (outcome_line answer)) (laws.one_run program arguments steps _ _ ends ends_too)
 
 moved : (program same : List LineFields) (arguments others : List Arg) {steps : ℕ} {line : Line} → program ≡ same → arguments ≡ others
-    → IsRun program arguments steps line → IsRun same others steps line
+    → IsRunLine program arguments steps line → IsRunLine same others steps line
 moved program same arguments others {steps = steps} {line = line} p a is =
-    subst (λ q. IsRun q others steps line) p (subst (λ b. IsRun program b steps line) a is)
+    subst (λ q. IsRunLine q others steps line) p (subst (λ b. IsRunLine program b steps line) a is)
 
 pub one_executed : {job : JobFields} {test steps : ℕ} {line other : Line} → Laws → IsExecuted job test steps line
     → IsExecuted job test steps other → line ≡ other

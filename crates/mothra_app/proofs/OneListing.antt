@@ -2,7 +2,7 @@
 use Rattle.std.proofs.Common.{arith, ◌≡◌, ◌∙◌, ◌<◌, ◌≤◌, ◌⊎◌, ◌++◌, ℕ, Bool, true, false, inl, inr, List, [], ◌∷◌, length, map, sym, ap, ap₂, refl, subst, cond, Ok, Err, Result}
 use Rattle.std.specs.Prelude.{Contains, filter, flat_map, sum}
 use Rattle.f77_program.specs.Program.{LineFields}
-use Rattle.mothra_app.specs.Listing.{IsListed, chosen, is_named, list_text, operator_lines, total_line}
+use Rattle.mothra_app.specs.Listing.{IsListed, operators_chosen, is_named, listing_text, listing_lines, total_line}
 use Rattle.mothra_app.specs.declared.fault.Fault.{Fault}
 use Rattle.mothra_app.specs.declared.fault.Fault.TheVariants.{Ops}
 use Rattle.mothra_codes.specs.Op.{all_ops, index}
@@ -60,10 +60,10 @@ agree lists others p same (op ∷ ops) = go (p op) refl (agree lists others p sa
     go false is rest = rest
 
 same_lines : (program : List LineFields) (every : ℕ) (lists others : Op → List Edit) (ops : List Op) → Agree lists others ops
-    → flat_map (λ op. operator_lines program every op (lists op)) ops ≡ flat_map (λ op. operator_lines program every op (others op)) ops
+    → flat_map (λ op. listing_lines program every op (lists op)) ops ≡ flat_map (λ op. listing_lines program every op (others op)) ops
 same_lines program every lists others [] are = refl
 same_lines program every lists others (op ∷ ops) are =
-    ap₂ (λ (edits : List Edit) (rest : List ℕ). operator_lines program every op edits ++ rest) are.0 (same_lines program every lists others ops are.1)
+    ap₂ (λ (edits : List Edit) (rest : List ℕ). listing_lines program every op edits ++ rest) are.0 (same_lines program every lists others ops are.1)
 
 same_counts : (lists others : Op → List Edit) (ops : List Op) → Agree lists others ops
     → map (λ op. length (lists op)) ops ≡ map (λ op. length (others op)) ops
@@ -71,11 +71,11 @@ same_counts lists others [] are = refl
 same_counts lists others (op ∷ ops) are = ap₂ (λ (edits : List Edit) (rest : List ℕ). length edits ∷ rest) are.0 (same_counts lists others ops are.1)
 
 same_list : (program : List LineFields) (every : ℕ) (ops : List Op) (lists others : Op → List Edit) → ((op : Op) → Contains ops op → lists op ≡ others op)
-    → list_text program every (chosen ops) lists ≡ list_text program every (chosen ops) others
+    → listing_text program every (operators_chosen ops) lists ≡ listing_text program every (operators_chosen ops) others
 same_list program every ops lists others same =
     let are = agree lists others (is_named ops) (λ op named. same op (named_in ops op named)) all_ops in
-    ap₂ (λ (lines : List ℕ) (counts : List ℕ). lines ++ total_line (sum counts)) (same_lines program every lists others (chosen ops) are)
-    (same_counts lists others (chosen ops) are)
+    ap₂ (λ (lines : List ℕ) (counts : List ℕ). lines ++ total_line (sum counts)) (same_lines program every lists others (operators_chosen ops) are)
+    (same_counts lists others (operators_chosen ops) are)
 
 -- ---- the command
 
@@ -100,5 +100,5 @@ one_listed laws some (IsListed.text p lists) (IsListed.too_many {op = op} q long
     never_long laws some (long_moved _ _ same long).long (lists op long.asked)
 one_listed {ops = ops} {every = every} laws some (IsListed.text {program = program} {lists = edits} p lists) (IsListed.text {program = also} {lists = others} q are) =
     let same = same_program _ _ (one_legal laws p q) in
-    ap Ok (ap (λ own. list_text own every (chosen ops) edits) same
+    ap Ok (ap (λ own. listing_text own every (operators_chosen ops) edits) same
     ∙ same_list also every ops edits others (λ op named. one_of laws (subst (λ own. IsList op own every (edits op)) same (lists op named)) (are op named)))

@@ -24,16 +24,16 @@ use Rattle.mothra_ops.specs.declared.edit.Edit.{Edit}
 -- the laws of the crates below
 pub record Laws : Type 0 where
   pub one_list : (source : List ℕ) (cards others : List CardFields) → AreCards 1 (lines source) cards → AreCards 1 (lines source) others → cards ≡ others
-  pub one_form_fault : (source : List ℕ) (fault other : FormFault) → form.IsFirstFault (lines source) fault → form.IsFirstFault (lines source) other → fault ≡ other
-  pub cards_or_fault : (source : List ℕ) (cards : List CardFields) (fault : FormFault) → AreCards 1 (lines source) cards → form.IsFirstFault (lines source) fault → ⊥
+  pub one_form_fault : (source : List ℕ) (fault other : FormFault) → form.IsFirstFormFault (lines source) fault → form.IsFirstFormFault (lines source) other → fault ≡ other
+  pub cards_or_fault : (source : List ℕ) (cards : List CardFields) (fault : FormFault) → AreCards 1 (lines source) cards → form.IsFirstFormFault (lines source) fault → ⊥
   pub one_program : (cards : List CardFields) (program others : List LineFields) → AreLines None cards program → AreLines None cards others → program ≡ others
-  pub one_syntax_fault : (cards : List CardFields) (fault other : SyntaxFault) → syntax.IsFirstFault None cards fault → syntax.IsFirstFault None cards other → fault ≡ other
+  pub one_syntax_fault : (cards : List CardFields) (fault other : SyntaxFault) → syntax.IsFirstSyntaxFault None cards fault → syntax.IsFirstSyntaxFault None cards other → fault ≡ other
   pub one_run : OneAnswer
   pub one_edit_list : (op : Op) (program : List LineFields) (one other : List Edit) → Lists (IsMember op program) one → Lists (IsMember op program) other → one ≡ other
   pub too_long : (op : Op) (program : List LineFields) (q : ℕ) (whole : List Edit) → 1 ≤ q → IsTooLong op program q → Lists (IsMember op program) whole
       → (most_edits < length (thinned q whole)) ⊎ (most_whole < length whole)
   pub one_report : (bench : BenchFields) (one other : List ℕ) → IsReport bench one → IsReport bench other → one ≡ other
-  pub program_or_fault : (cards : List CardFields) (program : List LineFields) (fault : SyntaxFault) → AreLines None cards program → syntax.IsFirstFault None cards fault → ⊥
+  pub program_or_fault : (cards : List CardFields) (program : List LineFields) (fault : SyntaxFault) → AreLines None cards program → syntax.IsFirstSyntaxFault None cards fault → ⊥
 
 abbrev pub Read : Type 0
 Read = Result (List LineFields) Fault
@@ -51,10 +51,10 @@ one_read laws (IsProgramOf.no_program x are f) (IsProgramOf.too_large y) = absur
 one_read laws (IsProgramOf.no_program x are f) (IsProgramOf.no_cards y g) = absurd (laws.cards_or_fault _ _ _ are g)
 one_read laws (IsProgramOf.no_program {fault = fault} x are f) (IsProgramOf.no_program y also g) =
     let same = laws.one_list _ _ _ are also in
-    ap (λ z. Err (Syntax z)) (laws.one_syntax_fault _ _ _ (subst (λ cards. syntax.IsFirstFault None cards fault) same f) g)
+    ap (λ z. Err (Syntax z)) (laws.one_syntax_fault _ _ _ (subst (λ cards. syntax.IsFirstSyntaxFault None cards fault) same f) g)
 one_read laws (IsProgramOf.no_program {fault = fault} x are f) (IsProgramOf.program y also q) =
     let same = laws.one_list _ _ _ are also in
-    absurd (laws.program_or_fault _ _ _ q (subst (λ cards. syntax.IsFirstFault None cards fault) same f))
+    absurd (laws.program_or_fault _ _ _ q (subst (λ cards. syntax.IsFirstSyntaxFault None cards fault) same f))
 one_read laws (IsProgramOf.program x are p) (IsProgramOf.too_large y) = absurd (omega arith)
 one_read laws (IsProgramOf.program x are p) (IsProgramOf.no_cards y g) = absurd (laws.cards_or_fault _ _ _ are g)
 one_read laws (IsProgramOf.program {program = program} x are p) (IsProgramOf.no_program y also g) =

@@ -9,7 +9,7 @@ use Rattle.mothra_app.specs.Reporting.{IsBenchOf, IsPlanOf, IsReported}
 use Rattle.mothra_app.specs.declared.fault.Fault.{Fault}
 use Rattle.mothra_app.specs.declared.fault.Fault.TheVariants.{Bench, Ops}
 use Rattle.mothra_bench.specs.Analysis.{IsReport}
-use Rattle.mothra_bench.specs.Bench.{AreFine, BenchFields, Ends, Fits, IsNoBench}
+use Rattle.mothra_bench.specs.Bench.{AreFine, BenchFields, EndsOn, FitsProgram, IsNoBench}
 use Rattle.mothra_bench.specs.Collecting.{IsDeclared}
 use Rattle.mothra_bench.specs.Matrix.{counts, score_of, tickets, tickets_of}
 use Rattle.mothra_bench.specs.Report as report
@@ -142,9 +142,9 @@ not_both {job} {ops} {every} {steps} {program} plan f bench laws source is own n
     let plans = alike plan bench.plan laws (moved program of.program plan same is) of.plan in
     let reason = refused_moved plan bench.plan plans (refused plan job.suite steps job.equivalent f own none) in
     let own_program = program_of bench.plan in
-    let fit = subst (λ tests. All (Fits own_program) tests) of.tests of.is.fit in
-    let end = subst (λ tests. All (Ends own_program steps) tests) of.tests
-    (subst (λ limit. All (Ends own_program limit) bench.tests) of.limit
+    let fit = subst (λ tests. All (FitsProgram own_program) tests) of.tests of.is.fit in
+    let end = subst (λ tests. All (EndsOn own_program steps) tests) of.tests
+    (subst (λ limit. All (EndsOn own_program limit) bench.tests) of.limit
     (ends_all own_program bench.steps bench.tests bench.outcomes of.is.outcomes of.is.end)) in
     absurd (never_refused reason fit end (subst (AreFine bench.plan) of.declared of.is.declared))
 

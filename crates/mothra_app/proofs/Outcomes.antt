@@ -1,11 +1,12 @@
 -- From what the call of a command answers to what the command comes to, and to the answer.
 use Rattle.std.proofs.Common.{◌≡◌, ◌≤◌, ◌⊎◌, inl, inr, ℕ, List, sym, subst, Result, Ok, Err, MatchResult, String, Global, string_bytes}
 use Rattle.std.specs.Prelude.{Contains}
-use Rattle.mothra_app.specs.Answer.{IsMade, IsOutcome, IsTold, IsAnswer, IsReportAnswer}
+use Rattle.mothra_app.specs.code.Answer.{IsMade, IsReportAnswer}
+use Rattle.mothra_app.specs.Answer.{IsRequestOutcome, IsToldAnswer, IsAnswer}
 use Rattle.mothra_app.specs.Executing.{IsExecuted}
 use Rattle.mothra_app.specs.Fault.{MayFailBy, of_programs, of_runs, of_mutants}
 use Rattle.mothra_job.specs.Job.{JobFields, JobRead}
-use Rattle.mothra_app.specs.Line.{line_of}
+use Rattle.mothra_app.specs.Line.{fault_line}
 use Rattle.mothra_app.specs.Listing.{IsListed}
 use Rattle.mothra_app.specs.Printing.{IsPrinted}
 use Rattle.mothra_app.specs.Reporting.{IsBenchOf, IsReported}
@@ -31,7 +32,7 @@ Text = Result (String Global) Fault
 -- the command comes to this text or this fault, or memory ran out
 abbrev pub Comes : Request → JobRead → Text → Type 0
 Comes request read text =
-    MatchResult text (λ t. IsOutcome request read (Ok (string_bytes t))) (λ fault. IsOutcome request read (Err fault) ⊎ MayFailBy request fault)
+    MatchResult text (λ t. IsRequestOutcome request read (Ok (string_bytes t))) (λ fault. IsRequestOutcome request read (Err fault) ⊎ MayFailBy request fault)
 
 print_comes : (job : JobFields) (source : List ℕ) (text : Text) → source ≡ job.source
     → MatchResult text (λ t. IsPrinted source (Ok (string_bytes t))) (λ fault. IsPrinted source (Err fault) ⊎ Contains of_programs fault)
@@ -89,7 +90,7 @@ listed request job read source named operators every text is of_job same own com
 -- the command is made into this, or comes to this fault, or another comes in its place
 abbrev pub Makes : Request → JobRead → Result Product Fault → Type 0
 Makes request read result =
-    MatchResult result (IsMade read request) (λ fault. IsOutcome request read (Err fault) ⊎ MayFailBy request fault)
+    MatchResult result (IsMade read request) (λ fault. IsRequestOutcome request read (Err fault) ⊎ MayFailBy request fault)
 
 pub text_made : (request : Request) (read : JobRead) (text : String Global) → Comes request read (Ok text) → Makes request read (Ok (product.Text text))
 text_made request read text is = IsMade.of_text is
@@ -106,15 +107,15 @@ bench_made request job read named operators every steps workers bench is of_job 
 
 pub text_told : (request : Request) (read : JobRead) (text : String Global) → IsMade read request (product.Text text)
     → IsAnswer request read status.Report (string_bytes text)
-text_told request read text (IsMade.of_text is) = IsAnswer.told (IsTold.report is)
+text_told request read text (IsMade.of_text is) = IsAnswer.told (IsToldAnswer.report is)
 
-fault_answered : (request : Request) (read : JobRead) (fault : Fault) (text : List ℕ) → text ≡ line_of fault
-    → IsOutcome request read (Err fault) ⊎ MayFailBy request fault → IsAnswer request read status.Fault text
-fault_answered request read fault text line (inl is) = subst (IsAnswer request read status.Fault) (sym line) (IsAnswer.told (IsTold.fault fault is))
+fault_answered : (request : Request) (read : JobRead) (fault : Fault) (text : List ℕ) → text ≡ fault_line fault
+    → IsRequestOutcome request read (Err fault) ⊎ MayFailBy request fault → IsAnswer request read status.Fault text
+fault_answered request read fault text line (inl is) = subst (IsAnswer request read status.Fault) (sym line) (IsAnswer.told (IsToldAnswer.fault fault is))
 fault_answered request read fault text line (inr may) = subst (IsAnswer request read status.Fault) (sym line) (IsAnswer.broken_off fault may)
 
-pub fault_told : (request : Request) (read : JobRead) (fault : Fault) (s : Status) (text : List ℕ) → s ≡ status.Fault → text ≡ line_of fault
-    → IsOutcome request read (Err fault) ⊎ MayFailBy request fault → IsAnswer request read s text
+pub fault_told : (request : Request) (read : JobRead) (fault : Fault) (s : Status) (text : List ℕ) → s ≡ status.Fault → text ≡ fault_line fault
+    → IsRequestOutcome request read (Err fault) ⊎ MayFailBy request fault → IsAnswer request read s text
 fault_told request read fault s text is line told =
     subst (λ v. IsAnswer request read v text) (sym is) (fault_answered request read fault text line told)
 
@@ -127,12 +128,12 @@ pub report_answered : (request : Request) (read : JobRead) (bench : BenchFields)
     → IsMade read request (product.Bench bench workers) → IsReportAnswer bench s text → IsAnswer request read s text
 report_answered request read bench workers s text (IsMade.of_bench {operators = operators} {every = every} {steps = steps} is of few) (IsReportAnswer.report {text = report} reports) =
     IsAnswer.told
-    (IsTold.report (subst (λ r. IsOutcome (command.Run operators every steps workers) r (Ok report)) (sym is) (IsReported.report of reports)))
+    (IsToldAnswer.report (subst (λ r. IsRequestOutcome (command.Run operators every steps workers) r (Ok report)) (sym is) (IsReported.report of reports)))
 report_answered request read bench workers s text (IsMade.of_bench is of few) (IsReportAnswer.broken_off fault none) =
     IsAnswer.broken_off (Bench fault) none
 
 pub report_refused : (bench : BenchFields) (fault : BenchFault) (s : Status) (text : List ℕ) → IsNoReport fault → s ≡ status.Fault
-    → text ≡ line_of (Bench fault) → IsReportAnswer bench s text
+    → text ≡ fault_line (Bench fault) → IsReportAnswer bench s text
 report_refused bench fault s text none is line =
     subst (λ v. IsReportAnswer bench v text) (sym is)
     (subst (IsReportAnswer bench status.Fault) (sym line) (IsReportAnswer.broken_off fault none))

@@ -36,7 +36,7 @@ form_refused source (form.LooseContinuation line) is = inl (IsProgramOf.no_cards
 form_refused source (form.TooManyContinuations line) is = inl (IsProgramOf.no_cards is.0 is.1)
 
 pub syntax_refused : (source : List ℕ) (cards : List CardFields) (fault : SyntaxFault) → length source ≤ 65536 → AreCards 1 (lines source) cards
-    → (fault ≡ syntax.Memory) ⊎ parsing.IsFirstFault None cards fault → IsProgramOf source (Err (Syntax fault)) ⊎ Contains of_programs (Syntax fault)
+    → (fault ≡ syntax.Memory) ⊎ parsing.IsFirstSyntaxFault None cards fault → IsProgramOf source (Err (Syntax fault)) ⊎ Contains of_programs (Syntax fault)
 syntax_refused source cards fault within are (inl is) = inr (subst (λ f. Contains of_programs (Syntax f)) (sym is) syntax_in)
 syntax_refused source cards fault within are (inr first) = inl (IsProgramOf.no_program within are first)
 

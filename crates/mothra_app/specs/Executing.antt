@@ -13,17 +13,24 @@ use Rattle.mothra_app.specs.declared.fault.Fault.{Fault}
 use Rattle.mothra_app.specs.declared.fault.Fault.TheVariants.{Job, Run}
 use Rattle.mothra_job.specs.declared.job.JobFault.TheVariants.{NoTest}
 
--- The line of the outcome of a run with these arguments within so many steps, or why the program is not run.
-pub data IsRun (program : List LineFields) (arguments : List Arg) (steps : ℕ) : Result (List ℕ) Fault → Type 0 where
-  misfit : {fault : RunFault} → refusal (shapes program) arguments ≡ Some fault → IsRun program arguments steps (Err (Run fault))
-  outcome : {answer : Outcome} → refusal (shapes program) arguments ≡ None → IsOutcomeOf program arguments steps answer
-      → IsRun program arguments steps (Ok (outcome_line answer))
+-- The line of the outcome of a run with these arguments
+-- within so many steps, or why the program is not run.
+pub data IsRunLine (program : List LineFields) (arguments : List Arg) (steps : ℕ) : Result (List ℕ)
+    Fault → Type 0 where
+  misfit : {fault : RunFault} → refusal (shapes program) arguments ≡ Some fault
+      → IsRunLine program arguments steps (Err (Run fault))
+  outcome : {answer : Outcome}
+      → refusal (shapes program) arguments ≡ None → IsOutcomeOf program arguments steps answer
+      → IsRunLine program arguments steps (Ok (outcome_line answer))
 
 -- What a test of a job comes to within so many steps. J8 comes behind the faults of the program.
 pub data IsExecuted (job : JobFields) (test steps : ℕ) : Result (List ℕ) Fault → Type 0 where
-  no_program : {fault : Fault} → IsLegalProgramOf job.source (Err fault) → IsExecuted job test steps (Err fault)
-  no_test : {program : List LineFields} → IsLegalProgramOf job.source (Ok program) → test_at job.suite test ≡ None
+  no_program : {fault : Fault}
+      → IsLegalProgramOf job.source (Err fault) → IsExecuted job test steps (Err fault)
+  no_test : {program : List LineFields}
+      → IsLegalProgramOf job.source (Ok program) → test_at job.suite test ≡ None
       → IsExecuted job test steps (Err (Job (NoTest test)))
   run : {program : List LineFields} {arguments : List Arg} {outcome : Result (List ℕ) Fault}
-      → IsLegalProgramOf job.source (Ok program) → test_at job.suite test ≡ Some arguments → IsRun program arguments steps outcome
+      → IsLegalProgramOf job.source (Ok program)
+      → test_at job.suite test ≡ Some arguments → IsRunLine program arguments steps outcome
       → IsExecuted job test steps outcome

@@ -12,7 +12,8 @@ use Rattle.mothra_cli.specs.declared.request.Request.{Request}
 use Rattle.mothra_cli.specs.declared.request.Request.TheVariants as command
 use Rattle.mothra_ops.specs.declared.fault.OpsFault.TheVariants as ops
 
--- want of memory for a program, F1 or S1; for a legal one, C1 too; for a run, N1 too; for its mutants, O1 too
+-- want of memory for a program, F1 or S1; for a legal
+-- one, C1 too; for a run, N1 too; for its mutants, O1 too
 abbrev pub of_programs : List Fault
 of_programs = Form form.Memory ∷ Syntax syntax.Memory ∷ []
 
@@ -25,18 +26,20 @@ of_runs = Run run.Memory ∷ of_legal_programs
 abbrev pub of_mutants : List Fault
 of_mutants = Ops ops.Memory ∷ of_legal_programs
 
--- want of memory, which may come in place of any other answer of the command; of `run` there are more
-abbrev pub memory_faults : Request → List Fault
-memory_faults command.Print = Job job.Memory ∷ of_programs
-memory_faults (command.Exec test steps) = Job job.Memory ∷ of_runs
-memory_faults (command.List operators every) = Job job.Memory ∷ of_mutants
-memory_faults (command.Run operators every steps workers) = Job job.Memory ∷ of_mutants
+-- want of memory, which may come in place of any other
+-- answer of the command; of `run` there are more
+abbrev pub request_memory_faults : Request → List Fault
+request_memory_faults command.Print = Job job.Memory ∷ of_programs
+request_memory_faults (command.Exec test steps) = Job job.Memory ∷ of_runs
+request_memory_faults (command.List operators every) = Job job.Memory ∷ of_mutants
+request_memory_faults (command.Run operators every steps workers) = Job job.Memory ∷ of_mutants
 
--- what may come in place of any other answer of the command: want of memory, and of `run` a thread that could not begin
+-- what may come in place of any other answer of the command:
+-- want of memory, and of `run` a thread that could not begin
 abbrev pub MayFailRun : Fault → Type 0
 MayFailRun (Bench fault) = IsNoReport fault
 MayFailRun fault = Contains (Job job.Memory ∷ of_mutants) fault
 
 abbrev pub MayFailBy : Request → Fault → Type 0
 MayFailBy (command.Run operators every steps workers) fault = MayFailRun fault
-MayFailBy request fault = Contains (memory_faults request) fault
+MayFailBy request fault = Contains (request_memory_faults request) fault

@@ -14,7 +14,7 @@ use Rattle.mothra_cli.specs.Request.{IsTaken}
 use Rattle.mothra_cli.specs.declared.request.Request.{Request}
 use Rattle.mothra_app.specs.Fault.{MayFailBy}
 use Rattle.mothra_job.specs.Job.{JobFields, JobRead}
-use Rattle.mothra_app.specs.Line.{line_of}
+use Rattle.mothra_app.specs.Line.{fault_line}
 use Rattle.mothra_app.specs.Reporting.{IsBenchOf}
 use Rattle.mothra_app.specs.Serving.{AsksFor, IsServed}
 use Rattle.mothra_app.specs.declared.fault.Fault.{Fault}
@@ -25,9 +25,11 @@ use Rattle.mothra_app.specs.declared.status.Status.TheVariants as status
 
 -- ---- the headline
 
--- The text is the report of a bench of the job that was read. A report has each mutant of the bench's plan once, in order, with the verdict of
--- running it alone. The number of workers is no argument of it.
-pub record ReportsJob (read : JobRead) (ops : List Op) (every steps : ℕ) (text : List ℕ) : Type 0 where
+-- The text is the report of a bench of the job that was read. A report
+-- has each mutant of the bench's plan once, in order, with the verdict
+-- of running it alone. The number of workers is no argument of it.
+pub record ReportsJob (read : JobRead) (ops : List Op) (every steps : ℕ)
+    (text : List ℕ) : Type 0 where
   pub job : JobFields
   pub is_job : read ≡ Ok job
   pub bench : BenchFields
@@ -36,16 +38,18 @@ pub record ReportsJob (read : JobRead) (ops : List Op) (every steps : ℕ) (text
 
 -- ---- no false refusal
 
--- a legal job: the command line refuses the words for want of memory alone, and the words and the bytes are served with this report
+-- a legal job: the command line refuses the words for want of memory
+-- alone, and the words and the bytes are served with this report
 pub record IsLegalJob (words : List Text) (bytes report : List ℕ) : Type 0 where
   pub taken : IsTaken words
   pub served : IsServed words bytes status.Report report
 
--- What a legal job may be answered with: its report; or the line of a fault, which may come in place of any answer to what the words ask for.
+-- What a legal job may be answered with: its report; or the line of a
+-- fault, which may come in place of any answer to what the words ask for.
 pub data IsFairAnswer (words : List Text) (report : List ℕ) : Status → List ℕ → Type 0 where
   whole : IsFairAnswer words report status.Report report
   broken_off : {request : Request} (fault : Fault) → AsksFor words request → MayFailBy request fault
-      → IsFairAnswer words report status.Fault (line_of fault)
+      → IsFairAnswer words report status.Fault (fault_line fault)
 
 -- want of memory, with the code J1, F1, S1, C1, N1, O1 or B1, or of a thread, B2
 abbrev pub IsWant : Fault → Type 0

@@ -10,3 +10,4 @@ pub mod Status
 pub mod Answer
 pub mod Serving
 pub mod Law
+pub mod code

@@ -28,11 +28,11 @@ abbrev pub numbered_line : List ℕ → ℕ → List ℕ
 numbered_line code n = codes "FAULT " ++ (code ++ (codes " " ++ (decimal n ++ codes "\n")))
 
 -- a question mark, 63, for each character outside 32 to 126
-abbrev pub shown : ℕ → ℕ
-shown c = if nat_le 32 c && nat_le c 126 then c else 63
+abbrev pub shown_character : ℕ → ℕ
+shown_character c = if nat_le 32 c && nat_le c 126 then c else 63
 
 abbrev pub printable : List ℕ → List ℕ
-printable name = map shown (chars name)
+printable name = map shown_character (chars name)
 
 abbrev pub named_line : List ℕ → List ℕ → List ℕ
 named_line code name = codes "FAULT " ++ (code ++ (codes " " ++ (printable name ++ codes "\n")))
@@ -95,8 +95,9 @@ ops_line ops.NotASite = plain_line (codes "O2")
 ops_line (ops.TooMany op) = named_line (codes "O3") (code_of op)
 
 -- the detail is the name of a mutant
-abbrev pub mutant_line : List ℕ → Ticket → List ℕ
-mutant_line code t = codes "FAULT " ++ (code ++ (codes " " ++ (code_of t.op ++ (codes " " ++ (decimal t.number ++ codes "\n")))))
+abbrev pub mutant_fault_line : List ℕ → Ticket → List ℕ
+mutant_fault_line code t = codes "FAULT "
+    ++ (code ++ (codes " " ++ (code_of t.op ++ (codes " " ++ (decimal t.number ++ codes "\n")))))
 
 abbrev pub bench_line : BenchFault → List ℕ
 bench_line bench.Memory = plain_line (codes "B1")
@@ -105,16 +106,16 @@ bench_line (bench.TestShape test) = numbered_line (codes "B3") test
 bench_line (bench.OriginalFails test) = numbered_line (codes "B4") test
 bench_line (bench.EquivalentUnknown entry) = numbered_line (codes "B5") entry
 bench_line (bench.EquivalentTwice entry) = numbered_line (codes "B6") entry
-bench_line (bench.Double ticket) = mutant_line (codes "B7") ticket
-bench_line (bench.Stranger ticket) = mutant_line (codes "B8") ticket
-bench_line (bench.Missing ticket) = mutant_line (codes "B9") ticket
+bench_line (bench.Double ticket) = mutant_fault_line (codes "B7") ticket
+bench_line (bench.Stranger ticket) = mutant_fault_line (codes "B8") ticket
+bench_line (bench.Missing ticket) = mutant_fault_line (codes "B9") ticket
 bench_line bench.Stalled = plain_line (codes "B10")
 
-unfoldable pub line_of : Fault → List ℕ
-line_of (Job fault) = job_line fault
-line_of (Form fault) = form_line fault
-line_of (Syntax fault) = syntax_line fault
-line_of (Check fault) = check_line fault
-line_of (Run fault) = run_line fault
-line_of (Ops fault) = ops_line fault
-line_of (Bench fault) = bench_line fault
+unfoldable pub fault_line : Fault → List ℕ
+fault_line (Job fault) = job_line fault
+fault_line (Form fault) = form_line fault
+fault_line (Syntax fault) = syntax_line fault
+fault_line (Check fault) = check_line fault
+fault_line (Run fault) = run_line fault
+fault_line (Ops fault) = ops_line fault
+fault_line (Bench fault) = bench_line fault

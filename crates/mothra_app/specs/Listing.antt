@@ -1,5 +1,6 @@
 -- The command `list`: the mutants of the program of a job.
-use Rattle.std.specs.Prelude.{◌==◌, ℕ, Bool, List, ◌++◌, Contains, Result, Ok, Err, codes, filter, flat_map, length, map, sum}
+use Rattle.std.specs.Prelude.{◌==◌, ℕ, Bool, List, ◌++◌, Contains, Result, Ok}
+use Rattle.std.specs.Prelude.{Err, codes, filter, flat_map, length, map, sum}
 use Rattle.std.specs.Fmt.{decimal}
 use Rattle.std.specs.List.{enumerate_from, list_any}
 use Rattle.f77_program.specs.Program.{LineFields}
@@ -9,7 +10,7 @@ use Rattle.mothra_app.specs.declared.fault.Fault.TheVariants.{Ops}
 use Rattle.mothra_codes.specs.Op.{all_ops, code_of, index}
 use Rattle.mothra_codes.specs.declared.op.Op.{Op}
 use Rattle.mothra_ops.specs.Edits.{IsList}
-use Rattle.mothra_ops.specs.Mutants.{edit_text, program_of}
+use Rattle.mothra_ops.specs.Mutants.{edit_text}
 use Rattle.mothra_ops.specs.Plan.{IsFirstTooLong, PlanFields, asked, edits_of}
 use Rattle.mothra_ops.specs.declared.edit.Edit.{Edit}
 use Rattle.mothra_ops.specs.declared.fault.OpsFault.TheVariants.{TooMany}
@@ -21,38 +22,31 @@ abbrev pub count_line : Op → ℕ → List ℕ
 count_line op count = code_of op ++ (codes " " ++ (decimal count ++ codes "\n"))
 
 -- the mutant of this number
-abbrev pub mutant_line : List LineFields → ℕ → Op → ℕ × Edit → List ℕ
-mutant_line program every op numbered = edit_text program every op numbered.0 numbered.1 ++ codes "\n"
+abbrev pub listed_line : List LineFields → ℕ → Op → ℕ × Edit → List ℕ
+listed_line program every op numbered =
+    edit_text program every op numbered.0 numbered.1 ++ codes "\n"
 
 -- an operator that has these edits: how many, and then each by its number, from 1
-abbrev pub operator_lines : List LineFields → ℕ → Op → List Edit → List ℕ
-operator_lines program every op edits =
-    count_line op (length edits) ++ flat_map (mutant_line program every op) (enumerate_from 1 edits)
+abbrev pub listing_lines : List LineFields → ℕ → Op → List Edit → List ℕ
+listing_lines program every op edits =
+    count_line op (length edits) ++ flat_map (listed_line program every op) (enumerate_from 1 edits)
 
 abbrev pub total_line : ℕ → List ℕ
 total_line count = codes "TOTAL " ++ (decimal count ++ codes "\n")
 
 -- these operators in their order, and last how many mutants they have in all
-abbrev pub list_text : List LineFields → ℕ → List Op → (Op → List Edit) → List ℕ
-list_text program every ops lists =
-    flat_map (λ op. operator_lines program every op (lists op)) ops ++ total_line (sum (map (λ op. length (lists op)) ops))
+abbrev pub listing_text : List LineFields → ℕ → List Op → (Op → List Edit) → List ℕ
+listing_text program every ops lists =
+    flat_map (λ op. listing_lines program every op (lists op)) ops
+    ++ total_line (sum (map (λ op. length (lists op)) ops))
 
 -- ---- of a plan
-
-abbrev pub plan_lines : PlanFields → Op → List ℕ
-plan_lines plan op = operator_lines (program_of plan) plan.every op (edits_of plan op)
 
 abbrev pub asked_ops : PlanFields → List Op
 asked_ops plan = filter (asked plan) all_ops
 
-abbrev pub asked_lines : PlanFields → List ℕ
-asked_lines plan = flat_map (plan_lines plan) (asked_ops plan)
-
 abbrev pub asked_total : PlanFields → ℕ
 asked_total plan = sum (map (λ op. length (edits_of plan op)) (asked_ops plan))
-
-abbrev pub plan_text : PlanFields → List ℕ
-plan_text plan = list_text (program_of plan) plan.every (asked_ops plan) (edits_of plan)
 
 -- ---- the command
 
@@ -60,14 +54,17 @@ abbrev pub is_named : List Op → Op → Bool
 is_named ops op = list_any (λ named. index named == index op) ops
 
 -- the operators that are named, each once, in the order of all
-abbrev pub chosen : List Op → List Op
-chosen ops = filter (is_named ops) all_ops
+abbrev pub operators_chosen : List Op → List Op
+operators_chosen ops = filter (is_named ops) all_ops
 
 -- What `list` comes to for these operators, of whose lists each item is kept that `--every` says.
-pub data IsListed (source : List ℕ) (ops : List Op) (every : ℕ) : Result (List ℕ) Fault → Type 0 where
-  no_program : {fault : Fault} → IsLegalProgramOf source (Err fault) → IsListed source ops every (Err fault)
-  too_many : {program : List LineFields} {op : Op} → IsLegalProgramOf source (Ok program) → IsFirstTooLong ops program every op
+pub data IsListed (source : List ℕ) (ops : List Op) (every : ℕ) : Result (List ℕ) Fault
+    → Type 0 where
+  no_program : {fault : Fault}
+      → IsLegalProgramOf source (Err fault) → IsListed source ops every (Err fault)
+  too_many : {program : List LineFields} {op : Op}
+      → IsLegalProgramOf source (Ok program) → IsFirstTooLong ops program every op
       → IsListed source ops every (Err (Ops (TooMany op)))
   text : {program : List LineFields} {lists : Op → List Edit} → IsLegalProgramOf source (Ok program)
       → ((op : Op) → Contains ops op → IsList op program every (lists op))
-      → IsListed source ops every (Ok (list_text program every (chosen ops) lists))
+      → IsListed source ops every (Ok (listing_text program every (operators_chosen ops) lists))

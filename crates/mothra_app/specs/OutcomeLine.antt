@@ -7,8 +7,8 @@ use Rattle.f77_run.specs.declared.argument.Arg.TheVariants.{Int, Truth, Ints, Tr
 use Rattle.f77_run.specs.declared.outcome.Outcome.{Outcome}
 use Rattle.f77_run.specs.declared.outcome.Outcome.TheVariants as outcome
 
-abbrev pub truth_text : Bool → List ℕ
-truth_text b = if b then codes "T" else codes "F"
+abbrev pub truth_letter : Bool → List ℕ
+truth_letter b = if b then codes "T" else codes "F"
 
 -- the elements of an array, joined by commas
 abbrev pub array_text : {A : Type 0} → (A → List ℕ) → List A → List ℕ
@@ -16,9 +16,9 @@ array_text text xs = codes "(" ++ (separated text [] xs ++ codes ")")
 
 abbrev pub argument_text : Arg → List ℕ
 argument_text (Int z) = signed_decimal z
-argument_text (Truth b) = truth_text b
+argument_text (Truth b) = truth_letter b
 argument_text (Ints zs) = array_text signed_decimal zs
-argument_text (Truths bs) = array_text truth_text bs
+argument_text (Truths bs) = array_text truth_letter bs
 
 -- each argument after one blank
 abbrev pub arguments_text : List Arg → List ℕ

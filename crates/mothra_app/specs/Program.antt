@@ -17,16 +17,21 @@ use Rattle.mothra_app.specs.declared.fault.Fault.TheVariants.{Form, Syntax, Chec
 -- The program that a source is, or its first fault: that of its lines, else that of its cards.
 pub data IsProgramOf (source : List ℕ) : Result (List LineFields) Fault → Type 0 where
   too_large : 65536 < length source → IsProgramOf source (Err (Form TooLarge))
-  no_cards : {fault : FormFault} → length source ≤ 65536 → form.IsFirstFault (lines source) fault
+  no_cards : {fault : FormFault}
+      → length source ≤ 65536 → form.IsFirstFormFault (lines source) fault
       → IsProgramOf source (Err (Form fault))
-  no_program : {cards : List CardFields} {fault : SyntaxFault} → length source ≤ 65536 → AreCards 1 (lines source) cards
-      → syntax.IsFirstFault None cards fault → IsProgramOf source (Err (Syntax fault))
-  program : {cards : List CardFields} {program : List LineFields} → length source ≤ 65536 → AreCards 1 (lines source) cards
+  no_program : {cards : List CardFields} {fault : SyntaxFault}
+      → length source ≤ 65536 → AreCards 1 (lines source) cards
+      → syntax.IsFirstSyntaxFault None cards fault → IsProgramOf source (Err (Syntax fault))
+  program : {cards : List CardFields} {program : List LineFields}
+      → length source ≤ 65536 → AreCards 1 (lines source) cards
       → AreLines None cards program → IsProgramOf source (Ok program)
 
 -- The legal program that a source is, or its first fault.
 pub data IsLegalProgramOf (source : List ℕ) : Result (List LineFields) Fault → Type 0 where
-  no_program : {fault : Fault} → IsProgramOf source (Err fault) → IsLegalProgramOf source (Err fault)
+  no_program : {fault : Fault}
+      → IsProgramOf source (Err fault) → IsLegalProgramOf source (Err fault)
   not_legal : {program : List LineFields} {fault : CheckFault} → IsProgramOf source (Ok program)
       → first_fault program ≡ Some fault → IsLegalProgramOf source (Err (Check fault))
-  legal : {program : List LineFields} → IsProgramOf source (Ok program) → IsLegal program → IsLegalProgramOf source (Ok program)
+  legal : {program : List LineFields}
+      → IsProgramOf source (Ok program) → IsLegal program → IsLegalProgramOf source (Ok program)

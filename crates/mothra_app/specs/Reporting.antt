@@ -15,14 +15,17 @@ use Rattle.mothra_ops.specs.Plan.{IsFirstTooLong, IsPlan, PlanFields, asked}
 use Rattle.mothra_ops.specs.declared.fault.OpsFault.TheVariants.{TooMany}
 
 -- the plan of the program for these operators, of whose lists each item is kept that `--every` says
-pub record IsPlanOf (program : List LineFields) (ops : List Op) (every : ℕ) (plan : PlanFields) : Type 0 where
+pub record IsPlanOf (program : List LineFields) (ops : List Op) (every : ℕ)
+    (plan : PlanFields) : Type 0 where
   pub own : program_of plan ≡ program
   pub kept : plan.every ≡ every
   pub asked : (op : Op) → IsTrue (asked plan op) ↔ Contains ops op
   pub is : IsPlan plan
 
--- the bench of a job: the plan of its program, its tests, the limit on steps, and the mutants that it declares equivalent
-pub record IsBenchOf (job : JobFields) (ops : List Op) (every steps : ℕ) (bench : BenchFields) : Type 0 where
+-- the bench of a job: the plan of its program, its tests, the
+-- limit on steps, and the mutants that it declares equivalent
+pub record IsBenchOf (job : JobFields) (ops : List Op) (every steps : ℕ)
+    (bench : BenchFields) : Type 0 where
   pub program : List LineFields
   pub legal : IsLegalProgramOf job.source (Ok program)
   pub plan : IsPlanOf program ops every bench.plan
@@ -31,13 +34,20 @@ pub record IsBenchOf (job : JobFields) (ops : List Op) (every steps : ℕ) (benc
   pub declared : bench.declared ≡ job.equivalent
   pub is : IsBench bench
 
--- What `run` comes to for these operators within so many steps. The number of workers is no argument of it.
-pub data IsReported (job : JobFields) (ops : List Op) (every steps : ℕ) : Result (List ℕ) Fault → Type 0 where
-  no_program : {fault : Fault} → IsLegalProgramOf job.source (Err fault) → IsReported job ops every steps (Err fault)
-  too_many : {program : List LineFields} {op : Op} → IsLegalProgramOf job.source (Ok program) → IsFirstTooLong ops program every op
+-- What `run` comes to for these operators within so many
+-- steps. The number of workers is no argument of it.
+pub data IsReported (job : JobFields) (ops : List Op) (every steps : ℕ) : Result (List ℕ) Fault
+    → Type 0 where
+  no_program : {fault : Fault}
+      → IsLegalProgramOf job.source (Err fault) → IsReported job ops every steps (Err fault)
+  too_many : {program : List LineFields} {op : Op}
+      → IsLegalProgramOf job.source (Ok program) → IsFirstTooLong ops program every op
       → IsReported job ops every steps (Err (Ops (TooMany op)))
-  no_bench : {program : List LineFields} {plan : PlanFields} {fault : BenchFault} → IsLegalProgramOf job.source (Ok program)
-      → IsPlanOf program ops every plan → fault ≢ Memory → IsNoBench plan job.suite steps job.equivalent fault
+  no_bench : {program : List LineFields} {plan : PlanFields} {fault : BenchFault}
+      → IsLegalProgramOf job.source (Ok program)
+      → IsPlanOf program ops every plan
+      → fault ≢ Memory → IsNoBench plan job.suite steps job.equivalent fault
       → IsReported job ops every steps (Err (Bench fault))
-  report : {bench : BenchFields} {text : List ℕ} → IsBenchOf job ops every steps bench → IsReport bench text
+  report : {bench : BenchFields} {text : List ℕ}
+      → IsBenchOf job ops every steps bench → IsReport bench text
       → IsReported job ops every steps (Ok text)

@@ -1,13 +1,11 @@
 -- What is served: a status and a text, by the words and all the bytes of the reader.
-use Rattle.std.specs.Prelude.{◌≡◌, ◌≢◌, ℕ, List, Option, Some, codes, string_bytes}
+use Rattle.std.specs.Prelude.{◌≡◌, ◌≢◌, ℕ, List, Option, Some, codes}
 use Rattle.std.specs.Io.KnownBytes.{Appends, Keeps}
 use Rattle.clap.specs.Words.{Text, fault_of}
 use Rattle.clap.specs.Kinds.{IsAmong}
 use Rattle.clap.specs.declared.error.kind.ErrorKind.{ErrorKind}
 use Rattle.clap.specs.declared.error.kind.ErrorKind.TheVariants as kind
-use Rattle.mothra_app.specs.Answer.{IsTold, IsAnswer, IsReady}
-use Rattle.mothra_app.specs.declared.answer.Ready.{Ready}
-use Rattle.mothra_app.specs.declared.answer.Ready.TheVariants as ready
+use Rattle.mothra_app.specs.Answer.{IsToldAnswer, IsAnswer}
 use Rattle.mothra_cli.specs.Command.{mothra}
 use Rattle.mothra_cli.specs.Input.{limit, AreAll, IsRead}
 use Rattle.mothra_job.specs.Job.{job_of}
@@ -17,18 +15,21 @@ use Rattle.mothra_cli.specs.declared.request.Request.{Request}
 use Rattle.mothra_app.specs.declared.status.Status.{Status}
 use Rattle.mothra_app.specs.declared.status.Status.TheVariants as status
 
--- the command line takes the words, and they ask for this, with numbers in the bounds of their options
+-- the command line takes the words, and they ask for
+-- this, with numbers in the bounds of their options
 pub record AsksFor (words : List Text) (request : Request) : Type 0 where
   pub is : request_of words ≡ Some request
   pub bounded : IsBounded request
 
 -- the status and the text that words and bytes are served with, where the words ask for something
 abbrev pub IsServed : List Text → List ℕ → Status → List ℕ → Type 0
-IsServed words bytes status text = (request : Request) × AsksFor words request × IsTold request (job_of bytes) status text
+IsServed words bytes status text =
+    (request : Request) × AsksFor words request × IsToldAnswer request (job_of bytes) status text
 
 -- the command line refuses the words, for another cause than memory, and is not asked for help
 abbrev pub IsRefused : List Text → Type 0
-IsRefused words = (cause : ErrorKind) × (cause ≢ kind.OutOfMemory) × (cause ≢ kind.DisplayHelp) × IsAmong cause (fault_of mothra words)
+IsRefused words = (cause : ErrorKind) × (cause ≢ kind.OutOfMemory)
+    × (cause ≢ kind.DisplayHelp) × IsAmong cause (fault_of mothra words)
 
 -- the command line is asked for help
 abbrev pub AsksHelp : List Text → Type 0
@@ -38,9 +39,11 @@ AsksHelp words = IsAmong kind.DisplayHelp (fault_of mothra words)
 abbrev pub bad_operators : List ℕ
 bad_operators = codes "BAD OPERATOR LIST\n"
 
--- What may be written for the words and the bytes: the answer to what the words ask for, or what is told of words that ask for nothing.
+-- What may be written for the words and the bytes: the answer to what
+-- the words ask for, or what is told of words that ask for nothing.
 pub data MayBeWritten (words : List Text) (bytes : List ℕ) : Status → List ℕ → Type 0 where
-  answer : {request : Request} {status : Status} {text : List ℕ} → AsksFor words request → IsAnswer request (job_of bytes) status text
+  answer : {request : Request} {status : Status} {text : List ℕ}
+      → AsksFor words request → IsAnswer request (job_of bytes) status text
       → MayBeWritten words bytes status text
   bad_list : HasBadOperators words → MayBeWritten words bytes status.Words bad_operators
   refusal : {text : List ℕ} → IsRefused words → MayBeWritten words bytes status.Words text
@@ -53,32 +56,19 @@ IsReadFor status.Fault left now = IsRead limit left now
 IsReadFor status.Words left now = Keeps left now
 IsReadFor status.Help left now = Keeps left now
 
--- the text with this status may be written for the words, where the reader had the bytes `left` and now has `now`
-pub record IsAnswered (words : List Text) (left now : Option (List ℕ)) (status : Status) (text : List ℕ) : Type 0 where
+-- the text with this status may be written for the words,
+-- where the reader had the bytes `left` and now has `now`
+pub record IsAnswered (words : List Text) (left now : Option (List ℕ)) (status : Status)
+    (text : List ℕ) : Type 0 where
   pub bytes : List ℕ
   pub all : AreAll left bytes
   pub may : MayBeWritten words bytes status text
   pub read : IsReadFor status left now
 
--- an answer of this status, which takes no threads
-abbrev pub IsTelling : Status → Ready → Type 0
-IsTelling status (ready.Answer reply) = reply.status ≡ status
-IsTelling status (ready.Bench bench workers) = ⊥
-
--- what is ready answers the request, where the reader had these bytes left
-pub record IsReadyBy (request : Request) (left : Option (List ℕ)) (ready : Ready) : Type 0 where
-  pub bytes : List ℕ
-  pub all : AreAll left bytes
-  pub is : IsReady request (job_of bytes) ready
-
--- what is ready answers the words, where the reader had the bytes `left` and now has `now`: an answer, or the bench of `run`
-abbrev pub IsReadyFor : List Text → Option (List ℕ) → Option (List ℕ) → Ready → Type 0
-IsReadyFor words left now (ready.Answer reply) = IsAnswered words left now reply.status (string_bytes reply.text)
-IsReadyFor words left now (ready.Bench bench workers) =
-    (request : Request) × AsksFor words request × IsReadyBy request left (ready.Bench bench workers) × IsRead limit left now
-
--- the whole of such a text was written to the writer that held the bytes `old` and now holds `new`, and nothing else
-pub record WritesWhole (words : List Text) (left now old new : Option (List ℕ)) (status : Status) : Type 0 where
+-- the whole of such a text was written to the writer that
+-- held the bytes `old` and now holds `new`, and nothing else
+pub record WritesWhole (words : List Text) (left now old new : Option (List ℕ))
+    (status : Status) : Type 0 where
   pub text : List ℕ
   pub answered : IsAnswered words left now status text
   pub written : Appends old new text

@@ -2,7 +2,8 @@
 
 ghost use Rattle.std.specs.Prelude.{◌≡◌, ◌⊎◌, ◌≤◌, Err, IfOk, MatchResult, string_bytes};
 ghost use Rattle.clap.specs.Values.{kind_of};
-ghost use Rattle.mothra_app.specs.Answer.{IsMade, IsOutcome, IsAnswer, IsReady, IsRefusal, IsReportAnswer};
+ghost use Rattle.mothra_app.specs.code.Answer.{IsMade, IsReadyAnswer, IsReportAnswer};
+ghost use Rattle.mothra_app.specs.Answer.{IsRequestOutcome, IsAnswer, IsRefusal};
 ghost use Rattle.mothra_app.specs.Fault.{MayFailBy};
 ghost use Rattle.mothra_job.specs.Job.{job_of};
 ghost use Rattle.mothra_app.specs.Line as Line;
@@ -57,7 +58,7 @@ fn product_of(alloc: Global, request: &Request, bytes: &[u8]) -> Result<Product,
     requires { IsBounded request.now }
     ensures { MatchResult result
         (IsMade (job_of bytes.now) request.now)
-        (λ fault. IsOutcome request.now (job_of bytes.now) (Err fault) ⊎ MayFailBy request.now fault) }
+        (λ fault. IsRequestOutcome request.now (job_of bytes.now) (Err fault) ⊎ MayFailBy request.now fault) }
 {
     let job = read_job(alloc, bytes)?;
     match request {
@@ -84,7 +85,7 @@ fn product_of(alloc: Global, request: &Request, bytes: &[u8]) -> Result<Product,
 /// The answer that tells a fault.
 pub fn told(alloc: Global, fault: &Fault) -> Result<Answer, AllocError>
     ensures status { IfOk result (λ a. a.status ≡ Status.Fault) }
-    ensures text { IfOk result (λ a. string_bytes a.text ≡ Line.line_of fault.now) }
+    ensures text { IfOk result (λ a. string_bytes a.text ≡ Line.fault_line fault.now) }
 {
     Ok(Answer {
         status: Status::Fault,
@@ -95,7 +96,7 @@ pub fn told(alloc: Global, fault: &Fault) -> Result<Answer, AllocError>
 /// The answer to the request on the job that the bytes are, as far as it takes no threads.
 pub(crate) fn ready_for(alloc: Global, request: &Request, bytes: &[u8]) -> Result<Ready, AllocError>
     requires { IsBounded request.now }
-    ensures { IfOk result (IsReady request.now (job_of bytes.now)) }
+    ensures { IfOk result (IsReadyAnswer request.now (job_of bytes.now)) }
 {
     match product_of(alloc, request, bytes) {
         Ok(Product::Text(text)) => Ok(Ready::Answer(Answer {

@@ -3,7 +3,7 @@
 ghost use Rattle.std.specs.Prelude.{◌≡◌, ◌⊎◌, Ok, Err, Contains, MatchResult, map, string_bytes};
 ghost use Rattle.f77_program.specs.Program.{line_of};
 ghost use Rattle.f77_check.specs.Checked.{shapes};
-ghost use Rattle.mothra_app.specs.Executing.{IsRun, IsExecuted};
+ghost use Rattle.mothra_app.specs.Executing.{IsRunLine, IsExecuted};
 ghost use Rattle.mothra_app.specs.Fault.{of_runs};
 ghost use Rattle.mothra_app.specs.Program.{IsLegalProgramOf};
 
@@ -24,8 +24,9 @@ fn run_program(
 ) -> Result<String, Fault>
     requires { checked.now.arguments ≡ shapes (map line_of checked.now.program) }
     ensures { MatchResult result
-        (λ text. IsRun (map line_of checked.now.program) arguments.now steps (Ok (string_bytes text)))
-        (λ fault. IsRun (map line_of checked.now.program) arguments.now steps (Err fault) ⊎ Contains of_runs fault) }
+        (λ text. IsRunLine (map line_of checked.now.program) arguments.now steps (Ok (string_bytes text)))
+        (λ fault. IsRunLine (map line_of checked.now.program) arguments.now steps (Err fault)
+        ⊎ Contains of_runs fault) }
 {
     let outcome = run(alloc, checked, arguments, steps)?;
     Ok(outcome_line(alloc, &outcome)?)

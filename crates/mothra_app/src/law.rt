@@ -17,7 +17,7 @@ ghost use Rattle.mothra_cli.specs.declared.request.Request.{Request};
 ghost use Rattle.mothra_cli.specs.declared.request.Request.TheVariants.{Run};
 ghost use Rattle.mothra_codes.specs.declared.op.Op.{Op};
 ghost use Rattle.mothra_codes.specs.declared.ticket.Ticket.{Ticket};
-ghost use Rattle.mothra_exchange.specs.Rule.{IsSound};
+ghost use Rattle.mothra_exchange.specs.Rule.{IsSoundExchange};
 ghost use Rattle.mothra_exchange.specs.declared.view.View.{View};
 ghost use Rattle.mothra_ops.specs.Plan.{PlanFields};
 
@@ -56,14 +56,14 @@ pub fn any_workers()
 }
 
 /// Between any two steps of an exchange for a plan, the mutants handed out of each operator are a front of its list, in
-/// order, each once, and none was accepted after the operator closed. Where `run` is served with a report, that report has
-/// every mutant once, with the verdict of running it alone, whatever the number of workers.
+/// order, each once, and none was accepted after the operator closed. Where `run` is served with a report,
+/// that report has every mutant once, with the verdict of running it alone, whatever the number of workers.
 ///
 /// Ticket k stands for item k of the list, where it is handed out as where it is run: a verdict of ticket k is that of
 /// the mutant which item k makes.
 pub fn headline()
     ensures between_steps { (C : ℕ) (plan : PlanFields) (counts words : List ℕ) (views : List View)
-        → IsSound C counts words views → AreCounts plan counts → KeepsLists C plan words views }
+        → IsSoundExchange C counts words views → AreCounts plan counts → KeepsLists C plan words views }
     ensures report { (words : List Text) (operators : List Op) (every steps workers : ℕ) (bytes text : List ℕ)
         → AsksFor words (Run operators every steps workers) → IsServed words bytes Report text
         → ReportsJob (job_of bytes) operators every steps text }

@@ -52,7 +52,7 @@ fn printable(alloc: Global, name: &str) -> Result<String, AllocError>
 
 /// The character, or a question mark.
 fn shown(c: char) -> char
-    ensures { result ≡ definition.shown c }
+    ensures { result ≡ definition.shown_character c }
 {
     if c >= ' ' && c <= '~' { c } else { '?' }
 }
@@ -145,7 +145,7 @@ fn ops_line(alloc: Global, fault: OpsFault) -> Result<String, AllocError>
 
 /// The line of a fault with the name of a mutant.
 fn mutant_line(alloc: Global, code: &str, ticket: Ticket) -> Result<String, AllocError>
-    ensures { IfOk result (λ s. string_bytes s ≡ definition.mutant_line code.now ticket) }
+    ensures { IfOk result (λ s. string_bytes s ≡ definition.mutant_fault_line code.now ticket) }
 {
     let op = ticket.op.code();
     let number = ticket.number;
@@ -170,9 +170,9 @@ fn bench_line(alloc: Global, fault: BenchFault) -> Result<String, AllocError>
 }
 
 /// The line that tells the fault: FAULT, its code, and its detail where it has one, ended by LF.
-#[tactic(auto, unfolding(crate::specs::Line::line_of))]
+#[tactic(auto, unfolding(crate::specs::Line::fault_line))]
 pub(crate) fn line_of(alloc: Global, fault: &Fault) -> Result<String, AllocError>
-    ensures { IfOk result (λ s. string_bytes s ≡ definition.line_of fault.now) }
+    ensures { IfOk result (λ s. string_bytes s ≡ definition.fault_line fault.now) }
 {
     match fault {
         Fault::Job(fault) => job_line(alloc, fault),

@@ -1,10 +1,12 @@
 //! The command `list`: the mutants of the program of a job.
 
-ghost use Rattle.std.specs.Prelude.{◌≡◌, ◌⊎◌, ◌++◌, ◌≤◌, Ok, Err, Contains, IfErr, IfOk, MatchResult, OnOk, codes, map, string_bytes};
+ghost use Rattle.std.specs.Prelude.{◌≡◌, ◌⊎◌, ◌++◌, ◌≤◌, Ok, Err, Contains, IfErr};
+ghost use Rattle.std.specs.Prelude.{IfOk, MatchResult, OnOk, codes, map, string_bytes};
 ghost use Rattle.f77_program.specs.Program.{line_of};
 ghost use Rattle.mothra_app.specs.Fault.{of_mutants};
 ghost use Rattle.mothra_app.specs.Listing as definition;
-ghost use Rattle.mothra_app.specs.Listing.{IsListed, asked_lines, asked_total, plan_lines, plan_text, total_line};
+ghost use Rattle.mothra_app.specs.Listing.{IsListed, asked_total, total_line};
+ghost use Rattle.mothra_app.specs.code.Listing.{asked_lines, plan_lines, plan_text};
 ghost use Rattle.mothra_ops.specs.Mutants.{mutant_text};
 ghost use Rattle.mothra_ops.specs.declared.fault.OpsFault.TheVariants.{Memory};
 
@@ -29,7 +31,8 @@ fn push_mutant(
     number: u32,
 ) -> Result<(), OpsFault>
     ensures plan { mutants.new ≡ mutants.old }
-    ensures line { OnOk result (string_bytes text.new ≡ string_bytes text.old ++ (mutant_text mutants.old op number ++ codes "\n")) }
+    ensures line { OnOk result
+        (string_bytes text.new ≡ string_bytes text.old ++ (mutant_text mutants.old op number ++ codes "\n")) }
     ensures memory { IfErr result (λ fault. fault ≡ Memory) }
 {
     mutants.push_text(text, op, number)?;
@@ -91,7 +94,8 @@ fn text_of(alloc: Global, plan: &Plan) -> Result<String, OpsFault>
     Ok(text)
 }
 
-/// The list of the mutants of the program that a source is, for these operators: each item of their lists, or one in so many.
+/// The list of the mutants of the program that a source is, for
+/// these operators: each item of their lists, or one in so many.
 pub(crate) fn list_mutants(
     alloc: Global,
     source: &str,

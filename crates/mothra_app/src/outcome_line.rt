@@ -9,14 +9,15 @@ use f77_run::{Arg, Outcome, RunFault};
 use std::alloc::{AllocError, Global};
 
 fn truth_text(truth: bool) -> &'static str
-    ensures { result.now ≡ definition.truth_text truth }
+    ensures { result.now ≡ definition.truth_letter truth }
 {
     if truth { "T" } else { "F" }
 }
 
 /// Adds the elements of an INTEGER array.
 fn push_numbers(text: &mut String, numbers: &[i32]) -> Result<(), AllocError>
-    ensures { OnOk result (string_bytes text.new ≡ string_bytes text.old ++ definition.array_text signed_decimal numbers.now) }
+    ensures { OnOk result
+        (string_bytes text.new ≡ string_bytes text.old ++ definition.array_text signed_decimal numbers.now) }
 {
     text.push_str("(")?;
     let mut before = "";
@@ -29,7 +30,8 @@ fn push_numbers(text: &mut String, numbers: &[i32]) -> Result<(), AllocError>
 
 /// Adds the elements of a LOGICAL array.
 fn push_truths(text: &mut String, truths: &[bool]) -> Result<(), AllocError>
-    ensures { OnOk result (string_bytes text.new ≡ string_bytes text.old ++ definition.array_text definition.truth_text truths.now) }
+    ensures { OnOk result
+        (string_bytes text.new ≡ string_bytes text.old ++ definition.array_text definition.truth_letter truths.now) }
 {
     text.push_str("(")?;
     let mut before = "";

@@ -2,7 +2,8 @@
 
 ghost use Rattle.std.specs.Prelude.{◌≡◌, ◌≢◌, false, Ok, Err, IfOk, map, string_bytes};
 ghost use Rattle.mothra_cli.specs.Input.{limit, IsRead, TakesAtMost};
-ghost use Rattle.mothra_app.specs.Serving.{IsAnswered, IsReadyBy, IsReadyFor, IsTelling, WritesWhole, WritesFront};
+ghost use Rattle.mothra_app.specs.Serving.{IsAnswered, WritesWhole, WritesFront};
+ghost use Rattle.mothra_app.specs.code.Serving.{IsReadyBy, IsReadyFor, IsTelling};
 ghost use Rattle.mothra_app.specs.Status.{is_read_fault, is_write_fault};
 ghost use Rattle.mothra_cli.specs.Request.{IsBounded};
 ghost use Rattle.mothra_cli.specs.Watched.{inside, has_failed};

@@ -7,7 +7,8 @@ use Rattle.std.proofs.lemmas.List.Quantifiers.{all_pairs_push}
 use Rattle.mothra_ops.specs.Plan.{PlanFields, asked}
 use Rattle.mothra_codes.specs.declared.ticket.Ticket.{Ticket}
 use Rattle.mothra_bench.specs.Bench.{AreFine, IsKnownEntry, IsUnknownEntry, IsEntryTwice}
-use Rattle.mothra_bench.specs.Equivalents.{AreNamed, Adds, IsNoted}
+use Rattle.mothra_bench.specs.Equivalents.{AreNamed}
+use Rattle.mothra_bench.specs.code.Equivalents.{AddsTicket, IsNoted}
 use Rattle.mothra_bench.specs.declared.equivalents.Noted.{Noted}
 use Rattle.mothra_bench.specs.declared.equivalents.Noted.TheVariants.{Fine, Unknown, Twice}
 use Rattle.mothra_bench.proofs.BenchTests.{cut_at, next_taken}
@@ -51,7 +52,7 @@ held : (entries keys : List Ticket) (entry one : Ticket) → AreNamed entries ke
 held entries keys entry one named (inl has) = inl ((named.same one).1 has)
 held entries keys entry one named (inr same) = inr same
 
-named_more : (entries keys more : List Ticket) (entry : Ticket) → AreNamed entries keys → Adds keys entry more → entry.number < 2 ^ 32
+named_more : (entries keys more : List Ticket) (entry : Ticket) → AreNamed entries keys → AddsTicket keys entry more → entry.number < 2 ^ 32
     → AreNamed (entries ++ entry ∷ []) more
 named_more entries keys more entry named adds small = record {
   same = λ one. (
@@ -65,7 +66,7 @@ at_place : (entries : List Ticket) (i : ℕ) (d : Ticket) → i < length entries
 at_place entries i d within = get_or_default entries i d (get_or entries i d) within
 
 pub noted_more : (plan : PlanFields) (entries keys more : List Ticket) (i : ℕ) (d : Ticket) (noted : Noted) → i < length entries
-    → AreNoted plan (take i entries) keys → IsNoted plan keys (get_or entries i d) noted → noted ≡ Fine → Adds keys (get_or entries i d) more
+    → AreNoted plan (take i entries) keys → IsNoted plan keys (get_or entries i d) noted → noted ≡ Fine → AddsTicket keys (get_or entries i d) more
     → (get_or entries i d).number < 2 ^ 32 → AreNoted plan (take (i + 1) entries) more
 noted_more plan entries keys more i d noted within are told is adds small =
     let fine : IsNoted plan keys (get_or entries i d) Fine = subst (λ (n : Noted). IsNoted plan keys (get_or entries i d) n) is told in

@@ -6,15 +6,15 @@ use Rattle.f77_run.specs.declared.outcome.Outcome.{Outcome}
 use Rattle.mothra_codes.specs.declared.ticket.Ticket.{Ticket}
 use Rattle.mothra_ops.specs.Mutants.{program_of}
 use Rattle.mothra_ops.specs.Plan.{PlanFields}
-use Rattle.mothra_bench.specs.Bench.{AreOutcomes, Fits, IsEnd, IsNoBench}
-use Rattle.mothra_bench.specs.Equivalents.{IsNoEntry}
+use Rattle.mothra_bench.specs.Bench.{AreOutcomes, FitsProgram, IsProgramEnd, IsNoBench}
+use Rattle.mothra_bench.specs.code.Equivalents.{IsNoEntry}
 use Rattle.mothra_bench.specs.declared.fault.BenchFault.{BenchFault}
 use Rattle.mothra_bench.specs.declared.fault.BenchFault.TheVariants as fault
 use Rattle.mothra_bench.proofs.BenchTests.{ends_all}
 
 -- a declared entry that is not fine, where the program ends on every test
 pub entry_fault : (plan : PlanFields) (tests : List (List Arg)) (steps : ℕ) (declared : List Ticket) (outcomes : List Outcome) (why : BenchFault)
-    → All (Fits (program_of plan)) tests → AreOutcomes (program_of plan) steps tests outcomes → All IsEnd outcomes → IsNoEntry plan declared why
+    → All (FitsProgram (program_of plan)) tests → AreOutcomes (program_of plan) steps tests outcomes → All IsProgramEnd outcomes → IsNoEntry plan declared why
     → IsNoBench plan tests steps declared why
 entry_fault plan tests steps declared outcomes fault.Memory fits are end told = tt
 entry_fault plan tests steps declared outcomes (fault.EquivalentUnknown n) fits are end told = (fits, ends_all (program_of plan) steps tests outcomes are end, told)

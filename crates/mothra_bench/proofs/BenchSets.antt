@@ -1,5 +1,6 @@
 -- Sets of tickets.
-use Rattle.std.proofs.Common.{◌≡◌, ◌∙◌, ◌<◌, ◌⊎◌, ◌↔◌, ◌++◌, ◌∷◌, ◌||◌, ◌&&◌, ℕ, zero, suc, Bool, true, false, true≢false, not, IsTrue, List, [], length, get_or, refl, sym, ap, subst, arith, inl, inr, nat_eq, if◌then◌else◌}
+use Rattle.std.proofs.Common.{◌≡◌, ◌∙◌, ◌<◌, ◌⊎◌, ◌↔◌, ◌++◌, ◌∷◌, ◌||◌, ◌&&◌, ℕ, zero, suc, Bool, true, false, true≢false, not}
+use Rattle.std.proofs.Common.{IsTrue, List, [], length, get_or, refl, sym, ap, subst, arith, inl, inr, nat_eq, if◌then◌else◌}
 use Rattle.std.specs.Prelude.{Contains}
 use Rattle.std.specs.List.{list_any}
 use Rattle.std.proofs.lemmas.Bool.{and_parts}
@@ -11,7 +12,8 @@ use Rattle.mothra_codes.specs.Op.{index}
 use Rattle.mothra_codes.proofs.Operators.{same_op}
 use Rattle.mothra_codes.specs.contracts.ticket.TicketPartialEq.TheImpl.{ghosts}
 use Rattle.mothra_codes.specs.declared.ticket.Ticket.{Ticket}
-use Rattle.mothra_bench.specs.Equivalents.{AreNamed, Adds}
+use Rattle.mothra_bench.specs.Equivalents.{AreNamed}
+use Rattle.mothra_bench.specs.code.Equivalents.{AddsTicket}
 
 -- the equality of tickets
 both : (a b : Bool) → a ≡ true → b ≡ true → (a && b) ≡ true
@@ -69,7 +71,7 @@ was_there keys one new is =
     subst (λ (b : Bool). IsTrue (not b) ↔ Contains keys one) (sym is) (not_not (list_any (ghosts.eq one) keys) (Contains keys one) (has keys one))
 
 -- the set with a key more
-adds_if : (keys : List Ticket) (one : Ticket) (b : Bool) → list_any (ghosts.eq one) keys ≡ b → Adds keys one (if b then keys else (keys ++ one ∷ []))
+adds_if : (keys : List Ticket) (one : Ticket) (b : Bool) → list_any (ghosts.eq one) keys ≡ b → AddsTicket keys one (if b then keys else (keys ++ one ∷ []))
 adds_if keys one true e other = (inl, from)
   where
     from : (Contains keys other ⊎ (one ≡ other)) → Contains keys other
@@ -81,8 +83,8 @@ adds_if keys one false e other = (Contains-push_cases keys one other, from)
     from (inl there) = Contains-append_left keys (one ∷ []) other there
     from (inr same) = subst (Contains (keys ++ one ∷ [])) same (Contains-push keys one)
 
-pub adds : (keys more : List Ticket) (one : Ticket) → more ≡ insert_key ghosts.eq keys one → Adds keys one more
-adds keys more one is = subst (Adds keys one) (sym is) (adds_if keys one (list_any (ghosts.eq one) keys) refl)
+pub adds : (keys more : List Ticket) (one : Ticket) → more ≡ insert_key ghosts.eq keys one → AddsTicket keys one more
+adds keys more one is = subst (AddsTicket keys one) (sym is) (adds_if keys one (list_any (ghosts.eq one) keys) refl)
 
 -- whether a set of declared entries has one
 pub declared_by : (declared keys : List Ticket) (one other : Ticket) (answer : Bool) → AreNamed declared keys → answer ≡ list_any (ghosts.eq one) keys

@@ -12,8 +12,8 @@ use Rattle.f77_run.specs.Visits.{IsFollowed}
 use Rattle.f77_run.specs.declared.argument.Arg.{Arg}
 use Rattle.f77_run.specs.declared.outcome.Outcome.{Outcome}
 use Rattle.f77_run.specs.declared.visits.Visits.{Visits}
-use Rattle.mothra_bench.specs.Bench.{IsEnd, AreOutcomes, Ends, IsFirstNot}
-use Rattle.mothra_bench.specs.Running.{AreCourses}
+use Rattle.mothra_bench.specs.Bench.{IsProgramEnd, AreOutcomes, EndsOn, IsFirstNot}
+use Rattle.mothra_bench.specs.code.Running.{AreCourses}
 
 -- a list, cut at an item
 pub cut_at : {X : Type 0} (xs : List X) (i : ℕ) (x : X) → i < length xs → x ≡ get_or xs i x → xs ≡ take i xs ++ x ∷ drop (i + 1) xs
@@ -48,18 +48,18 @@ none_left P xs i end hold = subst (All P) (take_all i xs end) hold
 
 -- the courses of a program on no tests, and on one test more
 pub no_courses : (checked : CheckedFields) (steps : ℕ) → AreCourses checked steps [] [] []
-no_courses checked steps = record { outcomes = tt; end = All-nil IsEnd; visits = tt }
+no_courses checked steps = record { outcomes = tt; end = All-nil IsProgramEnd; visits = tt }
 
 pub course_more : (checked : CheckedFields) (steps : ℕ) (tests : List (List Arg)) (outcomes : List Outcome) (visits : List Visits) (i : ℕ) (test : List Arg)
     (outcome : Outcome) (noted : Visits) → i < length tests → test ≡ get_or tests i test → AreCourses checked steps (take i tests) outcomes visits
-    → IsOutcomeOf (map line_of checked.program) test steps outcome → IsEnd outcome → IsFollowed checked test steps noted
+    → IsOutcomeOf (map line_of checked.program) test steps outcome → IsProgramEnd outcome → IsFollowed checked test steps noted
     → AreCourses checked steps (take (i + 1) tests) (outcomes ++ outcome ∷ []) (visits ++ noted ∷ [])
 course_more checked steps tests outcomes visits i test outcome noted within is are one end follows =
     subst (λ (taken : List (List Arg)). AreCourses checked steps taken (outcomes ++ outcome ∷ []) (visits ++ noted ∷ []))
     (sym (next_taken tests i test within is))
     (record {
       outcomes = all_zipped_more (λ arguments outcome. IsOutcomeOf (map line_of checked.program) arguments steps outcome) (take i tests) outcomes test outcome are.outcomes one;
-      end = All-push IsEnd outcomes outcome are.end end;
+      end = All-push IsProgramEnd outcomes outcome are.end end;
       visits = all_zipped_more (λ arguments visits. IsFollowed checked arguments steps visits) (take i tests) visits test noted are.visits follows;
     })
 
@@ -76,18 +76,18 @@ test_fits shapes tests i test within is all =
 
 -- on each of them it ends
 pub ends_all : (program : List LineFields) (steps : ℕ) (tests : List (List Arg)) (outcomes : List Outcome) → AreOutcomes program steps tests outcomes
-    → All IsEnd outcomes → All (Ends program steps) tests
-ends_all program steps [] [] are end = All-nil (Ends program steps)
+    → All IsProgramEnd outcomes → All (EndsOn program steps) tests
+ends_all program steps [] [] are end = All-nil (EndsOn program steps)
 ends_all program steps [] (outcome ∷ outcomes) are end = absurd are
 ends_all program steps (test ∷ tests) [] are end = absurd are
 ends_all program steps (test ∷ tests) (outcome ∷ outcomes) are end =
-    All-cons (Ends program steps) test tests (outcome, are.0, All-head IsEnd outcome outcomes end)
-    (ends_all program steps tests outcomes are.1 (All-tail IsEnd outcome outcomes end))
+    All-cons (EndsOn program steps) test tests (outcome, are.0, All-head IsProgramEnd outcome outcomes end)
+    (ends_all program steps tests outcomes are.1 (All-tail IsProgramEnd outcome outcomes end))
 
 -- it does not end where its one outcome is no end
 pub never_ends : (program : List LineFields) (steps : ℕ) (test : List Arg) (outcome : Outcome)
-    → ((other : Outcome) → IsOutcomeOf program test steps other → other ≡ outcome) → ¬ (IsEnd outcome) → ¬ (Ends program steps test)
-never_ends program steps test outcome only other ends = other (subst IsEnd (only ends.0 ends.1) ends.2)
+    → ((other : Outcome) → IsOutcomeOf program test steps other → other ≡ outcome) → ¬ (IsProgramEnd outcome) → ¬ (EndsOn program steps test)
+never_ends program steps test outcome only other ends = other (subst IsProgramEnd (only ends.0 ends.1) ends.2)
 
 -- what a test says that decides a fact
 pub passed : {P : Type 0} (answer : Bool) → (IsTrue answer ↔ P) → answer ≡ true → P

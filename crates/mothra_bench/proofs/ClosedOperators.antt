@@ -8,7 +8,8 @@ use Rattle.mothra_codes.specs.declared.op.Op.{Op}
 use Rattle.mothra_codes.specs.Op.{index}
 use Rattle.mothra_exchange.specs.declared.view.Look.{Look}
 use Rattle.mothra_exchange.specs.declared.view.View.{View}
-use Rattle.mothra_bench.specs.Closing.{AreClosed, Closes, seen_of}
+use Rattle.mothra_bench.specs.code.Closing.{AreClosed, Closes}
+use Rattle.mothra_bench.specs.Closing.{seen_of}
 
 -- closing an operator leaves the others closed that were so
 stays : (old new : View) (op o : Op) → Closes op old new → (seen_of old o).closed ≡ true → (seen_of new o).closed ≡ true

@@ -8,8 +8,8 @@ use Rattle.mothra_codes.specs.declared.ticket.Ticket.{Ticket}
 use Rattle.mothra_exchange.specs.declared.word.Word.{Word}
 use Rattle.mothra_bench.specs.Bench.{BenchFields}
 use Rattle.mothra_codes.specs.Ticket.{Before}
-use Rattle.mothra_bench.specs.Entries.{IsEntry, IsFirstAbsent, IsHere}
-use Rattle.mothra_bench.specs.RowMap.{row_at}
+use Rattle.mothra_bench.specs.code.Entries.{IsEntry, IsFirstAbsent, IsHere}
+use Rattle.mothra_bench.specs.code.RowMap.{ticket_row}
 use Rattle.mothra_bench.specs.declared.matrix.Entry.{Entry}
 use Rattle.mothra_bench.specs.declared.row_map.RowMap.{RowMap}
 use Rattle.mothra_bench.specs.declared.verdict.Row.{Row}
@@ -17,7 +17,7 @@ use Rattle.mothra_bench.proofs.CollectLists.{any_default, cut_at}
 
 -- the tickets from i on have the rows that they had
 abbrev pub Left : RowMap → RowMap → List Ticket → ℕ → Type 0
-Left rows left tickets i = (k : ℕ) (d : Ticket) → i ≤ k → k < length tickets → row_at left (get_or tickets k d) ≡ row_at rows (get_or tickets k d)
+Left rows left tickets i = (k : ℕ) (d : Ticket) → i ≤ k → k < length tickets → ticket_row left (get_or tickets k d) ≡ ticket_row rows (get_or tickets k d)
 
 abbrev pub is_same : Ticket → Ticket → Bool
 is_same t u = eqb (index t.op) (index u.op) && eqb t.number u.number
@@ -26,20 +26,20 @@ apart : (t u : Ticket) → Before t u → is_same t u ≡ false
 apart t u order = ⊎_elim (λ (h : index t.op < index u.op). grind (arith, nat_tests)) (λ (h : (index t.op ≡ index u.op) × (t.number < u.number)). let k = h.1 in grind (arith, nat_tests)) order
 
 pub left_more : (rows left new : RowMap) (tickets : List Ticket) (i : ℕ) (t : Ticket) → AllPairs Before tickets → i < length tickets → t ≡ get_or tickets i t
-    → ((u : Ticket) → row_at new u ≡ cond (is_same t u) None (row_at left u)) → Left rows left tickets i → Left rows new tickets (i + 1)
+    → ((u : Ticket) → ticket_row new u ≡ cond (is_same t u) None (ticket_row left u)) → Left rows left tickets i → Left rows new tickets (i + 1)
 left_more rows left new tickets i t order lt at is has = λ k d le l.
     let first : t ≡ get_or tickets i d = at ∙ any_default tickets i t d lt in
     let before : Before t (get_or tickets k d) = subst (λ u. Before u (get_or tickets k d)) (sym first) (order i k d (omega arith) l) in
-    is (get_or tickets k d) ∙ (ap (λ b. cond b None (row_at left (get_or tickets k d))) (apart t (get_or tickets k d) before) ∙ has k d (omega arith) l)
+    is (get_or tickets k d) ∙ (ap (λ b. cond b None (ticket_row left (get_or tickets k d))) (apart t (get_or tickets k d) before) ∙ has k d (omega arith) l)
 
-pub left_here : (rows left : RowMap) (tickets : List Ticket) (i : ℕ) (t : Ticket) → i < length tickets → t ≡ get_or tickets i t → Left rows left tickets i → row_at left t ≡ row_at rows t
-left_here rows left tickets i t lt at has = subst (λ u. row_at left u ≡ row_at rows u) (sym at) (has i t (omega arith) lt)
+pub left_here : (rows left : RowMap) (tickets : List Ticket) (i : ℕ) (t : Ticket) → i < length tickets → t ≡ get_or tickets i t → Left rows left tickets i → ticket_row left t ≡ ticket_row rows t
+left_here rows left tickets i t lt at has = subst (λ u. ticket_row left u ≡ ticket_row rows u) (sym at) (has i t (omega arith) lt)
 
 pub entry_of_first : (bench : BenchFields) (words : List Word) (rows left : RowMap) (entry : Entry) (t : Ticket)
-    → entry.ticket ≡ t → row_at left t ≡ row_at rows t → IsEntry bench words left entry → IsEntry bench words rows entry
+    → entry.ticket ≡ t → ticket_row left t ≡ ticket_row rows t → IsEntry bench words left entry → IsEntry bench words rows entry
 entry_of_first bench words rows left entry t own same is = record {
   row = is.row;
-  kept = sym (subst (λ u. row_at left u ≡ row_at rows u) (sym own) same) ∙ is.kept;
+  kept = sym (subst (λ u. ticket_row left u ≡ ticket_row rows u) (sym own) same) ∙ is.kept;
   kills = is.kills;
   handed = is.handed;
   declared = is.declared;
@@ -49,7 +49,7 @@ some_there : (row : Option Row) (one : Row) → row ≡ Some one → IsSome row
 some_there row one e = subst IsSome (sym e) refl
 
 is_here : (bench : BenchFields) (words : List Word) (rows : RowMap) (entry : Entry) → IsEntry bench words rows entry → IsHere words rows entry.ticket
-is_here bench words rows entry is = record { row = some_there (row_at rows entry.ticket) is.row is.kept; handed = is.handed }
+is_here bench words rows entry is = record { row = some_there (ticket_row rows entry.ticket) is.row is.kept; handed = is.handed }
 
 pub all_here : (bench : BenchFields) (words : List Word) (rows : RowMap) (entries : List Entry) (tickets : List Ticket)
     → map (λ (e : Entry). e.ticket) entries ≡ tickets → All (IsEntry bench words rows) entries → All (IsHere words rows) tickets
@@ -58,7 +58,8 @@ all_here bench words rows entries tickets e all =
     (All-weaker (IsEntry bench words rows) (λ (e : Entry). IsHere words rows e.ticket) (is_here bench words rows) entries all))
 
 pub absent_here : (bench : BenchFields) (words : List Word) (rows left : RowMap) (tickets : List Ticket) (i : ℕ) (t : Ticket) (entries : List Entry)
-    → i < length tickets → t ≡ get_or tickets i t → map (λ (e : Entry). e.ticket) entries ≡ take i tickets → All (IsEntry bench words rows) entries → Left rows left tickets i → ¬ (IsHere words left t) → IsFirstAbsent words rows tickets t
+    → i < length tickets → t ≡ get_or tickets i t → map (λ (e : Entry). e.ticket) entries ≡ take i tickets
+    → All (IsEntry bench words rows) entries → Left rows left tickets i → ¬ (IsHere words left t) → IsFirstAbsent words rows tickets t
 absent_here bench words rows left tickets i t entries lt at made all has absent = record {
   before = take i tickets;
   after = drop (suc i) tickets;

@@ -8,11 +8,11 @@ use Rattle.mothra_exchange.specs.declared.word.Word.{Word}
 use Rattle.mothra_ops.specs.Plan.{PlanFields}
 use Rattle.mothra_bench.specs.Bench.{BenchFields}
 use Rattle.mothra_codes.specs.Ticket.{Before}
-use Rattle.mothra_bench.specs.Collecting.{AreCollected, IsFirstMissing, IsKnown, IsNoMatrix, IsThere, is_row_of, row_of, rows_of}
-use Rattle.mothra_bench.specs.Entries.{AreNoEntries, IsEntry, IsFirstAbsent, IsHere}
+use Rattle.mothra_bench.specs.Collecting.{AreCollected, IsFirstMissing, IsKnown, IsNoMatrix, IsCollected, is_row_of, row_of, rows_of}
+use Rattle.mothra_bench.specs.code.Entries.{AreNoEntries, IsEntry, IsFirstAbsent, IsHere}
 use Rattle.mothra_bench.specs.Matrix.{tickets_of}
-use Rattle.mothra_bench.specs.RowMap.{HasRows, row_at}
-use Rattle.mothra_bench.specs.Verdict.{Has}
+use Rattle.mothra_bench.specs.code.RowMap.{HasRows, ticket_row}
+use Rattle.mothra_bench.specs.Verdict.{HasMutant}
 use Rattle.mothra_bench.specs.declared.fault.BenchFault.{BenchFault}
 use Rattle.mothra_bench.specs.declared.fault.BenchFault.TheVariants as fault
 use Rattle.mothra_bench.specs.declared.matrix.Entry.{Entry}
@@ -54,11 +54,11 @@ long_some : (row : Option Row) → 1 ≤ length (option_to_list row) → IsSome 
 long_some None h = absurd (omega arith)
 long_some (Some row) h = refl
 
-is_there : (words : List Word) (rows : RowMap) (all : List Row) → HasRows rows all → (t : Ticket) → IsHere words rows t → IsThere words all t
-is_there words rows all has t here = record { row = subst (λ (l : List Row). 1 ≤ length l) (has t) (some_long (row_at rows t) here.row); handed = here.handed }
+is_there : (words : List Word) (rows : RowMap) (all : List Row) → HasRows rows all → (t : Ticket) → IsHere words rows t → IsCollected words all t
+is_there words rows all has t here = record { row = subst (λ (l : List Row). 1 ≤ length l) (has t) (some_long (ticket_row rows t) here.row); handed = here.handed }
 
-was_here : (words : List Word) (rows : RowMap) (all : List Row) → HasRows rows all → (t : Ticket) → IsThere words all t → IsHere words rows t
-was_here words rows all has t there = record { row = long_some (row_at rows t) (subst (λ (l : List Row). 1 ≤ length l) (sym (has t)) there.row); handed = there.handed }
+was_here : (words : List Word) (rows : RowMap) (all : List Row) → HasRows rows all → (t : Ticket) → IsCollected words all t → IsHere words rows t
+was_here words rows all has t there = record { row = long_some (ticket_row rows t) (subst (λ (l : List Row). 1 ≤ length l) (sym (has t)) there.row); handed = there.handed }
 
 not_both : (t u : Ticket) → Before t u → Before u t → ⊥
 not_both t u h k =
@@ -93,7 +93,8 @@ other_here words rows before after t u order here among first =
 
 pub missing : (plan : PlanFields) (words : List Word) (rows : RowMap) (all : List Row) (t : Ticket) → HasRows rows all → IsFirstAbsent words rows (tickets_of plan) t → IsFirstMissing plan words all t
 missing plan words rows all t has first = record {
-  has = All-contains (Has plan) (tickets_of plan) t (tickets_had plan) (subst (λ l. Contains l t) (sym first.cut) (Contains-append_right first.before (t ∷ first.after) t (0, omega arith, refl)));
+  has = All-contains (HasMutant plan) (tickets_of plan) t (tickets_had plan)
+      (subst (λ l. Contains l t) (sym first.cut) (Contains-append_right first.before (t ∷ first.after) t (0, omega arith, refl)));
   missing = λ there. first.absent (was_here words rows all has t there);
   others = λ u own before. is_there words rows all has u
       (other_here words rows first.before first.after t u (subst (AllPairs Before) first.cut (tickets_ordered plan)) first.here (subst (λ l. Contains l u) first.cut (has_ticket plan u own)) before);

@@ -9,7 +9,7 @@ use Rattle.mothra_codes.specs.Ticket.{ticket}
 use Rattle.mothra_codes.specs.declared.ticket.Ticket.{Ticket}
 use Rattle.mothra_ops.specs.Plan.{PlanFields}
 use Rattle.mothra_bench.specs.Collecting.{IsFirstDouble, NoDouble, is_row_of, rows_of}
-use Rattle.mothra_bench.specs.RowMap.{HasRows, row_at}
+use Rattle.mothra_bench.specs.code.RowMap.{HasRows, ticket_row}
 use Rattle.mothra_bench.specs.declared.row_map.RowMap.{RowMap}
 use Rattle.mothra_bench.specs.declared.verdict.Row.{Row}
 
@@ -37,18 +37,18 @@ none_listed : (row : Option Row) → is_none row ≡ true → option_to_list row
 none_listed None e = refl
 none_listed (Some row) e = absurd (cc)
 
-with_one : (map : RowMap) (rows : List Row) (row : Row) (t : Ticket) (b : Bool) → is_row_of t row ≡ b → is_none (row_at map row.ticket) ≡ true → HasRows map rows
-    → option_to_list (cond b (Some row) (row_at map t)) ≡ rows_of t (rows ++ row ∷ [])
+with_one : (map : RowMap) (rows : List Row) (row : Row) (t : Ticket) (b : Bool) → is_row_of t row ≡ b → is_none (ticket_row map row.ticket) ≡ true → HasRows map rows
+    → option_to_list (cond b (Some row) (ticket_row map t)) ≡ rows_of t (rows ++ row ∷ [])
 with_one map rows row t true e new has =
-    let same : row_at map row.ticket ≡ row_at map t = ap (row_at map) (own_ticket t row e) in
-    let none : rows_of t rows ≡ [] = sym (has t) ∙ none_listed (row_at map t) (subst (λ o. is_none o ≡ true) same new) in
+    let same : ticket_row map row.ticket ≡ ticket_row map t = ap (ticket_row map) (own_ticket t row e) in
+    let none : rows_of t rows ≡ [] = sym (has t) ∙ none_listed (ticket_row map t) (subst (λ o. is_none o ≡ true) same new) in
     sym (filter-append (is_row_of t) rows (row ∷ []) ∙ (ap (λ l. l ++ rows_of t (row ∷ [])) none ∙ one_filter t row true e))
 with_one map rows row t false e new has =
     has t ∙ sym (filter-append (is_row_of t) rows (row ∷ []) ∙ (ap (λ l. rows_of t rows ++ l) (one_filter t row false e) ∙ append-nil (rows_of t rows)))
 
 -- a row whose ticket had none is put into a map
-pub has_more : (map new : RowMap) (rows : List Row) (row : Row) → is_none (row_at map row.ticket) ≡ true
-    → ((t : Ticket) → row_at new t ≡ cond (is_row_of t row) (Some row) (row_at map t)) → HasRows map rows → HasRows new (rows ++ row ∷ [])
+pub has_more : (map new : RowMap) (rows : List Row) (row : Row) → is_none (ticket_row map row.ticket) ≡ true
+    → ((t : Ticket) → ticket_row new t ≡ cond (is_row_of t row) (Some row) (ticket_row map t)) → HasRows map rows → HasRows new (rows ++ row ∷ [])
 has_more map new rows row none is has = λ t. ap option_to_list (is t) ∙ with_one map rows row t (is_row_of t row) refl none has
 
 at_most_one : (row : Option Row) → length (option_to_list row) ≤ 1
@@ -61,9 +61,9 @@ one_there (Some row) e = refl
 
 -- rows that a map has are no doubles
 pub no_double : (map : RowMap) (rows : List Row) → HasRows map rows → (plan : PlanFields) → NoDouble plan rows
-no_double map rows has plan t own = subst (λ l. length l ≤ 1) (has t) (at_most_one (row_at map t))
+no_double map rows has plan t own = subst (λ l. length l ≤ 1) (has t) (at_most_one (ticket_row map t))
 
-pub double_here : (map : RowMap) (all rows rest : List Row) (row : Row) → all ≡ rows ++ row ∷ rest → is_none (row_at map row.ticket) ≡ false → HasRows map rows
+pub double_here : (map : RowMap) (all rows rest : List Row) (row : Row) → all ≡ rows ++ row ∷ rest → is_none (ticket_row map row.ticket) ≡ false → HasRows map rows
     → (plan : PlanFields) → IsFirstDouble plan all row.ticket
 double_here map all rows rest row cut there has plan = record {
   before = rows;
@@ -72,5 +72,5 @@ double_here map all rows rest row cut there has plan = record {
   cut = cut;
   own = refl;
   single = no_double map rows has plan;
-  there = ap length (sym (has row.ticket)) ∙ one_there (row_at map row.ticket) there;
+  there = ap length (sym (has row.ticket)) ∙ one_there (ticket_row map row.ticket) there;
 }

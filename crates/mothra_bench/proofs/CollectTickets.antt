@@ -8,11 +8,11 @@ use Rattle.mothra_codes.specs.Op.{all_ops, index}
 use Rattle.mothra_codes.specs.declared.op.Op.{Op}
 use Rattle.mothra_codes.specs.declared.op.Op.TheVariants.{Aar}
 use Rattle.mothra_codes.proofs.Operators.{op_at-index, index_below}
-use Rattle.mothra_ops.specs.Plan.{ListFields, PlanFields, IsPlan, list_of, edits_of}
+use Rattle.mothra_ops.specs.Plan.{ListFields, PlanFields, IsPlan, list_of_operator, edits_of}
 use Rattle.mothra_codes.specs.Ticket.{Before, ticket}
 use Rattle.mothra_codes.specs.declared.ticket.Ticket.{Ticket}
 use Rattle.mothra_bench.specs.Matrix.{tickets, tickets_of}
-use Rattle.mothra_bench.specs.Verdict.{Has}
+use Rattle.mothra_bench.specs.Verdict.{HasMutant}
 use Rattle.mothra_bench.proofs.CollectLists.{flat_map_all, flat_map_has, pairs_append}
 
 pub tickets_more : (op : Op) (n : ℕ) → tickets op (n + 1) ≡ tickets op n ++ ticket op (n + 1) ∷ []
@@ -77,21 +77,22 @@ own_has : (op : Op) (n number : ℕ) → 1 ≤ number → number ≤ n → Conta
 own_has op n number h k = let l = length-tickets op n in (number - 1, omega arith, ticket_at op n (number - 1) (ticket op number) (omega arith) ∙ same_number op number h)
 
 -- a ticket that the plan has is one of them
-pub has_ticket : (plan : PlanFields) (t : Ticket) → Has plan t → Contains (tickets_of plan) t
+pub has_ticket : (plan : PlanFields) (t : Ticket) → HasMutant plan t → Contains (tickets_of plan) t
 has_ticket plan t has =
     let f : Op → List Ticket = λ op. tickets op (length (edits_of plan op)) in
     let low = index_below t.op in
     flat_map_has f all_ops (index t.op) Aar t (omega arith)
     (subst (λ op. Contains (f op) t) (sym (op_at-index t.op)) (own_has t.op (length (edits_of plan t.op)) t.number has.0 has.1))
 
-pub tickets_had : (plan : PlanFields) → All (Has plan) (tickets_of plan)
+pub tickets_had : (plan : PlanFields) → All (HasMutant plan) (tickets_of plan)
 tickets_had plan =
-    flat_map_all (λ op. tickets op (length (edits_of plan op))) (Has plan)
-    (λ op. all_tickets op (length (edits_of plan op)) (Has plan) (λ i lt. (omega arith, omega arith))) all_ops
+    flat_map_all (λ op. tickets op (length (edits_of plan op))) (HasMutant plan)
+    (λ op. all_tickets op (length (edits_of plan op)) (HasMutant plan) (λ i lt. (omega arith, omega arith))) all_ops
 
-few_by : (list : Option ListFields) → (is_some list ≡ true → length (option_map_or (λ (l : ListFields). l.edits) list []) ≤ 1048575) → length (option_map_or (λ (l : ListFields). l.edits) list []) ≤ 1048575
+few_by : (list : Option ListFields) → (is_some list ≡ true → length (option_map_or (λ (l : ListFields). l.edits) list []) ≤ 1048575)
+    → length (option_map_or (λ (l : ListFields). l.edits) list []) ≤ 1048575
 few_by None h = omega arith
 few_by (Some list) h = h refl
 
 pub few_edits : (plan : PlanFields) → IsPlan plan → (op : Op) → length (edits_of plan op) ≤ 1048575
-few_edits plan is op = few_by (list_of plan op) (λ asked. (is.lists op asked).list.few)
+few_edits plan is op = few_by (list_of_operator plan op) (λ asked. (is.lists op asked).list.few)

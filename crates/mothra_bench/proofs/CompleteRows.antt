@@ -5,7 +5,7 @@ use Rattle.std.proofs.lemmas.List.{map-append}
 use Rattle.std.proofs.lemmas.Slice.Zip.{AllZip-long}
 use Rattle.f77_run.specs.declared.argument.Arg.{Arg}
 use Rattle.mothra_codes.specs.Op.{index}
-use Rattle.mothra_codes.specs.Ticket.{is_ticket, once_up_to, one_if, times}
+use Rattle.mothra_codes.specs.Ticket.{is_ticket, once_up_to, one_if, ticket_times}
 use Rattle.mothra_codes.specs.declared.ticket.Ticket.{Ticket}
 use Rattle.mothra_exchange.specs.declared.word.Word.{Word}
 use Rattle.mothra_exchange.proofs.Counting.{once_up_to-most, times-append}
@@ -16,18 +16,18 @@ use Rattle.mothra_bench.specs.Bench.{BenchFields}
 use Rattle.mothra_bench.specs.Collecting.{IsFirstDouble, IsFirstMissing, IsFirstStranger, IsNoMatrix, is_row_of, rows_of}
 use Rattle.mothra_bench.specs.Driving.{AreComplete}
 use Rattle.mothra_bench.specs.Gathered.{AreVerdicts, IsOwn, tickets_in}
-use Rattle.mothra_bench.specs.Verdict.{Has, IsKill, mutated}
+use Rattle.mothra_bench.specs.Verdict.{HasMutant, IsKill, mutated}
 use Rattle.mothra_bench.specs.declared.fault.BenchFault.{BenchFault}
 use Rattle.mothra_bench.specs.declared.fault.BenchFault.TheVariants as fault
 use Rattle.mothra_bench.specs.declared.verdict.Row.{Row}
 
 -- a ticket stands among those of the rows as often as it has rows
-rows_times : (t : Ticket) (rows : List Row) → length (rows_of t rows) ≡ times (index t.op) t.number (tickets_in rows)
+rows_times : (t : Ticket) (rows : List Row) → length (rows_of t rows) ≡ ticket_times (index t.op) t.number (tickets_in rows)
 rows_times t [] = refl
 rows_times t (row ∷ rows) = by_case (is_row_of t row) (rows_times t rows) refl
   where
-    by_case : (b : Bool) → length (rows_of t rows) ≡ times (index t.op) t.number (tickets_in rows) → is_row_of t row ≡ b
-        → length (rows_of t (row ∷ rows)) ≡ times (index t.op) t.number (tickets_in (row ∷ rows))
+    by_case : (b : Bool) → length (rows_of t rows) ≡ ticket_times (index t.op) t.number (tickets_in rows) → is_row_of t row ≡ b
+        → length (rows_of t (row ∷ rows)) ≡ ticket_times (index t.op) t.number (tickets_in (row ∷ rows))
     by_case true h e = rw e (omega arith)
     by_case false h e = rw e (omega arith)
 
@@ -38,9 +38,9 @@ own_ticket t = same (index t.op) t.number
     same i k = grind (arith, nat_tests)
 
 times_cut : (t : Ticket) (before : List Row) (row : Row) (after : List Row) → row.ticket ≡ t
-    → times (index t.op) t.number (tickets_in before) + 1 ≤ times (index t.op) t.number (tickets_in (before ++ row ∷ after))
+    → ticket_times (index t.op) t.number (tickets_in before) + 1 ≤ ticket_times (index t.op) t.number (tickets_in (before ++ row ∷ after))
 times_cut t before row after is =
-    let parts = ap (times (index t.op) t.number) (map-append (λ (r : Row). r.ticket) before (row ∷ after))
+    let parts = ap (ticket_times (index t.op) t.number) (map-append (λ (r : Row). r.ticket) before (row ∷ after))
     ∙ times-append (index t.op) t.number (tickets_in before) (tickets_in (row ∷ after)) in
     let one = ap one_if (ap (is_ticket (index t.op) t.number) is ∙ own_ticket t) in
     omega arith
@@ -69,11 +69,11 @@ no_stranger bench words rows t complete verdicts first = first.unknown (record {
     there : 1 ≤ once_up_to (length (edits_of bench.plan first.row.ticket.op)) first.row.ticket.number
     there =
         let more = times_cut first.row.ticket first.before first.row first.after refl in
-        let same = ap (λ (l : List Row). times (index first.row.ticket.op) first.row.ticket.number (tickets_in l)) first.cut in
+        let same = ap (λ (l : List Row). ticket_times (index first.row.ticket.op) first.row.ticket.number (tickets_in l)) first.cut in
         let once = complete.once first.row.ticket.op first.row.ticket.number in
         omega arith
 
-    has : Has bench.plan first.row.ticket
+    has : HasMutant bench.plan first.row.ticket
     has = once_here (length (edits_of bench.plan first.row.ticket.op)) first.row.ticket.number there
 
     tests : length first.row.kills ≡ length bench.tests
@@ -84,7 +84,7 @@ no_stranger bench words rows t complete verdicts first = first.unknown (record {
 no_double : (plan : PlanFields) (words : List Word) (rows : List Row) (t : Ticket) → AreComplete plan words (tickets_in rows) → IsFirstDouble plan rows t → ⊥
 no_double plan words rows t complete first =
     let more = times_cut t first.before first.row first.after first.own in
-    let same = ap (λ (l : List Row). times (index t.op) t.number (tickets_in l)) first.cut in
+    let same = ap (λ (l : List Row). ticket_times (index t.op) t.number (tickets_in l)) first.cut in
     let once = complete.once t.op t.number in
     let most = once_up_to-most (length (edits_of plan t.op)) t.number in
     let one = first.there in

@@ -1,6 +1,6 @@
 -- The counts of the operators are set one after another.
 use Rattle.std.proofs.Common.{◌≡◌, ◌<◌, ◌+◌, ℕ, List, length, get_or, set, inl, inr, sym, ◌∙◌, subst, arith}
-use Rattle.mothra_codes.specs.Op.{op_at}
+use Rattle.mothra_codes.specs.code.Op.{op_at}
 use Rattle.mothra_exchange.proofs.Counting.{get_or-set_else, get_or-set_there}
 use Rattle.mothra_ops.specs.Plan.{PlanFields, edits_of}
 use Rattle.std.proofs.lemmas.Bool.Decides.{eqb_tells}

@@ -116,7 +116,10 @@ declared_sync = search (crosses, sendable) depth 60 fits 20000
 
 inside_sync : IsSync inside.the_row
 inside_sync =
-    recorded_sync _ _ _ inside.the_type.to_one (struct_sync (shape inside.the_type) (plan_sync, (tests_sync, ((search sendable), (outcomes_sync, (visits_sync, (declared_sync, ((search (crosses, sendable) depth 60 fits 20000), tt))))))))
+    recorded_sync _ _ _ inside.the_type.to_one (struct_sync (shape inside.the_type) (
+      plan_sync,
+      (tests_sync, ((search sendable), (outcomes_sync, (visits_sync, (declared_sync, ((search (crosses, sendable) depth 60 fits 20000), tt)))))),
+    ))
 
 pub bench_sync : IsSync bench.the_row
 bench_sync = search (inside_sync, sendable) depth 60 fits 20000

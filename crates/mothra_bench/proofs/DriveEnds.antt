@@ -1,21 +1,24 @@
 -- How the threads of a drive end, and the answer to which they come.
-use Rattle.std.proofs.Common.{◌≡◌, ℕ, List, [], ◌∷◌, ◌++◌, All, Bool, true, Vec, Global, Option, None, Some, Result, Ok, Err, IfSome, IsSome, IfOk, IfErr, MatchOption, length, refl, sym, ap, ◌∙◌, subst, append_assoc, append-nil, arith, inl, inr}
+use Rattle.std.proofs.Common.{◌≡◌, ℕ, List, [], ◌∷◌, ◌++◌, All, Bool, true, Vec, Global, Option, None, Some, Result, Ok, Err, IfSome, IsSome}
+use Rattle.std.proofs.Common.{IfOk, IfErr, MatchOption, length, refl, sym, ap, ◌∙◌, subst, append_assoc, append-nil, arith, inl, inr}
 use Rattle.std.specs.Prelude.{IfNone}
 use Rattle.std.proofs.lemmas.List.Elements.{All-append, All-cons, All-nil, All-weaker}
 use Rattle.mothra_codes.specs.declared.op.Op.{Op}
 use Rattle.mothra_codes.specs.Op.{index}
-use Rattle.mothra_codes.specs.Ticket.{times}
+use Rattle.mothra_codes.specs.Ticket.{ticket_times}
 use Rattle.mothra_codes.specs.declared.ticket.Ticket.{Ticket}
 use Rattle.mothra_exchange.specs.declared.view.View.{View}
 use Rattle.mothra_exchange.specs.declared.word.Word.{Word}
-use Rattle.mothra_exchange.specs.Tally.{Ends}
+use Rattle.mothra_exchange.specs.Tally.{EndsAsViews}
 use Rattle.mothra_exchange.proofs.Counting.{times-append}
 use Rattle.mothra_ops.specs.Plan.{PlanFields}
 use Rattle.mothra_bench.specs.Bench.{BenchFields}
-use Rattle.mothra_bench.specs.Driving.{AreHandedOnce, AreJoined, AreStarted, FeederEnd, HasFed, HasWorked, IsNoDrive, IsNoStart, IsShare, Run, WorkerEnd}
+use Rattle.mothra_bench.specs.Driving.{AreHandedOnce, AreStarted, FeederEnd, HasFed, HasWorked, IsNoDrive, IsShare, Run, WorkerEnd}
+use Rattle.mothra_bench.specs.code.Driving.{AreJoined, IsNoStart}
 use Rattle.mothra_bench.specs.Driving.{all_rows, answer_of, feeder_outcome, taken_by}
 use Rattle.mothra_bench.specs.Feeding.{Feeds, IsStalled}
-use Rattle.mothra_bench.specs.Gathered.{AreVerdicts, IsOwn, gathered_rows, joined_rows, row_list, rows_or_fault, tickets_in}
+use Rattle.mothra_bench.specs.Gathered.{AreVerdicts, IsOwn, joined_rows, row_list, tickets_in}
+use Rattle.mothra_bench.specs.code.Gathered.{gathered_rows, rows_or_fault}
 use Rattle.mothra_bench.specs.declared.fault.BenchFault.{BenchFault}
 use Rattle.mothra_bench.specs.declared.fault.BenchFault.TheVariants as fault
 use Rattle.mothra_bench.specs.declared.gathered.Gathered.{Gathered}
@@ -268,9 +271,9 @@ memory_on None (Some d) (Some e) p q r s = s ∙ q
 memory_on (Some b) (Some d) (Some e) p q r s = s ∙ q
 
 -- what was taken behind the tickets of old was handed out once
-pub handed_once : (C : ℕ) (old new : View) (words : List Word) (tickets : List Ticket) → Ends C new words → new.taken ≡ old.taken ++ tickets → AreHandedOnce words tickets
+pub handed_once : (C : ℕ) (old new : View) (words : List Word) (tickets : List Ticket) → EndsAsViews C new words → new.taken ≡ old.taken ++ tickets → AreHandedOnce words tickets
 handed_once C old new words tickets ends took op k =
     let most = (ends op).taken k in
-    let same = ap (times (index op) k) took in
+    let same = ap (ticket_times (index op) k) took in
     let parts = times-append (index op) k old.taken tickets in
     omega arith

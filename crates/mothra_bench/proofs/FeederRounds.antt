@@ -1,5 +1,6 @@
 -- What a round of a feeder leaves of the stages of all operators, and what they come to.
-use Rattle.std.proofs.Common.{◌≡◌, ◌≢◌, ℕ, ◌+◌, ◌<◌, List, [], ◌∷◌, ◌++◌, length, Bool, true, false, true≢false, eqb, All, Contains, get_or, set, take, zero, suc, refl, sym, ap, ◌∙◌, subst, arith, eq-eqb}
+use Rattle.std.proofs.Common.{◌≡◌, ◌≢◌, ℕ, ◌+◌, ◌<◌, List, [], ◌∷◌, ◌++◌, length, Bool, true, false, true≢false, eqb}
+use Rattle.std.proofs.Common.{All, Contains, get_or, set, take, zero, suc, refl, sym, ap, ◌∙◌, subst, arith, eq-eqb}
 use Rattle.std.proofs.lemmas.Bool.{eqb-true}
 use Rattle.std.proofs.lemmas.List.{take_more}
 use Rattle.std.proofs.lemmas.Bool.Decides.{nat_tests}
@@ -9,30 +10,31 @@ use Rattle.mothra_codes.specs.declared.op.Op.{Op}
 use Rattle.mothra_codes.specs.Op.{index}
 use Rattle.mothra_exchange.specs.declared.view.View.{View}
 use Rattle.mothra_exchange.specs.Law.{ChangesOnly}
-use Rattle.mothra_codes.specs.Ticket.{once_up_to, times}
+use Rattle.mothra_codes.specs.Ticket.{once_up_to, ticket_times}
 use Rattle.mothra_exchange.specs.View.{times_closed}
 use Rattle.mothra_exchange.proofs.Counting.{get_or-set_else, get_or-set_there}
-use Rattle.mothra_bench.specs.Feeding.{AllShow, AreFed, IsFed, Shows, stage_of}
+use Rattle.mothra_bench.specs.code.Feeding.{AllShow, ShowsStage, stage_of}
+use Rattle.mothra_bench.specs.Feeding.{AreFed, IsFed}
 use Rattle.mothra_bench.specs.declared.feeding.Stage.{Stage}
 use Rattle.mothra_bench.specs.declared.feeding.Stage.TheVariants as stage
 use Rattle.mothra_bench.proofs.FeederSteps.{shows_other}
 
 -- the turn of an operator leaves what the stages of all tell
-pub all_show_one : (old new : View) (stages : List Stage) (op : Op) (s : Stage) → length stages ≡ 22 → ChangesOnly op old new → Shows new op s → AllShow old stages
+pub all_show_one : (old new : View) (stages : List Stage) (op : Op) (s : Stage) → length stages ≡ 22 → ChangesOnly op old new → ShowsStage new op s → AllShow old stages
     → AllShow new (set stages (index op) s)
 all_show_one old new stages op s long only h all o = by_case (eqb (index o) (index op)) refl
   where
-    by_case : (b : Bool) → eqb (index o) (index op) ≡ b → Shows new o (stage_of (set stages (index op) s) o)
+    by_case : (b : Bool) → eqb (index o) (index op) ≡ b → ShowsStage new o (stage_of (set stages (index op) s) o)
     by_case true e =
         let same : index o ≡ index op = eqb-true (index o) (index op) e in
         let is : o ≡ op = same_op o op same in
         let there : stage_of (set stages (index op) s) op ≡ s = get_or-set_there stages (index op) s (stage.Offered 0)
         (subst (λ (n : ℕ). index op < n) (sym long) (index_below op)) in
-        subst (λ x. Shows new x (stage_of (set stages (index op) s) x)) (sym is) (subst (Shows new op) (sym there) h)
+        subst (λ x. ShowsStage new x (stage_of (set stages (index op) s) x)) (sym is) (subst (ShowsStage new op) (sym there) h)
     by_case false e =
         let other : o ≢ op = (λ i. true≢false (sym (eq-eqb (index o) (index op) (ap index i)) ∙ e)) in
         let there : stage_of (set stages (index op) s) o ≡ stage_of stages o = get_or-set_else stages (index op) (index o) s (stage.Offered 0) (λ i. other (same_op o op i)) in
-        subst (Shows new o) (sym there) (shows_other op o old new (stage_of stages o) only other (all o))
+        subst (ShowsStage new o) (sym there) (shows_other op o old new (stage_of stages o) only other (all o))
 
 -- an operator that is closed stays so
 pub stays_closed : (stages : List Stage) (op o : Op) → length stages ≡ 22 → stage_of stages o ≡ stage.Closed → stage_of (set stages (index op) stage.Closed) o ≡ stage.Closed
@@ -63,7 +65,7 @@ pub other_stage : (stages : List Stage) (op o : Op) (s : Stage) → o ≢ op →
 other_stage stages op o s ne = get_or-set_else stages (index op) (index o) s (stage.Offered 0) (λ i. ne (same_op o op i))
 
 -- the same for the place of an operator
-pub all_show_at : (old new : View) (stages : List Stage) (op : Op) (i : ℕ) (s : Stage) → i ≡ index op → length stages ≡ 22 → ChangesOnly op old new → Shows new op s
+pub all_show_at : (old new : View) (stages : List Stage) (op : Op) (i : ℕ) (s : Stage) → i ≡ index op → length stages ≡ 22 → ChangesOnly op old new → ShowsStage new op s
     → AllShow old stages → AllShow new (set stages i s)
 all_show_at old new stages op i s at long only h all = subst (λ (j : ℕ). AllShow new (set stages j s)) (sym at) (all_show_one old new stages op s long only h all)
 
@@ -86,9 +88,9 @@ none_once : (k : ℕ) → once_up_to 0 k ≡ 0
 none_once k = grind (arith, nat_tests)
 
 -- a pass that has offered and closed nothing
-pub shows_first : (view : View) (op : Op) (s : Stage) → s ≡ stage.Offered 0 → view.offered ≡ [] → view.closings ≡ [] → Shows view op s
-shows_first view op s is offered closings = subst (Shows view op) (sym is) (
-  (λ k. ap (times (index op) k) offered ∙ sym (none_once k)),
+pub shows_first : (view : View) (op : Op) (s : Stage) → s ≡ stage.Offered 0 → view.offered ≡ [] → view.closings ≡ [] → ShowsStage view op s
+shows_first view op s is offered closings = subst (ShowsStage view op) (sym is) (
+  (λ k. ap (ticket_times (index op) k) offered ∙ sym (none_once k)),
   (λ k. ap (times_closed (index op) k) closings),
   (omega arith),
   (omega arith),
@@ -107,8 +109,8 @@ first_stage (suc n) (suc i) = first_stage n i
 pub all_fed : (view : View) (stages : List Stage) (ops : List Op) → AllShow view stages → All (λ op. stage_of stages op ≡ stage.Closed) ops
     → ((op : Op) → ¬ (Contains ops op) → stage_of stages op ≡ stage.Offered 0) → AreFed ops view
 all_fed view stages ops all closed first = record {
-  own = All-weaker (λ op. stage_of stages op ≡ stage.Closed) (IsFed view) (λ op e. subst (Shows view op) e (all op)) ops closed;
+  own = All-weaker (λ op. stage_of stages op ≡ stage.Closed) (IsFed view) (λ op e. subst (ShowsStage view op) e (all op)) ops closed;
   others = λ op none.
-      let h : Shows view op (stage.Offered 0) = subst (Shows view op) (first op none) (all op) in
+      let h : ShowsStage view op (stage.Offered 0) = subst (ShowsStage view op) (first op none) (all op) in
       record { offered = λ k. h.0 k ∙ none_once k; closings = h.1 };
 }

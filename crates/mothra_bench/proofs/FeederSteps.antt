@@ -1,5 +1,6 @@
 -- What the calls of a feeder leave of its pass.
-use Rattle.std.proofs.Common.{◌≡◌, ◌⊎◌, ◌≢◌, ℕ, ◌+◌, ◌<◌, ◌≤◌, List, [], ◌∷◌, ◌++◌, Bool, true, false, true≢false, cond, eqb, ltb, not, Option, None, Some, IfSome, refl, sym, ap, ◌∙◌, subst, ⊎_elim, arith, inl, inr, eq-eqb}
+use Rattle.std.proofs.Common.{◌≡◌, ◌⊎◌, ◌≢◌, ℕ, ◌+◌, ◌<◌, ◌≤◌, List, [], ◌∷◌, ◌++◌, Bool, true, false, true≢false, cond, eqb}
+use Rattle.std.proofs.Common.{ltb, not, Option, None, Some, IfSome, refl, sym, ap, ◌∙◌, subst, ⊎_elim, arith, inl, inr, eq-eqb}
 use Rattle.std.specs.Prelude.{slice_index}
 use Rattle.std.proofs.lemmas.Bool.{ltb-true}
 use Rattle.std.proofs.lemmas.Bool.Decides.{nat_tests}
@@ -15,13 +16,15 @@ use Rattle.mothra_exchange.specs.declared.answer.Offer.{Offer}
 use Rattle.mothra_exchange.specs.declared.answer.Offer.TheVariants as offer
 use Rattle.mothra_exchange.specs.Gate.{CloseKept, OfferKept}
 use Rattle.mothra_exchange.specs.Law.{ChangesOnly, HaveSame}
-use Rattle.mothra_codes.specs.Ticket.{one_if, ticket, times}
+use Rattle.mothra_codes.specs.Ticket.{one_if, ticket, ticket_times}
 use Rattle.mothra_exchange.specs.View.{closing, times_closed, view_after_load}
 use Rattle.mothra_exchange.specs.Word.{AtMost, word_after_offer}
 use Rattle.mothra_exchange.proofs.Counting.{is_closing-own, is_ticket-own, once_up_to-suc, times-more, times_closed-more}
 use Rattle.mothra_exchange.proofs.Others.{offer_only}
-use Rattle.mothra_bench.specs.Closing.{Closes, LooksOnly, Shuts, count_of, seen_of}
-use Rattle.mothra_bench.specs.Feeding.{HasClosed, HasOffered, IsFed, NeverClosed, OnlyGave, Shows}
+use Rattle.mothra_bench.specs.code.Closing.{Closes, LooksOnly, Shuts}
+use Rattle.mothra_bench.specs.Closing.{count_of, seen_of}
+use Rattle.mothra_bench.specs.Feeding.{HasClosed, HasOffered, IsFed, NeverClosed, OnlyGave}
+use Rattle.mothra_bench.specs.code.Feeding.{ShowsStage}
 use Rattle.mothra_bench.specs.declared.feeding.Stage.{Stage}
 use Rattle.mothra_bench.specs.declared.feeding.Stage.TheVariants as stage
 use Rattle.mothra_bench.proofs.Looking.{found, load_long, looks_load, looks_lost, seen_after_load}
@@ -56,7 +59,7 @@ same_count : (old new : View) (op : Op) → new.counts ≡ old.counts → count_
 same_count old new op e = ap (λ (l : List ℕ). slice_index l (index op)) e
 
 same_offers : (old new : View) (op : Op) (last : ℕ) → new.offered ≡ old.offered → HasOffered old op last → HasOffered new op last
-same_offers old new op last e h k = ap (times (index op) k) e ∙ h k
+same_offers old new op last e h k = ap (ticket_times (index op) k) e ∙ h k
 
 same_closings : (old new : View) (op : Op) → new.closings ≡ old.closings → NeverClosed old op → NeverClosed new op
 same_closings old new op e h k = ap (times_closed (index op) k) e ∙ h k
@@ -69,7 +72,7 @@ higher_still : (op : Op) (old new : View) (last : ℕ) → AtMost (seen_of old o
 higher_still op old new last r h = let e = r.offered in omega arith
 
 -- a stage is still told behind a look
-pub shows_looked : (op : Op) (old new : View) (s : Stage) → LooksOnly op old new → Shows old op s → Shows new op s
+pub shows_looked : (op : Op) (old new : View) (s : Stage) → LooksOnly op old new → ShowsStage old op s → ShowsStage new op s
 shows_looked op old new (stage.Offered last) l h = (
   same_offers old new op last l.offered h.0,
   same_closings old new op l.closings h.1,
@@ -92,7 +95,7 @@ shows_looked op old new stage.Closed l (IsFed.others_closed last o n c) =
     IsFed.others_closed last (same_offers old new op last l.offered o) (same_closings old new op l.closings n) (l.rises.close c).0
 
 -- and behind a call on another operator
-pub shows_other : (op other : Op) (old new : View) (s : Stage) → ChangesOnly op old new → other ≢ op → Shows old other s → Shows new other s
+pub shows_other : (op other : Op) (old new : View) (s : Stage) → ChangesOnly op old new → other ≢ op → ShowsStage old other s → ShowsStage new other s
 shows_other op other old new s only ne h = shown s h
   where
     same : HaveSame other old new
@@ -110,7 +113,7 @@ shows_other op other old new s only ne h = shown s h
     never : NeverClosed old other → NeverClosed new other
     never n k = same.closings k ∙ n k
 
-    shown : (s : Stage) → Shows old other s → Shows new other s
+    shown : (s : Stage) → ShowsStage old other s → ShowsStage new other s
     shown (stage.Offered last) h = (
       offers last h.0,
       never h.1,
@@ -154,7 +157,7 @@ fed_closed op old new offers never most closes = by_case closes.closings
         let none = never (count_of new op) in
         IsFed.by_itself given (omega arith)
 
-pub fed_ended : (op : Op) (old new : View) → Shows old op stage.Ended → Closes op old new → IsFed new op
+pub fed_ended : (op : Op) (old new : View) → ShowsStage old op stage.Ended → Closes op old new → IsFed new op
 fed_ended op old new h closes = by_case h.3 closes.closings
   where
     given : HasOffered new op h.0
@@ -203,17 +206,17 @@ out_of_turn : (k n : ℕ) → not (eqb k n) ≡ true → k ≢ n
 out_of_turn k n e = grind (arith, nat_tests)
 
 -- an offer that found no room, or lost
-pub shows_full : (C : ℕ) (old new : View) (t : Ticket) (s : Stage) → Shows old t.op s → OfferKept C old t offer.Full new → Shows new t.op s
+pub shows_full : (C : ℕ) (old new : View) (t : Ticket) (s : Stage) → ShowsStage old t.op s → OfferKept C old t offer.Full new → ShowsStage new t.op s
 shows_full C old new t s h kept =
     shows_looked t.op old new s (looks_load C old new t.op kept.0 kept.1 kept.2.1 (offer_only C old t offer.Full new kept)) h
 
-pub shows_busy : (C : ℕ) (old new : View) (t : Ticket) (s : Stage) → Shows old t.op s → OfferKept C old t offer.Busy new → Shows new t.op s
+pub shows_busy : (C : ℕ) (old new : View) (t : Ticket) (s : Stage) → ShowsStage old t.op s → OfferKept C old t offer.Busy new → ShowsStage new t.op s
 shows_busy C old new t s h kept =
     shows_looked t.op old new s (looks_lost C old new t.op kept.0 kept.1 kept.2.1 (offer_only C old t offer.Busy new kept)) h
 
 -- one behind a close
-pub shows_closed : (C : ℕ) (old new : View) (t : Ticket) (last : ℕ) → Shows old t.op (stage.Offered last) → OfferKept C old t offer.Closed new
-    → Shows new t.op stage.Ended
+pub shows_closed : (C : ℕ) (old new : View) (t : Ticket) (last : ℕ) → ShowsStage old t.op (stage.Offered last) → OfferKept C old t offer.Closed new
+    → ShowsStage new t.op stage.Ended
 shows_closed C old new t last h kept =
     let w = kept.0 in
     let looks = looks_load C old new t.op w kept.1 kept.2.1 (offer_only C old t offer.Closed new kept) in
@@ -227,7 +230,7 @@ shows_closed C old new t last h kept =
 
 -- none is past the end
 pub shows_past : (C : ℕ) (old new : View) (t : Ticket) (last : ℕ) → t.number ≡ last + 1 → last < count_of old t.op → OfferKept C old t offer.PastEnd new
-    → Shows new t.op stage.Ended
+    → ShowsStage new t.op stage.Ended
 shows_past C old new t last next below kept =
     let w = kept.0 in
     let past = ltb-true w.count t.number
@@ -236,8 +239,8 @@ shows_past C old new t last next below kept =
     absurd (omega arith)
 
 -- one that is out of turn, since another pass offered
-pub shows_turn : (C : ℕ) (old new : View) (t : Ticket) (last k : ℕ) → t.number ≡ last + 1 → Shows old t.op (stage.Offered last)
-    → OfferKept C old t (offer.OutOfTurn k) new → Shows new t.op stage.Ended
+pub shows_turn : (C : ℕ) (old new : View) (t : Ticket) (last k : ℕ) → t.number ≡ last + 1 → ShowsStage old t.op (stage.Offered last)
+    → OfferKept C old t (offer.OutOfTurn k) new → ShowsStage new t.op stage.Ended
 shows_turn C old new t last k next h kept =
     let w = kept.0 in
     let looks = looks_load C old new t.op w kept.1 kept.2.1 (offer_only C old t (offer.OutOfTurn k) new kept) in
@@ -259,15 +262,15 @@ shows_turn C old new t last k next h kept =
 
 offered_one : (op : Op) (old new : View) (n : ℕ) → new.offered ≡ old.offered ++ ticket op (n + 1) ∷ [] → HasOffered old op n → HasOffered new op (n + 1)
 offered_one op old new n e h k =
-    let more = ap (times (index op) k) e ∙ times-more (index op) k old.offered (ticket op (n + 1)) in
+    let more = ap (ticket_times (index op) k) e ∙ times-more (index op) k old.offered (ticket op (n + 1)) in
     let own = ap one_if (is_ticket-own op (n + 1) k) in
     let up = once_up_to-suc n k in
     let was = h k in
     omega arith
 
 -- one that was accepted
-pub shows_accepted : (C : ℕ) (old new : View) (t : Ticket) (last : ℕ) → t.number ≡ last + 1 → last < count_of old t.op → Shows old t.op (stage.Offered last)
-    → OfferKept C old t offer.Accepted new → Shows new t.op (stage.Offered t.number)
+pub shows_accepted : (C : ℕ) (old new : View) (t : Ticket) (last : ℕ) → t.number ≡ last + 1 → last < count_of old t.op → ShowsStage old t.op (stage.Offered last)
+    → OfferKept C old t offer.Accepted new → ShowsStage new t.op (stage.Offered t.number)
 shows_accepted C old new t last next below h kept =
     let w = kept.0 in
     let op = t.op in
@@ -288,14 +291,14 @@ shows_accepted C old new t last next below h kept =
       (omega arith),
     )
 
-pub shows_waited : (C : ℕ) (old new : View) (t : Ticket) (s : Stage) (answer : Offer) → (answer ≡ offer.Full) ⊎ (answer ≡ offer.Busy) → Shows old t.op s
-    → OfferKept C old t answer new → Shows new t.op s
+pub shows_waited : (C : ℕ) (old new : View) (t : Ticket) (s : Stage) (answer : Offer) → (answer ≡ offer.Full) ⊎ (answer ≡ offer.Busy) → ShowsStage old t.op s
+    → OfferKept C old t answer new → ShowsStage new t.op s
 shows_waited C old new t s answer (inl e) h kept = shows_full C old new t s h (subst (λ a. OfferKept C old t a new) e kept)
 shows_waited C old new t s answer (inr e) h kept = shows_busy C old new t s h (subst (λ a. OfferKept C old t a new) e kept)
 
 pub shows_ended : (C : ℕ) (old new : View) (t : Ticket) (last : ℕ) (answer : Offer)
     → (answer ≡ offer.Closed) ⊎ ((answer ≡ offer.PastEnd) ⊎ ((k : ℕ) × (answer ≡ offer.OutOfTurn k))) → t.number ≡ last + 1 → last < count_of old t.op
-    → Shows old t.op (stage.Offered last) → OfferKept C old t answer new → Shows new t.op stage.Ended
+    → ShowsStage old t.op (stage.Offered last) → OfferKept C old t answer new → ShowsStage new t.op stage.Ended
 shows_ended C old new t last answer (inl e) next below h kept = shows_closed C old new t last h (subst (λ a. OfferKept C old t a new) e kept)
 shows_ended C old new t last answer (inr (inl e)) next below h kept = shows_past C old new t last next below (subst (λ a. OfferKept C old t a new) e kept)
 shows_ended C old new t last answer (inr (inr (k, e))) next below h kept = shows_turn C old new t last k next h (subst (λ a. OfferKept C old t a new) e kept)
@@ -311,7 +314,7 @@ only_offered C old t offer.Accepted new ne kept = offer_only C old t offer.Accep
 only_offered C old t offer.GaveUp new ne kept = absurd (ne refl)
 
 -- an operator of which all was offered is closed
-pub fed_full : (op : Op) (old new : View) (last count : ℕ) → count_of old op ≡ count → Shows old op (stage.Offered last) → count ≤ last → Closes op old new → IsFed new op
+pub fed_full : (op : Op) (old new : View) (last count : ℕ) → count_of old op ≡ count → ShowsStage old op (stage.Offered last) → count ≤ last → Closes op old new → IsFed new op
 fed_full op old new last count is h most closes =
     let below = h.2 in
     let seen = h.3 in
@@ -319,13 +322,13 @@ fed_full op old new last count is h most closes =
     fed_closed op old new (subst (HasOffered old op) same h.0) h.1 (omega arith) closes
 
 -- a closing behind all offers, or behind their end
-pub turn_full : (op : Op) (old new : View) (s : Stage) (last count : ℕ) (result : Option Stage) → s ≡ stage.Offered last → count_of old op ≡ count → Shows old op s → count ≤ last
-    → IfSome result (λ x. (x ≡ stage.Closed) × Closes op old new) → IfSome result (Shows new op)
+pub turn_full : (op : Op) (old new : View) (s : Stage) (last count : ℕ) (result : Option Stage) → s ≡ stage.Offered last → count_of old op ≡ count → ShowsStage old op s → count ≤ last
+    → IfSome result (λ x. (x ≡ stage.Closed) × Closes op old new) → IfSome result (ShowsStage new op)
 turn_full op old new s last count None is e h most r = tt
 turn_full op old new s last count (Some x) is e h most r =
-    subst (Shows new op) (sym r.0) (fed_full op old new last count e (subst (Shows old op) is h) most r.1)
+    subst (ShowsStage new op) (sym r.0) (fed_full op old new last count e (subst (ShowsStage old op) is h) most r.1)
 
-pub turn_ended : (op : Op) (old new : View) (s : Stage) (result : Option Stage) → s ≡ stage.Ended → Shows old op s
-    → IfSome result (λ x. (x ≡ stage.Closed) × Closes op old new) → IfSome result (Shows new op)
+pub turn_ended : (op : Op) (old new : View) (s : Stage) (result : Option Stage) → s ≡ stage.Ended → ShowsStage old op s
+    → IfSome result (λ x. (x ≡ stage.Closed) × Closes op old new) → IfSome result (ShowsStage new op)
 turn_ended op old new s None is h r = tt
-turn_ended op old new s (Some x) is h r = subst (Shows new op) (sym r.0) (fed_ended op old new (subst (Shows old op) is h) r.1)
+turn_ended op old new s (Some x) is h r = subst (ShowsStage new op) (sym r.0) (fed_ended op old new (subst (ShowsStage old op) is h) r.1)

@@ -9,9 +9,9 @@ use Rattle.mothra_codes.specs.declared.op.Op.{Op}
 use Rattle.mothra_codes.specs.declared.op.Op.TheVariants.{Aar}
 use Rattle.mothra_codes.specs.declared.ticket.Ticket.{Ticket}
 use Rattle.mothra_codes.proofs.Operators.{index_below, op_at-index}
-use Rattle.mothra_exchange.specs.Law.{IsWordOf, Shows}
-use Rattle.mothra_exchange.specs.Log.{IsLegal, closes, hands, offers, one_to, taken_in}
-use Rattle.mothra_exchange.specs.Rule.{IsSound, OpRule}
+use Rattle.mothra_exchange.specs.Law.{IsWordOf, IsShownInLog}
+use Rattle.mothra_exchange.specs.Log.{IsLegalLog, closes, hands, offers, one_to, taken_in}
+use Rattle.mothra_exchange.specs.Rule.{IsSoundExchange, OpRule}
 use Rattle.mothra_exchange.specs.declared.log.Event.{Event}
 use Rattle.mothra_exchange.specs.declared.view.View.{View}
 use Rattle.mothra_exchange.specs.declared.word.Word.{Word}
@@ -23,7 +23,7 @@ use Rattle.mothra_ops.specs.Mutants.{mutant_made, program_of}
 use Rattle.mothra_ops.specs.Plan.{PlanFields, edits_of}
 use Rattle.mothra_bench.specs.Bench.{BenchFields}
 use Rattle.mothra_bench.specs.Feeding.{AreCounts}
-use Rattle.mothra_bench.specs.PlanExchange.{AreFirstItems, HandsOutFront, HasHistory, IsHandedOut, KeepsLists, counts_of}
+use Rattle.mothra_bench.specs.PlanExchange.{AreFirstItems, HandsOutFront, HasHistory, IsHandedOut, KeepsLists, plan_counts}
 use Rattle.mothra_bench.specs.Verdict.{IsItemVerdict, IsVerdict, item_of}
 
 -- ---- the items of a list by number
@@ -61,7 +61,7 @@ first_items plan op n within =
 
 -- ---- the counts of a plan
 
-count_at : (plan : PlanFields) (op : Op) → slice_index (counts_of plan) (index op) ≡ length (edits_of plan op)
+count_at : (plan : PlanFields) (op : Op) → slice_index (plan_counts plan) (index op) ≡ length (edits_of plan op)
 count_at plan op =
     get_or-map (λ (o : Op). length (edits_of plan o)) all_ops (index op) Aar 0 (index_below op)
     ∙ ap (λ (o : Op). length (edits_of plan o)) (op_at-index op)
@@ -72,7 +72,7 @@ count_at plan op =
 few : (C i n many : ℕ) (w : Word) (views : List View) → OpRule C i n w views → n ≡ many → w.handed ≤ many
 few C i n many w views rule same = omega (arith, rule.bounds.handed, rule.bounds.offered, rule.count, same)
 
-module _ (C : ℕ) (plan : PlanFields) (counts words : List ℕ) (views : List View) (sound : IsSound C counts words views) (own : AreCounts plan counts) where
+module _ (C : ℕ) (plan : PlanFields) (counts words : List ℕ) (views : List View) (sound : IsSoundExchange C counts words views) (own : AreCounts plan counts) where
   within : (op : Op) (w : Word) → IsWordOf words op w → w.handed ≤ length (edits_of plan op)
   within op w is = few C (index op) (slice_index counts (index op)) (length (edits_of plan op)) w views (rule_at C counts words views sound op w is) (own op)
 
@@ -96,19 +96,19 @@ module _ (C : ℕ) (plan : PlanFields) (counts words : List ℕ) (views : List V
         };
       }
 
-  same : (op : Op) → slice_index counts (index op) ≡ slice_index (counts_of plan) (index op)
+  same : (op : Op) → slice_index counts (index op) ≡ slice_index (plan_counts plan) (index op)
   same op = own op ∙ sym (count_at plan op)
 
-  handed : (log : List Event) → IsLegal C counts log → (op : Op) (w : Word) → Shows counts log op w → taken_in (index op) log ≡ one_to w.handed
+  handed : (log : List Event) → IsLegalLog C counts log → (op : Op) (w : Word) → IsShownInLog counts log op w → taken_in (index op) log ≡ one_to w.handed
   handed log legal op w shows = in_order C counts (index op) log legal ∙ ap one_to (sym (ap (λ (v : Word). v.handed) shows))
 
-  shown_for : (log : List Event) (op : Op) (w : Word) → Shows counts log op w → Shows (counts_of plan) log op w
+  shown_for : (log : List Event) (op : Op) (w : Word) → IsShownInLog counts log op w → IsShownInLog (plan_counts plan) log op w
   shown_for log op w shows =
       let i = index op in
       let word : ℕ → Word = λ n. record { count = n; offered = offers i log; handed = hands i log; closed = closes i log } in
       shows ∙ ap word (same op)
 
-  items : (log : List Event) → IsLegal C counts log → ((op : Op) (w : Word) → IsWordOf words op w → Shows counts log op w)
+  items : (log : List Event) → IsLegalLog C counts log → ((op : Op) (w : Word) → IsWordOf words op w → IsShownInLog counts log op w)
       → (op : Op) → AreFirstItems plan op (taken_in (index op) log)
   items log legal shows op =
       let found = has_word C counts words views sound op in
@@ -120,7 +120,7 @@ module _ (C : ℕ) (plan : PlanFields) (counts words : List ℕ) (views : List V
       let shown = shows_one_log C counts words views sound some_wait in
       record {
         log = shown.0;
-        legal = legal_for C counts (counts_of plan) same [] shown.0 shown.1;
+        legal = legal_for C counts (plan_counts plan) same [] shown.0 shown.1;
         shows = λ op w is. shown_for shown.0 op w (shown.2 op w is);
         handed = λ op w is. handed shown.0 shown.1 op w (shown.2 op w is);
         items = items shown.0 shown.1 shown.2;

@@ -9,35 +9,36 @@ use Rattle.mothra_codes.specs.declared.ticket.Ticket.{Ticket}
 use Rattle.mothra_exchange.specs.declared.view.View.{View}
 use Rattle.mothra_exchange.specs.declared.word.Word.{Word}
 use Rattle.mothra_exchange.specs.Sharing.{IsOver}
-use Rattle.mothra_exchange.specs.Tally.{Ends, EndsAt, word_at}
-use Rattle.mothra_codes.specs.Ticket.{once_up_to, one_if, times}
+use Rattle.mothra_exchange.specs.Tally.{EndsAsViews, EndsAt, operator_word}
+use Rattle.mothra_codes.specs.Ticket.{once_up_to, one_if, ticket_times}
 use Rattle.mothra_exchange.specs.View.{once_if_closed, split_off_view, times_closed, view_after_split, whole_part}
 use Rattle.mothra_exchange.specs.Word.{AtMost}
 use Rattle.mothra_exchange.proofs.Counting.{times-append, times_closed-append}
 use Rattle.mothra_ops.specs.Plan.{PlanFields, edits_of}
 use Rattle.mothra_bench.specs.Closing.{count_of, seen_of}
-use Rattle.mothra_bench.specs.Driving.{AreComplete, AreShared, IsDone, IsNew, IsWhole, Joins, KeepsFed, OnlySplit, complete_word}
-use Rattle.mothra_bench.specs.Feeding.{AreCounts, AreFed, IsReady, HasClosed, HasOffered, IsFed, IsUntouched}
+use Rattle.mothra_bench.specs.Driving.{AreComplete, IsNewPass, IsWhole, complete_word}
+use Rattle.mothra_bench.specs.code.Driving.{AreShared, IsDone, JoinsPass, KeepsFed, OnlySplit}
+use Rattle.mothra_bench.specs.Feeding.{AreCounts, AreFed, IsReadyPass, HasClosed, HasOffered, IsFed, IsUntouched}
 use Rattle.mothra_bench.specs.Working.{AreOver}
 use Rattle.mothra_bench.specs.declared.fault.BenchFault.{BenchFault}
 
-joined_counts : (v w n : View) → Joins v w n → n.counts ≡ v.counts
+joined_counts : (v w n : View) → JoinsPass v w n → n.counts ≡ v.counts
 joined_counts v w n j = ap (λ (u : View). u.counts) j.united
 
-joined_count : (v w n : View) (op : Op) → Joins v w n → count_of n op ≡ count_of v op
+joined_count : (v w n : View) (op : Op) → JoinsPass v w n → count_of n op ≡ count_of v op
 joined_count v w n op j = ap (λ (l : List ℕ). slice_index l (index op)) (joined_counts v w n j)
 
-joined_offers : (v w n : View) (op : Op) (k : ℕ) → Joins v w n → times (index op) k n.offered ≡ times (index op) k v.offered + times (index op) k w.offered
-joined_offers v w n op k j = ap (λ (u : View). times (index op) k u.offered) j.united ∙ times-append (index op) k v.offered w.offered
+joined_offers : (v w n : View) (op : Op) (k : ℕ) → JoinsPass v w n → ticket_times (index op) k n.offered ≡ ticket_times (index op) k v.offered + ticket_times (index op) k w.offered
+joined_offers v w n op k j = ap (λ (u : View). ticket_times (index op) k u.offered) j.united ∙ times-append (index op) k v.offered w.offered
 
-joined_closings : (v w n : View) (op : Op) (k : ℕ) → Joins v w n
+joined_closings : (v w n : View) (op : Op) (k : ℕ) → JoinsPass v w n
     → times_closed (index op) k n.closings ≡ times_closed (index op) k v.closings + times_closed (index op) k w.closings
 joined_closings v w n op k j = ap (λ (u : View). times_closed (index op) k u.closings) j.united ∙ times_closed-append (index op) k v.closings w.closings
 
-seen_left : (v w n : View) (op : Op) → Joins v w n → AtMost (seen_of v op) (seen_of n op)
+seen_left : (v w n : View) (op : Op) → JoinsPass v w n → AtMost (seen_of v op) (seen_of n op)
 seen_left v w n op j = subst (λ (u : View). AtMost (seen_of v op) (seen_of u op)) (sym j.united) (j.well op).left_seen
 
-seen_right : (v w n : View) (op : Op) → Joins v w n → AtMost (seen_of w op) (seen_of n op)
+seen_right : (v w n : View) (op : Op) → JoinsPass v w n → AtMost (seen_of w op) (seen_of n op)
 seen_right v w n op j = subst (λ (u : View). AtMost (seen_of w op) (seen_of u op)) (sym j.united) (j.well op).right_seen
 
 above : (a b : Word) (last : ℕ) → AtMost a b → last < a.offered → last < b.offered
@@ -45,7 +46,7 @@ above a b last h m = let e = h.offered in omega arith
 
 -- an operator that one of two passes has fed and the other has not touched
 joined_fed : (u n : View) (op : Op) → AtMost (seen_of u op) (seen_of n op) → count_of n op ≡ count_of u op
-    → ((k : ℕ) → times (index op) k n.offered ≡ times (index op) k u.offered)
+    → ((k : ℕ) → ticket_times (index op) k n.offered ≡ ticket_times (index op) k u.offered)
     → ((k : ℕ) → times_closed (index op) k n.closings ≡ times_closed (index op) k u.closings) → IsFed u op → IsFed n op
 joined_fed u n op seen count offers closings (IsFed.by_itself o c) =
     IsFed.by_itself (subst (HasOffered n op) (sym count) (λ k. offers k ∙ o k)) (subst (HasClosed n op) (sym count) (closings (count_of u op) ∙ c))
@@ -54,29 +55,29 @@ joined_fed u n op seen count offers closings (IsFed.others_offered last o m) =
 joined_fed u n op seen count offers closings (IsFed.others_closed last o never c) =
     IsFed.others_closed last (λ k. offers k ∙ o k) (λ k. closings k ∙ never k) (seen.close c).0
 
-pub fed_left : (v w n : View) (op : Op) → Joins v w n → IsUntouched w op → IsFed v op → IsFed n op
+pub fed_left : (v w n : View) (op : Op) → JoinsPass v w n → IsUntouched w op → IsFed v op → IsFed n op
 fed_left v w n op j none fed =
     joined_fed v n op (seen_left v w n op j) (joined_count v w n op j)
     (λ k. let a = joined_offers v w n op k j in let b = none.offered k in omega arith)
     (λ k. let a = joined_closings v w n op k j in let b = none.closings k in omega arith) fed
 
-pub fed_right : (v w n : View) (op : Op) → Joins v w n → w.counts ≡ v.counts → IsUntouched v op → IsFed w op → IsFed n op
+pub fed_right : (v w n : View) (op : Op) → JoinsPass v w n → w.counts ≡ v.counts → IsUntouched v op → IsFed w op → IsFed n op
 fed_right v w n op j same none fed =
     joined_fed w n op (seen_right v w n op j) (joined_count v w n op j ∙ sym (ap (λ (l : List ℕ). slice_index l (index op)) same))
     (λ k. let a = joined_offers v w n op k j in let b = none.offered k in omega arith)
     (λ k. let a = joined_closings v w n op k j in let b = none.closings k in omega arith) fed
 
-pub untouched_both : (v w n : View) (op : Op) → Joins v w n → IsUntouched v op → IsUntouched w op → IsUntouched n op
+pub untouched_both : (v w n : View) (op : Op) → JoinsPass v w n → IsUntouched v op → IsUntouched w op → IsUntouched n op
 untouched_both v w n op j p q = record {
   offered = λ k. let a = joined_offers v w n op k j in let b = p.offered k in let c = q.offered k in omega arith;
   closings = λ k. let a = joined_closings v w n op k j in let b = p.closings k in let c = q.closings k in omega arith;
 }
 
 pub untouched : (v : View) (op : Op) → v.offered ≡ [] → v.closings ≡ [] → IsUntouched v op
-untouched v op o c = record { offered = λ k. ap (times (index op) k) o; closings = λ k. ap (times_closed (index op) k) c }
+untouched v op o c = record { offered = λ k. ap (ticket_times (index op) k) o; closings = λ k. ap (times_closed (index op) k) c }
 
 -- a pass that offered and closed nothing is merged into another
-pub keeps_fed : (v w n : View) → Joins v w n → w.offered ≡ [] → w.closings ≡ [] → KeepsFed v n
+pub keeps_fed : (v w n : View) → JoinsPass v w n → w.offered ≡ [] → w.closings ≡ [] → KeepsFed v n
 keeps_fed v w n j o c = record { counts = joined_counts v w n j; fed = λ op fed. fed_left v w n op j (untouched w op o c) fed }
 
 pub keeps_on : (v between n : View) → KeepsFed v between → KeepsFed between n → KeepsFed v n
@@ -85,10 +86,10 @@ keeps_on v between n p q = record { counts = q.counts ∙ p.counts; fed = λ op 
 pub keeps_self : (v : View) → KeepsFed v v
 keeps_self v = record { counts = refl; fed = λ op fed. fed }
 
-pub over_left : (v w n : View) → Joins v w n → AreOver v → AreOver n
+pub over_left : (v w n : View) → JoinsPass v w n → AreOver v → AreOver n
 over_left v w n j over op = subst (λ (u : View). IsOver u op) (sym j.united) ((j.well op).left_over (over op))
 
-pub over_right : (v w n : View) → Joins v w n → AreOver w → AreOver n
+pub over_right : (v w n : View) → JoinsPass v w n → AreOver w → AreOver n
 over_right v w n j over op = subst (λ (u : View). IsOver u op) (sym j.united) ((j.well op).right_over (over op))
 
 once_here : (n : ℕ) → once_up_to (suc n) (suc n) ≡ 1
@@ -130,7 +131,7 @@ ends_complete C v op w ends whole fed over = same_word w (complete_word (count_o
     handed : w.handed ≡ w.offered
     handed = let a = seen.handed in let b = over.1 in let c = same in let d = ends.bounds.handed in omega arith
 
-    offered : (k : ℕ) → times (index op) k v.offered ≡ once_up_to w.offered k
+    offered : (k : ℕ) → ticket_times (index op) k v.offered ≡ once_up_to w.offered k
     offered = (ends.whole whole).offered
 
     last_is : (last : ℕ) → HasOffered v op last → w.offered ≡ last
@@ -145,7 +146,7 @@ ends_complete C v op w ends whole fed over = same_word w (complete_word (count_o
         let none = never w.offered in
         absurd (omega arith)
 
-pub new_same : (own counts : List ℕ) (view : View) → own ≡ counts → IsNew counts view → IsNew own view
+pub new_same : (own counts : List ℕ) (view : View) → own ≡ counts → IsNewPass counts view → IsNewPass own view
 new_same own counts view e new = record { same = new.same ∙ sym e; offered = new.offered; taken = new.taken; closings = new.closings }
 
 pub split_on : (old between new : View) → OnlySplit old between → OnlySplit between new → OnlySplit old new
@@ -168,7 +169,7 @@ split_once old new e = record {
   closings = ap (λ (v : View). v.closings) e;
 }
 
-pub split_new : (counts : List ℕ) (old new : View) → old.counts ≡ counts → new ≡ split_off_view old → IsNew counts new
+pub split_new : (counts : List ℕ) (old new : View) → old.counts ≡ counts → new ≡ split_off_view old → IsNewPass counts new
 split_new counts old new same e = record {
   same = ap (λ (v : View). v.counts) e ∙ same;
   offered = ap (λ (v : View). v.offered) e;
@@ -178,7 +179,7 @@ split_new counts old new same e = record {
 
 -- all passes are merged: two feeders', then the workers'
 pub all_done : (plan : PlanFields) (first start one between other joined last : View) (front back : List Op) → IsWhole plan first → OnlySplit first start
-    → AreShared front back → Joins start one between → one.counts ≡ first.counts → AreFed front one → Joins between other joined → other.counts ≡ first.counts
+    → AreShared front back → JoinsPass start one between → one.counts ≡ first.counts → AreFed front one → JoinsPass between other joined → other.counts ≡ first.counts
     → AreFed back other → KeepsFed joined last → last.part ≡ whole_part → AreOver last → IsDone plan last
 all_done plan first start one between other joined last front back whole split shared j same fed i also fed' keeps part over = record {
   counts = subst (AreCounts plan) (sym (keeps.counts ∙ counts)) whole.counts;
@@ -207,26 +208,26 @@ all_done plan first start one between other joined last front back whole split s
         (untouched_both start one between op j (none op) (fed.others op h.0)) (All-contains (IsFed other) back op fed'.own h.1)
 
 -- what the exchange ends with
-pub all_complete : (C : ℕ) (plan : PlanFields) (view : View) (words : List Word) (tickets : List Ticket) → IsDone plan view → Ends C view words → view.taken ≡ tickets
+pub all_complete : (C : ℕ) (plan : PlanFields) (view : View) (words : List Word) (tickets : List Ticket) → IsDone plan view → EndsAsViews C view words → view.taken ≡ tickets
     → AreComplete plan words tickets
 all_complete C plan view words tickets done ends taken = record {
   ends = word;
-  once = λ op k. ap (times (index op) k) (sym taken) ∙ ((ends op).whole done.part).taken k ∙ ap (λ (w : Word). once_up_to w.handed k) (word op);
+  once = λ op k. ap (ticket_times (index op) k) (sym taken) ∙ ((ends op).whole done.part).taken k ∙ ap (λ (w : Word). once_up_to w.handed k) (word op);
 }
   where
-    word : (op : Op) → word_at words op ≡ complete_word (length (edits_of plan op))
-    word op = ends_complete C view op (word_at words op) (ends op) done.part (done.fed op) (done.over op) ∙ ap complete_word (done.counts op)
+    word : (op : Op) → operator_word words op ≡ complete_word (length (edits_of plan op))
+    word op = ends_complete C view op (operator_word words op) (ends op) done.part (done.fed op) (done.over op) ∙ ap complete_word (done.counts op)
 
 -- what was joined of a feeder that was started with a new pass
 pub feeder_fed : (plan own : PlanFields) (ops given : List Op) (first : View) (counts : List ℕ) (view other : View) (outcome : Result (Unit {0}) BenchFault) → IsWhole plan first
-    → counts ≡ first.counts → own ≡ plan → given ≡ ops → IsNew counts view → other.counts ≡ view.counts
-    → (IsReady own view → IfOk outcome (λ x. AreFed given other)) → outcome ≡ Ok tt → (other.counts ≡ first.counts) × AreFed ops other
+    → counts ≡ first.counts → own ≡ plan → given ≡ ops → IsNewPass counts view → other.counts ≡ view.counts
+    → (IsReadyPass own view → IfOk outcome (λ x. AreFed given other)) → outcome ≡ Ok tt → (other.counts ≡ first.counts) × AreFed ops other
 feeder_fed plan own ops given first counts view other outcome whole same is to new also fed ok = (
   also ∙ (new.same ∙ same),
   subst (λ (l : List Op). AreFed l other) to (subst (λ (o : Result (Unit {0}) BenchFault). IfOk o (λ x. AreFed given other)) ok (fed ready)),
 )
   where
-    ready : IsReady own view
+    ready : IsReadyPass own view
     ready = record {
       counts = subst (AreCounts own) (sym (new.same ∙ same)) (subst (λ (p : PlanFields). AreCounts p first.counts) (sym is) whole.counts);
       offered = new.offered;

@@ -12,7 +12,7 @@ use Rattle.mothra_ops.specs.Mutants.{MutantFields, program_of}
 use Rattle.mothra_ops.specs.Plan.{PlanFields, edits_of}
 use Rattle.mothra_codes.specs.declared.ticket.Ticket.{Ticket}
 use Rattle.mothra_bench.specs.Bench.{BenchFields}
-use Rattle.mothra_bench.specs.Verdict.{Has, IsAlone, IsKill, IsVerdict, killed, mutated, survived}
+use Rattle.mothra_bench.specs.Verdict.{HasMutant, IsAlone, IsKill, IsVerdict, killed, mutated, survived}
 
 -- the outcome is another one, or it is the same
 pub is_kill : (program mutant : List LineFields) (arguments : List Arg) (steps : ℕ) (outcome other : Outcome) (same : Bool) → Decides same (outcome ≡ other)
@@ -60,5 +60,5 @@ nothing_numbered xs (suc k) none some within = elim (slice_get_cases xs k).1 [
   | inr (high, past) ↦ omega (arith, within, high)
 ]
 
-pub no_mutant : (plan : PlanFields) (ticket : Ticket) → numbered (edits_of plan ticket.op) ticket.number ≡ None → ¬ (Has plan ticket)
+pub no_mutant : (plan : PlanFields) (ticket : Ticket) → numbered (edits_of plan ticket.op) ticket.number ≡ None → ¬ (HasMutant plan ticket)
 no_mutant plan ticket none has = nothing_numbered (edits_of plan ticket.op) ticket.number none has.0 has.1

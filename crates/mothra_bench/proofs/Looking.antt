@@ -18,7 +18,8 @@ use Rattle.mothra_exchange.specs.Word.{AtMost, word_after_close}
 use Rattle.mothra_exchange.proofs.Counting.{AtMost-refl, AtMost-trans}
 use Rattle.mothra_exchange.proofs.Others.{close_only}
 use Rattle.mothra_exchange.proofs.Steps.{new_look}
-use Rattle.mothra_bench.specs.Closing.{Closes, LooksOnly, Shuts, count_of, seen_of}
+use Rattle.mothra_bench.specs.code.Closing.{Closes, LooksOnly, Shuts}
+use Rattle.mothra_bench.specs.Closing.{count_of, seen_of}
 
 -- the look after a load, and after another word was found or written behind it
 abbrev loaded_look : View → Op → Word → Look

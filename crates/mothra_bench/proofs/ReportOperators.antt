@@ -4,7 +4,8 @@ use Rattle.std.specs.List.{filter, flat_map}
 use Rattle.std.proofs.lemmas.Grind.{flat_map-append}
 use Rattle.std.proofs.lemmas.List.{append-nil, append_assoc, take_more}
 use Rattle.std.proofs.lemmas.List.Elements.{filter-append}
-use Rattle.mothra_codes.specs.Op.{all_ops, op_at}
+use Rattle.mothra_codes.specs.Op.{all_ops}
+use Rattle.mothra_codes.specs.code.Op.{op_at}
 use Rattle.mothra_codes.specs.declared.op.Op.{Op}
 use Rattle.mothra_codes.specs.declared.op.Op.TheVariants.{Aar}
 

@@ -6,7 +6,7 @@ use Rattle.std.proofs.lemmas.List.Elements.{All-cons, All-contains, All-nil}
 use Rattle.mothra_codes.proofs.Operators.{index_below, op_at-index}
 use Rattle.mothra_codes.specs.declared.op.Op.{Op}
 use Rattle.mothra_codes.specs.Op.{all_ops, index}
-use Rattle.mothra_bench.specs.Driving.{AreShared}
+use Rattle.mothra_bench.specs.code.Driving.{AreShared}
 
 and_both : (a b : Bool) → (a && b) ≡ true → (a ≡ true) × (b ≡ true)
 and_both true b e = (refl, e)

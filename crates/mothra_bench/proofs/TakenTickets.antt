@@ -10,9 +10,10 @@ use Rattle.mothra_ops.specs.Edits.{numbered}
 use Rattle.mothra_ops.specs.Mutants.{MutantFields, mutant_made, mutant_of, program_of}
 use Rattle.mothra_ops.specs.Plan.{PlanFields, edits_of}
 use Rattle.mothra_bench.specs.Bench.{BenchFields}
-use Rattle.mothra_bench.specs.Gathered.{AddsRow}
-use Rattle.mothra_bench.specs.Verdict.{Has, IsNoVerdict}
-use Rattle.mothra_bench.specs.Working.{NamesFirst, NamesTaken, Takes}
+use Rattle.mothra_bench.specs.code.Gathered.{AddsRow}
+use Rattle.mothra_bench.specs.Verdict.{HasMutant, IsNoVerdict}
+use Rattle.mothra_bench.specs.Working.{NamesFirst, NamesTaken}
+use Rattle.mothra_bench.specs.code.Working.{Takes}
 use Rattle.mothra_bench.specs.declared.fault.BenchFault.{BenchFault}
 use Rattle.mothra_bench.specs.declared.fault.BenchFault.TheVariants as fault
 use Rattle.mothra_bench.specs.declared.verdict.Row.{Row}
@@ -26,23 +27,23 @@ numbered_within xs zero x e = absurd (none-some x e)
 numbered_within xs (suc k) x e = let lt = slice_get_within xs k x e in (omega arith, omega arith)
 
 -- a mutant that the plan makes is one that it has
-has_mutant : (plan : PlanFields) (t : Ticket) (mutant : MutantFields) → mutant_of plan t.op t.number ≡ Some mutant → Has plan t
+has_mutant : (plan : PlanFields) (t : Ticket) (mutant : MutantFields) → mutant_of plan t.op t.number ≡ Some mutant → HasMutant plan t
 has_mutant plan t mutant is =
     let edit = and_then_some (mutant_made (program_of plan)) (numbered (edits_of plan t.op) t.number) mutant is in
     numbered_within (edits_of plan t.op) t.number edit.0 edit.1
 
 -- the plan has the ticket of each row with a verdict
-has_row : (bench : BenchFields) (t : Ticket) (rows more : List Row) → AddsRow bench t rows more → Has bench.plan t
-has_row bench t rows more adds = subst (Has bench.plan) adds.of (has_mutant bench.plan adds.row.ticket adds.own.mutant adds.own.is)
+has_row : (bench : BenchFields) (t : Ticket) (rows more : List Row) → AddsRow bench t rows more → HasMutant bench.plan t
+has_row bench t rows more adds = subst (HasMutant bench.plan) adds.of (has_mutant bench.plan adds.row.ticket adds.own.mutant adds.own.is)
 
 -- tickets that the plan has stand before them
-names_behind : (plan : PlanFields) (known tickets : List Ticket) (e : BenchFault) → All (Has plan) known → NamesFirst plan tickets e
+names_behind : (plan : PlanFields) (known tickets : List Ticket) (e : BenchFault) → All (HasMutant plan) known → NamesFirst plan tickets e
     → NamesFirst plan (known ++ tickets) e
 names_behind plan known tickets (fault.Stranger t) all first = record {
   before = known ++ first.before;
   after = first.after;
   cut = ap (λ l. known ++ l) first.cut ∙ sym (append_assoc known first.before (t ∷ first.after));
-  known = All-append (Has plan) known first.before all first.known;
+  known = All-append (HasMutant plan) known first.before all first.known;
   unknown = first.unknown;
 }
 names_behind plan known tickets fault.Memory all first = tt
@@ -74,14 +75,14 @@ names_before plan tickets more (fault.Double t) first = tt
 names_before plan tickets more (fault.Missing t) first = tt
 names_before plan tickets more fault.Stalled first = tt
 
-known_on : (plan : PlanFields) (some more : List Ticket) (g h : Option BenchFault) → IfNone h (g ≡ None) → IfNone g (All (Has plan) some)
-    → IfNone h (All (Has plan) more) → IfNone h (All (Has plan) (some ++ more))
-known_on plan some more None None n p q = All-append (Has plan) some more p q
+known_on : (plan : PlanFields) (some more : List Ticket) (g h : Option BenchFault) → IfNone h (g ≡ None) → IfNone g (All (HasMutant plan) some)
+    → IfNone h (All (HasMutant plan) more) → IfNone h (All (HasMutant plan) (some ++ more))
+known_on plan some more None None n p q = All-append (HasMutant plan) some more p q
 known_on plan some more (Some d) None n p q = cc
 known_on plan some more g (Some e) n p q = tt
 
 names_on : (Q : BenchFault → Type 0) (plan : PlanFields) (some more : List Ticket) (f g h : Option BenchFault)
-    → IfSome h (λ e. MatchOption g (Q e) (λ d. e ≡ d)) → IfNone g (All (Has plan) some) → IfSome g (λ e. IfNone f (NamesFirst plan some e))
+    → IfSome h (λ e. MatchOption g (Q e) (λ d. e ≡ d)) → IfNone g (All (HasMutant plan) some) → IfSome g (λ e. IfNone f (NamesFirst plan some e))
     → IfSome h (λ e. IfNone g (NamesFirst plan more e)) → IfSome h (λ e. IfNone f (NamesFirst plan (some ++ more) e))
 names_on Q plan some more f g None same known p q = tt
 names_on Q plan some more (Some b) g (Some e) same known p q = tt
@@ -98,8 +99,8 @@ takes_on Q plan old between new f g h same none p q = record {
   first = names_on Q plan p.tickets q.tickets f g h same p.known p.first q.first;
 }
 
-none_known : (plan : PlanFields) (f : Option BenchFault) → IfNone f (All (Has plan) [])
-none_known plan None = All-nil (Has plan)
+none_known : (plan : PlanFields) (f : Option BenchFault) → IfNone f (All (HasMutant plan) [])
+none_known plan None = All-nil (HasMutant plan)
 none_known plan (Some e) = tt
 
 -- nothing was taken
@@ -124,8 +125,8 @@ names_one plan t (fault.Stranger u) fails = record {
   before = [];
   after = [];
   cut = ap (λ (x : Ticket). x ∷ []) (sym fails.0);
-  known = All-nil (Has plan);
-  unknown = subst (λ (x : Ticket). ¬ (Has plan x)) (sym fails.0) fails.1;
+  known = All-nil (HasMutant plan);
+  unknown = subst (λ (x : Ticket). ¬ (HasMutant plan x)) (sym fails.0) fails.1;
 }
 names_one plan t fault.Memory fails = tt
 names_one plan t fault.Thread fails = tt
@@ -138,8 +139,8 @@ names_one plan t (fault.Missing u) fails = tt
 names_one plan t fault.Stalled fails = tt
 
 one_known : (bench : BenchFields) (t : Ticket) (rows more : List Row) (g : Option BenchFault) → IfNone g (AddsRow bench t rows more)
-    → IfNone g (All (Has bench.plan) (t ∷ []))
-one_known bench t rows more None adds = All-cons (Has bench.plan) t [] (has_row bench t rows more adds) (All-nil (Has bench.plan))
+    → IfNone g (All (HasMutant bench.plan) (t ∷ []))
+one_known bench t rows more None adds = All-cons (HasMutant bench.plan) t [] (has_row bench t rows more adds) (All-nil (HasMutant bench.plan))
 one_known bench t rows more (Some e) adds = tt
 
 one_named : (plan : PlanFields) (t : Ticket) (f g : Option BenchFault) → IfSome g (λ e. MatchOption f (IsNoVerdict plan t e) (λ d. e ≡ d))

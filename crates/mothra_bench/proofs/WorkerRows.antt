@@ -1,5 +1,6 @@
 -- The rows of the workers are gathered one worker after another.
-use Rattle.std.proofs.Common.{◌≡◌, ◌⊎◌, ℕ, suc, List, [], ◌∷◌, ◌++◌, All, Bool, true, Vec, Global, Option, None, Some, Result, Ok, Err, IfSome, IsSome, IfOk, IfErr, length, true≢false, refl, MatchOption, MatchResult, sym, ap, ◌∙◌, subst, append_assoc, arith, inr}
+use Rattle.std.proofs.Common.{◌≡◌, ◌⊎◌, ℕ, suc, List, [], ◌∷◌, ◌++◌, All, Bool, true, Vec, Global, Option, None, Some, Result, Ok, Err, IfSome}
+use Rattle.std.proofs.Common.{IsSome, IfOk, IfErr, length, true≢false, refl, MatchOption, MatchResult, sym, ap, ◌∙◌, subst, append_assoc, arith, inr}
 use Rattle.std.specs.Prelude.{IfNone, IsOkAnd}
 use Rattle.std.proofs.lemmas.List.Elements.{All-append, All-cons, All-nil}
 use Rattle.mothra_codes.specs.declared.ticket.Ticket.{Ticket}

@@ -1,5 +1,6 @@
 -- A worker's steps, one after another.
-use Rattle.std.proofs.Common.{◌≡◌, ℕ, ◌+◌, ◌-◌, ◌<◌, ◌≤◌, List, [], ◌∷◌, ◌++◌, Bool, true, false, Vec, Global, Option, None, Some, Result, Ok, Err, IfSome, IfOk, IfErr, MatchOption, cond, ◌&&◌, eqb, is_some, IsSome, true≢false, eq-eqb, ◌≢◌, refl, sym, ap, ◌∙◌, subst, append_assoc, append-nil, arith}
+use Rattle.std.proofs.Common.{◌≡◌, ℕ, ◌+◌, ◌-◌, ◌<◌, ◌≤◌, List, [], ◌∷◌, ◌++◌, Bool, true, false, Vec, Global, Option, None, Some, Result, Ok, Err, IfSome, IfOk, IfErr}
+use Rattle.std.proofs.Common.{MatchOption, cond, ◌&&◌, eqb, is_some, IsSome, true≢false, eq-eqb, ◌≢◌, refl, sym, ap, ◌∙◌, subst, append_assoc, append-nil, arith}
 use Rattle.std.specs.Result.{result_ok}
 use Rattle.std.specs.Prelude.{IfNone}
 use Rattle.std.proofs.lemmas.Bool.{eqb-true}
@@ -8,12 +9,13 @@ use Rattle.std.proofs.lemmas.List.{map-append}
 use Rattle.std.proofs.lemmas.Option.{none-some, same_Some}
 use Rattle.std.proofs.lemmas.List.Elements.{All-append, All-nil, All-cons}
 use Rattle.mothra_codes.specs.declared.op.Op.{Op}
-use Rattle.mothra_codes.specs.Op.{index, op_at}
+use Rattle.mothra_codes.specs.Op.{index}
+use Rattle.mothra_codes.specs.code.Op.{op_at}
 use Rattle.mothra_exchange.specs.Gate.{TakeKept}
 use Rattle.mothra_exchange.specs.Sharing.{IsOver}
 use Rattle.mothra_exchange.specs.View.{look_at}
 use Rattle.mothra_exchange.specs.declared.view.Look.{Look}
-use Rattle.mothra_codes.specs.Ticket.{one_if, ticket, times}
+use Rattle.mothra_codes.specs.Ticket.{one_if, ticket, ticket_times}
 use Rattle.mothra_exchange.specs.declared.answer.Take.TheVariants.{Finished, Empty, Taken}
 use Rattle.mothra_codes.specs.declared.ticket.Ticket.{Ticket}
 use Rattle.mothra_exchange.specs.declared.view.View.{View}
@@ -24,9 +26,11 @@ use Rattle.mothra_exchange.proofs.Overs.{finished_over}
 use Rattle.mothra_ops.specs.Plan.{PlanFields}
 use Rattle.mothra_bench.specs.Bench.{BenchFields}
 use Rattle.mothra_bench.specs.Feeding.{AreCounts}
-use Rattle.mothra_bench.specs.Gathered.{AddsRow, AreVerdicts, IsOwn, tickets_in}
-use Rattle.mothra_bench.specs.Verdict.{Has, IsNoVerdict}
-use Rattle.mothra_bench.specs.Working.{Adds, AreFresh, IsNoWork, NamesTaken, OnlyTook, TookRows, Went}
+use Rattle.mothra_bench.specs.code.Gathered.{AddsRow}
+use Rattle.mothra_bench.specs.Gathered.{AreVerdicts, IsOwn, tickets_in}
+use Rattle.mothra_bench.specs.Verdict.{HasMutant, IsNoVerdict}
+use Rattle.mothra_bench.specs.code.Working.{AddsRows, Went}
+use Rattle.mothra_bench.specs.Working.{AreFresh, IsNoWork, NamesTaken, OnlyTook, TookRows}
 use Rattle.mothra_bench.specs.declared.fault.BenchFault.{BenchFault}
 use Rattle.mothra_bench.specs.declared.fault.BenchFault.TheVariants as fault
 use Rattle.mothra_bench.specs.declared.gathered.Gathered.{Gathered}
@@ -47,16 +51,16 @@ took_more old between new xs ys p q = record {
       ∙ (append_assoc old.taken (tickets_in xs) (tickets_in ys) ∙ ap (λ t. old.taken ++ t) (sym (tickets-append xs ys))));
   once = λ op k.
       let a = p.once op k in let b = q.once op k in
-      let e = ap (times (index op) k) p.taken ∙ times-append (index op) k old.taken (tickets_in xs) in
-      let f = ap (times (index op) k) (tickets-append xs ys) ∙ times-append (index op) k (tickets_in xs) (tickets_in ys) in
+      let e = ap (ticket_times (index op) k) p.taken ∙ times-append (index op) k old.taken (tickets_in xs) in
+      let f = ap (ticket_times (index op) k) (tickets-append xs ys) ∙ times-append (index op) k (tickets_in xs) (tickets_in ys) in
       omega arith;
 }
 
 only_more : (old between new : View) → OnlyTook old between → OnlyTook between new → OnlyTook old new
 only_more old between new p q = record { counts = q.counts ∙ p.counts; part = q.part ∙ p.part; offered = q.offered ∙ p.offered; closings = q.closings ∙ p.closings }
 
-adds_more : (bench : BenchFields) (keeps : Bool) (old between new : View) (rows more most : List Row) → Adds bench keeps old between rows more
-    → Adds bench keeps between new more most → Adds bench keeps old new rows most
+adds_more : (bench : BenchFields) (keeps : Bool) (old between new : View) (rows more most : List Row) → AddsRows bench keeps old between rows more
+    → AddsRows bench keeps between new more most → AddsRows bench keeps old new rows most
 adds_more bench keeps old between new rows more most p q = record {
   extra = p.extra ++ q.extra;
   added = q.added ∙ (ap (λ l. l ++ q.extra) p.added ∙ append_assoc rows p.extra q.extra);
@@ -95,8 +99,8 @@ none_second A B None p = p.1
 none_second A B (Some e) p = tt
 
 rows_more : (bench : BenchFields) (keeps : Bool) (old between new : View) (rows more most : List Row) (f g h : Option BenchFault)
-    → IfNone g ((f ≡ None) × Adds bench keeps old between rows more) → IfNone h ((g ≡ None) × Adds bench keeps between new more most)
-    → IfNone h ((f ≡ None) × Adds bench keeps old new rows most)
+    → IfNone g ((f ≡ None) × AddsRows bench keeps old between rows more) → IfNone h ((g ≡ None) × AddsRows bench keeps between new more most)
+    → IfNone h ((f ≡ None) × AddsRows bench keeps old new rows most)
 rows_more bench keeps old between new rows more most f g (Some e) p q = tt
 rows_more bench keeps old between new rows more most f None None p q = (p.0, adds_more bench keeps old between new rows more most p.1 q.1)
 rows_more bench keeps old between new rows more most f (Some d) None p q = let y = q.0 in cc
@@ -107,18 +111,18 @@ pub went_on : (bench : BenchFields) (may keeps : Bool) (old between new : View) 
 went_on bench may keeps old between new h i j p q = record {
   fault = fault_more (IsNoWork may keeps bench.plan old.counts) (IsNoWork may keeps bench.plan between.counts) h.fault i.fault j.fault
       (λ e. same_no_work may keeps bench.plan old.counts between.counts e (λ k. (p.pass k).counts)) p.fault q.fault
-      (none_first (h.fault ≡ None) (Adds bench keeps old between h.rows.items i.rows.items) i.fault p.rows);
+      (none_first (h.fault ≡ None) (AddsRows bench keeps old between h.rows.items i.rows.items) i.fault p.rows);
   rows = rows_more bench keeps old between new h.rows.items i.rows.items j.rows.items h.fault i.fault j.fault p.rows q.rows;
   pass = λ k. only_more old between new (p.pass k) (q.pass k);
   takes = λ k. takes_on (IsNoWork may keeps bench.plan between.counts) bench.plan old between new h.fault i.fault j.fault q.fault
-      (none_first (i.fault ≡ None) (Adds bench keeps between new i.rows.items j.rows.items) j.fault q.rows) (p.takes k) (q.takes k);
+      (none_first (i.fault ≡ None) (AddsRows bench keeps between new i.rows.items j.rows.items) j.fault q.rows) (p.takes k) (q.takes k);
 }
 
 same_fault : (P : BenchFault → Type 0) (f : Option BenchFault) → IfSome f (λ e. MatchOption f (P e) (λ d. e ≡ d))
 same_fault P None = tt
 same_fault P (Some e) = refl
 
-adds_none : (bench : BenchFields) (keeps : Bool) (old new : View) (rows : List Row) → (keeps ≡ true → new.taken ≡ old.taken) → Adds bench keeps old new rows rows
+adds_none : (bench : BenchFields) (keeps : Bool) (old new : View) (rows : List Row) → (keeps ≡ true → new.taken ≡ old.taken) → AddsRows bench keeps old new rows rows
 adds_none bench keeps old new rows e = record {
   extra = [];
   added = sym (append-nil rows);
@@ -127,7 +131,7 @@ adds_none bench keeps old new rows e = record {
 }
 
 same_rows : (bench : BenchFields) (keeps : Bool) (old new : View) (rows : List Row) (f : Option BenchFault) → (keeps ≡ true → new.taken ≡ old.taken)
-    → IfNone f ((f ≡ None) × Adds bench keeps old new rows rows)
+    → IfNone f ((f ≡ None) × AddsRows bench keeps old new rows rows)
 same_rows bench keeps old new rows None e = (refl, adds_none bench keeps old new rows e)
 same_rows bench keeps old new rows (Some d) e = tt
 
@@ -160,7 +164,7 @@ pub went_stalled : (bench : BenchFields) (may keeps : Bool) (old new : View) (h 
     → Went bench may keeps old new h i
 went_stalled bench may keeps old new h i m e only none = record {
   fault = stalled_fault may keeps bench.plan old.counts h.fault i.fault m e;
-  rows = stalled_rows ((h.fault ≡ None) × Adds bench keeps old new h.rows.items i.rows.items) h.fault i.fault e;
+  rows = stalled_rows ((h.fault ≡ None) × AddsRows bench keeps old new h.rows.items i.rows.items) h.fault i.fault e;
   pass = only;
   takes = λ k. takes_stalled bench.plan old new h.fault i.fault (none k) e;
 }
@@ -170,16 +174,16 @@ picked true true u t e = cc
 picked true false u t e = cc
 picked false c u t e = cc
 
-fresh_at : (b c : Bool) (i j n k : ℕ) (old : List Ticket) → eqb i j ≡ b → eqb n k ≡ c → times i n old ≡ 0 → one_if (b && c) ≤ 1 - times j k old
+fresh_at : (b c : Bool) (i j n k : ℕ) (old : List Ticket) → eqb i j ≡ b → eqb n k ≡ c → ticket_times i n old ≡ 0 → one_if (b && c) ≤ 1 - ticket_times j k old
 fresh_at true true i j n k old p q e =
     let s = eqb-true i j p in
     let r = eqb-true n k q in
-    let z : times j k old ≡ 0 = subst (λ (x : ℕ). times x k old ≡ 0) s (subst (λ (x : ℕ). times i x old ≡ 0) r e) in
+    let z : ticket_times j k old ≡ 0 = subst (λ (x : ℕ). ticket_times x k old ≡ 0) s (subst (λ (x : ℕ). ticket_times i x old ≡ 0) r e) in
     omega arith
 fresh_at true false i j n k old p q e = omega arith
 fresh_at false c i j n k old p q e = omega arith
 
-fresh_one : (op : Op) (n : ℕ) (old : List Ticket) → times (index op) n old ≡ 0 → AreFresh old (ticket op n ∷ [])
+fresh_one : (op : Op) (n : ℕ) (old : List Ticket) → ticket_times (index op) n old ≡ 0 → AreFresh old (ticket op n ∷ [])
 fresh_one op n old e o k = let h = fresh_at (eqb (index op) (index o)) (eqb n k) (index op) (index o) n k old refl refl e in omega arith
 
 -- the ticket stands last
@@ -205,7 +209,7 @@ room_left : (h o : ℕ) → eqb h o ≡ false → h ≤ o → h < o
 room_left h o e m = grind (arith, nat_tests)
 
 -- a ticket that was taken is one of the plan, where the counts are the plan's
-took_known : (C : ℕ) (plan : PlanFields) (old new : View) (op : Op) (t : Ticket) → AreCounts plan old.counts → TakeKept C old op (Taken t) new → Has plan t
+took_known : (C : ℕ) (plan : PlanFields) (old new : View) (op : Op) (t : Ticket) → AreCounts plan old.counts → TakeKept C old op (Taken t) new → HasMutant plan t
 took_known C plan old new op t counts h =
     let w = h.0 in
     let is : ticket op (w.handed + 1) ≡ t = picked (eqb w.handed w.offered) w.closed (ticket op (w.handed + 1)) t h.2.0 in
@@ -213,7 +217,7 @@ took_known C plan old new op t counts h =
     let below = h.1.bounds.offered in
     let count = h.1.count in
     let own = counts op in
-    subst (Has plan) is (omega arith, omega arith)
+    subst (HasMutant plan) is (omega arith, omega arith)
 
 ran_fault : (may keeps : Bool) (C : ℕ) (plan : PlanFields) (old new : View) (op : Op) (t : Ticket) (f g : Option BenchFault)
     → (keeps ≡ true → TakeKept C old op (Taken t) new) → IfSome g (λ e. MatchOption f (IsNoVerdict plan t e) (λ d. e ≡ d))
@@ -222,7 +226,7 @@ ran_fault may keeps C plan old new op t f None kept h = tt
 ran_fault may keeps C plan old new op t (Some d) (Some e) kept h = h
 ran_fault may keeps C plan old new op t None (Some fault.Memory) kept h = tt
 ran_fault may keeps C plan old new op t None (Some (fault.Stranger u)) kept h = (
-  subst (λ (x : Ticket). ¬ (Has plan x)) (sym h.0) h.1,
+  subst (λ (x : Ticket). ¬ (HasMutant plan x)) (sym h.0) h.1,
   λ k. h.1 (took_known C plan old new op t k.1 (kept k.0)),
 )
 ran_fault may keeps C plan old new op t None (Some fault.Thread) kept h = absurd h
@@ -236,7 +240,7 @@ ran_fault may keeps C plan old new op t None (Some fault.Stalled) kept h = absur
 
 ran_rows : (bench : BenchFields) (keeps : Bool) (C : ℕ) (old new : View) (op : Op) (t : Ticket) (rows more : List Row) (f g : Option BenchFault)
     → (keeps ≡ true → TakeKept C old op (Taken t) new) → IfNone g ((f ≡ None) × AddsRow bench t rows more)
-    → IfNone g ((f ≡ None) × Adds bench keeps old new rows more)
+    → IfNone g ((f ≡ None) × AddsRows bench keeps old new rows more)
 ran_rows bench keeps C old new op t rows more f (Some e) kept h = tt
 ran_rows bench keeps C old new op t rows more f None kept h =
     let adds = h.1 in
@@ -271,7 +275,7 @@ pub record Answers (bench : BenchFields) (may keeps : Bool) (old new : View) (ou
   pub stranger : keeps ≡ true → IfErr outcome (NamesTaken bench.plan old new)
 
 answered : (bench : BenchFields) (may keeps : Bool) (old new : View) (empty : List Row) (rows : Vec Row Global) (f : Option BenchFault)
-    (outcome : Result (Vec Row Global) BenchFault) → empty ≡ [] → IfSome f (IsNoWork may keeps bench.plan old.counts) → IfNone f (Adds bench keeps old new empty rows.items)
+    (outcome : Result (Vec Row Global) BenchFault) → empty ≡ [] → IfSome f (IsNoWork may keeps bench.plan old.counts) → IfNone f (AddsRows bench keeps old new empty rows.items)
     → (keeps ≡ true → IfSome f (NamesTaken bench.plan old new)) → MatchOption f (outcome ≡ Ok rows) (λ e. outcome ≡ Err e) → Answers bench may keeps old new outcome
 answered bench may keeps old new empty rows None outcome z s n names out =
     let same : rows.items ≡ n.extra = n.added ∙ ap (λ (l : List Row). l ++ n.extra) z in
@@ -290,7 +294,7 @@ pub answers : (bench : BenchFields) (may keeps : Bool) (old new : View) (empty :
 answers bench may keeps old new empty h outcome z none went out =
     answered bench may keeps old new empty.rows.items h.rows h.fault outcome z
     (subst (λ f. IfSome h.fault (λ e. MatchOption f (IsNoWork may keeps bench.plan old.counts e) (λ d. e ≡ d))) none went.fault)
-    (none_second (empty.fault ≡ None) (Adds bench keeps old new empty.rows.items h.rows.items) h.fault went.rows)
+    (none_second (empty.fault ≡ None) (AddsRows bench keeps old new empty.rows.items h.rows.items) h.fault went.rows)
     (λ k. named_taken bench.plan old new empty.fault h.fault none (went.takes k)) out
 
 -- there was no fault before

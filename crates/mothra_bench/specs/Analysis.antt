@@ -9,7 +9,8 @@ use Rattle.mothra_bench.specs.declared.fault.BenchFault.{BenchFault}
 use Rattle.mothra_bench.specs.declared.fault.BenchFault.TheVariants as fault
 use Rattle.mothra_bench.specs.declared.matrix.Entry.{Entry}
 
--- each mutant of the plan once, in order, with the verdict of running it alone, and whether it is declared equivalent
+-- each mutant of the plan once, in order, with the verdict
+-- of running it alone, and whether it is declared equivalent
 pub record AreEntries (bench : BenchFields) (entries : List Entry) : Type 0 where
   pub tickets : map (λ entry. entry.ticket) entries ≡ tickets_of bench.plan
   pub verdicts : All (λ entry. IsVerdict bench entry.ticket entry.kills) entries

@@ -1,4 +1,5 @@
--- A bench: a plan, the tests that its mutants are run on, and what the program itself comes to on each.
+-- A bench: a plan, the tests that its mutants are run
+-- on, and what the program itself comes to on each.
 use Rattle.std.specs.Prelude.{◌≡◌, ◌≢◌, ◌+◌, ◌≤◌, ⊤, ℕ, true, List, ◌∷◌, ◌++◌, length, All, AllPairs, Contains, None}
 use Rattle.std.specs.List.{AllZip}
 use Rattle.f77_program.specs.Program.{LineFields}
@@ -13,8 +14,9 @@ use Rattle.mothra_codes.specs.declared.ticket.Ticket.{Ticket}
 use Rattle.mothra_bench.specs.declared.fault.BenchFault.{BenchFault}
 use Rattle.mothra_bench.specs.declared.fault.BenchFault.TheVariants as fault
 
--- The plan, the values that each test gives to the dummy arguments, the limit on steps, the outcome of the program on each test, and the
--- mutants that are declared equivalent, with their numbers in the whole lists.
+-- The plan, the values that each test gives to the dummy arguments, the
+-- limit on steps, the outcome of the program on each test, and the mutants
+-- that are declared equivalent, with their numbers in the whole lists.
 pub record BenchFields : Type 0 where
   pub plan : PlanFields
   pub tests : List (List Arg)
@@ -26,28 +28,33 @@ abbrev pub most_tests : ℕ
 most_tests = 256
 
 -- the values of a test are those of the program's dummy arguments
-abbrev pub Fits : List LineFields → List Arg → Type 0
-Fits program arguments = refusal (shapes program) arguments ≡ None
+abbrev pub FitsProgram : List LineFields → List Arg → Type 0
+FitsProgram program arguments = refusal (shapes program) arguments ≡ None
 
 -- the program returns or stops
-abbrev pub IsEnd : Outcome → Type 0
-IsEnd (Returned arguments) = ⊤
-IsEnd (Stopped arguments) = ⊤
-IsEnd _ = ⊥
+abbrev pub IsProgramEnd : Outcome → Type 0
+IsProgramEnd (Returned arguments) = ⊤
+IsProgramEnd (Stopped arguments) = ⊤
+IsProgramEnd _ = ⊥
 
 -- the outcomes of the program on the tests
 abbrev pub AreOutcomes : List LineFields → ℕ → List (List Arg) → List Outcome → Type 0
-AreOutcomes program steps tests outcomes = AllZip (λ arguments outcome. IsOutcomeOf program arguments steps outcome) tests outcomes
+AreOutcomes program steps tests outcomes =
+    AllZip (λ arguments outcome. IsOutcomeOf program arguments steps outcome) tests outcomes
 
 -- the program ends on the test within so many steps
-abbrev pub Ends : List LineFields → ℕ → List Arg → Type 0
-Ends program steps arguments = (outcome : Outcome) × IsOutcomeOf program arguments steps outcome × IsEnd outcome
+abbrev pub EndsOn : List LineFields → ℕ → List Arg → Type 0
+EndsOn program steps arguments =
+    (outcome : Outcome) × IsOutcomeOf program arguments steps outcome × IsProgramEnd outcome
 
--- a declared entry names a mutant of the whole list of its operator, where the plan was asked for this operator
+-- a declared entry names a mutant of the whole list of its
+-- operator, where the plan was asked for this operator
 abbrev pub IsKnownEntry : PlanFields → Ticket → Type 0
-IsKnownEntry plan entry = asked plan entry.op ≡ true → (1 ≤ entry.number) × (entry.number ≤ whole_of plan entry.op)
+IsKnownEntry plan entry =
+    asked plan entry.op ≡ true → (1 ≤ entry.number) × (entry.number ≤ whole_of plan entry.op)
 
--- the declared entries name mutants, each once; entries of operators that the plan was not asked for are passed over
+-- the declared entries name mutants, each once; entries of
+-- operators that the plan was not asked for are passed over
 pub record AreFine (plan : PlanFields) (entries : List Ticket) : Type 0 where
   pub known : All (IsKnownEntry plan) entries
   pub once : AllPairs (λ one other. asked plan one.op ≡ true → one ≢ other) entries
@@ -55,9 +62,9 @@ pub record AreFine (plan : PlanFields) (entries : List Ticket) : Type 0 where
 -- what each bench is
 pub record IsBench (bench : BenchFields) : Type 0 where
   pub few : length bench.tests ≤ most_tests
-  pub fit : All (Fits (program_of bench.plan)) bench.tests
+  pub fit : All (FitsProgram (program_of bench.plan)) bench.tests
   pub outcomes : AreOutcomes (program_of bench.plan) bench.steps bench.tests bench.outcomes
-  pub end : All IsEnd bench.outcomes
+  pub end : All IsProgramEnd bench.outcomes
   pub declared : AreFine bench.plan bench.declared
 
 -- item number n, from 1, is the first of the list that does not hold
@@ -80,7 +87,8 @@ pub record IsUnknownEntry (plan : PlanFields) (entries : List Ticket) (n : ℕ) 
   pub fine : AreFine plan before
   pub unknown : ¬ (IsKnownEntry plan entry)
 
--- Entry number n, from 1, is the first that is not fine behind those before it: it names a mutant that one of them names.
+-- Entry number n, from 1, is the first that is not fine behind
+-- those before it: it names a mutant that one of them names.
 pub record IsEntryTwice (plan : PlanFields) (entries : List Ticket) (n : ℕ) : Type 0 where
   pub before : List Ticket
   pub entry : Ticket
@@ -92,14 +100,19 @@ pub record IsEntryTwice (plan : PlanFields) (entries : List Ticket) (n : ℕ) : 
   pub known : IsKnownEntry plan entry
   pub twice : Contains before entry
 
--- Why there is no bench: the first test that does not fit; else the first on which the program does not end; else the first entry.
+-- Why there is no bench: the first test that does not fit; else the
+-- first on which the program does not end; else the first entry.
 abbrev pub IsNoBench : PlanFields → List (List Arg) → ℕ → List Ticket → BenchFault → Type 0
 IsNoBench plan tests steps declared fault.Memory = ⊤
-IsNoBench plan tests steps declared (fault.TestShape test) = IsFirstNot (Fits (program_of plan)) tests test
+IsNoBench plan tests steps declared (fault.TestShape test) =
+    IsFirstNot (FitsProgram (program_of plan)) tests test
 IsNoBench plan tests steps declared (fault.OriginalFails test) =
-    All (Fits (program_of plan)) tests × IsFirstNot (Ends (program_of plan) steps) tests test
+    All (FitsProgram (program_of plan)) tests
+    × IsFirstNot (EndsOn (program_of plan) steps) tests test
 IsNoBench plan tests steps declared (fault.EquivalentUnknown entry) =
-    All (Fits (program_of plan)) tests × All (Ends (program_of plan) steps) tests × IsUnknownEntry plan declared entry
+    All (FitsProgram (program_of plan)) tests
+    × All (EndsOn (program_of plan) steps) tests × IsUnknownEntry plan declared entry
 IsNoBench plan tests steps declared (fault.EquivalentTwice entry) =
-    All (Fits (program_of plan)) tests × All (Ends (program_of plan) steps) tests × IsEntryTwice plan declared entry
+    All (FitsProgram (program_of plan)) tests
+    × All (EndsOn (program_of plan) steps) tests × IsEntryTwice plan declared entry
 IsNoBench plan tests steps declared _ = ⊥

@@ -1,12 +1,10 @@
 -- How an operator is closed.
-use Rattle.std.specs.Prelude.{◌≡◌, ◌⊎◌, ◌≤◌, ℕ, true, false, List, ◌∷◌, [], ◌++◌, All, slice_index}
+use Rattle.std.specs.Prelude.{ℕ, slice_index}
 use Rattle.mothra_codes.specs.declared.op.Op.{Op}
 use Rattle.mothra_codes.specs.Op.{index}
 use Rattle.mothra_exchange.specs.declared.view.View.{View}
 use Rattle.mothra_exchange.specs.declared.word.Word.{Word}
-use Rattle.mothra_exchange.specs.Law.{ChangesOnly}
-use Rattle.mothra_exchange.specs.View.{closing, look_at}
-use Rattle.mothra_exchange.specs.Word.{AtMost}
+use Rattle.mothra_exchange.specs.View.{look_at}
 
 -- how many tickets the operator has, and what the pass has last seen of it
 abbrev pub count_of : View → Op → ℕ
@@ -14,28 +12,3 @@ count_of view op = slice_index view.counts (index op)
 
 abbrev pub seen_of : View → Op → Word
 seen_of view op = (look_at view (index op)).seen
-
--- the pass has seen each of the operators closed
-abbrev pub AreClosed : List Op → View → Type 0
-AreClosed ops view = All (λ op. (seen_of view op).closed ≡ true) ops
-
--- the pass looked at the operator, and neither offered nor closed
-pub record LooksOnly (op : Op) (old new : View) : Type 0 where
-  pub changes : ChangesOnly op old new
-  pub offered : new.offered ≡ old.offered
-  pub closings : new.closings ≡ old.closings
-  pub rises : AtMost (seen_of old op) (seen_of new op)
-
--- the operator was open, and the pass closed it
-pub record Shuts (op : Op) (old new : View) : Type 0 where
-  pub was : (seen_of old op).closed ≡ false
-  pub closings : new.closings ≡ old.closings ++ closing op (seen_of new op).offered ∷ []
-
--- the operator is closed: by this pass, or before
-pub record Closes (op : Op) (old new : View) : Type 0 where
-  pub changes : ChangesOnly op old new
-  pub offered : new.offered ≡ old.offered
-  pub rises : AtMost (seen_of old op) (seen_of new op)
-  pub closed : (seen_of new op).closed ≡ true
-  pub bound : (seen_of new op).offered ≤ count_of new op
-  pub closings : (new.closings ≡ old.closings) ⊎ Shuts op old new

@@ -1,15 +1,16 @@
 -- What a matrix has of the rows that were given.
-use Rattle.std.specs.Prelude.{◌≡◌, ◌↔◌, ◌≤◌, ◌==◌, ◌&&◌, ⊤, Bool, IsTrue, List, [], ◌∷◌, ◌++◌, map, length, filter, All, Contains}
+use Rattle.std.specs.Prelude.{◌≡◌, ◌↔◌, ◌≤◌, ◌==◌, ◌&&◌, ⊤, Bool, IsTrue, List}
+use Rattle.std.specs.Prelude.{[], ◌∷◌, ◌++◌, map, length, filter, All, Contains}
 use Rattle.mothra_codes.specs.Op.{index}
 use Rattle.mothra_ops.specs.Mutants.{original_number}
 use Rattle.mothra_ops.specs.Plan.{PlanFields}
-use Rattle.mothra_exchange.specs.Tally.{word_at}
+use Rattle.mothra_exchange.specs.Tally.{operator_word}
 use Rattle.mothra_codes.specs.Ticket.{Before, ticket}
 use Rattle.mothra_codes.specs.declared.ticket.Ticket.{Ticket}
 use Rattle.mothra_exchange.specs.declared.word.Word.{Word}
 use Rattle.mothra_bench.specs.Bench.{BenchFields}
 use Rattle.mothra_bench.specs.Matrix.{tickets_of}
-use Rattle.mothra_bench.specs.Verdict.{Has}
+use Rattle.mothra_bench.specs.Verdict.{HasMutant}
 use Rattle.mothra_bench.specs.declared.fault.BenchFault.{BenchFault}
 use Rattle.mothra_bench.specs.declared.fault.BenchFault.TheVariants as fault
 use Rattle.mothra_bench.specs.declared.matrix.Entry.{Entry}
@@ -24,7 +25,7 @@ rows_of ticket rows = filter (is_row_of ticket) rows
 
 -- the row is of the plan, with a truth value for each test
 pub record IsKnown (bench : BenchFields) (row : Row) : Type 0 where
-  pub has : Has bench.plan row.ticket
+  pub has : HasMutant bench.plan row.ticket
   pub tests : length row.kills ≡ length bench.tests
 
 -- the first row that is not
@@ -39,7 +40,7 @@ pub record IsFirstStranger (bench : BenchFields) (rows : List Row) (ticket : Tic
 
 -- no mutant has two rows
 abbrev pub NoDouble : PlanFields → List Row → Type 0
-NoDouble plan rows = (ticket : Ticket) → Has plan ticket → length (rows_of ticket rows) ≤ 1
+NoDouble plan rows = (ticket : Ticket) → HasMutant plan ticket → length (rows_of ticket rows) ≤ 1
 
 -- the first row whose ticket stood earlier
 pub record IsFirstDouble (plan : PlanFields) (rows : List Row) (ticket : Ticket) : Type 0 where
@@ -52,36 +53,45 @@ pub record IsFirstDouble (plan : PlanFields) (rows : List Row) (ticket : Ticket)
   pub there : length (rows_of ticket before) ≡ 1
 
 -- a mutant has a row, and its ticket was handed out
-pub record IsThere (words : List Word) (rows : List Row) (ticket : Ticket) : Type 0 where
+pub record IsCollected (words : List Word) (rows : List Row) (ticket : Ticket) : Type 0 where
   pub row : 1 ≤ length (rows_of ticket rows)
-  pub handed : ticket.number ≤ (word_at words ticket.op).handed
+  pub handed : ticket.number ≤ (operator_word words ticket.op).handed
 
 -- the first mutant of the plan that has no row or was not handed out
-pub record IsFirstMissing (plan : PlanFields) (words : List Word) (rows : List Row) (ticket : Ticket) : Type 0 where
-  pub has : Has plan ticket
-  pub missing : ¬ (IsThere words rows ticket)
-  pub others : (other : Ticket) → Has plan other → Before other ticket → IsThere words rows other
+pub record IsFirstMissing (plan : PlanFields) (words : List Word) (rows : List Row)
+    (ticket : Ticket) : Type 0 where
+  pub has : HasMutant plan ticket
+  pub missing : ¬ (IsCollected words rows ticket)
+  pub others : (other : Ticket)
+      → HasMutant plan other → Before other ticket → IsCollected words rows other
 
 -- whether the mutant is declared equivalent, by its number in the whole list
 abbrev pub IsDeclared : BenchFields → Ticket → Type 0
-IsDeclared bench one = Contains bench.declared (ticket one.op (original_number bench.plan.every one.number))
+IsDeclared bench one =
+    Contains bench.declared (ticket one.op (original_number bench.plan.every one.number))
 
 -- the row that an entry is made of
 abbrev pub row_of : Entry → Row
 row_of entry = record { ticket = entry.ticket; kills = entry.kills }
 
--- One entry for each mutant of the plan, in order: the one row that was given for it, and whether it is declared equivalent. No row is left over.
-pub record AreCollected (bench : BenchFields) (words : List Word) (rows : List Row) (entries : List Entry) : Type 0 where
+-- One entry for each mutant of the plan, in order: the one row that was
+-- given for it, and whether it is declared equivalent. No row is left over.
+pub record AreCollected (bench : BenchFields) (words : List Word) (rows : List Row)
+    (entries : List Entry) : Type 0 where
   pub known : All (IsKnown bench) rows
   pub tickets : map (λ entry. entry.ticket) entries ≡ tickets_of bench.plan
   pub own : All (λ entry. rows_of entry.ticket rows ≡ row_of entry ∷ []) entries
-  pub handed : All (λ entry. entry.ticket.number ≤ (word_at words entry.ticket.op).handed) entries
+  pub handed : All
+      (λ entry. entry.ticket.number ≤ (operator_word words entry.ticket.op).handed) entries
   pub declared : All (λ entry. IsTrue entry.declared ↔ IsDeclared bench entry.ticket) entries
 
--- Why there is no matrix: a row that is not of the plan; else a second row of a mutant; else a mutant without one.
+-- Why there is no matrix: a row that is not of the plan;
+-- else a second row of a mutant; else a mutant without one.
 abbrev pub IsNoMatrix : BenchFields → List Word → List Row → BenchFault → Type 0
 IsNoMatrix bench words rows fault.Memory = ⊤
 IsNoMatrix bench words rows (fault.Stranger ticket) = IsFirstStranger bench rows ticket
-IsNoMatrix bench words rows (fault.Double ticket) = All (IsKnown bench) rows × IsFirstDouble bench.plan rows ticket
-IsNoMatrix bench words rows (fault.Missing ticket) = All (IsKnown bench) rows × NoDouble bench.plan rows × IsFirstMissing bench.plan words rows ticket
+IsNoMatrix bench words rows (fault.Double ticket) =
+    All (IsKnown bench) rows × IsFirstDouble bench.plan rows ticket
+IsNoMatrix bench words rows (fault.Missing ticket) = All (IsKnown bench) rows
+    × NoDouble bench.plan rows × IsFirstMissing bench.plan words rows ticket
 IsNoMatrix bench words rows _ = ⊥

@@ -1,30 +1,30 @@
 -- What workers and feeders come to together.
-use Rattle.std.specs.Prelude.{◌≡◌, ◌⊎◌, ℕ, ◌+◌, ◌<◌, ◌≤◌, ⊤, Bool, true, List, [], ◌∷◌, ◌++◌, length, take, drop}
-use Rattle.std.specs.Prelude.{Vec, Option, None, Some, Result, Ok, Err, IsSome, IfOk, IfErr, IfSome, IfNone}
-use Rattle.std.specs.Prelude.{All, Contains, MatchResult, flat_map}
+use Rattle.std.specs.Prelude.{◌≡◌, ◌⊎◌, ℕ, ◌<◌, ◌≤◌, ⊤, Bool, true, List, [], ◌∷◌, ◌++◌, length, take, drop}
+use Rattle.std.specs.Prelude.{Vec, Option, None, Some, Result, Ok, Err, IsSome, IfOk, IfSome}
+use Rattle.std.specs.Prelude.{All, MatchResult, flat_map}
 use Rattle.std.specs.declared.alloc.Global.{Global}
 use Rattle.mothra_codes.specs.declared.op.Op.{Op}
 use Rattle.mothra_codes.specs.Op.{all_ops, index}
-use Rattle.mothra_exchange.specs.Sharing.{MergesWell}
-use Rattle.mothra_exchange.specs.Tally.{Ends, word_at}
-use Rattle.mothra_codes.specs.Ticket.{times, once_up_to}
-use Rattle.mothra_exchange.specs.View.{united_view, whole_part}
+use Rattle.mothra_exchange.specs.Tally.{EndsAsViews, operator_word}
+use Rattle.mothra_codes.specs.Ticket.{ticket_times, once_up_to}
+use Rattle.mothra_exchange.specs.View.{whole_part}
 use Rattle.mothra_codes.specs.declared.ticket.Ticket.{Ticket}
 use Rattle.mothra_exchange.specs.declared.view.View.{View}
 use Rattle.mothra_exchange.specs.declared.word.Word.{Word}
 use Rattle.mothra_ops.specs.Plan.{PlanFields, edits_of}
 use Rattle.mothra_bench.specs.Bench.{BenchFields}
-use Rattle.mothra_bench.specs.Feeding.{AreCounts, Feeds, IsFed}
-use Rattle.mothra_bench.specs.Gathered.{AreVerdicts, joined_rows, row_list, tickets_in}
-use Rattle.mothra_bench.specs.Verdict.{Has}
-use Rattle.mothra_bench.specs.Working.{AreOver, CountsPlan, Works}
+use Rattle.mothra_bench.specs.Feeding.{AreCounts, Feeds}
+use Rattle.mothra_bench.specs.Gathered.{joined_rows, row_list, tickets_in}
+use Rattle.mothra_bench.specs.Verdict.{HasMutant}
+use Rattle.mothra_bench.specs.Working.{CountsPlan, Works}
 use Rattle.mothra_bench.specs.declared.fault.BenchFault.{BenchFault}
 use Rattle.mothra_bench.specs.declared.fault.BenchFault.TheVariants as fault
 use Rattle.mothra_bench.specs.declared.verdict.Row.{Row}
 
 -- no ticket stands twice, and each is at most the number handed out of its operator
 abbrev pub AreHandedOnce : List Word → List Ticket → Type 0
-AreHandedOnce words tickets = (op : Op) (k : ℕ) → times (index op) k tickets ≤ once_up_to (word_at words op).handed k
+AreHandedOnce words tickets = (op : Op) (k : ℕ)
+    → ticket_times (index op) k tickets ≤ once_up_to (operator_word words op).handed k
 
 -- the whole pass of an exchange with the counts of the plan, in which nothing was done
 pub record IsWhole (plan : PlanFields) (view : View) : Type 0 where
@@ -38,29 +38,27 @@ pub record IsWhole (plan : PlanFields) (view : View) : Type 0 where
 abbrev pub complete_word : ℕ → Word
 complete_word count = record { count = count; offered = count; handed = count; closed = true }
 
--- each operator ended with all its tickets handed out, and the tickets are those of the plan's mutants, each once
-pub record AreComplete (plan : PlanFields) (words : List Word) (tickets : List Ticket) : Type 0 where
-  pub ends : (op : Op) → word_at words op ≡ complete_word (length (edits_of plan op))
-  pub once : (op : Op) (k : ℕ) → times (index op) k tickets ≡ once_up_to (length (edits_of plan op)) k
+-- each operator ended with all its tickets handed out, and
+-- the tickets are those of the plan's mutants, each once
+pub record AreComplete (plan : PlanFields) (words : List Word)
+    (tickets : List Ticket) : Type 0 where
+  pub ends : (op : Op) → operator_word words op ≡ complete_word (length (edits_of plan op))
+  pub once : (op : Op) (k : ℕ)
+      → ticket_times (index op) k tickets ≡ once_up_to (length (edits_of plan op)) k
 
--- Why there are no rows: want of memory; a thread that could not begin; a ticket of no mutant of the plan, which no gate hands out that is known to
--- count the plan's; or the gate gave up, which only some may.
+-- Why there are no rows: want of memory; a thread that could not begin;
+-- a ticket of no mutant of the plan, which no gate hands out that is
+-- known to count the plan's; or the gate gave up, which only some may.
 abbrev pub IsNoDrive : Bool → Bool → PlanFields → List ℕ → BenchFault → Type 0
 IsNoDrive may keeps plan counts fault.Memory = ⊤
 IsNoDrive may keeps plan counts fault.Thread = ⊤
-IsNoDrive may keeps plan counts (fault.Stranger ticket) = ¬ (Has plan ticket) × ¬ (CountsPlan keeps plan counts)
+IsNoDrive may keeps plan counts (fault.Stranger ticket) =
+    ¬ (HasMutant plan ticket) × ¬ (CountsPlan keeps plan counts)
 IsNoDrive may keeps plan counts fault.Stalled = may ≡ true
 IsNoDrive may keeps plan counts _ = ⊥
 
--- the pass was split, once or more, and did nothing else
-pub record OnlySplit (old new : View) : Type 0 where
-  pub counts : new.counts ≡ old.counts
-  pub offered : new.offered ≡ old.offered
-  pub taken : new.taken ≡ old.taken
-  pub closings : new.closings ≡ old.closings
-
 -- a pass of an exchange with these counts that did nothing
-pub record IsNew (counts : List ℕ) (view : View) : Type 0 where
+pub record IsNewPass (counts : List ℕ) (view : View) : Type 0 where
   pub same : view.counts ≡ counts
   pub offered : view.offered ≡ []
   pub taken : view.taken ≡ []
@@ -69,35 +67,10 @@ pub record IsNew (counts : List ℕ) (view : View) : Type 0 where
 -- a pass that one thread was given: one share of the caller's, in which nothing was done
 pub record IsShare (parts keeps : Bool) (counts : List ℕ) (view : View) : Type 0 where
   pub part : parts ≡ true → view.part ≡ 1
-  pub fresh : keeps ≡ true → IsNew counts view
+  pub fresh : keeps ≡ true → IsNewPass counts view
 
--- the pass has a share for each worker, for each of the two feeders, and for the caller
-abbrev pub HasShares : Bool → ℕ → View → Type 0
-HasShares parts workers view = parts ≡ true → workers + 3 ≤ view.part
-
--- another pass was merged into this one
-pub record Joins (old other new : View) : Type 0 where
-  pub united : new ≡ united_view old other
-  pub well : MergesWell old other
-
--- Of two feeders each operator has one.
-abbrev pub AreShared : List Op → List Op → Type 0
-AreShared front back = (op : Op)
-    → (Contains front op × ¬ (Contains back op)) ⊎ (¬ (Contains front op) × Contains back op)
-
--- Passes that offered and closed nothing were merged into this one.
-pub record KeepsFed (old new : View) : Type 0 where
-  pub counts : new.counts ≡ old.counts
-  pub fed : (op : Op) → IsFed old op → IsFed new op
-
--- what the pass has when all passes are merged into it
-pub record IsDone (plan : PlanFields) (view : View) : Type 0 where
-  pub counts : AreCounts plan view.counts
-  pub part : view.part ≡ whole_part
-  pub fed : (op : Op) → IsFed view op
-  pub over : AreOver view
-
--- How a feeder ended, and how a worker: the pass that it was given and as it gave it back, and its outcome.
+-- How a feeder ended, and how a worker: the pass that
+-- it was given and as it gave it back, and its outcome.
 pub record FeederEnd : Type 0 where
   pub given : View
   pub back : View
@@ -128,15 +101,18 @@ abbrev pub all_rows : List WorkerEnd → Result (List Row) BenchFault
 all_rows [] = Ok []
 all_rows (worker ∷ rest) = joined_rows (row_list worker.outcome) (all_rows rest)
 
--- The answer of a drive: a fault of its own; else the first feeder's; else the second's; else what the workers come to.
-abbrev pub answer_of : {X : Type 0} → Option BenchFault → Result (Unit {0}) BenchFault → Result (Unit {0}) BenchFault
+-- The answer of a drive: a fault of its own; else the first
+-- feeder's; else the second's; else what the workers come to.
+abbrev pub answer_of : {X : Type 0}
+    → Option BenchFault → Result (Unit {0}) BenchFault → Result (Unit {0}) BenchFault
     → Result X BenchFault → Result X BenchFault
 answer_of (Some fault) first second outcome = Err fault
 answer_of None (Err fault) second outcome = Err fault
 answer_of None (Ok one) (Err fault) outcome = Err fault
 answer_of None (Ok one) (Ok other) outcome = outcome
 
--- How a drive ran: the fault of its own, and how each thread ended that was started, the workers in order.
+-- How a drive ran: the fault of its own, and how each
+-- thread ended that was started, the workers in order.
 pub record Run : Type 0 where
   pub own : Option BenchFault
   pub first : Option FeederEnd
@@ -149,7 +125,8 @@ feeder_outcome None = Ok tt
 feeder_outcome (Some feeder) = feeder.outcome
 
 abbrev pub answer_to : Run → Result (List Row) BenchFault
-answer_to run = answer_of run.own (feeder_outcome run.first) (feeder_outcome run.second) (all_rows run.workers)
+answer_to run =
+    answer_of run.own (feeder_outcome run.first) (feeder_outcome run.second) (all_rows run.workers)
 
 -- every thread was started, and none
 pub record IsFull (count : ℕ) (run : Run) : Type 0 where
@@ -162,14 +139,15 @@ pub record IsEmpty (run : Run) : Type 0 where
   pub first : run.first ≡ None
   pub second : run.second ≡ None
 
--- one thread could not begin, of the workers, then the first feeder, then the second, and no further one was started
+-- one thread could not begin, of the workers, then the first
+-- feeder, then the second, and no further one was started
 pub record IsCut (count : ℕ) (run : Run) : Type 0 where
   pub workers : length run.workers ≤ count
   pub first : length run.workers < count → run.first ≡ None
   pub second : run.second ≡ None
 
--- Which threads were started, by the fault of the drive's own: all without one; for want of memory all, as only the
--- rows were refused it, or none; where a thread could not begin, those before it.
+-- Which threads were started, by the fault of the drive's own: all without one; for want of memory
+-- all, as only the rows were refused it, or none; where a thread could not begin, those before it.
 abbrev pub AreStarted : ℕ → Run → Option BenchFault → Type 0
 AreStarted count run None = IsFull count run
 AreStarted count run (Some fault.Memory) = IsFull count run ⊎ IsEmpty run
@@ -177,21 +155,13 @@ AreStarted count run (Some fault.Thread) = IsCut count run
 AreStarted count run (Some _) = ⊥
 
 -- the threads were started with shares of a pass with these counts, and each did what it promises
-pub record IsRun (may keeps parts : Bool) (bench : BenchFields) (front back : List Op) (count : ℕ) (counts : List ℕ)
+pub record IsThreadRun (may keeps parts : Bool) (bench : BenchFields) (front back : List Op)
+    (count : ℕ) (counts : List ℕ)
     (run : Run) : Type 0 where
   pub started : AreStarted count run run.own
   pub first : IfSome run.first (HasFed may keeps parts bench.plan front counts)
   pub second : IfSome run.second (HasFed may keeps parts bench.plan back counts)
   pub workers : All (HasWorked may keeps parts bench counts) run.workers
-
--- How workers and two feeders come to an outcome. The pass into which all of theirs were merged has the tickets that
--- the workers took.
-pub record Runs (may keeps parts : Bool) (bench : BenchFields) (front back : List Op) (count : ℕ) (old new : View)
-    (outcome : Result (List Row) BenchFault) : Type 0 where
-  pub run : Run
-  pub is : IsRun may keeps parts bench front back count old.counts run
-  pub answer : outcome ≡ answer_to run
-  pub taken : keeps ≡ true → new.taken ≡ old.taken ++ taken_by run.workers
 
 -- the operators of the first feeder, AAR to DSA, and of the second, GLR to UOI
 abbrev pub front_ops : List Op
@@ -200,13 +170,14 @@ front_ops = take 11 all_ops
 abbrev pub back_ops : List Op
 back_ops = drop 11 all_ops
 
--- How a drive comes to its answer, over any gate. Where records are kept, each ticket that a worker took was handed
--- out, and to no other.
+-- How a drive comes to its answer, over any gate. Where records are
+-- kept, each ticket that a worker took was handed out, and to no other.
 pub record IsDriven (may keeps parts : Bool) (bench : BenchFields) (count : ℕ) (counts : List ℕ)
     (answer : Result (Vec Row Global × List Word) BenchFault) : Type 0 where
   pub run : Run
-  pub is : IsRun may keeps parts bench front_ops back_ops count counts run
-  pub answers : MatchResult answer (λ driven. answer_to run ≡ Ok driven.0.items) (λ fault. answer_to run ≡ Err fault)
+  pub is : IsThreadRun may keeps parts bench front_ops back_ops count counts run
+  pub answers : MatchResult answer (λ driven. answer_to run ≡ Ok driven.0.items)
+      (λ fault. answer_to run ≡ Err fault)
   pub words : List Word
   pub tally : IfOk answer (λ driven. driven.1 ≡ words)
   pub handed : keeps ≡ true → AreHandedOnce words (taken_by run.workers)
@@ -217,29 +188,4 @@ pub record EndsWhole (bound : ℕ) (old : View) (rows : List Row) (words : List 
   pub counts : last.counts ≡ old.counts
   pub part : last.part ≡ whole_part
   pub taken : last.taken ≡ old.taken ++ tickets_in rows
-  pub ends : Ends bound last words
-
--- why not all workers were started: want of memory before the first, or a thread that could not begin
-abbrev pub IsNoStart : ℕ → ℕ → BenchFault → Type 0
-IsNoStart count started fault.Memory = started ≡ 0
-IsNoStart count started fault.Thread = started < count
-IsNoStart count started _ = ⊥
-
--- The workers that were joined: each did what `work` promises, the pass has the tickets that they took, and their rows
--- are together, unless there is a fault of the drive's own.
-pub record AreJoined (may keeps parts : Bool) (bench : BenchFields) (counts : List ℕ) (old new : View)
-    (own : Option BenchFault) (outcome : Result (List Row) BenchFault) (workers : List WorkerEnd) : Type 0 where
-  pub worked : All (HasWorked may keeps parts bench counts) workers
-  pub taken : keeps ≡ true → new.taken ≡ old.taken ++ taken_by workers
-  pub rows : IfNone own (outcome ≡ all_rows workers)
-
--- What workers and two feeders come to: the pass into which all of theirs were merged, and all rows, or why there are none.
-pub record Drives (may keeps parts : Bool) (bench : BenchFields) (front back : List Op) (workers : ℕ) (old new : View)
-    (outcome : Result (Vec Row Global) BenchFault) : Type 0 where
-  pub verdicts : IfOk outcome (λ rows. AreVerdicts bench rows.items)
-  pub refused : IfErr outcome (IsNoDrive may keeps bench.plan old.counts)
-  pub records : keeps ≡ true → IfOk outcome (λ rows. new.taken ≡ old.taken ++ tickets_in rows.items)
-  pub counts : keeps ≡ true → new.counts ≡ old.counts
-  pub part : parts ≡ true → IfOk outcome (λ _. new.part ≡ old.part)
-  pub done : parts ≡ true → keeps ≡ true → 1 ≤ workers → AreShared front back → IsWhole bench.plan old → IfOk outcome (λ _. IsDone bench.plan new)
-  pub runs : Runs may keeps parts bench front back workers old new (row_list outcome)
+  pub ends : EndsAsViews bound last words

@@ -1,17 +1,15 @@
 -- What a feeder does with its pass, and what it answers.
-use Rattle.std.specs.Prelude.{◌≡◌, ◌⊎◌, ℕ, ◌<◌, ◌≤◌, Bool, true, List, [], length, All, Contains}
-use Rattle.std.specs.Prelude.{Result, IfOk, IfErr, slice_index, slice_index_or}
+use Rattle.std.specs.Prelude.{◌≡◌, ℕ, ◌<◌, Bool, true, List, [], length, All, Contains}
+use Rattle.std.specs.Prelude.{Result, IfOk, IfErr, slice_index}
 use Rattle.mothra_codes.specs.declared.op.Op.{Op}
 use Rattle.mothra_codes.specs.Op.{index}
 use Rattle.mothra_exchange.specs.declared.view.View.{View}
-use Rattle.mothra_codes.specs.Ticket.{times, once_up_to}
+use Rattle.mothra_codes.specs.Ticket.{ticket_times, once_up_to}
 use Rattle.mothra_exchange.specs.View.{times_closed}
 use Rattle.mothra_ops.specs.Plan.{PlanFields, edits_of}
 use Rattle.mothra_bench.specs.Closing.{count_of, seen_of}
 use Rattle.mothra_bench.specs.declared.fault.BenchFault.{BenchFault}
 use Rattle.mothra_bench.specs.declared.fault.BenchFault.TheVariants as fault
-use Rattle.mothra_bench.specs.declared.feeding.Stage.{Stage}
-use Rattle.mothra_bench.specs.declared.feeding.Stage.TheVariants as stage
 
 -- a feeder's pass takes nothing, and keeps its counts and its part
 pub record OnlyGave (old new : View) : Type 0 where
@@ -29,14 +27,14 @@ abbrev pub AreCounts : PlanFields → List ℕ → Type 0
 AreCounts plan counts = (op : Op) → slice_index counts (index op) ≡ length (edits_of plan op)
 
 -- a pass with the counts of the plan, which has offered and closed nothing
-pub record IsReady (plan : PlanFields) (view : View) : Type 0 where
+pub record IsReadyPass (plan : PlanFields) (view : View) : Type 0 where
   pub counts : AreCounts plan view.counts
   pub offered : view.offered ≡ []
   pub closings : view.closings ≡ []
 
 -- the pass offered the operator's tickets 1 to last, each once, and no other of it
 abbrev pub HasOffered : View → Op → ℕ → Type 0
-HasOffered view op last = (k : ℕ) → times (index op) k view.offered ≡ once_up_to last k
+HasOffered view op last = (k : ℕ) → ticket_times (index op) k view.offered ≡ once_up_to last k
 
 -- it closed the operator when so many were offered; it never closed it
 abbrev pub HasClosed : View → Op → ℕ → Type 0
@@ -45,15 +43,19 @@ HasClosed view op offered = times_closed (index op) offered view.closings ≡ 1
 abbrev pub NeverClosed : View → Op → Type 0
 NeverClosed view op = (k : ℕ) → times_closed (index op) k view.closings ≡ 0
 
--- How a feeder leaves an operator: all its tickets are offered and it is closed, by this pass; or the pass saw that another one offered or closed.
+-- How a feeder leaves an operator: all its tickets are offered and it is
+-- closed, by this pass; or the pass saw that another one offered or closed.
 pub data IsFed (view : View) (op : Op) : Type 0 where
-  by_itself : HasOffered view op (count_of view op) → HasClosed view op (count_of view op) → IsFed view op
-  others_offered : (last : ℕ) → HasOffered view op last → last < (seen_of view op).offered → IsFed view op
-  others_closed : (last : ℕ) → HasOffered view op last → NeverClosed view op → (seen_of view op).closed ≡ true → IsFed view op
+  by_itself : HasOffered view op (count_of view op)
+      → HasClosed view op (count_of view op) → IsFed view op
+  others_offered : (last : ℕ)
+      → HasOffered view op last → last < (seen_of view op).offered → IsFed view op
+  others_closed : (last : ℕ) → HasOffered view op last
+      → NeverClosed view op → (seen_of view op).closed ≡ true → IsFed view op
 
 -- the pass offered no ticket of the operator, and did not close it
 pub record IsUntouched (view : View) (op : Op) : Type 0 where
-  pub offered : (k : ℕ) → times (index op) k view.offered ≡ 0
+  pub offered : (k : ℕ) → ticket_times (index op) k view.offered ≡ 0
   pub closings : NeverClosed view op
 
 -- each operator of the feeder is fed, and no other one is touched
@@ -67,18 +69,4 @@ pub record Feeds (may keeps parts : Bool) (plan : PlanFields) (ops : List Op) (o
   pub refused : IfErr outcome (IsStalled may)
   pub part : parts ≡ true → new.part ≡ old.part
   pub records : keeps ≡ true → OnlyGave old new
-  pub fed : keeps ≡ true → IsReady plan old → IfOk outcome (λ _. AreFed ops new)
-
--- what a feeder's stage says of its pass
-abbrev pub Shows : View → Op → Stage → Type 0
-Shows view op (stage.Offered last) =
-    HasOffered view op last × NeverClosed view op × (last ≤ count_of view op) × (last ≤ (seen_of view op).offered)
-Shows view op stage.Ended = (last : ℕ) × HasOffered view op last × NeverClosed view op
-    × ((last < (seen_of view op).offered) ⊎ ((seen_of view op).closed ≡ true))
-Shows view op stage.Closed = IsFed view op
-
-abbrev pub stage_of : List Stage → Op → Stage
-stage_of stages op = slice_index_or stages (index op) (stage.Offered 0)
-
-abbrev pub AllShow : View → List Stage → Type 0
-AllShow view stages = (op : Op) → Shows view op (stage_of stages op)
+  pub fed : keeps ≡ true → IsReadyPass plan old → IfOk outcome (λ _. AreFed ops new)

@@ -1,11 +1,10 @@
 -- The rows that were come to.
-use Rattle.std.specs.Prelude.{◌≡◌, List, [], ◌∷◌, ◌++◌, map, All, Option, None, Some, Result, Ok, Err, Vec}
+use Rattle.std.specs.Prelude.{List, ◌++◌, map, All, Result, Ok, Err, Vec}
 use Rattle.std.specs.declared.alloc.Global.{Global}
 use Rattle.mothra_codes.specs.declared.ticket.Ticket.{Ticket}
 use Rattle.mothra_bench.specs.Bench.{BenchFields}
 use Rattle.mothra_bench.specs.Verdict.{IsVerdict}
 use Rattle.mothra_bench.specs.declared.fault.BenchFault.{BenchFault}
-use Rattle.mothra_bench.specs.declared.gathered.Gathered.{Gathered}
 use Rattle.mothra_bench.specs.declared.verdict.Row.{Row}
 
 -- the row's kills are those of its mutant, run alone
@@ -18,29 +17,14 @@ AreVerdicts bench rows = All (IsOwn bench) rows
 abbrev pub tickets_in : List Row → List Ticket
 tickets_in rows = map (λ row. row.ticket) rows
 
--- the ticket's row came last
-pub record AddsRow (bench : BenchFields) (ticket : Ticket) (rows more : List Row) : Type 0 where
-  pub row : Row
-  pub added : more ≡ rows ++ row ∷ []
-  pub of : row.ticket ≡ ticket
-  pub own : IsOwn bench row
-
 -- the outcome of a worker, its rows as a list
 abbrev pub row_list : Result (Vec Row Global) BenchFault → Result (List Row) BenchFault
 row_list (Ok rows) = Ok rows.items
 row_list (Err fault) = Err fault
 
 -- of two outcomes the first fault, else the rows of both
-abbrev pub joined_rows : Result (List Row) BenchFault → Result (List Row) BenchFault → Result (List Row) BenchFault
+abbrev pub joined_rows : Result (List Row) BenchFault
+    → Result (List Row) BenchFault → Result (List Row) BenchFault
 joined_rows (Ok rows) (Ok more) = Ok (rows ++ more)
 joined_rows (Ok rows) (Err fault) = Err fault
 joined_rows (Err fault) other = Err fault
-
--- the fault, else the rows
-abbrev pub rows_or_fault : List Row → Option BenchFault → Result (List Row) BenchFault
-rows_or_fault rows None = Ok rows
-rows_or_fault rows (Some fault) = Err fault
-
--- what was gathered, as an outcome
-abbrev pub gathered_rows : Gathered → Result (List Row) BenchFault
-gathered_rows gathered = rows_or_fault gathered.rows.items gathered.fault

@@ -1,13 +1,10 @@
 pub mod Bench
 pub mod Closing
-pub mod Running
 pub mod Killing
 pub mod Equivalents
 pub mod Verdict
 pub mod Matrix
 pub mod Collecting
-pub mod RowMap
-pub mod Entries
 pub mod Report
 pub mod Gathered
 pub mod Working
@@ -15,3 +12,4 @@ pub mod Feeding
 pub mod Driving
 pub mod PlanExchange
 pub mod Analysis
+pub mod code

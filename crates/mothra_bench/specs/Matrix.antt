@@ -1,5 +1,6 @@
 -- The kill matrix: one entry for each mutant, and what is counted in it.
-use Rattle.std.specs.Prelude.{ℕ, ◌+◌, ◌-◌, ◌*◌, ◌/◌, ◌==◌, ◌&&◌, Bool, not, List, length, map, flat_map, filter, count_by, Option, Some, None, if◌then◌else◌}
+use Rattle.std.specs.Prelude.{ℕ, ◌+◌, ◌-◌, ◌*◌, ◌/◌, ◌==◌, ◌&&◌, Bool, not, List, length, map}
+use Rattle.std.specs.Prelude.{flat_map, filter, count_by, Option, Some, None, if◌then◌else◌}
 use Rattle.std.specs.List.{list_any, range_with_len}
 use Rattle.mothra_codes.specs.Op.{all_ops, index}
 use Rattle.mothra_codes.specs.declared.op.Op.{Op}
@@ -29,14 +30,20 @@ pub record Counts : Type 0 where
   pub equivalent : ℕ
 
 abbrev pub counts : List Entry → Counts
-counts entries = record { total = length entries; killed = count_by is_killed entries; equivalent = count_by is_equivalent entries }
+counts entries = record {
+  total = length entries;
+  killed = count_by is_killed entries;
+  equivalent = count_by is_equivalent entries;
+}
 
-abbrev pub is_of : Op → Entry → Bool
-is_of op entry = index entry.ticket.op == index op
+abbrev pub is_entry_of : Op → Entry → Bool
+is_entry_of op entry = index entry.ticket.op == index op
 
 abbrev pub entries_of : Op → List Entry → List Entry
-entries_of op entries = filter (is_of op) entries
+entries_of op entries = filter (is_entry_of op) entries
 
--- the mutation score in hundredths of a percent, rounded down: killed over mutants that are not equivalent
+-- the mutation score in hundredths of a percent, rounded
+-- down: killed over mutants that are not equivalent
 abbrev pub score_of : Counts → Option ℕ
-score_of counts = if counts.total - counts.equivalent == 0 then None else Some (10000 * counts.killed / (counts.total - counts.equivalent))
+score_of counts = if counts.total - counts.equivalent == 0
+    then None else Some (10000 * counts.killed / (counts.total - counts.equivalent))

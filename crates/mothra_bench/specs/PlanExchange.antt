@@ -3,11 +3,11 @@ use Rattle.std.specs.Prelude.{◌≡◌, ◌⊎◌, ℕ, ◌<◌, ◌≤◌, Lis
 use mathlib.Core.Option.{some}
 use lib.ListN.{get_elem?}
 use Rattle.mothra_codes.specs.Op.{all_ops, index}
-use Rattle.mothra_codes.specs.Ticket.{times}
+use Rattle.mothra_codes.specs.Ticket.{ticket_times}
 use Rattle.mothra_codes.specs.declared.op.Op.{Op}
 use Rattle.mothra_codes.specs.declared.ticket.Ticket.{Ticket}
-use Rattle.mothra_exchange.specs.Law.{IsInOrder, IsWordOf, Shows, StandsInNone, StandsInOne}
-use Rattle.mothra_exchange.specs.Log.{IsLegal, one_to, taken_in}
+use Rattle.mothra_exchange.specs.Law.{IsInOrder, IsWordOf, IsShownInLog, StandsInNone, StandsInOne}
+use Rattle.mothra_exchange.specs.Log.{IsLegalLog, one_to, taken_in}
 use Rattle.mothra_exchange.specs.declared.log.Event.{Event}
 use Rattle.mothra_exchange.specs.declared.log.Event.TheVariants.{Closed, Offered}
 use Rattle.mothra_exchange.specs.declared.view.View.{View}
@@ -17,40 +17,46 @@ use Rattle.mothra_ops.specs.declared.edit.Edit.{Edit}
 use Rattle.mothra_bench.specs.Verdict.{item_of}
 
 -- how many items the list of each operator has, in the order of the operators
-abbrev pub counts_of : PlanFields → List ℕ
-counts_of plan = map (λ op. length (edits_of plan op)) all_ops
+abbrev pub plan_counts : PlanFields → List ℕ
+plan_counts plan = map (λ op. length (edits_of plan op)) all_ops
 
 -- the items with these numbers, in this order, are the first items of the operator's list
 abbrev pub AreFirstItems : PlanFields → Op → List ℕ → Type 0
-AreFirstItems plan op numbers = map (item_of plan op) numbers ≡ map Some (take (length numbers) (edits_of plan op))
+AreFirstItems plan op numbers =
+    map (item_of plan op) numbers ≡ map Some (take (length numbers) (edits_of plan op))
 
 -- ticket k of the operator stands for an item of its list, and was taken by exactly one pass, once
 pub record IsHandedOut (plan : PlanFields) (op : Op) (views : List View) (k : ℕ) : Type 0 where
   pub edit : Edit
   pub item : item_of plan op k ≡ Some edit
-  pub taken : StandsInOne (λ v. times (index op) k v.taken) views
+  pub taken : StandsInOne (λ v. ticket_times (index op) k v.taken) views
 
--- Of an operator of the plan, whose word is w: the tickets taken are 1 to w.handed and stand for the first items of its
--- list, each ticket was taken by exactly one pass, and none was accepted after the operator closed.
+-- Of an operator of the plan, whose word is w: the tickets taken are 1 to
+-- w.handed and stand for the first items of its list, each ticket was taken
+-- by exactly one pass, and none was accepted after the operator closed.
 pub record HandsOutFront (plan : PlanFields) (op : Op) (w : Word) (views : List View) : Type 0 where
   pub front : AreFirstItems plan op (one_to w.handed)
   pub each : (k : ℕ) → 0 < k → k ≤ w.handed → IsHandedOut plan op views k
-  pub no_other : (k : ℕ) → (k ≡ 0) ⊎ (w.handed < k) → StandsInNone (λ v. times (index op) k v.taken) views
+  pub no_other : (k : ℕ)
+      → (k ≡ 0) ⊎ (w.handed < k) → StandsInNone (λ v. ticket_times (index op) k v.taken) views
   pub in_order : IsInOrder op w views
 
--- Some legal log for the lists of the plan has the numbers of the words. In it the tickets of each operator were handed
--- out as 1, 2, and on to w.handed, each once; their items, in the order of the log, are the first of the operator's
--- list; and none was accepted after the operator closed.
+-- Some legal log for the lists of the plan has the numbers of the words. In it the tickets of each
+-- operator were handed out as 1, 2, and on to w.handed, each once; their items, in the order of
+-- the log, are the first of the operator's list; and none was accepted after the operator closed.
 pub record HasHistory (C : ℕ) (plan : PlanFields) (words : List ℕ) : Type 0 where
   pub log : List Event
-  pub legal : IsLegal C (counts_of plan) log
-  pub shows : (op : Op) (w : Word) → IsWordOf words op w → Shows (counts_of plan) log op w
-  pub handed : (op : Op) (w : Word) → IsWordOf words op w → taken_in (index op) log ≡ one_to w.handed
+  pub legal : IsLegalLog C (plan_counts plan) log
+  pub shows : (op : Op) (w : Word) → IsWordOf words op w → IsShownInLog (plan_counts plan) log op w
+  pub handed : (op : Op) (w : Word)
+      → IsWordOf words op w → taken_in (index op) log ≡ one_to w.handed
   pub items : (op : Op) → AreFirstItems plan op (taken_in (index op) log)
-  pub accepted : (op : Op) (close offer : ℕ) (ticket : Ticket) → get_elem? log close ≡ some (Closed op)
+  pub accepted : (op : Op) (close offer : ℕ) (ticket : Ticket)
+      → get_elem? log close ≡ some (Closed op)
       → get_elem? log offer ≡ some (Offered ticket) → ticket.op ≡ op → offer < close
 
 -- what the words and the views of an exchange for the plan keep between any two steps
-pub record KeepsLists (C : ℕ) (plan : PlanFields) (words : List ℕ) (views : List View) : Type 0 where
+pub record KeepsLists (C : ℕ) (plan : PlanFields) (words : List ℕ)
+    (views : List View) : Type 0 where
   pub operators : (op : Op) → (w : Word) × IsWordOf words op w × HandsOutFront plan op w views
   pub history : 0 < C → HasHistory C plan words

@@ -1,5 +1,6 @@
 -- The text of a report, version 2.
-use Rattle.std.specs.Prelude.{ℕ, ◌/◌, ◌%◌, ◌==◌, ◌&&◌, Bool, not, List, [], ◌++◌, length, map, filter, flat_map, codes, Option, Some, None, unwrap_or, if◌then◌else◌}
+use Rattle.std.specs.Prelude.{ℕ, ◌/◌, ◌%◌, ◌==◌, ◌&&◌, Bool, not, List, [], ◌++◌, length, map}
+use Rattle.std.specs.Prelude.{filter, flat_map, codes, Option, Some, None, unwrap_or, if◌then◌else◌}
 use Rattle.std.specs.Fmt.{decimal}
 use Rattle.f77_program.specs.Program.{LineFields}
 use Rattle.f77_legal.specs.Names.{unit_name}
@@ -31,7 +32,8 @@ heading bench =
 
 -- how many mutants, how many killed, how many equivalent
 abbrev pub counts_line : List ℕ → Counts → List ℕ
-counts_line name counts = line (named_number (named_number (named_number name counts.total) counts.killed) counts.equivalent)
+counts_line name counts = line
+    (named_number (named_number (named_number name counts.total) counts.killed) counts.equivalent)
 
 abbrev pub operator_line : List Entry → Op → List ℕ
 operator_line entries op = counts_line (code_of op) (counts (entries_of op entries))
@@ -43,7 +45,8 @@ operator_lines plan entries = flat_map (operator_line entries) (filter (asked pl
 -- hundredths of a percent as a number with two decimals
 abbrev pub score_text : Option ℕ → List ℕ
 score_text None = codes "NONE"
-score_text (Some score) = decimal (score / 100) ++ (codes "." ++ (decimal (score % 100 / 10) ++ decimal (score % 10)))
+score_text (Some score) =
+    decimal (score / 100) ++ (codes "." ++ (decimal (score % 100 / 10) ++ decimal (score % 10)))
 
 abbrev pub score_line : Option ℕ → List ℕ
 score_line score = line (codes "SCORE " ++ score_text score)
@@ -61,31 +64,35 @@ bit_of kill = if kill then 49 else 48
 abbrev pub bits_of : List Bool → List ℕ
 bits_of kills = if length kills == 0 then codes "-" else map bit_of kills
 
-abbrev pub name_of : PlanFields → Entry → List ℕ
-name_of plan entry = mutant_name plan.every entry.ticket.op entry.ticket.number
+abbrev pub entry_name : PlanFields → Entry → List ℕ
+entry_name plan entry = mutant_name plan.every entry.ticket.op entry.ticket.number
 
 abbrev pub mutant_line : PlanFields → Entry → List ℕ
 mutant_line plan entry =
-    line (codes "MUTANT " ++ (name_of plan entry ++ (codes " " ++ (status_of entry ++ (codes " " ++ bits_of entry.kills)))))
+    line (codes "MUTANT " ++ (entry_name plan entry
+    ++ (codes " " ++ (status_of entry ++ (codes " " ++ bits_of entry.kills)))))
 
 -- survived, and not declared equivalent
 abbrev pub is_survivor : Entry → Bool
 is_survivor entry = not entry.declared && not (is_killed entry)
 
 abbrev pub survivor_line : PlanFields → Entry → List ℕ
-survivor_line plan entry = if is_survivor entry then line (codes "SURVIVOR " ++ mutant_text plan entry.ticket.op entry.ticket.number) else []
+survivor_line plan entry = if is_survivor entry
+    then line (codes "SURVIVOR " ++ mutant_text plan entry.ticket.op entry.ticket.number) else []
 
 -- declared equivalent, and killed
 abbrev pub is_wrong : Entry → Bool
 is_wrong entry = entry.declared && is_killed entry
 
 abbrev pub wrong_line : PlanFields → Entry → List ℕ
-wrong_line plan entry = if is_wrong entry then line (codes "WRONG " ++ name_of plan entry) else []
+wrong_line plan entry =
+    if is_wrong entry then line (codes "WRONG " ++ entry_name plan entry) else []
 
 -- the lines of all entries, the survivors, and the entries that are wrongly declared
 abbrev pub entry_lines : PlanFields → List Entry → List ℕ
 entry_lines plan entries =
-    flat_map (mutant_line plan) entries ++ (flat_map (survivor_line plan) entries ++ flat_map (wrong_line plan) entries)
+    flat_map (mutant_line plan) entries
+    ++ (flat_map (survivor_line plan) entries ++ flat_map (wrong_line plan) entries)
 
 -- the whole report
 abbrev pub report_text : BenchFields → List Entry → List ℕ

@@ -1,26 +1,26 @@
 -- What a worker does with its pass, and what it answers.
 use Rattle.std.specs.Prelude.{◌≡◌, ℕ, ◌-◌, ◌≤◌, ⊤, Bool, true, List, ◌∷◌, ◌++◌, All}
-use Rattle.std.specs.Prelude.{Vec, Option, None, Result, IfOk, IfErr, IfSome, IfNone, MatchOption}
+use Rattle.std.specs.Prelude.{Vec, Result, IfOk, IfErr}
 use Rattle.std.specs.declared.alloc.Global.{Global}
 use Rattle.mothra_codes.specs.declared.op.Op.{Op}
 use Rattle.mothra_codes.specs.Op.{index}
 use Rattle.mothra_codes.specs.declared.ticket.Ticket.{Ticket}
 use Rattle.mothra_exchange.specs.declared.view.View.{View}
 use Rattle.mothra_exchange.specs.Sharing.{IsOver}
-use Rattle.mothra_codes.specs.Ticket.{times}
+use Rattle.mothra_codes.specs.Ticket.{ticket_times}
 use Rattle.mothra_ops.specs.Plan.{PlanFields}
 use Rattle.mothra_bench.specs.Bench.{BenchFields}
 use Rattle.mothra_bench.specs.Feeding.{AreCounts}
 use Rattle.mothra_bench.specs.Gathered.{AreVerdicts, tickets_in}
-use Rattle.mothra_bench.specs.Verdict.{Has}
+use Rattle.mothra_bench.specs.Verdict.{HasMutant}
 use Rattle.mothra_bench.specs.declared.fault.BenchFault.{BenchFault}
 use Rattle.mothra_bench.specs.declared.fault.BenchFault.TheVariants as fault
-use Rattle.mothra_bench.specs.declared.gathered.Gathered.{Gathered}
 use Rattle.mothra_bench.specs.declared.verdict.Row.{Row}
 
 -- none of the tickets stands twice, or among the old ones
 abbrev pub AreFresh : List Ticket → List Ticket → Type 0
-AreFresh old tickets = (op : Op) (k : ℕ) → times (index op) k tickets ≤ 1 - times (index op) k old
+AreFresh old tickets =
+    (op : Op) (k : ℕ) → ticket_times (index op) k tickets ≤ 1 - ticket_times (index op) k old
 
 -- a worker's pass offers and closes nothing, and keeps its counts and its part
 pub record OnlyTook (old new : View) : Type 0 where
@@ -42,21 +42,23 @@ AreOver view = (op : Op) → IsOver view op
 abbrev pub CountsPlan : Bool → PlanFields → List ℕ → Type 0
 CountsPlan keeps plan counts = (keeps ≡ true) × AreCounts plan counts
 
--- Why a worker gives no rows: want of memory; a ticket of no mutant of the plan, which no gate hands out that is known to count the plan's; or the
--- gate gave up, which only some may.
+-- Why a worker gives no rows: want of memory; a ticket of no mutant of the plan, which no
+-- gate hands out that is known to count the plan's; or the gate gave up, which only some may.
 abbrev pub IsNoWork : Bool → Bool → PlanFields → List ℕ → BenchFault → Type 0
 IsNoWork may keeps plan counts fault.Memory = ⊤
-IsNoWork may keeps plan counts (fault.Stranger ticket) = ¬ (Has plan ticket) × ¬ (CountsPlan keeps plan counts)
+IsNoWork may keeps plan counts (fault.Stranger ticket) =
+    ¬ (HasMutant plan ticket) × ¬ (CountsPlan keeps plan counts)
 IsNoWork may keeps plan counts fault.Stalled = may ≡ true
 IsNoWork may keeps plan counts _ = ⊥
 
 -- the first of the tickets that the plan does not have
-pub record IsFirstUnknown (plan : PlanFields) (tickets : List Ticket) (ticket : Ticket) : Type 0 where
+pub record IsFirstUnknown (plan : PlanFields) (tickets : List Ticket)
+    (ticket : Ticket) : Type 0 where
   pub before : List Ticket
   pub after : List Ticket
   pub cut : tickets ≡ before ++ ticket ∷ after
-  pub known : All (Has plan) before
-  pub unknown : ¬ (Has plan ticket)
+  pub known : All (HasMutant plan) before
+  pub unknown : ¬ (HasMutant plan ticket)
 
 -- a fault that names a ticket names the first of them that the plan does not have
 abbrev pub NamesFirst : PlanFields → List Ticket → BenchFault → Type 0
@@ -79,25 +81,3 @@ pub record Works (may keeps parts : Bool) (bench : BenchFields) (old new : View)
   pub records : keeps ≡ true → IfOk outcome (λ rows. TookRows old new rows.items)
   pub stranger : keeps ≡ true → IfErr outcome (NamesTaken bench.plan old new)
   pub over : keeps ≡ true → IfOk outcome (λ _. AreOver new)
-
--- the tickets that the pass took: without a fault the plan has them all, and the first fault names the first that it
--- does not have
-pub record Takes (plan : PlanFields) (old new : View) (before after : Option BenchFault) : Type 0 where
-  pub tickets : List Ticket
-  pub taken : new.taken ≡ old.taken ++ tickets
-  pub known : IfNone after (All (Has plan) tickets)
-  pub first : IfSome after (λ fault. IfNone before (NamesFirst plan tickets fault))
-
--- some rows were added, each with its verdict, and where records are kept the pass took their tickets
-pub record Adds (bench : BenchFields) (keeps : Bool) (old new : View) (rows more : List Row) : Type 0 where
-  pub extra : List Row
-  pub added : more ≡ rows ++ extra
-  pub verdicts : AreVerdicts bench extra
-  pub took : keeps ≡ true → TookRows old new extra
-
--- a worker went on, and its pass and what it has gathered with it; the first fault stays
-pub record Went (bench : BenchFields) (may keeps : Bool) (old new : View) (before after : Gathered) : Type 0 where
-  pub fault : IfSome after.fault (λ fault. MatchOption before.fault (IsNoWork may keeps bench.plan old.counts fault) (λ first. fault ≡ first))
-  pub rows : IfNone after.fault ((before.fault ≡ None) × Adds bench keeps old new before.rows.items after.rows.items)
-  pub pass : keeps ≡ true → OnlyTook old new
-  pub takes : keeps ≡ true → Takes bench.plan old new before.fault after.fault

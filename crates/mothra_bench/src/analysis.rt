@@ -14,7 +14,8 @@ use std::alloc::Global;
 use std::sync::Wait;
 use std::thread::Threads;
 
-/// The report of the bench, by so many workers: each mutant with the verdict of running it alone. It is the same for each number of workers.
+/// The report of the bench, by so many workers: each mutant with the
+/// verdict of running it alone. It is the same for each number of workers.
 pub fn analyse<R: Threads + Wait + Sync>(
     rt: &R,
     alloc: Global,

@@ -24,10 +24,11 @@ use mothra_ops::Plan;
 use std::alloc::Global;
 use std::marker::Model;
 
-/// A plan, the tests that its mutants are run on, the limit on steps of each run, and the mutants that are declared equivalent.
+/// A plan, the tests that its mutants are run on, the limit on
+/// steps of each run, and the mutants that are declared equivalent.
 ///
-/// It holds what the program itself comes to on each test, and where control was on the way: so a mutant is run from where it parts from
-/// the program, and not at all where it does not.
+/// It holds what the program itself comes to on each test, and where control was on the way:
+/// so a mutant is run from where it parts from the program, and not at all where it does not.
 #[derive(Drop)]
 pub struct Bench {
     plan: Plan,
@@ -74,11 +75,12 @@ impl Model for Bench {
 }
 
 impl Bench {
-    /// The bench of a plan, its tests, the limit on steps, and the mutants that are declared equivalent, with their numbers in the
-    /// whole lists. The program is run once on every test.
+    /// The bench of a plan, its tests, the limit on steps, and the mutants that are declared
+    /// equivalent, with their numbers in the whole lists. The program is run once on every test.
     ///
-    /// Of several faults the first in this order is told: B3 over all tests, B4 over all tests, then the declared entries in order, B5 before B6
-    /// for one entry. Entries of operators that the plan was not asked for are passed over.
+    /// Of several faults the first in this order is told: B3 over all tests, B4
+    /// over all tests, then the declared entries in order, B5 before B6 for one
+    /// entry. Entries of operators that the plan was not asked for are passed over.
     pub fn new(
         alloc: Global,
         plan: Plan,

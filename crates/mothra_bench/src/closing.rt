@@ -1,7 +1,7 @@
 //! Closing operators.
 
 ghost use Rattle.std.specs.Prelude.{◌≡◌, true, false};
-ghost use Rattle.mothra_bench.specs.Closing.{AreClosed, Closes};
+ghost use Rattle.mothra_bench.specs.code.Closing.{AreClosed, Closes};
 ghost use Rattle.mothra_bench.specs.Feeding.{OnlyGave};
 
 use mothra_codes::Op;

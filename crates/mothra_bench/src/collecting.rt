@@ -37,9 +37,9 @@ fn first_stranger(bench: &Bench, rows: &[Row]) -> Option<Ticket>
 
 /// The matrix of the rows: one entry for each mutant of the plan.
 ///
-/// Of several faults the first in this order is told: B8 at the first row that is not of the plan or has not a truth value for each test,
-/// B7 at the first row whose ticket stood earlier, B9 at the first mutant, by operator and number, that has no row or is above the number
-/// handed out.
+/// Of several faults the first in this order is told: B8 at the first row that is not of the plan
+/// or has not a truth value for each test, B7 at the first row whose ticket stood earlier, B9 at
+/// the first mutant, by operator and number, that has no row or is above the number handed out.
 pub fn collect(
     alloc: Global,
     bench: &Bench,

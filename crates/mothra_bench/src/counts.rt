@@ -67,7 +67,8 @@ impl Counts {
     fn add(&mut self, entry: &Entry)
         requires { self.old.total + 1 < 2 ^ 32 }
         ensures total { self.new.total ≡ self.old.total + 1 }
-        ensures counts { (entries : List Entry) → self.old ≡ counts entries → self.new ≡ counts (entries ++ entry.now ∷ []) }
+        ensures counts { (entries : List Entry)
+            → self.old ≡ counts entries → self.new ≡ counts (entries ++ entry.now ∷ []) }
     {
         self.total += 1;
         if entry.is_killed() {
@@ -98,7 +99,8 @@ impl Counts {
         self.equivalent
     }
 
-    /// The mutation score in hundredths of a percent, rounded down; none where every mutant is equivalent, or there is none.
+    /// The mutation score in hundredths of a percent, rounded down;
+    /// none where every mutant is equivalent, or there is none.
     pub fn score(&self) -> Option<u32>
         ensures { result ≡ score_of self.now }
     {

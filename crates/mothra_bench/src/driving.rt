@@ -4,11 +4,13 @@ ghost use Rattle.std.specs.Prelude.{◌≡◌, ◌⊎◌, ◌+◌, ◌++◌, ◌
 ghost use Rattle.std.specs.Prelude.{None, IfOk, IfErr, IfSome, IfNone, IsSome, MatchOption};
 ghost use Rattle.mothra_exchange.specs.View.{whole_part};
 ghost use Rattle.mothra_exchange.specs.declared.view.View.{View};
-ghost use Rattle.mothra_bench.specs.Closing.{AreClosed};
-ghost use Rattle.mothra_bench.specs.Driving.{AreComplete, AreHandedOnce, AreJoined, Drives, EndsWhole, HasShares};
-ghost use Rattle.mothra_bench.specs.Driving.{IsDriven, IsNoDrive, IsNoStart, IsShare, IsWhole, Joins, KeepsFed, OnlySplit};
+ghost use Rattle.mothra_bench.specs.code.Closing.{AreClosed};
+ghost use Rattle.mothra_bench.specs.Driving.{AreComplete, AreHandedOnce, EndsWhole};
+ghost use Rattle.mothra_bench.specs.code.Driving.{AreJoined, Drives, HasShares};
+ghost use Rattle.mothra_bench.specs.Driving.{IsDriven, IsNoDrive, IsShare, IsWhole};
+ghost use Rattle.mothra_bench.specs.code.Driving.{IsNoStart, JoinsPass, KeepsFed, OnlySplit};
 ghost use Rattle.mothra_bench.specs.Driving.{WorkerEnd, answer_of};
-ghost use Rattle.mothra_bench.specs.Feeding.{AreFed, Feeds, IsReady, IsStalled};
+ghost use Rattle.mothra_bench.specs.Feeding.{AreFed, Feeds, IsReadyPass, IsStalled};
 ghost use Rattle.mothra_bench.specs.Gathered.{AreVerdicts, row_list, tickets_in};
 ghost use Rattle.mothra_bench.specs.Working.{AreOver};
 
@@ -50,13 +52,16 @@ where
     requires own { G.is_pass crew.now.gate.now pass.old }
     requires part { G.needs_parts ≡ true → crew.now.workers < (G.view pass.old).part }
     ensures own { G.is_pass crew.now.gate.now pass.new }
-    ensures workers { All (λ worker. (worker.promise.gate.now ≡ crew.now.gate.now) × (worker.promise.bench.now ≡ crew.now.bench.now)
-        × IsShare G.needs_parts G.keeps_records (G.view pass.old).counts (G.view worker.promise.pass.value)) result.0.items }
+    ensures workers { All
+        (λ worker. (worker.promise.gate.now ≡ crew.now.gate.now) × (worker.promise.bench.now ≡ crew.now.bench.now)
+        × IsShare G.needs_parts G.keeps_records (G.view pass.old).counts
+        (G.view worker.promise.pass.value)) result.0.items }
     ensures part { G.needs_parts ≡ true → (G.view pass.old).part ≤ (G.view pass.new).part + crew.now.workers }
     ensures all { IfNone result.1 ((length result.0.items ≡ crew.now.workers)
         × (G.needs_parts ≡ true → (G.view pass.old).part ≡ (G.view pass.new).part + crew.now.workers)) }
     ensures records { G.keeps_records ≡ true → OnlySplit (G.view pass.old) (G.view pass.new) }
-    ensures refused { IfSome result.1 (IsNoDrive G.may_give_up G.keeps_records crew.now.bench.now.plan (G.view pass.old).counts) }
+    ensures refused { IfSome result.1
+        (IsNoDrive G.may_give_up G.keeps_records crew.now.bench.now.plan (G.view pass.old).counts) }
     ensures which { IfSome result.1 (IsNoStart crew.now.workers (length result.0.items)) }
     ensures memory { result.1 ≡ Some BenchFault.Memory → pass.new ≡ pass.old }
 {
@@ -88,9 +93,11 @@ where
     G::Pass: Send + Drop + 's,
     requires own { G.is_pass crew.now.gate.now pass.old }
     requires part { G.needs_parts ≡ true → 1 < (G.view pass.old).part }
-    requires fault { IfSome fault.old (IsNoDrive G.may_give_up G.keeps_records crew.now.bench.now.plan (G.view pass.old).counts) }
+    requires fault { IfSome fault.old
+        (IsNoDrive G.may_give_up G.keeps_records crew.now.bench.now.plan (G.view pass.old).counts) }
     ensures own { G.is_pass crew.now.gate.now pass.new }
-    ensures feeder { IfSome result (λ feeder. (feeder.promise.gate.now ≡ crew.now.gate.now) × (feeder.promise.ops.now ≡ ops.now)
+    ensures feeder { IfSome result
+        (λ feeder. (feeder.promise.gate.now ≡ crew.now.gate.now) × (feeder.promise.ops.now ≡ ops.now)
         × (feeder.promise.plan.now ≡ crew.now.bench.now.plan)
         × IsShare G.needs_parts G.keeps_records (G.view pass.old).counts (G.view feeder.promise.pass.value)) }
     ensures part { G.needs_parts ≡ true → (G.view pass.old).part ≤ (G.view pass.new).part + 1 }
@@ -99,7 +106,8 @@ where
     ensures started { IfNone fault.new ((fault.old ≡ None) × IsSome result
         × (G.needs_parts ≡ true → (G.view pass.old).part ≡ (G.view pass.new).part + 1)
         × (G.keeps_records ≡ true → OnlySplit (G.view pass.old) (G.view pass.new))) }
-    ensures refused { IfSome fault.new (IsNoDrive G.may_give_up G.keeps_records crew.now.bench.now.plan (G.view pass.old).counts) }
+    ensures refused { IfSome fault.new
+        (IsNoDrive G.may_give_up G.keeps_records crew.now.bench.now.plan (G.view pass.old).counts) }
     ensures kept { IfSome fault.old (λ first. (fault.new ≡ Some first) × (result ≡ None)) }
     ensures thread { IfNone fault.old
         (MatchOption result (fault.new ≡ Some BenchFault.Thread) (λ _. fault.new ≡ None)) }
@@ -133,9 +141,10 @@ fn join_started<G: Gate, R: Threads>(
     ensures part { G.needs_parts ≡ true → IfSome feeder.entry
         (λ feeder. (G.view pass.new).part ≡ (G.view pass.old).part + (G.view feeder.promise.pass.value).part) }
     ensures joined { G.keeps_records ≡ true → IfSome feeder.entry
-        (λ feeder. (other : View) × Joins (G.view pass.old) other (G.view pass.new)
+        (λ feeder. (other : View) × JoinsPass (G.view pass.old) other (G.view pass.new)
         × (other.counts ≡ (G.view feeder.promise.pass.value).counts)
-        × (IsReady feeder.promise.plan.now (G.view feeder.promise.pass.value) → IfOk result (λ _. AreFed feeder.promise.ops.now other))) }
+        × (IsReadyPass feeder.promise.plan.now (G.view feeder.promise.pass.value)
+        → IfOk result (λ _. AreFed feeder.promise.ops.now other))) }
     ensures feeds { MatchOption feeder.entry (result ≡ Ok tt) (λ feeder. (back : View)
         × Feeds G.may_give_up G.keeps_records G.needs_parts feeder.promise.plan.now feeder.promise.ops.now
         (G.view feeder.promise.pass.value) back result) }
@@ -157,11 +166,14 @@ fn join_workers<G: Gate, R: Threads>(
 where
     G::Pass: Drop,
     requires own { G.is_pass crew.now.gate.now pass.old }
-    requires workers { All (λ worker. (worker.promise.gate.now ≡ crew.now.gate.now) × (worker.promise.bench.now ≡ crew.now.bench.now)
-        × IsShare G.needs_parts G.keeps_records (G.view pass.old).counts (G.view worker.promise.pass.value)) workers.items }
+    requires workers { All
+        (λ worker. (worker.promise.gate.now ≡ crew.now.gate.now) × (worker.promise.bench.now ≡ crew.now.bench.now)
+        × IsShare G.needs_parts G.keeps_records (G.view pass.old).counts
+        (G.view worker.promise.pass.value)) workers.items }
     ensures own { G.is_pass crew.now.gate.now pass.new }
     ensures verdicts { IfOk result (λ rows. AreVerdicts crew.now.bench.now rows.items) }
-    ensures refused { IfErr result (IsNoDrive G.may_give_up G.keeps_records crew.now.bench.now.plan (G.view pass.old).counts) }
+    ensures refused { IfErr result
+        (IsNoDrive G.may_give_up G.keeps_records crew.now.bench.now.plan (G.view pass.old).counts) }
     ensures part { G.needs_parts ≡ true → (G.view pass.new).part ≡ (G.view pass.old).part + length workers.entry.items }
     ensures records { G.keeps_records ≡ true
         → IfOk result (λ rows. (G.view pass.new).taken ≡ (G.view pass.old).taken ++ tickets_in rows.items) }
@@ -208,7 +220,8 @@ where
     requires own { G.is_pass crew.now.gate.now pass }
     requires part { HasShares G.needs_parts crew.now.workers (G.view pass) }
     ensures own { G.is_pass crew.now.gate.now result.0 }
-    ensures drives { Drives G.may_give_up G.keeps_records G.needs_parts crew.now.bench.now crew.now.front.now crew.now.back.now crew.now.workers
+    ensures drives { Drives G.may_give_up G.keeps_records G.needs_parts crew.now.bench.now crew.now.front.now
+        crew.now.back.now crew.now.workers
         (G.view pass) (G.view result.0) result.1 }
 {
     let (workers, mut fault) = start_workers(scope, crew, &mut pass);
@@ -230,7 +243,8 @@ where
     requires own { G.is_pass crew.now.gate.now pass }
     requires part { HasShares G.needs_parts crew.now.workers (G.view pass) }
     ensures own { G.is_pass crew.now.gate.now result.0 }
-    ensures drives { Drives G.may_give_up G.keeps_records G.needs_parts crew.now.bench.now crew.now.front.now crew.now.back.now crew.now.workers
+    ensures drives { Drives G.may_give_up G.keeps_records G.needs_parts crew.now.bench.now crew.now.front.now
+        crew.now.back.now crew.now.workers
         (G.view pass) (G.view result.0) result.1 }
 {
     thread::scope(
@@ -242,8 +256,9 @@ where
     )
 }
 
-/// Runs the mutants of a bench's plan in so many workers, through a gate that two feeders fill: the first with the operators from AAR to DSA,
-/// the second with those from GLR to UOI. It joins all, merges their passes, which are split from the caller's, and finishes.
+/// Runs the mutants of a bench's plan in so many workers, through a gate that two feeders
+/// fill: the first with the operators from AAR to DSA, the second with those from GLR to
+/// UOI. It joins all, merges their passes, which are split from the caller's, and finishes.
 ///
 /// Where there is no memory, or a thread cannot begin, no further one is started, the operators of a feeder that was
 /// not started are closed, and the rest is joined; the answer is then B1 or B2. It is B1 where there is no memory for
@@ -264,7 +279,8 @@ where
     requires part { G.needs_parts ≡ true → workers + 3 ≤ (G.view pass).part }
     ensures verdicts { IfOk result (λ driven. AreVerdicts bench.now driven.0.items) }
     ensures refused { IfErr result (IsNoDrive G.may_give_up G.keeps_records bench.now.plan (G.view pass).counts) }
-    ensures records { G.keeps_records ≡ true → IfOk result (λ driven. AreHandedOnce driven.1 (tickets_in driven.0.items)) }
+    ensures records { G.keeps_records ≡ true
+        → IfOk result (λ driven. AreHandedOnce driven.1 (tickets_in driven.0.items)) }
     ensures complete { G.needs_parts ≡ true → G.keeps_records ≡ true → IsWhole bench.now.plan (G.view pass)
         → IfOk result (λ driven. AreComplete bench.now.plan driven.1 (tickets_in driven.0.items)) }
     ensures order { IsDriven G.may_give_up G.keeps_records G.needs_parts bench.now workers (G.view pass).counts result }

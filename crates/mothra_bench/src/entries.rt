@@ -4,8 +4,8 @@ ghost use Rattle.std.specs.Prelude.{◌≡◌, ◌&&◌, ◌==◌, All, AllPairs
 ghost use Rattle.mothra_codes.specs.Op.{index};
 ghost use Rattle.mothra_codes.specs.declared.ticket.Ticket.{Ticket};
 ghost use Rattle.mothra_codes.specs.Ticket.{Before};
-ghost use Rattle.mothra_bench.specs.Entries.{AreNoEntries, IsEntry, IsHere};
-ghost use Rattle.mothra_bench.specs.RowMap.{row_at};
+ghost use Rattle.mothra_bench.specs.code.Entries.{AreNoEntries, IsEntry, IsHere};
+ghost use Rattle.mothra_bench.specs.code.RowMap.{ticket_row};
 
 use crate::bench::Bench;
 use crate::fault::BenchFault;
@@ -16,9 +16,11 @@ use std::alloc::Global;
 
 /// The entry of a ticket, whose row is taken. None where it has no row or was not handed out.
 fn entry_of(bench: &Bench, tally: &Tally, map: &mut RowMap, ticket: Ticket) -> Option<Entry>
-    ensures entry { MatchOption result (¬ (IsHere tally.now map.old ticket)) (λ entry. (entry.ticket ≡ ticket) × IsEntry bench.now tally.now map.old entry) }
-    ensures rows { (other : Ticket) → row_at map.new other
-        ≡ (if index ticket.op == index other.op && ticket.number == other.number then None else row_at map.old other) }
+    ensures entry { MatchOption result (¬ (IsHere tally.now map.old ticket))
+        (λ entry. (entry.ticket ≡ ticket) × IsEntry bench.now tally.now map.old entry) }
+    ensures rows { (other : Ticket) → ticket_row map.new other
+        ≡ (if index ticket.op == index other.op && ticket.number == other.number
+        then None else ticket_row map.old other) }
 {
     let row = map.take(ticket)?;
     if tally.handed(ticket.op) < ticket.number {

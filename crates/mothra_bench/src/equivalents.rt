@@ -2,7 +2,8 @@
 
 ghost use Rattle.std.specs.Prelude.{◌≡◌, ◌↔◌, ◌≤◌, ◌<◌, ◌^◌, Contains, IsTrue, IfOk, IfErr, OnOk};
 ghost use Rattle.mothra_bench.specs.Bench.{AreFine};
-ghost use Rattle.mothra_bench.specs.Equivalents.{AreNamed, Adds, IsNoted, IsNoEntry};
+ghost use Rattle.mothra_bench.specs.Equivalents.{AreNamed};
+ghost use Rattle.mothra_bench.specs.code.Equivalents.{AddsTicket, IsNoted, IsNoEntry};
 ghost use Rattle.mothra_bench.specs.declared.fault.BenchFault.TheVariants.{Memory};
 ghost use Rattle.mothra_ops.specs.Plan.{whole_of};
 
@@ -33,7 +34,7 @@ fn is_there(plan: &Plan, entry: Ticket) -> bool
 /// Puts an entry to those that are named; whether it was one of them.
 fn name(named: &mut IndexSet<Ticket>, entry: Ticket) -> Result<bool, BenchFault>
     ensures before { IfOk result (λ before. IsTrue before ↔ Contains named.old.keys entry) }
-    ensures named { OnOk result (Adds named.old.keys entry named.new.keys) }
+    ensures named { OnOk result (AddsTicket named.old.keys entry named.new.keys) }
     ensures memory { IfErr result (λ fault. fault ≡ Memory) }
 {
     let is_new = named.insert(entry)?;
@@ -43,7 +44,7 @@ fn name(named: &mut IndexSet<Ticket>, entry: Ticket) -> Result<bool, BenchFault>
 /// Notes a declared entry; what is told of it behind those that are noted.
 fn note(plan: &Plan, named: &mut IndexSet<Ticket>, entry: Ticket) -> Result<Noted, BenchFault>
     ensures noted { IfOk result (λ noted. IsNoted plan.now named.old.keys entry noted) }
-    ensures named { OnOk result (Adds named.old.keys entry named.new.keys) }
+    ensures named { OnOk result (AddsTicket named.old.keys entry named.new.keys) }
     ensures fits { entry.number < 2 ^ 32 }
     ensures memory { IfErr result (λ fault. fault ≡ Memory) }
 {

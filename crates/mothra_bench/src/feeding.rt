@@ -1,11 +1,14 @@
 //! Feeders: they offer the tickets of operators in order.
 
-ghost use Rattle.std.specs.Prelude.{◌≡◌, ◌≢◌, ◌+◌, ◌<◌, ℕ, true, All, Contains, IfOk, IfErr, IfNone, IfSome, slice_index};
+ghost use Rattle.std.specs.Prelude.{◌≡◌, ◌≢◌, ◌+◌, ◌<◌, ℕ, true, All, Contains};
+ghost use Rattle.std.specs.Prelude.{IfOk, IfErr, IfNone, IfSome, slice_index};
 ghost use Rattle.mothra_codes.specs.Op.{index};
 ghost use Rattle.mothra_codes.specs.declared.op.Op.{Op as OpModel};
 ghost use Rattle.mothra_exchange.specs.Law.{ChangesOnly};
-ghost use Rattle.mothra_bench.specs.Closing.{Closes, count_of};
-ghost use Rattle.mothra_bench.specs.Feeding.{AllShow, AreFed, IsReady, IsStalled, OnlyGave, Shows, stage_of};
+ghost use Rattle.mothra_bench.specs.code.Closing.{Closes};
+ghost use Rattle.mothra_bench.specs.Closing.{count_of};
+ghost use Rattle.mothra_bench.specs.code.Feeding.{AllShow, ShowsStage, stage_of};
+ghost use Rattle.mothra_bench.specs.Feeding.{AreFed, IsReadyPass, IsStalled, OnlyGave};
 
 use crate::closing::close_one;
 use crate::fault::BenchFault;
@@ -40,8 +43,10 @@ fn offer<G: Gate, R: Wait>(
     ensures part { G.needs_parts ≡ true → (G.view pass.new).part ≡ (G.view pass.old).part }
     ensures records { G.keeps_records ≡ true → OnlyGave (G.view pass.old) (G.view pass.new) }
     ensures shows { G.keeps_records ≡ true → (before : ℕ) → stage ≡ Stage.Offered before → ticket.number ≡ before + 1
-        → before < count_of (G.view pass.old) ticket.op → Shows (G.view pass.old) ticket.op stage → IfSome result (Shows (G.view pass.new) ticket.op) }
-    ensures others { G.keeps_records ≡ true → IfSome result (λ _. ChangesOnly ticket.op (G.view pass.old) (G.view pass.new)) }
+        → before < count_of (G.view pass.old) ticket.op
+        → ShowsStage (G.view pass.old) ticket.op stage → IfSome result (ShowsStage (G.view pass.new) ticket.op) }
+    ensures others { G.keeps_records ≡ true
+        → IfSome result (λ _. ChangesOnly ticket.op (G.view pass.old) (G.view pass.new)) }
 {
     match gate.offer(rt, pass, ticket) {
         Offer::Accepted => Some(Stage::Offered(ticket.number)),
@@ -82,8 +87,9 @@ fn offer_turn<G: Gate, R: Wait>(
     ensures gives_up { IfNone result (G.may_give_up ≡ true) }
     ensures part { G.needs_parts ≡ true → (G.view pass.new).part ≡ (G.view pass.old).part }
     ensures records { G.keeps_records ≡ true → OnlyGave (G.view pass.old) (G.view pass.new) }
-    ensures shows { G.keeps_records ≡ true → count_of (G.view pass.old) op ≡ count → Shows (G.view pass.old) op stage
-        → IfSome result (Shows (G.view pass.new) op) }
+    ensures shows { G.keeps_records ≡ true
+        → count_of (G.view pass.old) op ≡ count → ShowsStage (G.view pass.old) op stage
+        → IfSome result (ShowsStage (G.view pass.new) op) }
     ensures others { G.keeps_records ≡ true → IfSome result (λ _. ChangesOnly op (G.view pass.old) (G.view pass.new)) }
 {
     match stage {
@@ -157,8 +163,9 @@ fn feed_round<G: Gate, R: Wait>(
     round
 }
 
-/// Goes round the operators, offers the next ticket of each, closes each behind its last, and ends when all are closed. A full operator is
-/// passed over until the next round. An operator of which a ticket is refused for good is closed. It takes no memory.
+/// Goes round the operators, offers the next ticket of each, closes each behind its last,
+/// and ends when all are closed. A full operator is passed over until the next round. An
+/// operator of which a ticket is refused for good is closed. It takes no memory.
 pub fn feed<G: Gate, R: Wait>(
     rt: &R,
     gate: &G,
@@ -171,7 +178,8 @@ pub fn feed<G: Gate, R: Wait>(
     ensures refused { IfErr result.1 (IsStalled G.may_give_up) }
     ensures part { G.needs_parts ≡ true → (G.view result.0).part ≡ (G.view pass).part }
     ensures records { G.keeps_records ≡ true → OnlyGave (G.view pass) (G.view result.0) }
-    ensures fed { G.keeps_records ≡ true → IsReady plan.now (G.view pass) → IfOk result.1 (λ _. AreFed ops.now (G.view result.0)) }
+    ensures fed { G.keeps_records ≡ true
+        → IsReadyPass plan.now (G.view pass) → IfOk result.1 (λ _. AreFed ops.now (G.view result.0)) }
 {
     let counts = counts(plan);
     let mut stages = [Stage::Offered(0); 22];

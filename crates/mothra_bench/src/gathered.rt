@@ -1,8 +1,10 @@
 //! What a worker, or all workers, have come to.
 
-ghost use Rattle.std.specs.Prelude.{◌≡◌, ◌∷◌, ◌++◌, [], None, Some, Ok, Err, IfOk, IfErr, IfSome, IfNone, IsOkAnd, MatchOption, MatchResult};
+ghost use Rattle.std.specs.Prelude.{◌≡◌, ◌∷◌, ◌++◌, [], None, Some, Ok, Err, IfOk, IfErr};
+ghost use Rattle.std.specs.Prelude.{IfSome, IfNone, IsOkAnd, MatchOption, MatchResult};
 ghost use Rattle.mothra_bench.specs.Bench.{BenchFields};
-ghost use Rattle.mothra_bench.specs.Gathered.{AddsRow, gathered_rows, joined_rows, row_list};
+ghost use Rattle.mothra_bench.specs.code.Gathered.{AddsRow, gathered_rows};
+ghost use Rattle.mothra_bench.specs.Gathered.{joined_rows, row_list};
 ghost use Rattle.mothra_bench.specs.Verdict.{IsNoVerdict, IsVerdict};
 ghost use Rattle.mothra_bench.specs.declared.fault.BenchFault.TheVariants.{Memory};
 
@@ -33,9 +35,11 @@ impl Gathered {
     /// Runs a ticket's mutant, unless there was a fault. With no verdicts to ask there was no memory for them.
     pub(crate) fn run(&mut self, alloc: Global, verdicts: &mut Option<Verdicts<'_>>, ticket: Ticket)
         ensures row { (bench : BenchFields) → IfSome verdicts.old (λ verdicts. verdicts ≡ bench)
-            → IfNone self.new.fault ((self.old.fault ≡ None) × AddsRow bench ticket self.old.rows.items self.new.rows.items) }
+            → IfNone self.new.fault
+            ((self.old.fault ≡ None) × AddsRow bench ticket self.old.rows.items self.new.rows.items) }
         ensures fault { (bench : BenchFields) → IfSome verdicts.old (λ verdicts. verdicts ≡ bench)
-            → IfSome self.new.fault (λ fault. MatchOption self.old.fault (IsNoVerdict bench.plan ticket fault) (λ first. fault ≡ first)) }
+            → IfSome self.new.fault
+            (λ fault. MatchOption self.old.fault (IsNoVerdict bench.plan ticket fault) (λ first. fault ≡ first)) }
         ensures verdicts { verdicts.new ≡ verdicts.old }
     {
         if self.fault.is_some() {
@@ -65,9 +69,11 @@ impl Gathered {
         outcome: Result<Vec<Row>, BenchFault>,
         own: &mut Option<BenchFault>,
     )
-        ensures rows { IfNone self.new.fault ((self.old.fault ≡ None) × IsOkAnd outcome (λ rows. self.new.rows.items ≡ self.old.rows.items ++ rows.items)) }
+        ensures rows { IfNone self.new.fault ((self.old.fault ≡ None)
+            × IsOkAnd outcome (λ rows. self.new.rows.items ≡ self.old.rows.items ++ rows.items)) }
         ensures fault { IfSome self.new.fault
-            (λ fault. MatchOption self.old.fault (MatchResult outcome (λ rows. fault ≡ Memory) (λ other. fault ≡ other)) (λ first. fault ≡ first)) }
+            (λ fault. MatchOption self.old.fault (MatchResult outcome (λ rows. fault ≡ Memory) (λ other. fault ≡ other))
+            (λ first. fault ≡ first)) }
         ensures joined { IfNone own.new
             (gathered_rows self.new ≡ joined_rows (gathered_rows self.old) (row_list outcome)) }
         ensures own { IfNone own.new (own.old ≡ None) }
@@ -115,7 +121,8 @@ fn row_of(
     ticket: Ticket,
 ) -> Result<Row, BenchFault>
     ensures ticket { IfOk result (λ row. row.ticket ≡ ticket) }
-    ensures kills { IfOk result (λ row. (bench : BenchFields) → IfSome verdicts.old (λ verdicts. verdicts ≡ bench) → IsVerdict bench ticket row.kills) }
+    ensures kills { IfOk result (λ row. (bench : BenchFields)
+        → IfSome verdicts.old (λ verdicts. verdicts ≡ bench) → IsVerdict bench ticket row.kills) }
     ensures refused { IfErr result (λ fault. (bench : BenchFields) → IfSome verdicts.old (λ verdicts. verdicts ≡ bench)
         → IsNoVerdict bench.plan ticket fault) }
     ensures verdicts { verdicts.new ≡ verdicts.old }

@@ -41,7 +41,8 @@ pub(crate) fn kills_of(
     mutant: &mut ChangedRunner<'_>,
 ) -> Result<Values<bool>, BenchFault>
     requires { mutant.old.checked ≡ bench.now.plan.checked }
-    ensures kills { IfOk result (λ kills. IsAlone (program_of bench.now.plan) (changed_program mutant.old) bench.now.steps bench.now.tests kills) }
+    ensures kills { IfOk result (λ kills. IsAlone (program_of bench.now.plan) (changed_program mutant.old)
+        bench.now.steps bench.now.tests kills) }
     ensures mutant { mutant.new ≡ mutant.old }
     ensures memory { IfErr result (λ fault. fault ≡ Memory) }
 {
@@ -75,7 +76,8 @@ fn kills_in_turn(
     mutant: &mut Runner<'_>,
 ) -> Result<Values<bool>, BenchFault>
     requires { All (λ arguments. refusal mutant.old.arguments arguments ≡ None) bench.now.tests }
-    ensures kills { IfOk result (λ kills. IsAlone (program_of bench.now.plan) (map line_of mutant.old.program) bench.now.steps bench.now.tests kills) }
+    ensures kills { IfOk result (λ kills. IsAlone (program_of bench.now.plan) (map line_of mutant.old.program)
+        bench.now.steps bench.now.tests kills) }
     ensures memory { IfErr result (λ fault. fault ≡ Memory) }
 {
     let mut kills = Vec::with_capacity(alloc, bench.tests().len())?;
@@ -92,7 +94,8 @@ pub(crate) fn kills_from_start(
     mutant: &Checked,
 ) -> Result<Values<bool>, BenchFault>
     requires { All (λ arguments. refusal mutant.now.arguments arguments ≡ None) bench.now.tests }
-    ensures kills { IfOk result (λ kills. IsAlone (program_of bench.now.plan) (map line_of mutant.now.program) bench.now.steps bench.now.tests kills) }
+    ensures kills { IfOk result (λ kills. IsAlone (program_of bench.now.plan) (map line_of mutant.now.program)
+        bench.now.steps bench.now.tests kills) }
     ensures memory { IfErr result (λ fault. fault ≡ Memory) }
 {
     match Runner::of(alloc, mutant) {

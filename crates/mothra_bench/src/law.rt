@@ -2,7 +2,7 @@
 
 ghost use Rattle.std.specs.Prelude.{◌≡◌, ℕ, List, Bool};
 ghost use Rattle.mothra_codes.specs.declared.ticket.Ticket.{Ticket};
-ghost use Rattle.mothra_exchange.specs.Rule.{IsSound};
+ghost use Rattle.mothra_exchange.specs.Rule.{IsSoundExchange};
 ghost use Rattle.mothra_exchange.specs.declared.view.View.{View};
 ghost use Rattle.mothra_ops.specs.Plan.{PlanFields};
 ghost use Rattle.mothra_bench.specs.Analysis.{IsReport};
@@ -17,7 +17,7 @@ use f77_run::law::one_outcome;
 /// the first items of its list, in order, each once, and none was accepted after the operator closed.
 pub fn handed_out_are_first()
     ensures { (C : ℕ) (plan : PlanFields) (counts words : List ℕ) (views : List View)
-        → IsSound C counts words views → AreCounts plan counts → KeepsLists C plan words views }
+        → IsSoundExchange C counts words views → AreCounts plan counts → KeepsLists C plan words views }
 {}
 
 /// A verdict of ticket k is that of the mutant that item k of the operator's list makes.
@@ -28,7 +28,8 @@ pub fn verdict_of_the_item()
 
 /// A mutant has one verdict at most.
 pub fn one_verdict()
-    ensures { (bench : BenchFields) (ticket : Ticket) (kills others : List Bool) → IsVerdict bench ticket kills → IsVerdict bench ticket others
+    ensures { (bench : BenchFields) (ticket : Ticket) (kills others : List Bool)
+        → IsVerdict bench ticket kills → IsVerdict bench ticket others
         → kills ≡ others }
 {
     one_outcome();

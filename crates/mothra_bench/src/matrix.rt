@@ -68,8 +68,8 @@ impl Matrix {
         &self.entries
     }
 
-    /// The mutation score in hundredths of a percent, rounded down; none where every mutant is equivalent, or there is none
-    /// (DeMillo, Lipton and Sayward 1978). It takes no memory.
+    /// The mutation score in hundredths of a percent, rounded down; none where every mutant is
+    /// equivalent, or there is none (DeMillo, Lipton and Sayward 1978). It takes no memory.
     pub fn score(&self) -> Option<u32>
         ensures { result ≡ score_of (counts self.now) }
     {

@@ -4,7 +4,8 @@ ghost use Rattle.std.specs.Prelude.{◌≡◌, ◌++◌, map, flat_map, codes, I
 ghost use Rattle.std.specs.Fmt.{decimal};
 ghost use Rattle.f77_program.specs.Program.{line_of};
 ghost use Rattle.mothra_bench.specs.Report as definition;
-ghost use Rattle.mothra_bench.specs.Report.{bits_of, counts_line, entry_lines, mutant_line, operator_lines, report_text, score_line, status_of, survivor_line, wrong_line};
+ghost use Rattle.mothra_bench.specs.Report.{bits_of, counts_line, entry_lines, mutant_line, operator_lines};
+ghost use Rattle.mothra_bench.specs.Report.{report_text, score_line, status_of, survivor_line, wrong_line};
 ghost use Rattle.mothra_bench.specs.declared.fault.BenchFault.TheVariants.{Memory};
 
 use crate::bench::Bench;
@@ -17,8 +18,8 @@ use f77_tree::Shared;
 use mothra_ops::{Mutants, Op, Plan, push_name};
 use std::alloc::{AllocError, Global};
 
-/// The report of a matrix: its heading, the numbers of each operator and of all, the score, each mutant with its kills, the survivors, and the
-/// entries that are wrongly declared equivalent.
+/// The report of a matrix: its heading, the numbers of each operator and of all, the score, each
+/// mutant with its kills, the survivors, and the entries that are wrongly declared equivalent.
 pub fn render(alloc: Global, bench: &Bench, matrix: &Matrix) -> Result<String, BenchFault>
     ensures text { IfOk result (λ text. string_bytes text ≡ report_text bench.now matrix.now) }
     ensures memory { IfErr result (λ fault. fault ≡ Memory) }
@@ -45,7 +46,8 @@ fn push_heading(text: &mut String, bench: &Bench) -> Result<(), AllocError>
 }
 
 fn push_unit(text: &mut String, lines: &[Shared<Line>]) -> Result<(), AllocError>
-    ensures { OnOk result (string_bytes text.new ≡ string_bytes text.old ++ definition.unit_line (map line_of lines.now)) }
+    ensures { OnOk result
+        (string_bytes text.new ≡ string_bytes text.old ++ definition.unit_line (map line_of lines.now)) }
 {
     text.push_str("UNIT ")?;
     if let Some(name) = unit(lines) {
@@ -93,7 +95,8 @@ fn push_entries(text: &mut String, plan: &Plan, entries: &[Entry]) -> Result<(),
 }
 
 fn push_mutants(text: &mut String, plan: &Plan, entries: &[Entry]) -> Result<(), AllocError>
-    ensures { OnOk result (string_bytes text.new ≡ string_bytes text.old ++ flat_map (mutant_line plan.now) entries.now) }
+    ensures { OnOk result
+        (string_bytes text.new ≡ string_bytes text.old ++ flat_map (mutant_line plan.now) entries.now) }
 {
     for entry in entries {
         push_mutant(text, plan, entry)?;
@@ -136,7 +139,8 @@ fn push_bits(text: &mut String, kills: &[bool]) -> Result<(), AllocError>
 }
 
 fn push_survivors(text: &mut String, plan: &Plan, entries: &[Entry]) -> Result<(), BenchFault>
-    ensures text { OnOk result (string_bytes text.new ≡ string_bytes text.old ++ flat_map (survivor_line plan.now) entries.now) }
+    ensures text { OnOk result
+        (string_bytes text.new ≡ string_bytes text.old ++ flat_map (survivor_line plan.now) entries.now) }
     ensures memory { IfErr result (λ fault. fault ≡ Memory) }
 {
     let Ok(mut mutants) = Mutants::of(*text.allocator(), plan) else {
@@ -164,7 +168,8 @@ fn push_survivor(text: &mut String, mutants: &mut Mutants, entry: &Entry) -> Res
 }
 
 fn push_wrongs(text: &mut String, plan: &Plan, entries: &[Entry]) -> Result<(), AllocError>
-    ensures { OnOk result (string_bytes text.new ≡ string_bytes text.old ++ flat_map (wrong_line plan.now) entries.now) }
+    ensures { OnOk result
+        (string_bytes text.new ≡ string_bytes text.old ++ flat_map (wrong_line plan.now) entries.now) }
 {
     for entry in entries {
         push_wrong(text, plan, entry)?;

@@ -4,7 +4,7 @@ ghost use Rattle.std.specs.Prelude.{◌≡◌, ◌&&◌, ◌==◌, IfOk, IfErr, 
 ghost use Rattle.mothra_codes.specs.Op.{index};
 ghost use Rattle.mothra_codes.specs.declared.ticket.Ticket.{Ticket};
 ghost use Rattle.mothra_bench.specs.Collecting.{is_row_of};
-ghost use Rattle.mothra_bench.specs.RowMap.{row_at, HasRows, IsNoRowMap};
+ghost use Rattle.mothra_bench.specs.code.RowMap.{ticket_row, HasRows, IsNoRowMap};
 
 use crate::fault::BenchFault;
 use crate::verdict::Row;
@@ -38,9 +38,9 @@ impl RowMap {
 
     /// Puts a row in. False where its ticket had one.
     fn put(&mut self, row: Row) -> Result<bool, AllocError>
-        ensures new { IfOk result (λ new. new ≡ is_none (row_at self.old row.ticket)) }
-        ensures rows { IfOk result (λ new. (ticket : Ticket) → row_at self.new ticket
-            ≡ (if is_row_of ticket row then Some row else row_at self.old ticket)) }
+        ensures new { IfOk result (λ new. new ≡ is_none (ticket_row self.old row.ticket)) }
+        ensures rows { IfOk result (λ new. (ticket : Ticket) → ticket_row self.new ticket
+            ≡ (if is_row_of ticket row then Some row else ticket_row self.old ticket)) }
     {
         let key = (row.ticket.op.index(), row.ticket.number);
         Ok(self.rows.insert(key, row)?.is_none())
@@ -48,9 +48,10 @@ impl RowMap {
 
     /// Takes the row of a ticket out.
     pub(crate) fn take(&mut self, ticket: Ticket) -> Option<Row>
-        ensures row { result ≡ row_at self.old ticket }
-        ensures rows { (other : Ticket) → row_at self.new other
-            ≡ (if index ticket.op == index other.op && ticket.number == other.number then None else row_at self.old other) }
+        ensures row { result ≡ ticket_row self.old ticket }
+        ensures rows { (other : Ticket) → ticket_row self.new other
+            ≡ (if index ticket.op == index other.op && ticket.number == other.number
+            then None else ticket_row self.old other) }
     {
         self.rows.remove(&(ticket.op.index(), ticket.number))
     }

@@ -5,8 +5,8 @@ ghost use Rattle.f77_program.specs.Program.{line_of};
 ghost use Rattle.f77_check.specs.Checked.{shapes};
 ghost use Rattle.f77_run.specs.Interpreter.{IsOutcomeOf, refusal};
 ghost use Rattle.f77_run.specs.Visits.{IsFollowed};
-ghost use Rattle.mothra_bench.specs.Bench.{Fits, IsEnd, Ends, IsFirstNot};
-ghost use Rattle.mothra_bench.specs.Running.{AreCourses, IsNoRun};
+ghost use Rattle.mothra_bench.specs.Bench.{FitsProgram, IsProgramEnd, EndsOn, IsFirstNot};
+ghost use Rattle.mothra_bench.specs.code.Running.{AreCourses, IsNoRun};
 ghost use Rattle.mothra_bench.specs.declared.fault.BenchFault.TheVariants.{Memory};
 ghost use Rattle.mothra_ops.specs.Mutants.{program_of};
 
@@ -32,7 +32,7 @@ fn dummies(plan: &Plan) -> &[Shape]
 
 /// Whether the values are those of the dummy arguments.
 fn fits(plan: &Plan, test: &Values<Arg>) -> bool
-    ensures { IsTrue result ↔ Fits (program_of plan.now) test.now }
+    ensures { IsTrue result ↔ FitsProgram (program_of plan.now) test.now }
 {
     match fit(dummies(plan), test.as_slice()) {
         Ok(()) => true,
@@ -43,8 +43,8 @@ fn fits(plan: &Plan, test: &Values<Arg>) -> bool
 
 /// The number, from 1, of the first test whose values are not those of the dummy arguments.
 pub(crate) fn first_misfit(plan: &Plan, tests: &[Values<Arg>]) -> Option<usize>
-    ensures fit { IfNone result (All (Fits (program_of plan.now)) tests.now) }
-    ensures misfit { IfSome result (λ test. IsFirstNot (Fits (program_of plan.now)) tests.now test) }
+    ensures fit { IfNone result (All (FitsProgram (program_of plan.now)) tests.now) }
+    ensures misfit { IfSome result (λ test. IsFirstNot (FitsProgram (program_of plan.now)) tests.now test) }
 {
     for (index, test) in tests.iter().enumerate() {
         if !fits(plan, test) {
@@ -56,7 +56,7 @@ pub(crate) fn first_misfit(plan: &Plan, tests: &[Values<Arg>]) -> Option<usize>
 
 /// Whether the program returned or stopped.
 fn is_end(outcome: &Outcome) -> bool
-    ensures { IsTrue result ↔ IsEnd outcome.now }
+    ensures { IsTrue result ↔ IsProgramEnd outcome.now }
 {
     match outcome {
         Outcome::Returned(_) | Outcome::Stopped(_) => true,
@@ -83,10 +83,11 @@ fn course_on(
     ensures program { original.new ≡ original.old }
     ensures outcome { IfOk result (λ course. IfSome course
         (λ course. IsOutcomeOf (map line_of original.old.program) test.now steps course.outcome)) }
-    ensures end { IfOk result (λ course. IfSome course (λ course. IsEnd course.outcome)) }
-    ensures visits { IfOk result (λ course. IfSome course (λ course. IsFollowed original.old test.now steps course.visits)) }
+    ensures end { IfOk result (λ course. IfSome course (λ course. IsProgramEnd course.outcome)) }
+    ensures visits { IfOk result
+        (λ course. IfSome course (λ course. IsFollowed original.old test.now steps course.visits)) }
     ensures fails { IfOk result
-        (λ course. IfNone course (¬ (Ends (map line_of original.old.program) steps test.now))) }
+        (λ course. IfNone course (¬ (EndsOn (map line_of original.old.program) steps test.now))) }
     ensures memory { IfErr result (λ fault. fault ≡ Memory) }
 {
     match original.course(alloc, test.as_slice(), steps, room) {
@@ -142,7 +143,7 @@ pub(crate) fn courses_on(
     tests: &[Values<Arg>],
     steps: u32,
 ) -> Result<Courses, BenchFault>
-    requires { All (Fits (program_of plan.now)) tests.now }
+    requires { All (FitsProgram (program_of plan.now)) tests.now }
     ensures courses { IfOk result
         (λ courses. AreCourses plan.now.checked steps tests.now courses.outcomes.items courses.visits.items) }
     ensures refused { IfErr result (λ fault. IsNoRun (program_of plan.now) steps tests.now fault) }

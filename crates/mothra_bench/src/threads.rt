@@ -2,8 +2,9 @@
 
 ghost use Rattle.std.specs.Prelude.{◌≡◌, ◌+◌, ◌++◌, true, IfOk, IfErr};
 ghost use Rattle.mothra_exchange.specs.declared.view.View.{View};
-ghost use Rattle.mothra_bench.specs.Driving.{IsNew, Joins, KeepsFed};
-ghost use Rattle.mothra_bench.specs.Feeding.{AreFed, Feeds, IsReady, IsStalled};
+ghost use Rattle.mothra_bench.specs.Driving.{IsNewPass};
+ghost use Rattle.mothra_bench.specs.code.Driving.{JoinsPass, KeepsFed};
+ghost use Rattle.mothra_bench.specs.Feeding.{AreFed, Feeds, IsReadyPass, IsStalled};
 ghost use Rattle.mothra_bench.specs.Gathered.{AreVerdicts, tickets_in};
 ghost use Rattle.mothra_bench.specs.Working.{AreOver, IsNoWork, Works};
 
@@ -75,7 +76,8 @@ where
     G::Pass: Send + Drop + 's,
     requires { G.is_pass gate.now pass }
     ensures started { IfOk result
-        (λ worker. (worker.promise.gate.now ≡ gate.now) × (worker.promise.bench.now ≡ bench.now) × (worker.promise.pass.value ≡ pass)) }
+        (λ worker. (worker.promise.gate.now ≡ gate.now)
+        × (worker.promise.bench.now ≡ bench.now) × (worker.promise.pass.value ≡ pass)) }
     ensures thread { IfErr result (λ fault. fault ≡ BenchFault.Thread) }
 {
     let promise = WorkerPromise {
@@ -127,12 +129,13 @@ pub(crate) fn join_feeder<G: Gate, R: Threads>(
     requires own { G.is_pass gate.now pass.old × (feeder.promise.gate.now ≡ gate.now) }
     ensures own { G.is_pass gate.now pass.new }
     ensures refused { IfErr result (IsStalled G.may_give_up) }
-    ensures part { G.needs_parts ≡ true → (G.view pass.new).part ≡ (G.view pass.old).part + (G.view feeder.entry.promise.pass.value).part }
+    ensures part { G.needs_parts ≡ true
+        → (G.view pass.new).part ≡ (G.view pass.old).part + (G.view feeder.entry.promise.pass.value).part }
     ensures records { G.keeps_records ≡ true
         → (G.view pass.new).taken ≡ (G.view pass.old).taken ++ (G.view feeder.entry.promise.pass.value).taken }
-    ensures joined { G.keeps_records ≡ true → (other : View) × Joins (G.view pass.old) other (G.view pass.new)
+    ensures joined { G.keeps_records ≡ true → (other : View) × JoinsPass (G.view pass.old) other (G.view pass.new)
         × (other.counts ≡ (G.view feeder.entry.promise.pass.value).counts)
-        × (IsReady feeder.entry.promise.plan.now (G.view feeder.entry.promise.pass.value)
+        × (IsReadyPass feeder.entry.promise.plan.now (G.view feeder.entry.promise.pass.value)
         → IfOk result (λ _. AreFed feeder.entry.promise.ops.now other)) }
     ensures feeds { (back : View) × Feeds G.may_give_up G.keeps_records G.needs_parts feeder.entry.promise.plan.now
         feeder.entry.promise.ops.now (G.view feeder.entry.promise.pass.value) back result }
@@ -150,12 +153,15 @@ pub(crate) fn join_worker<G: Gate, R: Threads>(
     pass: &mut G::Pass,
     worker: Worker<'_, G>,
 ) -> Result<Vec<Row>, BenchFault>
-    requires own { G.is_pass gate.now pass.old × (worker.promise.gate.now ≡ gate.now) × (worker.promise.bench.now ≡ bench.now) }
-    requires fresh { G.keeps_records ≡ true → IsNew (G.view pass.old).counts (G.view worker.promise.pass.value) }
+    requires own { G.is_pass gate.now pass.old
+        × (worker.promise.gate.now ≡ gate.now) × (worker.promise.bench.now ≡ bench.now) }
+    requires fresh { G.keeps_records ≡ true → IsNewPass (G.view pass.old).counts (G.view worker.promise.pass.value) }
     ensures own { G.is_pass gate.now pass.new }
     ensures verdicts { IfOk result (λ rows. AreVerdicts bench.now rows.items) }
-    ensures refused { IfErr result (IsNoWork G.may_give_up G.keeps_records bench.now.plan (G.view worker.entry.promise.pass.value).counts) }
-    ensures part { G.needs_parts ≡ true → (G.view pass.new).part ≡ (G.view pass.old).part + (G.view worker.entry.promise.pass.value).part }
+    ensures refused { IfErr result
+        (IsNoWork G.may_give_up G.keeps_records bench.now.plan (G.view worker.entry.promise.pass.value).counts) }
+    ensures part { G.needs_parts ≡ true
+        → (G.view pass.new).part ≡ (G.view pass.old).part + (G.view worker.entry.promise.pass.value).part }
     ensures fed { G.keeps_records ≡ true → KeepsFed (G.view pass.old) (G.view pass.new) }
     ensures over { G.keeps_records ≡ true → IfOk result (λ _. AreOver (G.view pass.new)) }
     ensures still_over { G.keeps_records ≡ true → AreOver (G.view pass.old) → AreOver (G.view pass.new) }

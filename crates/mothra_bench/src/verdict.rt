@@ -30,8 +30,8 @@ pub struct Row {
     pub kills: Values<bool>,
 }
 
-/// The verdicts on the mutants of a bench. What the operators draw from its program is found once, and not for each mutant, and what runs
-/// need is taken once.
+/// The verdicts on the mutants of a bench. What the operators draw from its program
+/// is found once, and not for each mutant, and what runs need is taken once.
 #[derive(Drop)]
 pub struct Verdicts<'a> {
     bench: &'a Bench,
@@ -91,8 +91,10 @@ impl<'a> Verdicts<'a> {
     /// The program that the mutant is.
     fn changed(&self, mutant: &Mutant) -> Result<Checked, BenchFault>
         requires { IsMutant (program_of self.now.plan) mutant.now.number (statement_of mutant.now.stmt) }
-        ensures program { IfOk result (λ checked. map line_of checked.program ≡ mutated (program_of self.now.plan) (mutant_fields mutant.now)) }
-        ensures arguments { IfOk result (λ checked. checked.arguments ≡ shapes (mutated (program_of self.now.plan) (mutant_fields mutant.now))) }
+        ensures program { IfOk result
+            (λ checked. map line_of checked.program ≡ mutated (program_of self.now.plan) (mutant_fields mutant.now)) }
+        ensures arguments { IfOk result
+            (λ checked. checked.arguments ≡ shapes (mutated (program_of self.now.plan) (mutant_fields mutant.now))) }
         ensures memory { IfErr result (λ fault. fault ≡ Memory) }
     {
         match self
@@ -109,8 +111,10 @@ impl<'a> Verdicts<'a> {
     /// Which tests kill the mutant, whose runs all begin at the start.
     fn kills_from_start(&self, alloc: Global, mutant: &Mutant) -> Result<Values<bool>, BenchFault>
         requires mutant { IsMutant (program_of self.now.plan) mutant.now.number (statement_of mutant.now.stmt) }
-        requires shapes { shapes (mutated (program_of self.now.plan) (mutant_fields mutant.now)) ≡ shapes (program_of self.now.plan) }
-        ensures kills { IfOk result (λ kills. IsAlone (program_of self.now.plan) (mutated (program_of self.now.plan) (mutant_fields mutant.now))
+        requires shapes { shapes (mutated (program_of self.now.plan) (mutant_fields mutant.now))
+            ≡ shapes (program_of self.now.plan) }
+        ensures kills { IfOk result
+            (λ kills. IsAlone (program_of self.now.plan) (mutated (program_of self.now.plan) (mutant_fields mutant.now))
             self.now.steps self.now.tests kills) }
         ensures memory { IfErr result (λ fault. fault ≡ Memory) }
     {
@@ -123,9 +127,11 @@ impl<'a> Verdicts<'a> {
     /// Which tests kill the mutant.
     fn kills(&mut self, alloc: Global, mutant: Mutant) -> Result<Values<bool>, BenchFault>
         requires mutant { IsMutant (program_of self.old.plan) mutant.number (statement_of mutant.stmt) }
-        requires shapes { shapes (mutated (program_of self.old.plan) (mutant_fields mutant)) ≡ shapes (program_of self.old.plan) }
+        requires shapes { shapes (mutated (program_of self.old.plan) (mutant_fields mutant))
+            ≡ shapes (program_of self.old.plan) }
         ensures bench { self.new ≡ self.old }
-        ensures kills { IfOk result (λ kills. IsAlone (program_of self.old.plan) (mutated (program_of self.old.plan) (mutant_fields mutant))
+        ensures kills { IfOk result
+            (λ kills. IsAlone (program_of self.old.plan) (mutated (program_of self.old.plan) (mutant_fields mutant))
             self.old.steps self.old.tests kills) }
         ensures memory { IfErr result (λ fault. fault ≡ Memory) }
     {

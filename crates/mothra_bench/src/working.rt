@@ -4,7 +4,8 @@ ghost use Rattle.std.specs.Prelude.{◌≡◌, ◌⊎◌, true, IfOk, IfErr, IfS
 ghost use Rattle.mothra_codes.specs.declared.op.Op.{Op as OpModel};
 ghost use Rattle.mothra_bench.specs.Bench.{BenchFields};
 ghost use Rattle.mothra_bench.specs.Gathered.{AreVerdicts};
-ghost use Rattle.mothra_bench.specs.Working.{AreOver, IsNoWork, NamesTaken, OnlyTook, TookRows, Went};
+ghost use Rattle.mothra_bench.specs.Working.{AreOver, IsNoWork, NamesTaken, OnlyTook, TookRows};
+ghost use Rattle.mothra_bench.specs.code.Working.{Went};
 ghost use Rattle.mothra_exchange.specs.Sharing.{IsOver};
 
 use crate::bench::Bench;
@@ -58,7 +59,8 @@ fn take_turn<G: Gate, R: Wait>(
     ensures went { (bench : BenchFields) → IfSome verdicts.old (λ verdicts. verdicts ≡ bench)
         → Went bench G.may_give_up G.keeps_records (G.view pass.old) (G.view pass.new) gathered.old gathered.new }
     ensures over { G.keeps_records ≡ true → result ≡ Turn.Finished
-        → IsOver (G.view pass.new) op × ((other : OpModel) → IsOver (G.view pass.old) other → IsOver (G.view pass.new) other) }
+        → IsOver (G.view pass.new) op
+        × ((other : OpModel) → IsOver (G.view pass.old) other → IsOver (G.view pass.new) other) }
     ensures gave_up { result ≡ Turn.GaveUp → IsSome gathered.new.fault }
     ensures verdicts { verdicts.new ≡ verdicts.old }
 {
@@ -105,9 +107,9 @@ fn take_round<G: Gate, R: Wait>(
     round
 }
 
-/// Goes round the operators, runs the mutants of the tickets that it takes, and ends when a whole round answered that all is finished. After a
-/// fault of its own it takes on without running, so that feeders can end, and answers its first fault. Where the gate gives up it ends at
-/// once, with B10 where it has no earlier fault.
+/// Goes round the operators, runs the mutants of the tickets that it takes, and ends when a whole round answered
+/// that all is finished. After a fault of its own it takes on without running, so that feeders can end, and
+/// answers its first fault. Where the gate gives up it ends at once, with B10 where it has no earlier fault.
 pub fn work<G: Gate, R: Wait>(
     rt: &R,
     alloc: Global,
@@ -121,7 +123,8 @@ pub fn work<G: Gate, R: Wait>(
     ensures refused { IfErr result.1 (IsNoWork G.may_give_up G.keeps_records bench.now.plan (G.view pass).counts) }
     ensures part { G.needs_parts ≡ true → (G.view result.0).part ≡ (G.view pass).part }
     ensures pass { G.keeps_records ≡ true → OnlyTook (G.view pass) (G.view result.0) }
-    ensures records { G.keeps_records ≡ true → IfOk result.1 (λ rows. TookRows (G.view pass) (G.view result.0) rows.items) }
+    ensures records { G.keeps_records ≡ true
+        → IfOk result.1 (λ rows. TookRows (G.view pass) (G.view result.0) rows.items) }
     ensures stranger { G.keeps_records ≡ true
         → IfErr result.1 (NamesTaken bench.now.plan (G.view pass) (G.view result.0)) }
     ensures over { G.keeps_records ≡ true → IfOk result.1 (λ _. AreOver (G.view result.0)) }

@@ -1,5 +1,6 @@
 -- Where a command line is taken, its options of numbers have numbers in their bounds.
-use Rattle.std.proofs.Common.{ap₂, lt_of_le_of_lt, ◌≡◌, ◌∙◌, ◌<◌, ◌≤◌, ◌^◌, ◌&&◌, ◌||◌, ℕ, Bool, cond, codes, not, true, false, refl, sym, ap, subst, arith, List, [], ◌∷◌, ◌++◌, fold, find, Option, Some, None, IfSome, option_and_then, option_map, true≢false, lt-ltb, leb-true, bytes_eq}
+use Rattle.std.proofs.Common.{ap₂, lt_of_le_of_lt, ◌≡◌, ◌∙◌, ◌<◌, ◌≤◌, ◌^◌, ◌&&◌, ◌||◌, ℕ, Bool, cond, codes, not, true, false, refl, sym, ap, subst, arith}
+use Rattle.std.proofs.Common.{List, [], ◌∷◌, ◌++◌, fold, find, Option, Some, None, IfSome, option_and_then, option_map, true≢false, lt-ltb, leb-true, bytes_eq}
 use Rattle.std.proofs.lemmas.Bool.{and_parts, or_parts}
 use Rattle.std.specs.List.{list_any}
 use Rattle.std.specs.Option.{option_map_or}
@@ -8,7 +9,8 @@ use Rattle.std.specs.Str.Parse.{digits_value, without_leading_plus}
 use Rattle.clap.specs.Facts.{explicit_source, parser_of_value}
 use Rattle.clap.specs.Values.{read_as, reading_of}
 use Rattle.clap.specs.ValueTests.{is_unsigned_in}
-use Rattle.clap.specs.Walk.{Row, Rule, Text, action_of, answers_to, default_rows, has_row, is_empty, more_values, nothing_held, reading_by, row_text, rows_after, settled, stop_after, walk, walk_from, with_default, with_values}
+use Rattle.clap.specs.Walk.{Row, Rule, Text, action_of, answers_to, default_rows, has_row, is_empty, more_values, nothing_held}
+use Rattle.clap.specs.Walk.{reading_by, row_text, rows_after, settled, stop_after, walk, walk_from, with_default, with_values}
 use Rattle.clap.specs.Simple.{App, Shape, argument_words, built, entered, label_of, names_of, rows_at, subcommand_of}
 use Rattle.clap.specs.Takes.{is_given}
 use Rattle.clap.specs.Kinds.{check_kinds, request_kinds}
@@ -18,8 +20,9 @@ use Rattle.clap.specs.declared.builder.value_parser.Reading.TheVariants as readi
 use Rattle.clap.specs.declared.parser.matches.ValueSource.TheVariants.{DefaultValue}
 use Rattle.clap.proofs.OnLiterals.{clap_on_literals}
 use Rattle.mothra_cli.specs.Command.{mothra}
-use Rattle.mothra_cli.specs.Request.{number_of}
-use Rattle.mothra_cli.proofs.OptionRows.{Each, Fine, HasNumber, IsFirst, Serves, first_accepted, found, has_default, id_same, is_required, none_left, same_id, settle_fine, some_kind, some_values, values_fine, walk_fine}
+use Rattle.mothra_cli.specs.Request.{number_meant}
+use Rattle.mothra_cli.proofs.OptionRows.{Each, Fine, HasNumber, IsFirst, Serves, first_accepted, found, has_default, id_same}
+use Rattle.mothra_cli.proofs.OptionRows.{is_required, none_left, same_id, settle_fine, some_kind, some_values, values_fine, walk_fine}
 
 -- ---- after the walk
 
@@ -173,7 +176,7 @@ module _ (id : Text) (low high : ℕ) where
 
   -- ---- the number
 
-  text_read : (v : Text) → high < 2 ^ 32 → is_unsigned_in low high v ≡ true → (n : ℕ) × (number_of v ≡ Some n) × (low ≤ n) × (n ≤ high)
+  text_read : (v : Text) → high < 2 ^ 32 → is_unsigned_in low high v ≡ true → (n : ℕ) × (number_meant v ≡ Some n) × (low ≤ n) × (n ≤ high)
   text_read v small e =
       let n = digits_value 10 (without_leading_plus v) in
       let all = and_parts _ _ e in
@@ -182,11 +185,11 @@ module _ (id : Text) (low high : ℕ) where
       (n, ap₂ (λ x y. cond (x && y) (Some n) None) all.0 (lt-ltb n (2 ^ 32) (lt_of_le_of_lt above small)), leb-true _ _ bounds.0, above)
 
   row_read : (how : Reading) (vs : List Text) → high < 2 ^ 32 → how ≡ reading.AsWritten → IsFirst low high vs
-      → (n : ℕ) × (option_and_then number_of (option_map (read_as how) (slice_get vs 0)) ≡ Some n) × (low ≤ n) × (n ≤ high)
+      → (n : ℕ) × (option_and_then number_meant (option_map (read_as how) (slice_get vs 0)) ≡ Some n) × (low ≤ n) × (n ≤ high)
   row_read how [] small is h = absurd h
   row_read how (v ∷ vs) small is h =
       let text = text_read v small h in
-      (text.0, ap (λ x. number_of (read_as x v)) is ∙ text.1, text.2, text.3)
+      (text.0, ap (λ x. number_meant (read_as x v)) is ∙ text.1, text.2, text.3)
 
   number_read : (rows : List Row) → high < 2 ^ 32 → Fine id low high rows → has_row id rows ≡ true → HasNumber id low high rows
   number_read [] small fine e = absurd (true≢false (sym e))
@@ -194,7 +197,7 @@ module _ (id : Text) (low high : ℕ) where
     where
       go : (b : Bool) → (b ≡ true → (r.reading ≡ reading.AsWritten) × IsFirst low high r.values)
           → (has_row id rs ≡ true → HasNumber id low high rs) → (b || has_row id rs) ≡ true
-          → (n : ℕ) × (option_and_then number_of (option_and_then row_text (cond b (Some r) (find (λ x. bytes_eq x.id id) rs))) ≡ Some n) × (low ≤ n) × (n ≤ high)
+          → (n : ℕ) × (option_and_then number_meant (option_and_then row_text (cond b (Some r) (find (λ x. bytes_eq x.id id) rs))) ≡ Some n) × (low ≤ n) × (n ≤ high)
       go true here rest f = row_read r.reading r.values small (here refl).0 (here refl).1
       go false here rest f = rest f
 

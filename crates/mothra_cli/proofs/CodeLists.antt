@@ -1,5 +1,6 @@
 -- The pieces between the commas of a text are read one by one, each as an operator's code.
-use Rattle.std.proofs.Common.{◌≡◌, ◌∙◌, ap, refl, sym, ℕ, Bool, true, false, cond, ◌==◌, lit<, List, [], ◌∷◌, ◌++◌, append_assoc, append-nil, Option, Some, None, IfSome, is_some, option_map, filter_map, find, bytes_eq}
+use Rattle.std.proofs.Common.{◌≡◌, ◌∙◌, ap, refl, sym, ℕ, Bool, true, false, cond, ◌==◌, lit<, List, [], ◌∷◌, ◌++◌, append_assoc}
+use Rattle.std.proofs.Common.{append-nil, Option, Some, None, IfSome, is_some, option_map, filter_map, find, bytes_eq}
 use Rattle.std.specs.Borrow.{Bor}
 use Rattle.std.specs.Iterator.{AlwaysYields}
 use Rattle.std.specs.List.{list_all, slice_split}

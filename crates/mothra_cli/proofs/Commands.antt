@@ -6,7 +6,8 @@ use Rattle.clap.specs.Simple.{built}
 use Rattle.clap.proofs.OnLiterals.{clap_on_literals}
 use Rattle.mothra_codes.specs.declared.op.Op.{Op}
 use Rattle.mothra_cli.specs.Command.{mothra}
-use Rattle.mothra_cli.specs.Request.{Meaning, IsBounded, IsFaultOf, Reads, subcommand_meaning, meaning_of, bad_operators, list_meaning, run_meaning, operators_at, refused, request, request_of, request_in}
+use Rattle.mothra_cli.specs.Request.{Meaning, IsBounded, IsFaultOf, subcommand_meaning, meaning_of, bad_operators, list_meaning, run_meaning, operators_at, refused, request, request_of, request_in}
+use Rattle.mothra_cli.specs.code.Request.{ReadsRequest}
 use Rattle.mothra_cli.specs.declared.request.Request.{Request}
 use Rattle.mothra_cli.specs.declared.request.WordsFault.{WordsFault}
 use Rattle.mothra_cli.specs.declared.request.WordsFault.TheVariants.{Refused, BadOperatorList}
@@ -102,18 +103,18 @@ pub meaning_taken : (words : List Text) (met : Option (Text × List Row)) → fa
 unfolding meaning_of
 meaning_taken words met taken is = rw (taken, ← is) refl
 
-pub some_request : (meaning : Meaning) (o : Option Request) → IsAccepted meaning → Reads meaning (Ok o) → IsSome o
+pub some_request : (meaning : Meaning) (o : Option Request) → IsAccepted meaning → ReadsRequest meaning (Ok o) → IsSome o
 some_request meaning (Some r) some reads = refl
 some_request meaning None some reads = absurd (subst IsAccepted reads some)
 
 module _ (words : List Text) (meaning : Meaning) (is : meaning_of words ≡ meaning) where
-  pub is_request : (r : Request) (o : Option Request) → o ≡ Some r → Reads meaning (Ok o) → request_of words ≡ Some r
-  is_request r o some reads = ap request_in (is ∙ subst (λ x. Reads meaning (Ok x)) some reads)
+  pub is_request : (r : Request) (o : Option Request) → o ≡ Some r → ReadsRequest meaning (Ok o) → request_of words ≡ Some r
+  is_request r o some reads = ap request_in (is ∙ subst (λ x. ReadsRequest meaning (Ok x)) some reads)
 
-  pub is_fault : (fault : WordsFault) → Reads meaning (Err fault) → IsFaultOf words fault
+  pub is_fault : (fault : WordsFault) → ReadsRequest meaning (Err fault) → IsFaultOf words fault
   is_fault (Refused error) reads = inl reads
   is_fault BadOperatorList reads = is ∙ reads
 
-pub is_bounded : (meaning : Meaning) (r : Request) (o : Option Request) → IsAccepted meaning → o ≡ Some r → Reads meaning (Ok o)
+pub is_bounded : (meaning : Meaning) (r : Request) (o : Option Request) → IsAccepted meaning → o ≡ Some r → ReadsRequest meaning (Ok o)
     → IsBounded r
-is_bounded meaning r o asks some reads = subst IsAccepted (subst (λ x. Reads meaning (Ok x)) some reads) asks
+is_bounded meaning r o asks some reads = subst IsAccepted (subst (λ x. ReadsRequest meaning (Ok x)) some reads) asks

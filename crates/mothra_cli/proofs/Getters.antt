@@ -6,7 +6,7 @@ use Rattle.std.specs.Str.Parse.{AllDigits, IsNumeral, ParsesUnsigned, digits_val
 use Rattle.std.proofs.lemmas.Bool.{and_parts}
 use Rattle.clap.specs.Matches.{ReadsOne}
 use Rattle.clap.specs.ValueTests.{is_numeral}
-use Rattle.mothra_cli.specs.Request.{number_of}
+use Rattle.mothra_cli.specs.Request.{number_meant}
 
 all_digits : (ds : List ℕ) → list_all (λ d. nat_lt (digit_value d) 10) ds ≡ true → AllDigits 10 ds
 all_digits [] e = tt
@@ -30,7 +30,7 @@ numeral_passes ds h = rw (lt-ltb _ _ h.0.0, digits_pass ds h.0.1, lt-ltb _ _ h.1
 
 -- what `get_one` reads at a `u32` is the number of the text
 pub reads_number : {E : Type 0} (G : List ℕ → Result ℕ E → Type 0) (text : List ℕ) (r : Option ℕ)
-    → ((u : List ℕ) (x : Result ℕ E) → G u x → ParsesUnsigned 32 10 u x) → ReadsOne G text r → r ≡ number_of text
+    → ((u : List ℕ) (x : Result ℕ E) → G u x → ParsesUnsigned 32 10 u x) → ReadsOne G text r → r ≡ number_meant text
 reads_number G text (Some v) parses h =
     let p = parses text (Ok v) h in
     rw (numeral_passes (without_leading_plus text) p.0) (ap Some p.1)

@@ -1,5 +1,6 @@
 -- What the walk over accepted words keeps of an option of one number.
-use Rattle.std.proofs.Common.{ne_eqb, ◌≡◌, ◌<◌, ◌≤◌, ◌+◌, ◌&&◌, ℕ, Bool, cond, not, true, false, zero, suc, refl, ap, subst, arith, List, [], ◌∷◌, ◌++◌, length, drop, fold, find, Option, Some, None, IfSome, is_some, option_and_then, lt-ltb, bytes_eq, min}
+use Rattle.std.proofs.Common.{ne_eqb, ◌≡◌, ◌<◌, ◌≤◌, ◌+◌, ◌&&◌, ℕ, Bool, cond, not, true, false, zero, suc, refl, ap, subst, arith, List, []}
+use Rattle.std.proofs.Common.{◌∷◌, ◌++◌, length, drop, fold, find, Option, Some, None, IfSome, is_some, option_and_then, lt-ltb, bytes_eq, min}
 use Rattle.std.proofs.lemmas.Slice.Eq.{bytes_eq-Decides}
 use Rattle.std.specs.Option.{option_map_or}
 use Rattle.std.specs.Prelude.{encode_utf8, slice_get}
@@ -8,10 +9,15 @@ use Rattle.clap.specs.Facts.{parser_of_value, unwrap_or_range}
 use Rattle.clap.specs.Lexer.{long_of, short_of}
 use Rattle.clap.specs.Values.{reading_of, refused_kind}
 use Rattle.clap.specs.ValueTests.{accepts, is_unsigned_in}
-use Rattle.clap.specs.Walk.{Held, Names, Outcome, Row, Rule, Step, Text, Waiting, Walk, action_of, after_flag, after_step, arg_by_id, arg_by_index, arg_by_long, arg_by_short, at_row, attached_value, bundle_met, bundle_step, count_of, done, flag_met, idle, is_empty, is_pending, long_met, long_or_other, more_values, new_count, next, one_of, option, option_met, option_word, plain, plain_word, positional, positional_held, reacted, reading_by, refused, settled, settled_rows, short_met, short_or_plain, subcommand, subcommand_met, subcommand_or_other, takes_several, takes_values, to_positional, trailing, used, used_as, used_by_id, value, values_or_missing, waits, walked, walked_from, with_count, with_values, without, word_met}
+use Rattle.clap.specs.Walk.{Held, Names, Outcome, Row, Rule, Step, Text, Waiting, Walk, action_of, after_flag, after_step, arg_by_id, arg_by_index, arg_by_long, arg_by_short}
+use Rattle.clap.specs.Walk.{at_row, attached_value, bundle_met, bundle_step, count_of, done, flag_met, idle, is_empty, is_pending, long_met, long_or_other, more_values}
+use Rattle.clap.specs.Walk.{new_count, next, one_of, option, option_met, option_word, plain, plain_word, positional, positional_held, reacted, reading_by, refused, settled}
+use Rattle.clap.specs.Walk.{settled_rows, short_met, short_or_plain, subcommand, subcommand_met, subcommand_or_other, takes_several, takes_values, to_positional, trailing}
+use Rattle.clap.specs.Walk.{used, used_as, used_by_id, value, values_or_missing, waits, walked, walked_from, with_count, with_values, without, word_met}
 use Rattle.clap.specs.Simple.{Shape}
 use Rattle.clap.specs.Kinds.{Kinds, or_else, range_kinds, value_kinds, values_kinds}
-use Rattle.clap.specs.Faults.{action_fault, bundle_fault, bundle_step_fault, flag_word_fault, flags_fault, long_fault, option_fault, other_fault, positional_fault, react_fault, settle_fault, short_fault, step_fault, stray_fault, turn_fault, use_fault, walk_fault, word_fault}
+use Rattle.clap.specs.Faults.{action_fault, bundle_fault, bundle_step_fault, flag_word_fault, flags_fault, long_fault, option_fault, other_fault}
+use Rattle.clap.specs.Faults.{positional_fault, react_fault, settle_fault, short_fault, step_fault, stray_fault, turn_fault, use_fault, walk_fault, word_fault}
 use Rattle.clap.specs.declared.builder.action.ArgAction.{ArgAction}
 use Rattle.clap.specs.declared.builder.action.ArgAction.TheVariants as action
 use Rattle.clap.specs.declared.builder.value_parser.Reading.{Reading}
@@ -22,7 +28,7 @@ use Rattle.clap.specs.declared.error.kind.ErrorKind.{ErrorKind}
 use Rattle.clap.specs.declared.error.kind.ErrorKind.TheVariants as kind
 use Rattle.clap.specs.declared.parser.matches.ValueSource.{ValueSource}
 use Rattle.clap.specs.declared.parser.matches.ValueSource.TheVariants.{CommandLine}
-use Rattle.mothra_cli.specs.Request.{number_of}
+use Rattle.mothra_cli.specs.Request.{number_meant}
 
 -- ---- lists, kinds and ids
 
@@ -89,7 +95,7 @@ Serves id low high a = bytes_eq a.id id ≡ true → IsNumber low high a
 
 -- what the option reads is a number in the bounds
 abbrev pub HasNumber : Text → ℕ → ℕ → List Row → Type 0
-HasNumber id low high rows = (n : ℕ) × (option_and_then number_of (one_of id rows) ≡ Some n) × (low ≤ n) × (n ≤ high)
+HasNumber id low high rows = (n : ℕ) × (option_and_then number_meant (one_of id rows) ≡ Some n) × (low ≤ n) × (n ≤ high)
 
 -- a rule of this id is required, or has a default
 abbrev pub is_required : Text → Rule → Bool

@@ -50,14 +50,19 @@ workers_rule = record (new_rule (codes "workers")) {
 }
 
 abbrev pub run_shape : Shape
-run_shape = record (new_shape (codes "run")) { rules = ops_rule ∷ every_rule ∷ steps_rule ∷ workers_rule ∷ [] }
+run_shape = record (new_shape (codes "run")) {
+  rules = ops_rule
+      ∷ every_rule ∷ steps_rule ∷ workers_rule ∷ [];
+}
 
 -- a subcommand is needed, and `help` is none
 abbrev pub bare : App
 bare = record {
-  top = record (new_shape (codes "mothra")) { subcommand_required = true; disable_help_subcommand = true };
+  top = record (new_shape
+      (codes "mothra")) { subcommand_required = true; disable_help_subcommand = true };
   subs = [];
 }
 
 unfoldable pub mothra : App
-mothra = with_subcommand (with_subcommand (with_subcommand (with_subcommand bare print_shape) exec_shape) list_shape) run_shape
+mothra = with_subcommand (with_subcommand
+    (with_subcommand (with_subcommand bare print_shape) exec_shape) list_shape) run_shape

@@ -10,7 +10,8 @@ limit = 1048577
 
 -- the reader gave these bytes: all that it had, or the first `most`
 abbrev pub ReadsUpTo : ℕ → Option (List ℕ) → Option (List ℕ) → List ℕ → Type 0
-ReadsUpTo most old new bytes = Consumes old new bytes × (length bytes ≤ most) × (length bytes < most → IsAtEnd new)
+ReadsUpTo most old new bytes =
+    Consumes old new bytes × (length bytes ≤ most) × (length bytes < most → IsAtEnd new)
 
 -- the reader was read to its end, or to this limit
 abbrev pub IsRead : ℕ → Option (List ℕ) → Option (List ℕ) → Type 0

@@ -4,3 +4,4 @@ pub mod Output
 pub mod Command
 pub mod Operators
 pub mod Request
+pub mod code

@@ -17,4 +17,5 @@ operator_of text = find (λ op. bytes_eq (code_of op) text) all_ops
 abbrev pub operators_of : Text → Option (List Op)
 operators_of text =
     let pieces = slice_split (λ b. b == comma) text in
-    if list_all (λ piece. is_some (operator_of piece)) pieces then Some (filter_map operator_of pieces) else None
+    if list_all (λ piece. is_some (operator_of piece)) pieces
+    then Some (filter_map operator_of pieces) else None

@@ -1,5 +1,6 @@
 -- What the words of the command line ask for.
-use Rattle.std.specs.Prelude.{◌≡◌, ◌≤◌, ℕ, ◌^◌, ◌&&◌, nat_lt, [], List, Option, Some, None, Result, Ok, Err, ⊤, codes, if◌then◌else◌, option_and_then}
+use Rattle.std.specs.Prelude.{◌≡◌, ◌≤◌, ℕ, ◌^◌, ◌&&◌, nat_lt, [], List, Option}
+use Rattle.std.specs.Prelude.{Some, None, ⊤, codes, if◌then◌else◌, option_and_then}
 use Rattle.std.specs.Option.{option_map_or}
 use Rattle.std.specs.Str.{bytes_eq}
 use Rattle.std.specs.Str.Parse.{digits_value, without_leading_plus}
@@ -26,14 +27,15 @@ pub data Meaning : Type 0 where
   request : Request → Meaning
 
 -- the number that a text of digits is, where 32 bits hold it
-abbrev pub number_of : Text → Option ℕ
-number_of text =
+abbrev pub number_meant : Text → Option ℕ
+number_meant text =
     let digits = without_leading_plus text in
-    if is_numeral digits && nat_lt (digits_value 10 digits) (2 ^ 32) then Some (digits_value 10 digits) else None
+    if is_numeral digits && nat_lt (digits_value 10 digits) (2 ^ 32)
+    then Some (digits_value 10 digits) else None
 
 -- the number that an option has, by its name
-abbrev pub number_at : Text → List Row → Option ℕ
-number_at name rows = option_and_then number_of (one_of name rows)
+abbrev pub option_number : Text → List Row → Option ℕ
+option_number name rows = option_and_then number_meant (one_of name rows)
 
 -- the operators that `--ops` names, or all where it is absent
 abbrev pub operators_at : List Row → Option (List Op)
@@ -53,20 +55,24 @@ list_meaning (Some operators) None = refused
 -- `run` with these operators and these numbers, which the command line wants
 abbrev pub run_meaning : Option (List Op) → Option ℕ → Option ℕ → Option ℕ → Meaning
 run_meaning None every steps workers = bad_operators
-run_meaning (Some operators) (Some every) (Some steps) (Some workers) = request (command.Run operators every steps workers)
+run_meaning (Some operators) (Some every) (Some steps) (Some workers) =
+    request (command.Run operators every steps workers)
 run_meaning (Some operators) _ _ _ = refused
 
 -- the values of the options of `run`
 abbrev pub run_options : List Row → Meaning
 run_options rows =
-    run_meaning (operators_at rows) (number_at (codes "every") rows) (number_at (codes "steps") rows) (number_at (codes "workers") rows)
+    run_meaning (operators_at rows) (option_number (codes "every") rows)
+    (option_number (codes "steps") rows) (option_number (codes "workers") rows)
 
 -- the subcommand of this name with these values of its options
 abbrev pub subcommand_meaning : Text × List Row → Meaning
 subcommand_meaning (name, rows) =
     if bytes_eq name (codes "print") then request command.Print
-    else (if bytes_eq name (codes "exec") then exec_meaning (number_at (codes "test") rows) (number_at (codes "steps") rows)
-    else (if bytes_eq name (codes "list") then list_meaning (operators_at rows) (number_at (codes "every") rows)
+    else (if bytes_eq name (codes "exec")
+    then exec_meaning (option_number (codes "test") rows) (option_number (codes "steps") rows)
+    else (if bytes_eq name (codes "list")
+    then list_meaning (operators_at rows) (option_number (codes "every") rows)
     else (if bytes_eq name (codes "run") then run_options rows
     else refused)))
 
@@ -77,7 +83,8 @@ IsTaken words = fault_of mothra words ≡ []
 -- what the words are
 unfoldable pub meaning_of : List Text → Meaning
 meaning_of words =
-    if is_empty (fault_of mothra words) then option_map_or subcommand_meaning (subcommand_of mothra words) refused
+    if is_empty (fault_of mothra words)
+    then option_map_or subcommand_meaning (subcommand_of mothra words) refused
     else refused
 
 abbrev pub request_in : Meaning → Option Request
@@ -98,9 +105,11 @@ IsBounded command.Print = ⊤
 IsBounded (command.Exec test steps) = (1 ≤ test) × (test ≤ 256) × (1 ≤ steps) × (steps ≤ 1000000)
 IsBounded (command.List operators every) = (1 ≤ every) × (every ≤ 1048575)
 IsBounded (command.Run operators every steps workers) =
-    (1 ≤ every) × (every ≤ 1048575) × (1 ≤ steps) × (steps ≤ 1000000) × (1 ≤ workers) × (workers ≤ 32)
+    (1 ≤ every)
+    × (every ≤ 1048575) × (1 ≤ steps) × (steps ≤ 1000000) × (1 ≤ workers) × (workers ≤ 32)
 
--- memory ran out, or the command line refuses the words by such an error, or answers a call for help by it
+-- memory ran out, or the command line refuses the words
+-- by such an error, or answers a call for help by it
 abbrev pub IsRefusalOf : List Text → Error → Type 0
 IsRefusalOf words error = HasKind (fault_of mothra words) error
 
@@ -113,10 +122,3 @@ IsFaultOf words fault.BadOperatorList = HasBadOperators words
 abbrev pub IsMemory : WordsFault → Type 0
 IsMemory (fault.Refused error) = kind_of error ≡ kind.OutOfMemory
 IsMemory fault.BadOperatorList = ⊥
-
--- the request that is meant, or why there is none, or memory that ran out
-abbrev pub Reads : Meaning → Result (Option Request) WordsFault → Type 0
-Reads meaning (Ok (Some r)) = meaning ≡ request r
-Reads meaning (Ok None) = meaning ≡ refused
-Reads meaning (Err fault.BadOperatorList) = meaning ≡ bad_operators
-Reads meaning (Err (fault.Refused error)) = kind_of error ≡ kind.OutOfMemory

@@ -22,10 +22,12 @@ pub enum InputFault {
     Read,
 }
 
-/// All the bytes that a reader has, or its first 1,048,577. A read that was interrupted has failed, and is not tried again.
+/// All the bytes that a reader has, or its first 1,048,577. A
+/// read that was interrupted has failed, and is not tried again.
 pub fn read_input<R: Read>(alloc: Global, reader: &mut Watched<R>) -> Result<Vec<u8>, InputFault>
     requires { has_failed reader.old ≡ false }
-    ensures bytes { IfOk result (λ v. ReadsUpTo limit (R.remaining (inside reader.old)) (R.remaining (inside reader.new)) v.items) }
+    ensures bytes { IfOk result
+        (λ v. ReadsUpTo limit (R.remaining (inside reader.old)) (R.remaining (inside reader.new)) v.items) }
     ensures taken { TakesAtMost limit (R.remaining (inside reader.old)) (R.remaining (inside reader.new)) }
     ensures failed { has_failed reader.new ≡ failed_read result }
 {

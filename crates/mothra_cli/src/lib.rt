@@ -1,4 +1,5 @@
-//! What the words of the command line ask for, all that the standard input has, and a whole text to the standard output.
+//! What the words of the command line ask for, all that the
+//! standard input has, and a whole text to the standard output.
 #![tactic(auto)]
 
 mod command;

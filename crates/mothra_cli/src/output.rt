@@ -12,12 +12,13 @@ use std::io::Write;
 #[derive(Debug, Drop, Clone, Copy, PartialEq, Eq)]
 pub struct OutputFault;
 
-/// Writes the whole text, or a front of it where a write fails or takes no byte. A write that was interrupted has failed, and is
-/// not tried again.
+/// Writes the whole text, or a front of it where a write fails or takes no
+/// byte. A write that was interrupted has failed, and is not tried again.
 pub fn write_whole<W: Write>(writer: &mut Watched<W>, text: &[u8]) -> Result<(), OutputFault>
     requires { has_failed writer.old ≡ false }
     ensures whole { OnOk result (Appends (W.contents (inside writer.old)) (W.contents (inside writer.new)) text.now) }
-    ensures front { OnErr result (AppendsFront (W.contents (inside writer.old)) (W.contents (inside writer.new)) text.now) }
+    ensures front { OnErr result
+        (AppendsFront (W.contents (inside writer.old)) (W.contents (inside writer.new)) text.now) }
     ensures failed { has_failed writer.new ≡ is_err result }
 {
     let mut written = 0;

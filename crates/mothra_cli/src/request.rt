@@ -3,7 +3,8 @@
 ghost use Rattle.std.specs.Prelude.{◌≡◌, IfErr, IfOk, Ok, OnOk, Some, codes, map};
 ghost use Rattle.std.specs.Option.{option_map_or};
 ghost use Rattle.clap.specs.Words.{found_of, rows_of, subcommand_rows_of};
-ghost use Rattle.mothra_cli.specs.Request.{subcommand_meaning, run_meaning, refused, IsBounded, IsFaultOf, IsTaken, Reads};
+ghost use Rattle.mothra_cli.specs.Request.{subcommand_meaning, run_meaning, refused, IsBounded, IsFaultOf, IsTaken};
+ghost use Rattle.mothra_cli.specs.code.Request.{ReadsRequest};
 ghost use Rattle.mothra_cli.specs.Request as asked;
 
 use crate::command::matches_of;
@@ -27,8 +28,8 @@ pub enum Request {
         operators: Operators,
         every: u32,
     },
-    /// `run`: the operators, the step from one mutant of an operator to the next, 1 to 1,048,575, the limit on steps, 1 to
-    /// 1,000,000, and the number of threads that run mutants, 1 to 32.
+    /// `run`: the operators, the step from one mutant of an operator to the next, 1 to 1,048,575,
+    /// the limit on steps, 1 to 1,000,000, and the number of threads that run mutants, 1 to 32.
     Run {
         operators: Operators,
         every: u32,
@@ -69,7 +70,7 @@ impl From<AllocError> for WordsFault {
 
 /// The number that an option has.
 pub fn number_at(matches: &ArgMatches<'_>, name: &str) -> Option<u32>
-    ensures { result ≡ asked.number_at name.now (rows_of (found_of matches.now)) }
+    ensures { result ≡ asked.option_number name.now (rows_of (found_of matches.now)) }
 {
     matches.get_one(name)
 }
@@ -89,7 +90,7 @@ pub fn operators_at(
 
 /// What `exec` asks for with these values of its options.
 fn exec_request(matches: &ArgMatches<'_>) -> Option<Request>
-    ensures { Reads (subcommand_meaning (codes "exec", rows_of (found_of matches.now))) (Ok result) }
+    ensures { ReadsRequest (subcommand_meaning (codes "exec", rows_of (found_of matches.now))) (Ok result) }
 {
     Some(Request::Exec {
         test: number_at(matches, "test")?,
@@ -99,7 +100,7 @@ fn exec_request(matches: &ArgMatches<'_>) -> Option<Request>
 
 /// What `list` asks for with these values of its options.
 fn list_request(alloc: Global, matches: &ArgMatches<'_>) -> Result<Option<Request>, WordsFault>
-    ensures { Reads (subcommand_meaning (codes "list", rows_of (found_of matches.now))) result }
+    ensures { ReadsRequest (subcommand_meaning (codes "list", rows_of (found_of matches.now))) result }
 {
     let Some(operators) = operators_at(alloc, matches)? else {
         return Err(WordsFault::BadOperatorList);
@@ -117,7 +118,7 @@ fn run_with(
     steps: Option<u32>,
     workers: Option<u32>,
 ) -> Option<Request>
-    ensures { Reads (run_meaning (Some operators) every steps workers) (Ok result) }
+    ensures { ReadsRequest (run_meaning (Some operators) every steps workers) (Ok result) }
 {
     Some(Request::Run {
         operators,
@@ -129,7 +130,7 @@ fn run_with(
 
 /// What `run` asks for with these values of its options.
 fn run_request(alloc: Global, matches: &ArgMatches<'_>) -> Result<Option<Request>, WordsFault>
-    ensures { Reads (subcommand_meaning (codes "run", rows_of (found_of matches.now))) result }
+    ensures { ReadsRequest (subcommand_meaning (codes "run", rows_of (found_of matches.now))) result }
 {
     match operators_at(alloc, matches)? {
         Some(operators) => Ok(run_with(
@@ -148,7 +149,7 @@ fn request_named(
     name: &str,
     matches: &ArgMatches<'_>,
 ) -> Result<Option<Request>, WordsFault>
-    ensures { Reads (subcommand_meaning (name.now, rows_of (found_of matches.now))) result }
+    ensures { ReadsRequest (subcommand_meaning (name.now, rows_of (found_of matches.now))) result }
 {
     match name {
         "print" => Ok(Some(Request::Print)),
@@ -161,7 +162,7 @@ fn request_named(
 
 /// What the subcommand that was met asks for.
 fn request_met(alloc: Global, matches: &ArgMatches<'_>) -> Result<Option<Request>, WordsFault>
-    ensures { Reads (option_map_or subcommand_meaning (subcommand_rows_of matches.now) refused) result }
+    ensures { ReadsRequest (option_map_or subcommand_meaning (subcommand_rows_of matches.now) refused) result }
 {
     match matches.subcommand() {
         Some((name, options)) => request_named(alloc, name, options),

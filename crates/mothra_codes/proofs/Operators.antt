@@ -3,7 +3,8 @@ use Rattle.std.proofs.Common.{◌≡◌, ℕ, zero, suc, ◌+◌, List, [], ◌�
 use Rattle.std.proofs.lemmas.Bool.Decides.{nat_tests}
 use Rattle.mothra_codes.specs.declared.op.Op.{Op}
 use Rattle.mothra_codes.specs.declared.op.Op.TheVariants.{Aar, Abs, Acr, Aor, Asr, Car, Cnr, Crp, Csr, Der, Dsa, Glr, Lcr, Ror, Rsr, San, Sar, Scr, Sdl, Src, Svr, Uoi}
-use Rattle.mothra_codes.specs.Op.{index, op_at, all_ops}
+use Rattle.mothra_codes.specs.Op.{index, all_ops}
+use Rattle.mothra_codes.specs.code.Op.{op_at}
 
 pub op_at-index : (op : Op) → op_at (index op) ≡ op
 op_at-index Aar = refl

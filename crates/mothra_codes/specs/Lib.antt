@@ -1,2 +1,3 @@
 pub mod Op
 pub mod Ticket
+pub mod code

@@ -1,5 +1,5 @@
 -- The operators by number and by code.
-use Rattle.std.specs.Prelude.{ℕ, List, [], ◌∷◌, get_or, codes}
+use Rattle.std.specs.Prelude.{ℕ, List, [], ◌∷◌, codes}
 use Rattle.mothra_codes.specs.declared.op.Op.{Op}
 use Rattle.mothra_codes.specs.declared.op.Op.TheVariants.{Aar, Abs, Acr, Aor, Asr, Car, Cnr, Crp, Csr, Der, Dsa}
 use Rattle.mothra_codes.specs.declared.op.Op.TheVariants.{Glr, Lcr, Ror, Rsr, San, Sar, Scr, Sdl, Src, Svr, Uoi}
@@ -30,11 +30,8 @@ index Svr = 20
 index Uoi = 21
 
 abbrev pub all_ops : List Op
-all_ops = Aar ∷ Abs ∷ Acr ∷ Aor ∷ Asr ∷ Car ∷ Cnr ∷ Crp ∷ Csr ∷ Der ∷ Dsa ∷ Glr ∷ Lcr ∷ Ror ∷ Rsr ∷ San ∷ Sar ∷ Scr ∷ Sdl ∷ Src ∷ Svr ∷ Uoi ∷ []
-
--- the operator at a place below 22
-abbrev pub op_at : ℕ → Op
-op_at i = get_or all_ops i Aar
+all_ops = Aar ∷ Abs ∷ Acr ∷ Aor ∷ Asr ∷ Car ∷ Cnr
+    ∷ Crp ∷ Csr ∷ Der ∷ Dsa ∷ Glr ∷ Lcr ∷ Ror ∷ Rsr ∷ San ∷ Sar ∷ Scr ∷ Sdl ∷ Src ∷ Svr ∷ Uoi ∷ []
 
 -- the code in the article of King and Offutt
 abbrev pub code_of : Op → List ℕ

@@ -9,7 +9,8 @@ ticket op k = record { op = op; number = k }
 
 -- the order of operators and numbers
 abbrev pub Before : Ticket → Ticket → Type 0
-Before one other = (index one.op < index other.op) ⊎ ((index one.op ≡ index other.op) × (one.number < other.number))
+Before one other = (index one.op < index other.op)
+    ⊎ ((index one.op ≡ index other.op) × (one.number < other.number))
 
 abbrev pub one_if : Bool → ℕ
 one_if b = if b then 1 else 0
@@ -19,9 +20,9 @@ abbrev pub is_ticket : ℕ → ℕ → Ticket → Bool
 is_ticket i k t = index t.op == i && t.number == k
 
 -- how often the tickets have number k of the operator at the place i
-abbrev pub times : ℕ → ℕ → List Ticket → ℕ
-times i k [] = 0
-times i k (t ∷ ts) = one_if (is_ticket i k t) + times i k ts
+abbrev pub ticket_times : ℕ → ℕ → List Ticket → ℕ
+ticket_times i k [] = 0
+ticket_times i k (t ∷ ts) = one_if (is_ticket i k t) + ticket_times i k ts
 
 -- once where k is one of 1 to n, else not at all
 abbrev pub once_up_to : ℕ → ℕ → ℕ

@@ -7,7 +7,8 @@ use Rattle.mothra_codes.specs.declared.op.Op.{Op}
 use Rattle.mothra_codes.specs.Ticket.{Before, ticket}
 use Rattle.mothra_codes.specs.declared.ticket.Ticket.{Ticket}
 use Rattle.mothra_ops.specs.Plan.{PlanFields}
-use Rattle.mothra_equivalents.specs.Equivalents.{AreOf, IsFront, IsNamed}
+use Rattle.mothra_equivalents.specs.code.Equivalents.{AreOf, IsFront}
+use Rattle.mothra_equivalents.specs.Equivalents.{IsNamed}
 use Rattle.mothra_equivalents.specs.declared.equivalents.Equivalent.{Equivalent}
 
 -- what is before a number of an operator is before the next one

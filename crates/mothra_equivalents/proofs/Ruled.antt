@@ -9,7 +9,8 @@ use Rattle.mothra_ops.specs.Mutants.{mutant_fields, mutant_of, program_of}
 use Rattle.mothra_ops.specs.Plan.{PlanFields}
 use Rattle.mothra_ops.specs.declared.fault.OpsFault.{OpsFault}
 use Rattle.mothra_ops.specs.declared.mutants.Mutant.{Mutant}
-use Rattle.mothra_equivalents.specs.Equivalents.{IsEquivalentBy, IsMutantBy}
+use Rattle.mothra_equivalents.specs.code.Equivalents.{IsEquivalentBy}
+use Rattle.mothra_equivalents.specs.Equivalents.{IsMutantBy}
 use Rattle.mothra_equivalents.specs.declared.why.Why.{Why}
 use Rattle.mothra_equivalents.specs.declared.why.Why.TheVariants as why
 

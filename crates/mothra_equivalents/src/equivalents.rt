@@ -2,7 +2,8 @@
 
 ghost use Rattle.std.specs.Prelude.{◌≡◌, ◌+◌, All, IfErr, IfOk, OnOk};
 ghost use Rattle.mothra_codes.specs.Op.{index};
-ghost use Rattle.mothra_equivalents.specs.Equivalents.{AreEquivalents, AreOf, IsFront};
+ghost use Rattle.mothra_equivalents.specs.Equivalents.{AreEquivalents};
+ghost use Rattle.mothra_equivalents.specs.code.Equivalents.{AreOf, IsFront};
 ghost use Rattle.mothra_ops.specs.declared.fault.OpsFault.TheVariants.{Memory};
 
 use crate::prover::Prover;
@@ -11,8 +12,8 @@ use mothra_codes::{Op, Ticket};
 use mothra_ops::{OpsFault, Plan};
 use std::alloc::Global;
 
-/// A mutant that is proved equivalent: no test can kill it on which the program returns or stops, by SPARE within as many steps fewer as the
-/// rule names.
+/// A mutant that is proved equivalent: no test can kill it on which the program
+/// returns or stops, by SPARE within as many steps fewer as the rule names.
 #[derive(Clone, Copy, PartialEq, Eq, Debug, Drop)]
 pub struct Equivalent {
     /// The mutant, by its number in the plan's list of the operator.
@@ -30,7 +31,8 @@ fn add(
     number: u32,
 ) -> Result<(), OpsFault>
     ensures plan { prover.new ≡ prover.old }
-    ensures front { OnOk result (IsFront prover.old op number list.old.items → IsFront prover.old op (number + 1) list.new.items) }
+    ensures front { OnOk result
+        (IsFront prover.old op number list.old.items → IsFront prover.old op (number + 1) list.new.items) }
     ensures memory { IfErr result (λ fault. fault ≡ Memory) }
 {
     let ticket = Ticket { op, number };
@@ -49,7 +51,8 @@ fn add_operator(
     count: u32,
 ) -> Result<(), OpsFault>
     ensures plan { prover.new ≡ prover.old }
-    ensures front { OnOk result (AreOf prover.old (index op) list.old.items → AreOf prover.old (index op + 1) list.new.items) }
+    ensures front { OnOk result
+        (AreOf prover.old (index op) list.old.items → AreOf prover.old (index op + 1) list.new.items) }
     ensures memory { IfErr result (λ fault. fault ≡ Memory) }
 {
     for before in 0..count {

@@ -5,7 +5,8 @@ ghost use Rattle.f77_program.specs.Patching.{patched};
 ghost use Rattle.f77_tree.specs.Statement.{statement_of};
 ghost use Rattle.mothra_ops.specs.Edits.{IsMutant};
 ghost use Rattle.mothra_ops.specs.Mutants.{program_of};
-ghost use Rattle.mothra_equivalents.specs.Equivalents.{IsEquivalentBy, IsMutantBy};
+ghost use Rattle.mothra_equivalents.specs.code.Equivalents.{IsEquivalentBy};
+ghost use Rattle.mothra_equivalents.specs.Equivalents.{IsMutantBy};
 ghost use Rattle.mothra_ops.specs.declared.fault.OpsFault.TheVariants.{Memory};
 
 use crate::rules::rule_of;

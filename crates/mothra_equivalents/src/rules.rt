@@ -8,7 +8,7 @@ ghost use Rattle.f77_tree.specs.Statement.{statement_of};
 ghost use Rattle.f77_equivalence.specs.Equivalent.{IsEquivalent};
 ghost use Rattle.mothra_ops.specs.Edits.{IsMutant};
 ghost use Rattle.mothra_ops.specs.declared.fault.OpsFault.TheVariants.{Memory};
-ghost use Rattle.mothra_equivalents.specs.Equivalents.{IsEquivalentBy};
+ghost use Rattle.mothra_equivalents.specs.code.Equivalents.{IsEquivalentBy};
 ghost use Rattle.mothra_equivalents.specs.declared.why.Why.TheVariants.{Spare};
 
 use crate::why::Why;
@@ -30,7 +30,8 @@ fn is_unread_throughout(
     mutant: &Mutant,
     resolved: &Shared<Resolved>,
 ) -> Result<bool, AllocError>
-    requires mutant { IsMutant (map line_of invariant.now.checked.program) mutant.now.number (statement_of mutant.now.stmt) }
+    requires mutant { IsMutant (map line_of invariant.now.checked.program) mutant.now.number
+        (statement_of mutant.now.stmt) }
     requires in_place { IsInPlace invariant.now.checked mutant.now.number (statement_of mutant.now.stmt) resolved.now }
     ensures { IfOk result (λ yes. yes ≡ true → IsEquivalent (map line_of invariant.now.checked.program)
         (patched (map line_of invariant.now.checked.program) mutant.now.number (statement_of mutant.now.stmt))) }
@@ -56,7 +57,8 @@ fn is_told_throughout(
     resolved: &Shared<Resolved>,
 ) -> Result<bool, AllocError>
     requires one { IfSome conditions.now (λ told. told.checked ≡ invariant.now.checked) }
-    requires mutant { IsMutant (map line_of invariant.now.checked.program) mutant.now.number (statement_of mutant.now.stmt) }
+    requires mutant { IsMutant (map line_of invariant.now.checked.program) mutant.now.number
+        (statement_of mutant.now.stmt) }
     requires in_place { IsInPlace invariant.now.checked mutant.now.number (statement_of mutant.now.stmt) resolved.now }
     ensures { IfOk result (λ yes. yes ≡ true → IsEquivalent (map line_of invariant.now.checked.program)
         (patched (map line_of invariant.now.checked.program) mutant.now.number (statement_of mutant.now.stmt))) }
@@ -84,7 +86,8 @@ fn rule_with_spare(spare: Option<usize>) -> Option<Why>
     }
 }
 
-/// The first rule by which the mutant is equivalent, whose statement is resolved so. SPARE, which says less than the others, comes last.
+/// The first rule by which the mutant is equivalent, whose statement
+/// is resolved so. SPARE, which says less than the others, comes last.
 fn rule_in_place(
     alloc: Global,
     invariant: &Invariant<'_>,
@@ -93,7 +96,8 @@ fn rule_in_place(
     resolved: &Shared<Resolved>,
 ) -> Result<Option<Why>, AllocError>
     requires one { IfSome conditions.now (λ told. told.checked ≡ invariant.now.checked) }
-    requires mutant { IsMutant (map line_of invariant.now.checked.program) mutant.now.number (statement_of mutant.now.stmt) }
+    requires mutant { IsMutant (map line_of invariant.now.checked.program) mutant.now.number
+        (statement_of mutant.now.stmt) }
     requires in_place { IsInPlace invariant.now.checked mutant.now.number (statement_of mutant.now.stmt) resolved.now }
     ensures { IfOk result (λ found. IfSome found (λ why. IsEquivalentBy why (map line_of invariant.now.checked.program)
         (patched (map line_of invariant.now.checked.program) mutant.now.number (statement_of mutant.now.stmt)))) }
@@ -118,8 +122,8 @@ fn rule_in_place(
     Ok(rule_with_spare(spare))
 }
 
-/// The first rule by which the mutant is equivalent. None is tried where the changed statement does not stand alone: in a
-/// declaration, in DATA, at the label of a DO.
+/// The first rule by which the mutant is equivalent. None is tried where the changed
+/// statement does not stand alone: in a declaration, in DATA, at the label of a DO.
 fn rule_for(
     alloc: Global,
     invariant: &Invariant<'_>,
@@ -127,8 +131,10 @@ fn rule_for(
     mutant: &Mutant,
 ) -> Result<Option<Why>, OpsFault>
     requires one { IfSome conditions.now (λ told. told.checked ≡ invariant.now.checked) }
-    requires mutant { IsMutant (map line_of invariant.now.checked.program) mutant.now.number (statement_of mutant.now.stmt) }
-    ensures equivalent { IfOk result (λ found. IfSome found (λ why. IsEquivalentBy why (map line_of invariant.now.checked.program)
+    requires mutant { IsMutant (map line_of invariant.now.checked.program) mutant.now.number
+        (statement_of mutant.now.stmt) }
+    ensures equivalent { IfOk result
+        (λ found. IfSome found (λ why. IsEquivalentBy why (map line_of invariant.now.checked.program)
         (patched (map line_of invariant.now.checked.program) mutant.now.number (statement_of mutant.now.stmt)))) }
     ensures memory { IfErr result (λ fault. fault ≡ Memory) }
 {
@@ -152,7 +158,8 @@ pub(crate) fn rule_of(
 ) -> Result<Option<Why>, OpsFault>
     requires one { IfSome conditions.now (λ told. told.checked ≡ invariant.now.checked) }
     requires mutant { IsMutant (map line_of invariant.now.checked.program) mutant.number (statement_of mutant.stmt) }
-    ensures equivalent { IfOk result (λ found. IfSome found (λ why. IsEquivalentBy why (map line_of invariant.now.checked.program)
+    ensures equivalent { IfOk result
+        (λ found. IfSome found (λ why. IsEquivalentBy why (map line_of invariant.now.checked.program)
         (patched (map line_of invariant.now.checked.program) mutant.number (statement_of mutant.stmt)))) }
     ensures memory { IfErr result (λ fault. fault ≡ Memory) }
 {

@@ -1,5 +1,5 @@
-//! How much work mutants may take: a program at the limits of the language is answered within seconds, with fewer of its
-//! mutants proved.
+//! How much work mutants may take: a program at the limits of the
+//! language is answered within seconds, with fewer of its mutants proved.
 
 use f77_check::Checked;
 use f77_code::Place;
@@ -48,7 +48,8 @@ fn entries_each(checked: &Checked, entries: &[Entry]) -> u64 {
     (each as u64).saturating_add(1)
 }
 
-/// How much work it is to follow other values to where they would be read, through all statements with an entry for each.
+/// How much work it is to follow other values to where they
+/// would be read, through all statements with an entry for each.
 fn following(checked: &Checked) -> u64 {
     let slots = checked.slots() as u64;
     let statements = checked.count() as u64;
@@ -56,7 +57,8 @@ fn following(checked: &Checked) -> u64 {
     statements.saturating_mul(300).saturating_add(marks)
 }
 
-/// How much work it is to compare a statement of so many nodes at one entry: each two of them may ask for the facts of all slots.
+/// How much work it is to compare a statement of so many nodes at
+/// one entry: each two of them may ask for the facts of all slots.
 fn comparing(checked: &Checked, nodes: usize) -> u64 {
     let facts = (checked.slots() as u64).saturating_add(64);
     facts
@@ -64,8 +66,8 @@ fn comparing(checked: &Checked, nodes: usize) -> u64 {
         .saturating_mul(nodes as u64)
 }
 
-/// How much work it is to compare a condition with another by linear arithmetic, in a statement of so many nodes: each two of its
-/// relations may make a case, in which as many inequalities are put together.
+/// How much work it is to compare a condition with another by linear arithmetic, in a statement of so
+/// many nodes: each two of its relations may make a case, in which as many inequalities are put together.
 fn deciding(stmt: &Stmt, nodes: usize) -> u64 {
     match stmt.form() {
         Form::LogicalIf | Form::BlockIf | Form::ElseIf => {

@@ -9,9 +9,9 @@ use Rattle.mothra_exchange.specs.declared.word.Word.{Word}
 use Rattle.mothra_exchange.specs.declared.view.View.{View}
 use Rattle.mothra_codes.specs.Op.{index}
 use Rattle.mothra_exchange.specs.Word.{AtMost}
-use Rattle.mothra_codes.specs.Ticket.{one_if, is_ticket, times, once_up_to, ticket}
+use Rattle.mothra_codes.specs.Ticket.{one_if, is_ticket, ticket_times, once_up_to, ticket}
 use Rattle.mothra_exchange.specs.declared.view.Closing.{Closing}
-use Rattle.mothra_exchange.specs.View.{closing, is_closing, times_closed, total, once_if_closed}
+use Rattle.mothra_exchange.specs.View.{closing, closes_operator, times_closed, total, once_if_closed}
 
 -- the total after a change of one view
 pub total_set : (f : View → ℕ) (views : List View) (by : ℕ) (v w : View) → get_elem? views by ≡ some v → total f (set views by w) + f v ≡ total f views + f w
@@ -19,12 +19,12 @@ total_set f [] by v w e = absurd (some-ne-none v (sym e))
 total_set f (x ∷ xs) zero v w e = let same : f x ≡ f v = ap f (some-injective _ _ e) in omega arith
 total_set f (x ∷ xs) (suc by) v w e = let h = total_set f xs by v w e in omega arith
 
-pub times-append : (i k : ℕ) (ts us : List Ticket) → times i k (ts ++ us) ≡ times i k ts + times i k us
+pub times-append : (i k : ℕ) (ts us : List Ticket) → ticket_times i k (ts ++ us) ≡ ticket_times i k ts + ticket_times i k us
 times-append i k [] us = omega arith
 times-append i k (t ∷ ts) us = let h = times-append i k ts us in omega arith
 
 -- one ticket more
-pub times-more : (i k : ℕ) (ts : List Ticket) (t : Ticket) → times i k (ts ++ t ∷ []) ≡ times i k ts + one_if (is_ticket i k t)
+pub times-more : (i k : ℕ) (ts : List Ticket) (t : Ticket) → ticket_times i k (ts ++ t ∷ []) ≡ ticket_times i k ts + one_if (is_ticket i k t)
 times-more i k ts t = let h = times-append i k ts (t ∷ []) in omega arith
 
 pub times_closed-append : (i k : ℕ) (cs ds : List Closing) → times_closed i k (cs ++ ds) ≡ times_closed i k cs + times_closed i k ds
@@ -32,13 +32,13 @@ times_closed-append i k [] ds = omega arith
 times_closed-append i k (c ∷ cs) ds = let h = times_closed-append i k cs ds in omega arith
 
 -- one closing more
-pub times_closed-more : (i k : ℕ) (cs : List Closing) (c : Closing) → times_closed i k (cs ++ c ∷ []) ≡ times_closed i k cs + one_if (is_closing i k c)
+pub times_closed-more : (i k : ℕ) (cs : List Closing) (c : Closing) → times_closed i k (cs ++ c ∷ []) ≡ times_closed i k cs + one_if (closes_operator i k c)
 times_closed-more i k cs c = let h = times_closed-append i k cs (c ∷ []) in omega arith
 
-pub is_closing-own : (op : Op) (n k : ℕ) → is_closing (index op) k (closing op n) ≡ eqb n k
+pub is_closing-own : (op : Op) (n k : ℕ) → closes_operator (index op) k (closing op n) ≡ eqb n k
 is_closing-own op n k = rw (eq-eqb (index op) (index op) refl) refl
 
-pub is_closing-other : (op : Op) (i n k : ℕ) → i ≢ index op → is_closing i k (closing op n) ≡ false
+pub is_closing-other : (op : Op) (i n k : ℕ) → i ≢ index op → closes_operator i k (closing op n) ≡ false
 is_closing-other op i n k ne = rw (ne_eqb (index op) i (λ e. ne (sym e))) refl
 
 pub is_ticket-own : (op : Op) (n k : ℕ) → is_ticket (index op) k (ticket op n) ≡ eqb n k

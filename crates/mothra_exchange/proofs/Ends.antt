@@ -9,11 +9,12 @@ use Rattle.mothra_exchange.specs.declared.word.Word.{Word}
 use Rattle.mothra_exchange.specs.declared.view.Look.{Look}
 use Rattle.mothra_exchange.specs.declared.view.View.{View}
 use Rattle.mothra_codes.specs.Op.{index}
-use Rattle.mothra_exchange.specs.Word.{largest_count, pack, AtMost, opening_word, Fits}
-use Rattle.mothra_codes.specs.Ticket.{times, once_up_to}
+use Rattle.mothra_exchange.specs.Word.{largest_count, pack, AtMost, opening_word, FitsWord}
+use Rattle.mothra_codes.specs.Ticket.{ticket_times, once_up_to}
 use Rattle.mothra_exchange.specs.View.{times_closed, total, first_look, whole_view, spent_view}
-use Rattle.mothra_exchange.specs.Rule.{Knows, IsLive, IsSound, Holds}
-use Rattle.mothra_exchange.specs.Tally.{word_at, EndsAt, Ends}
+use Rattle.mothra_exchange.specs.Rule.{Knows, IsLive, IsSoundExchange}
+use Rattle.mothra_exchange.specs.code.Rule.{HoldsRule}
+use Rattle.mothra_exchange.specs.Tally.{operator_word, EndsAt, EndsAsViews}
 use Rattle.mothra_exchange.specs.Fault.{AllCountsFit}
 use Rattle.mothra_exchange.proofs.Counting.{AtMost-refl, total_has}
 use Rattle.mothra_codes.proofs.Operators.{index_below}
@@ -37,7 +38,7 @@ one_view v u (suc by) e = absurd (some-ne-none u (sym e))
 once_up_to-none : (k : ℕ) → once_up_to 0 k ≡ 0
 once_up_to-none k = grind (arith, nat_tests)
 
-pub begins : (C : ℕ) (counts : List ℕ) (words : List ℕ) → words ≡ counts → length counts ≡ 22 → AllCountsFit counts → IsSound C counts words (whole_view counts ∷ [])
+pub begins : (C : ℕ) (counts : List ℕ) (words : List ℕ) → words ≡ counts → length counts ≡ 22 → AllCountsFit counts → IsSoundExchange C counts words (whole_view counts ∷ [])
 begins C counts words e is small = record {
   length_is = ap (λ (l : List ℕ). length l) e ∙ is;
   ops = λ o.
@@ -88,10 +89,10 @@ at_word (x ∷ xs) (suc i) a h e = at_word xs i a (omega arith) e
 
 -- the first n words are those that the bits pack
 abbrev pub IsUnpacked : ℕ → List ℕ → List Word → Type 0
-IsUnpacked n bits words = (k : ℕ) (w : Word) → k < n → Fits w → get_elem? bits k ≡ some (pack w) → get_or words k (opening_word 0) ≡ w
+IsUnpacked n bits words = (k : ℕ) (w : Word) → k < n → FitsWord w → get_elem? bits k ≡ some (pack w) → get_or words k (opening_word 0) ≡ w
 
 pub ends : {S : Type 0} (C : ℕ) (counts : List ℕ) (id : ℕ) (v : View) (bits : List ℕ) (slots : List S) (words : List Word) → 0 < v.part
-    → Final (Seen (Holds {S = S} C counts) id v) bits slots → IsUnpacked 22 bits words → Ends C v words
+    → Final (Seen (HoldsRule {S = S} C counts) id v) bits slots → IsUnpacked 22 bits words → EndsAsViews C v words
 ends {S} C counts id v bits slots words part fin reads op =
     let s = fin.0 in
     let h = fin.1.0 in
@@ -103,19 +104,19 @@ ends {S} C counts id v bits slots words part fin reads op =
     let l = lives counts v part (h.lives id v at) in
     let small : i < length s.words = subst (λ (n : ℕ). i < n) (sym h.length_is) (index_below op) in
     let there : get_elem? bits i ≡ some (pack w) = subst (λ (b : List ℕ). get_elem? b i ≡ some (pack w)) fin.2 (at_word s.words i (pack w) small was.1) in
-    let same : word_at words op ≡ w = reads i w (index_below op) (fits C w r.bounds) there in
+    let same : operator_word words op ≡ w = reads i w (index_below op) (fits C w r.bounds) there in
     subst (EndsAt C i v) (sym same) (record {
       bounds = r.bounds;
       count = r.count ∙ ap (λ (c : List ℕ). slice_index c i) (sym l.0);
       seen = (r.seen id v at).0;
-      taken = λ k. let m = total_has (λ u. times i k u.taken) s.views id v at in let t = r.taken k in omega arith;
-      offered = λ k. let m = total_has (λ u. times i k u.offered) s.views id v at in let t = r.offered k in omega arith;
+      taken = λ k. let m = total_has (λ u. ticket_times i k u.taken) s.views id v at in let t = r.taken k in omega arith;
+      offered = λ k. let m = total_has (λ u. ticket_times i k u.offered) s.views id v at in let t = r.offered k in omega arith;
       closings = λ k. let m = total_has (λ u. times_closed i k u.closings) s.views id v at in let t = r.closings k in omega arith;
       whole = λ all.
           let sole : total (λ u. u.part) s.views ≡ v.part = h.parts ∙ sym all in
           let gone : (by : ℕ) (u : View) → get_elem? s.views by ≡ some u → u.part ≡ 0 → u ≡ spent_view = λ by u g z. spent_if counts u z (h.lives by u g) in record {
-            taken = λ k. sym (alone (λ u. times i k u.taken) s.views id v at sole (λ by u g z. ap (λ (x : View). times i k x.taken) (gone by u g z))) ∙ r.taken k;
-            offered = λ k. sym (alone (λ u. times i k u.offered) s.views id v at sole (λ by u g z. ap (λ (x : View). times i k x.offered) (gone by u g z))) ∙ r.offered k;
+            taken = λ k. sym (alone (λ u. ticket_times i k u.taken) s.views id v at sole (λ by u g z. ap (λ (x : View). ticket_times i k x.taken) (gone by u g z))) ∙ r.taken k;
+            offered = λ k. sym (alone (λ u. ticket_times i k u.offered) s.views id v at sole (λ by u g z. ap (λ (x : View). ticket_times i k x.offered) (gone by u g z))) ∙ r.offered k;
             closings = λ k. sym (alone (λ u. times_closed i k u.closings) s.views id v at sole (λ by u g z. ap (λ (x : View). times_closed i k x.closings) (gone by u g z))) ∙ r.closings k;
           };
     })

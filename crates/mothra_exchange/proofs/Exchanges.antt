@@ -11,17 +11,18 @@ use Rattle.mothra_exchange.specs.declared.word.Word.{Word}
 use Rattle.mothra_exchange.specs.declared.view.Look.{Look}
 use Rattle.mothra_exchange.specs.declared.view.View.{View}
 use Rattle.mothra_codes.specs.Op.{index}
-use Rattle.mothra_exchange.specs.Word.{largest_count, field, bit, pack, Fits, AtMost, InBounds, word_after_offer}
-use Rattle.mothra_codes.specs.Ticket.{one_if, times, once_up_to, ticket}
+use Rattle.mothra_exchange.specs.Word.{largest_count, field, bit, pack, FitsWord, AtMost, InBounds, word_after_offer}
+use Rattle.mothra_codes.specs.Ticket.{one_if, ticket_times, once_up_to, ticket}
 use Rattle.mothra_exchange.specs.View.{closing, times_closed, look_at, view_after_finding, once_if_closed}
-use Rattle.mothra_exchange.specs.Rule.{Knows, OpRule, Holds}
-use Rattle.mothra_exchange.specs.Exchange.{Change, an_offer, a_take, a_close, MayChange, word_after, view_after, IsNew, Wins, Loses, Exchanges}
-use Rattle.mothra_exchange.specs.Calls.{HasLoaded}
+use Rattle.mothra_exchange.specs.Rule.{Knows, OpRule}
+use Rattle.mothra_exchange.specs.code.Rule.{HoldsRule}
+use Rattle.mothra_exchange.specs.code.Exchange.{ChangeOfTable, an_offer, a_take, a_close, MayChange, word_after, view_after, IsNewChange, Wins, Loses, Exchanges}
+use Rattle.mothra_exchange.specs.code.Calls.{HasLoaded}
 use Rattle.mothra_exchange.proofs.Counting.{total_has, once_up_to-past, times-more, is_ticket-own, is_ticket-other, times_closed-more, is_closing-own, is_closing-other, once_up_to-suc, AtMost-refl}
 use Rattle.mothra_codes.proofs.Operators.{op_at-index}
 use Rattle.mothra_exchange.proofs.Steps.{Moves, Apart, op_moves, lives, turns, looks_apart, new_look}
 
-pub fits : (C : ℕ) (w : Word) → InBounds C w → Fits w
+pub fits : (C : ℕ) (w : Word) → InBounds C w → FitsWord w
 fits C w b = (omega arith, omega arith, omega arith)
 
 bit-injective : (a b : Bool) → bit a ≡ bit b → a ≡ b
@@ -39,7 +40,7 @@ parts_equal : (n o h c n' o' h' c' : ℕ) → n ≤ largest_count → o ≤ larg
     → (n ≡ n') × (o ≡ o') × (h ≡ h') × (c ≡ c')
 parts_equal n o h c n' o' h' c' a1 a2 a3 a4 b1 b2 b3 b4 e = (omega arith, omega arith, omega arith, omega arith)
 
-pub pack-injective : (a b : Word) → Fits a → Fits b → pack a ≡ pack b → a ≡ b
+pub pack-injective : (a b : Word) → FitsWord a → FitsWord b → pack a ≡ pack b → a ≡ b
 pack-injective a b fa fb e =
     let p = parts_equal a.count a.offered a.handed (bit a.closed) b.count b.offered b.handed (bit b.closed) fa.0 fa.1 fa.2 (bit_small a.closed) fb.0 fb.1 fb.2 (bit_small b.closed) e in
     let q = bit-injective a.closed b.closed p.3 in
@@ -49,8 +50,8 @@ once_if_closed-open : (w : Word) (k : ℕ) → w.closed ≡ false → once_if_cl
 once_if_closed-open w k e = rw e refl
 
 -- what the change adds of its operator, in the view as in the word
-offered_own : (c : Change) (op : Op) (v : View) (w : Word) (k : ℕ)
-    → times (index op) k (view_after c v op w).offered + once_up_to w.offered k ≡ times (index op) k v.offered + once_up_to (word_after c w).offered k
+offered_own : (c : ChangeOfTable) (op : Op) (v : View) (w : Word) (k : ℕ)
+    → ticket_times (index op) k (view_after c v op w).offered + once_up_to w.offered k ≡ ticket_times (index op) k v.offered + once_up_to (word_after c w).offered k
 offered_own an_offer op v w k =
     let e = times-more (index op) k v.offered (ticket op (w.offered + 1)) in
     let f = ap one_if (is_ticket-own op (w.offered + 1) k) in
@@ -58,8 +59,8 @@ offered_own an_offer op v w k =
 offered_own a_take op v w k = refl
 offered_own a_close op v w k = refl
 
-taken_own : (c : Change) (op : Op) (v : View) (w : Word) (k : ℕ)
-    → times (index op) k (view_after c v op w).taken + once_up_to w.handed k ≡ times (index op) k v.taken + once_up_to (word_after c w).handed k
+taken_own : (c : ChangeOfTable) (op : Op) (v : View) (w : Word) (k : ℕ)
+    → ticket_times (index op) k (view_after c v op w).taken + once_up_to w.handed k ≡ ticket_times (index op) k v.taken + once_up_to (word_after c w).handed k
 taken_own an_offer op v w k = refl
 taken_own a_take op v w k =
     let e = times-more (index op) k v.taken (ticket op (w.handed + 1)) in
@@ -67,7 +68,7 @@ taken_own a_take op v w k =
     let g = once_up_to-suc w.handed k in omega arith
 taken_own a_close op v w k = refl
 
-closings_own : (c : Change) (C : ℕ) (op : Op) (v : View) (w : Word) (k : ℕ) → MayChange c C w
+closings_own : (c : ChangeOfTable) (C : ℕ) (op : Op) (v : View) (w : Word) (k : ℕ) → MayChange c C w
     → times_closed (index op) k (view_after c v op w).closings + once_if_closed w k ≡ times_closed (index op) k v.closings + once_if_closed (word_after c w) k
 closings_own an_offer C op v w k may = let e = once_if_closed-open w k may.0 in let f = once_if_closed-open (word_after_offer w) k may.0 in omega arith
 closings_own a_take C op v w k may = refl
@@ -77,52 +78,53 @@ closings_own a_close C op v w k may =
     let g = once_if_closed-open w k may in omega arith
 
 -- and nothing of another
-offered_other : (c : Change) (op : Op) (v : View) (w : Word) (i k : ℕ) → i ≢ index op → times i k (view_after c v op w).offered ≡ times i k v.offered
+offered_other : (c : ChangeOfTable) (op : Op) (v : View) (w : Word) (i k : ℕ) → i ≢ index op → ticket_times i k (view_after c v op w).offered ≡ ticket_times i k v.offered
 offered_other an_offer op v w i k ne =
     let e = times-more i k v.offered (ticket op (w.offered + 1)) in let f = ap one_if (is_ticket-other op i (w.offered + 1) k ne) in omega arith
 offered_other a_take op v w i k ne = refl
 offered_other a_close op v w i k ne = refl
 
-taken_other : (c : Change) (op : Op) (v : View) (w : Word) (i k : ℕ) → i ≢ index op → times i k (view_after c v op w).taken ≡ times i k v.taken
+taken_other : (c : ChangeOfTable) (op : Op) (v : View) (w : Word) (i k : ℕ) → i ≢ index op → ticket_times i k (view_after c v op w).taken ≡ ticket_times i k v.taken
 taken_other an_offer op v w i k ne = refl
 taken_other a_take op v w i k ne =
     let e = times-more i k v.taken (ticket op (w.handed + 1)) in let f = ap one_if (is_ticket-other op i (w.handed + 1) k ne) in omega arith
 taken_other a_close op v w i k ne = refl
 
-closings_other : (c : Change) (op : Op) (v : View) (w : Word) (i k : ℕ) → i ≢ index op → times_closed i k (view_after c v op w).closings ≡ times_closed i k v.closings
+closings_other : (c : ChangeOfTable) (op : Op) (v : View) (w : Word) (i k : ℕ) → i ≢ index op → times_closed i k (view_after c v op w).closings ≡ times_closed i k v.closings
 closings_other an_offer op v w i k ne = refl
 closings_other a_take op v w i k ne = refl
 closings_other a_close op v w i k ne =
     let e = times_closed-more i k v.closings (closing op w.offered) in let f = ap one_if (is_closing-other op i w.offered k ne) in omega arith
 
-bounds_after : (c : Change) (C : ℕ) (w : Word) → MayChange c C w → InBounds C w → InBounds C (word_after c w)
+bounds_after : (c : ChangeOfTable) (C : ℕ) (w : Word) → MayChange c C w → InBounds C w → InBounds C (word_after c w)
 bounds_after an_offer C w may b = record { handed = omega arith; offered = omega arith; waiting = omega arith; count = omega arith }
 bounds_after a_take C w may b = record { handed = omega arith; offered = omega arith; waiting = omega arith; count = omega arith }
 bounds_after a_close C w may b = record { handed = b.handed; offered = b.offered; waiting = b.waiting; count = b.count }
 
-pub fits_after : (c : Change) (C : ℕ) (w next : Word) → MayChange c C w → InBounds C w → next ≡ word_after c w → Fits next
-fits_after c C w next may b e = subst Fits (sym e) (fits C _ (bounds_after c C w may b))
+pub fits_after : (c : ChangeOfTable) (C : ℕ) (w next : Word) → MayChange c C w → InBounds C w → next ≡ word_after c w → FitsWord next
+fits_after c C w next may b e = subst FitsWord (sym e) (fits C _ (bounds_after c C w may b))
 
-count_after : (c : Change) (w : Word) → (word_after c w).count ≡ w.count
+count_after : (c : ChangeOfTable) (w : Word) → (word_after c w).count ≡ w.count
 count_after an_offer w = refl
 count_after a_take w = refl
 count_after a_close w = refl
 
-rises_after : (c : Change) (C : ℕ) (w : Word) → MayChange c C w → AtMost w (word_after c w)
+rises_after : (c : ChangeOfTable) (C : ℕ) (w : Word) → MayChange c C w → AtMost w (word_after c w)
 rises_after an_offer C w may = record { count = omega arith; offered = omega arith; handed = omega arith; close = λ c. absurd (true≢false (sym c ∙ may.0)) }
 rises_after a_take C w may = record { count = omega arith; offered = omega arith; handed = omega arith; close = λ c. (c, refl) }
 rises_after a_close C w may = record { count = omega arith; offered = omega arith; handed = omega arith; close = λ c. absurd (true≢false (sym c ∙ may)) }
 
-is_new : (c : Change) (C n : ℕ) (op : Op) (w : Word) (views : List View) (id : ℕ) (v : View) → MayChange c C w → OpRule C (index op) n w views → get_elem? views id ≡ some v → IsNew c v op w
+is_new : (c : ChangeOfTable) (C n : ℕ) (op : Op) (w : Word) (views : List View) (id : ℕ) (v : View)
+    → MayChange c C w → OpRule C (index op) n w views → get_elem? views id ≡ some v → IsNewChange c v op w
 is_new an_offer C n op w views id v may r at =
-    let t = r.offered (w.offered + 1) in let m = total_has (λ u. times (index op) (w.offered + 1) u.offered) views id v at in let z = once_up_to-past w.offered in omega arith
+    let t = r.offered (w.offered + 1) in let m = total_has (λ u. ticket_times (index op) (w.offered + 1) u.offered) views id v at in let z = once_up_to-past w.offered in omega arith
 is_new a_take C n op w views id v may r at =
-    let t = r.taken (w.handed + 1) in let m = total_has (λ u. times (index op) (w.handed + 1) u.taken) views id v at in let z = once_up_to-past w.handed in omega arith
+    let t = r.taken (w.handed + 1) in let m = total_has (λ u. ticket_times (index op) (w.handed + 1) u.taken) views id v at in let z = once_up_to-past w.handed in omega arith
 is_new a_close C n op w views id v may r at = λ k.
     let t = r.closings k in let m = total_has (λ u. times_closed (index op) k u.closings) views id v at in let z = once_if_closed-open w k may in omega arith
 
 -- but for its tickets and closings, the view after a change is that of a pass that found the word after it
-view_is : (c : Change) (op : Op) (v : View) (w : Word) → view_after c v op w
+view_is : (c : ChangeOfTable) (op : Op) (v : View) (w : Word) → view_after c v op w
     ≡ record (view_after_finding v (index op) (word_after c w)) { offered = (view_after c v op w).offered; taken = (view_after c v op w).taken; closings = (view_after c v op w).closings }
 view_is an_offer op v w = refl
 view_is a_take op v w = refl
@@ -131,7 +133,7 @@ view_is a_close op v w = refl
 abbrev finding : View → Op → Word → Look
 finding v op w = record { loads = (look_at v (index op)).loads; loaded = (look_at v (index op)).loaded; seen = w }
 
-pub change_apart : (c : Change) (op : Op) (v : View) (w : Word) → Apart op v (view_after c v op w)
+pub change_apart : (c : ChangeOfTable) (op : Op) (v : View) (w : Word) → Apart op v (view_after c v op w)
 change_apart c op v w =
     let is = view_is c op v w in
     let a = looks_apart op v (finding v op (word_after c w)) in record {
@@ -146,7 +148,7 @@ change_apart c op v w =
       };
     }
 
-change_moves : (c : Change) (C : ℕ) (op : Op) (v : View) (w : Word) → MayChange c C w → length v.looks ≡ 22 → Moves (index op) w (word_after c w) v (view_after c v op w)
+change_moves : (c : ChangeOfTable) (C : ℕ) (op : Op) (v : View) (w : Word) → MayChange c C w → length v.looks ≡ 22 → Moves (index op) w (word_after c w) v (view_after c v op w)
 change_moves c C op v w may full =
     let is = view_is c op v w in
     let next = word_after c w in record {
@@ -160,9 +162,9 @@ change_moves c C op v w may full =
     }
 
 -- an exchange of the word that was loaded last keeps the rule
-exchanges : {S : Type 0} (c : Change) (C : ℕ) (counts : List ℕ) (slots id : ℕ) (me : Me S View) (op : Op) (old : Word) (first second : ℕ) → 0 < me.0.part
+exchanges : {S : Type 0} (c : ChangeOfTable) (C : ℕ) (counts : List ℕ) (slots id : ℕ) (me : Me S View) (op : Op) (old : Word) (first second : ℕ) → 0 < me.0.part
     → HasLoaded C me.0 (index op) old → MayChange c C old → first ≡ pack old → second ≡ pack (word_after c old)
-    → Allows (Holds C counts) slots id me (index op) (λ n. either (eqb n first) second n)
+    → Allows (HoldsRule C counts) slots id me (index op) (λ n. either (eqb n first) second n)
     (λ found new. Wins c (step slots (index op) first second none) me op old found new ⊎ Loses (step slots (index op) first second none) me found new)
 exchanges {S} c C counts slots id me op old first second part loaded may is becomes s h homes at small =
     let i = index op in
@@ -172,7 +174,7 @@ exchanges {S} c C counts slots id me op old first second part loaded may is beco
     let l = lives counts v part (h.lives id v at) in
     let n = slice_index s.words i in
     let told : ℕ → Me S View → Type 0 = λ found new. Wins c (step slots i first second none) me op old found new ⊎ Loses (step slots i first second none) me found new in
-    exchanged n first second (λ x. (u : View) × (a : Act S) × Valid s.homes me.1 a × Holds C counts (stepped s i x id me.1 u a) × told n (u, carried_after me.1 a))
+    exchanged n first second (λ x. (u : View) × (a : Act S) × Valid s.homes me.1 a × HoldsRule C counts (stepped s i x id me.1 u a) × told n (u, carried_after me.1 a))
     (λ hit.
     let same : w ≡ old = pack-injective w old (fits C w was.2.bounds) (fits C old loaded.bounds) (sym was.1 ∙ hit ∙ is) in
     let rule : OpRule C i (slice_index counts i) old s.views = subst (λ (x : Word). OpRule C i (slice_index counts i) x s.views) same was.2 in (
@@ -203,12 +205,12 @@ exchanges {S} c C counts slots id me op old first second part loaded may is beco
       inr (w, was.1, miss, fits C w was.2.bounds, least, refl),
     ))
 
-pub exchanges_at : {S : Type 0} (c : Change) (C : ℕ) (counts : List ℕ) (slots id : ℕ) (me : Me S View) (op : Op) (i : ℕ) (old next : Word) (first second : ℕ) → i ≡ index op → 0 < me.0.part
+pub exchanges_at : {S : Type 0} (c : ChangeOfTable) (C : ℕ) (counts : List ℕ) (slots id : ℕ) (me : Me S View) (op : Op) (i : ℕ) (old next : Word) (first second : ℕ) → i ≡ index op → 0 < me.0.part
     → HasLoaded C me.0 (index op) old → MayChange c C old → next ≡ word_after c old → first ≡ pack old → second ≡ pack next
-    → Allows (Holds C counts) slots id me i (λ n. either (eqb n first) second n) (Exchanges c (step slots i first second none) me)
+    → Allows (HoldsRule C counts) slots id me i (λ n. either (eqb n first) second n) (Exchanges c (step slots i first second none) me)
 exchanges_at {S} c C counts slots id me op i old next first second here part loaded may is_next is becomes =
-    subst (λ (j : ℕ). Allows (Holds C counts) slots id me j (λ n. either (eqb n first) second n) (Exchanges c (step slots j first second none) me)) (sym here)
-    (subst (λ (y : Op × Word). Allows (Holds C counts) slots id me (index op) (λ n. either (eqb n first) second n)
+    subst (λ (j : ℕ). Allows (HoldsRule C counts) slots id me j (λ n. either (eqb n first) second n) (Exchanges c (step slots j first second none) me)) (sym here)
+    (subst (λ (y : Op × Word). Allows (HoldsRule C counts) slots id me (index op) (λ n. either (eqb n first) second n)
     (λ found new. Wins c (step slots (index op) first second none) me y.0 y.1 found new ⊎ Loses (step slots (index op) first second none) me found new))
     (λ k. (sym (op_at-index op) k, sym loaded.loaded k))
     (exchanges c C counts slots id me op old first second part loaded may is (becomes ∙ ap pack is_next)))

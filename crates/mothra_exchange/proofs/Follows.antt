@@ -17,7 +17,7 @@ use Rattle.mothra_exchange.specs.Answer.{offer_answer, take_answer, close_answer
 use Rattle.mothra_codes.specs.Op.{index}
 use Rattle.mothra_codes.specs.Ticket.{one_if, ticket}
 use Rattle.mothra_exchange.specs.Word.{word_after_offer, word_after_take, word_after_close}
-use Rattle.mothra_exchange.specs.Log.{word_of, offers, hands, MayFollow, IsLegal}
+use Rattle.mothra_exchange.specs.Log.{word_of, offers, hands, MayFollowEvents, IsLegalLog}
 use Rattle.mothra_exchange.proofs.Logs.{offers-more, hands-more, legal_more, stands, word-offered, word-handed, word-closed}
 use Rattle.mothra_exchange.proofs.Histories.{legal_induction, at_end}
 use Rattle.mothra_exchange.proofs.Answering.{accepted, taken, done, above}
@@ -29,7 +29,7 @@ pub record Bounded (C : ℕ) (counts : List ℕ) (log : List Event) : Type 0 whe
   pub counted : (i : ℕ) → offers i log ≤ slice_index counts i
   pub numbers : (t : Ticket) (j : ℕ) → get_elem? log j ≡ some (Offered t) → t.number ≤ offers (index t.op) log
 
-more : (C : ℕ) (counts : List ℕ) (log : List Event) (e : Event) → Bounded C counts log → MayFollow C counts log e → Bounded C counts (log ++ e ∷ [])
+more : (C : ℕ) (counts : List ℕ) (log : List Event) (e : Event) → Bounded C counts log → MayFollowEvents C counts log e → Bounded C counts (log ++ e ∷ [])
 more C counts log (Offered t) b m = record {
   handed = λ i. let o = offers-more i log (Offered t) in let h = hands-more i log (Offered t) in let p = b.handed i in omega arith;
   waiting = λ i. let o = offers-more i log (Offered t) in let h = hands-more i log (Offered t) in let p = b.waiting i in dite (ℕ_discrete (index t.op) i)
@@ -70,12 +70,12 @@ more C counts log (Closed op) b m = record {
       (at_end log (Closed op) j (Offered u) e);
 }
 
-pub bounded : (C : ℕ) (counts : List ℕ) (log : List Event) → IsLegal C counts log → Bounded C counts log
+pub bounded : (C : ℕ) (counts : List ℕ) (log : List Event) → IsLegalLog C counts log → Bounded C counts log
 bounded C counts = legal_induction C counts (Bounded C counts)
     (record { handed = λ i. omega arith; waiting = λ i. omega arith; counted = λ i. omega arith; numbers = λ t j e. absurd (some-ne-none (Offered t) (sym e)) }) (more C counts)
 
-pub offer_follows : (C : ℕ) (counts : List ℕ) (log : List Event) (t : Ticket) (w : Word) → IsLegal C counts log → w ≡ word_of counts log (index t.op) → offer_answer C t.number w ≡ Accepted
-    → IsLegal C counts (log ++ Offered t ∷ []) × (word_after_offer w ≡ word_of counts (log ++ Offered t ∷ []) (index t.op))
+pub offer_follows : (C : ℕ) (counts : List ℕ) (log : List Event) (t : Ticket) (w : Word) → IsLegalLog C counts log → w ≡ word_of counts log (index t.op) → offer_answer C t.number w ≡ Accepted
+    → IsLegalLog C counts (log ++ Offered t ∷ []) × (word_after_offer w ≡ word_of counts (log ++ Offered t ∷ []) (index t.op))
 offer_follows C counts log t w legal shows answer =
     let s = word_of counts log (index t.op) in
     let a : offer_answer C t.number s ≡ Accepted = subst (λ (x : Word). offer_answer C t.number x ≡ Accepted) shows answer in
@@ -85,8 +85,8 @@ offer_follows C counts log t w legal shows answer =
       ap word_after_offer shows ∙ sym (word-offered counts log t),
     )
 
-pub take_follows : (C : ℕ) (counts : List ℕ) (log : List Event) (op : Op) (t : Ticket) (w : Word) → IsLegal C counts log → w ≡ word_of counts log (index op) → take_answer op w ≡ Taken t
-    → IsLegal C counts (log ++ Handed t ∷ []) × (word_after_take w ≡ word_of counts (log ++ Handed t ∷ []) (index op))
+pub take_follows : (C : ℕ) (counts : List ℕ) (log : List Event) (op : Op) (t : Ticket) (w : Word) → IsLegalLog C counts log → w ≡ word_of counts log (index op) → take_answer op w ≡ Taken t
+    → IsLegalLog C counts (log ++ Handed t ∷ []) × (word_after_take w ≡ word_of counts (log ++ Handed t ∷ []) (index op))
 take_follows C counts log op t w legal shows answer =
     let s = word_of counts log (index op) in
     let a : take_answer op s ≡ Taken t = subst (λ (x : Word). take_answer op x ≡ Taken t) shows answer in
@@ -94,13 +94,13 @@ take_follows C counts log op t w legal shows answer =
     let b = bounded C counts log legal in
     let le = b.handed (index op) in
     let lt : s.handed < s.offered = above s.handed s.offered le m.1 in
-    subst (λ (x : Ticket). IsLegal C counts (log ++ Handed x ∷ []) × (word_after_take w ≡ word_of counts (log ++ Handed x ∷ []) (index op))) m.0 (
+    subst (λ (x : Ticket). IsLegalLog C counts (log ++ Handed x ∷ []) × (word_after_take w ≡ word_of counts (log ++ Handed x ∷ []) (index op))) m.0 (
       legal_more C counts [] log (Handed (ticket op (s.handed + 1))) legal (refl, stands C counts op log (s.handed + 1) legal (omega arith) (omega arith)),
       ap word_after_take shows ∙ sym (word-handed counts log (ticket op (s.handed + 1))),
     )
 
-pub close_follows : (C : ℕ) (counts : List ℕ) (log : List Event) (op : Op) (w : Word) → IsLegal C counts log → w ≡ word_of counts log (index op) → close_answer w ≡ Done
-    → IsLegal C counts (log ++ Closed op ∷ []) × (word_after_close w ≡ word_of counts (log ++ Closed op ∷ []) (index op))
+pub close_follows : (C : ℕ) (counts : List ℕ) (log : List Event) (op : Op) (w : Word) → IsLegalLog C counts log → w ≡ word_of counts log (index op) → close_answer w ≡ Done
+    → IsLegalLog C counts (log ++ Closed op ∷ []) × (word_after_close w ≡ word_of counts (log ++ Closed op ∷ []) (index op))
 close_follows C counts log op w legal shows answer =
     let s = word_of counts log (index op) in
     let is_open : s.closed ≡ false = done s (subst (λ (x : Word). close_answer x ≡ Done) shows answer) in

@@ -11,9 +11,11 @@ use Rattle.mothra_exchange.specs.declared.view.Look.{Look}
 use Rattle.mothra_exchange.specs.declared.view.View.{View}
 use Rattle.mothra_codes.specs.Op.{index}
 use Rattle.mothra_exchange.specs.Word.{AtMost, greater_word}
-use Rattle.mothra_codes.specs.Ticket.{times}
-use Rattle.mothra_exchange.specs.View.{times_closed, total, look_at, first_look, spent_view, view_after_split, split_off_view, joined_look, joined_looks, merging_view, settled_view}
-use Rattle.mothra_exchange.specs.Rule.{Knows, OpRule, IsLive, Holds, Settles}
+use Rattle.mothra_codes.specs.Ticket.{ticket_times}
+use Rattle.mothra_exchange.specs.View.{times_closed, total, look_at, first_look, spent_view, view_after_split, split_off_view, joined_look, joined_looks}
+use Rattle.mothra_exchange.specs.code.View.{merging_view, settled_view}
+use Rattle.mothra_exchange.specs.Rule.{Knows, OpRule, IsLive}
+use Rattle.mothra_exchange.specs.code.Rule.{HoldsRule, Settles}
 use Rattle.mothra_exchange.proofs.Counting.{total_set, total_has, total-snoc, times-append, times_closed-append, once_up_to-most, once_if_closed-most}
 use Rattle.mothra_codes.proofs.Operators.{index_below}
 use Rattle.mothra_exchange.proofs.Steps.{Keeps, op_keeps, lives, turns}
@@ -22,18 +24,18 @@ use Rattle.mothra_exchange.proofs.Steps.{Keeps, op_keeps, lives, turns}
 pub blank : (n : ℕ) (w : Word) → n ≡ 0 → AtMost (first_look n).seen w
 blank n w e = record { count = omega arith; offered = omega arith; handed = omega arith; close = λ c. absurd (true≢false (sym c)) }
 
-op_added : (C i n : ℕ) (w : Word) (views : List View) (u : View) → OpRule C i n w views → ((k : ℕ) → times i k u.taken ≡ 0) → ((k : ℕ) → times i k u.offered ≡ 0)
+op_added : (C i n : ℕ) (w : Word) (views : List View) (u : View) → OpRule C i n w views → ((k : ℕ) → ticket_times i k u.taken ≡ 0) → ((k : ℕ) → ticket_times i k u.offered ≡ 0)
     → ((k : ℕ) → times_closed i k u.closings ≡ 0) → Knows i u w → OpRule C i n w (views ++ u ∷ [])
 op_added C i n w views u h t o c knows = record {
   count = h.count;
   bounds = h.bounds;
-  taken = λ k. let s = total-snoc (λ x. times i k x.taken) views u in let a = h.taken k in let b = t k in omega arith;
-  offered = λ k. let s = total-snoc (λ x. times i k x.offered) views u in let a = h.offered k in let b = o k in omega arith;
+  taken = λ k. let s = total-snoc (λ x. ticket_times i k x.taken) views u in let a = h.taken k in let b = t k in omega arith;
+  offered = λ k. let s = total-snoc (λ x. ticket_times i k x.offered) views u in let a = h.offered k in let b = o k in omega arith;
   closings = λ k. let s = total-snoc (λ x. times_closed i k x.closings) views u in let a = h.closings k in let b = c k in omega arith;
   seen = λ j x e. ⊎_elim (λ was. h.seen j x was) (λ (same : u ≡ x). subst (λ (y : View). Knows i y w) same knows) (at_snoc views u x j e);
 }
 
-pub splits : {S : Type 0} (C : ℕ) (counts : List ℕ) (id : ℕ) (v : View) → 1 < v.part → Splits {S = S} (Holds C counts) id v (view_after_split v) (split_off_view v)
+pub splits : {S : Type 0} (C : ℕ) (counts : List ℕ) (id : ℕ) (v : View) → 1 < v.part → Splits {S = S} (HoldsRule C counts) id v (view_after_split v) (split_off_view v)
 splits {S} C counts id v parts s h at =
     let l = lives counts v (omega arith) (h.lives id v at) in record {
       length_is = h.length_is;
@@ -88,7 +90,7 @@ two : (f : View → ℕ) (views : List View) (id : ℕ) (v m : View) (other : �
     → f spent_view ≡ 0 → total f (set (set views id m) other spent_view) ≡ total f views
 two f views id v m other u at there sum zeroed = let a = total_set f views id v m at in let b = total_set f (set views id m) other u spent_view there in omega arith
 
-pub joins : {S : Type 0} (C : ℕ) (counts : List ℕ) (id : ℕ) (v : View) (other : ℕ) (u : View) → 0 < v.part → 0 < u.part → Joins {S = S} (Holds C counts) id v other u (merging_view v u) spent_view
+pub joins : {S : Type 0} (C : ℕ) (counts : List ℕ) (id : ℕ) (v : View) (other : ℕ) (u : View) → 0 < v.part → 0 < u.part → Joins {S = S} (HoldsRule C counts) id v other u (merging_view v u) spent_view
 joins {S} C counts id v other u part part' s h at ne there =
     let m = merging_view v u in
     let at' : get_elem? s.views other ≡ some u = ⊎_elim (λ (x : (other ≡ id) × (m ≡ u)). absurd (ne x.0)) (λ (x : (other ≢ id) × (get_elem? s.views other ≡ some u)). x.1)
@@ -110,8 +112,8 @@ joins {S} C counts id v other u part part' s h at ne there =
             record {
               count = r.count;
               bounds = r.bounds;
-              taken = λ k. two (λ x. times i k x.taken) s.views id v m other u at there (times-append i k v.taken u.taken) refl ∙ r.taken k;
-              offered = λ k. two (λ x. times i k x.offered) s.views id v m other u at there (times-append i k v.offered u.offered) refl ∙ r.offered k;
+              taken = λ k. two (λ x. ticket_times i k x.taken) s.views id v m other u at there (times-append i k v.taken u.taken) refl ∙ r.taken k;
+              offered = λ k. two (λ x. ticket_times i k x.offered) s.views id v m other u at there (times-append i k v.offered u.offered) refl ∙ r.offered k;
               closings = λ k. two (λ x. times_closed i k x.closings) s.views id v m other u at there (times_closed-append i k v.closings u.closings) refl ∙ r.closings k;
               seen = λ j y e. ⊎_elim
                   (λ (x : (j ≡ other) × (spent_view ≡ y)). subst (λ (z : View). Knows i z w) x.1 (blank 0 w refl, blank 0 w refl, blank 0 w refl))
@@ -140,7 +142,7 @@ joins {S} C counts id v other u part part' s h at ne there =
 settled_keeps : (i : ℕ) (v : View) → Keeps i v (settled_view v)
 settled_keeps i v = record { taken = λ k. refl; offered = λ k. refl; closings = λ k. refl; knows = λ w k. (k.0, blank 0 w refl, blank 0 w refl) }
 
-pub settles : {S : Type 0} (C : ℕ) (counts : List ℕ) (slots id : ℕ) (me : Me S View) → 0 < me.0.part → Allows (Holds C counts) slots id me 0 (λ n. n) (Settles C (step slots 0 0 0 none) me)
+pub settles : {S : Type 0} (C : ℕ) (counts : List ℕ) (slots id : ℕ) (me : Me S View) → 0 < me.0.part → Allows (HoldsRule C counts) slots id me 0 (λ n. n) (Settles C (step slots 0 0 0 none) me)
 settles {S} C counts slots id me part s h homes at small =
     let v = me.0 in
     let was = h.ops Aar in (
@@ -158,8 +160,8 @@ settles {S} C counts slots id me part s h homes at small =
               record {
                 bounds = r.2.bounds;
                 knows = r.2.seen id v at;
-                taken = λ k. let t = total_has (λ x. times i k x.taken) s.views id v at in let a = r.2.taken k in let b = once_up_to-most r.0.handed k in omega arith;
-                offered = λ k. let t = total_has (λ x. times i k x.offered) s.views id v at in let a = r.2.offered k in let b = once_up_to-most r.0.offered k in omega arith;
+                taken = λ k. let t = total_has (λ x. ticket_times i k x.taken) s.views id v at in let a = r.2.taken k in let b = once_up_to-most r.0.handed k in omega arith;
+                offered = λ k. let t = total_has (λ x. ticket_times i k x.offered) s.views id v at in let a = r.2.offered k in let b = once_up_to-most r.0.offered k in omega arith;
                 closings = λ k. let t = total_has (λ x. times_closed i k x.closings) s.views id v at in let a = r.2.closings k in let b = once_if_closed-most r.0 k in omega arith;
               },
             )),

@@ -12,11 +12,11 @@ use Rattle.mothra_exchange.specs.declared.log.Event.{Event}
 use Rattle.mothra_exchange.specs.declared.log.Event.TheVariants.{Offered, Handed, Closed}
 use Rattle.mothra_codes.specs.Op.{index}
 use Rattle.mothra_codes.specs.Ticket.{one_if}
-use Rattle.mothra_exchange.specs.Log.{closes_in, hands, closes, MayFollow, IsLegalAfter, IsLegal, taken_of, taken_in, one_to}
+use Rattle.mothra_exchange.specs.Log.{closes_in, hands, closes, MayFollowEvents, IsLegalAfter, IsLegalLog, taken_of, taken_in, one_to}
 use Rattle.mothra_exchange.proofs.Logs.{append-cons, append-nil, hands-more}
 
-pub legal_induction : (C : ℕ) (counts : List ℕ) (P : List Event → Type 0) → P [] → ((log : List Event) (e : Event) → P log → MayFollow C counts log e → P (log ++ e ∷ []))
-    → (log : List Event) → IsLegal C counts log → P log
+pub legal_induction : (C : ℕ) (counts : List ℕ) (P : List Event → Type 0) → P [] → ((log : List Event) (e : Event) → P log → MayFollowEvents C counts log e → P (log ++ e ∷ []))
+    → (log : List Event) → IsLegalLog C counts log → P log
 legal_induction C counts P base more log h = go [] log base h
   where
     go : (pre es : List Event) → P pre → IsLegalAfter C counts pre es → P (pre ++ es)
@@ -36,10 +36,10 @@ taken-more i [] e = numbers-nil (taken_of i e)
 taken-more i (x ∷ xs) e = ap (λ (l : List ℕ). taken_of i x ++ l) (taken-more i xs e) ∙ sym (numbers-assoc (taken_of i x) (taken_in i xs) (taken_of i e))
 
 -- the numbers taken are 1 to h, in order
-pub in_order : (C : ℕ) (counts : List ℕ) (i : ℕ) (log : List Event) → IsLegal C counts log → taken_in i log ≡ one_to (hands i log)
+pub in_order : (C : ℕ) (counts : List ℕ) (i : ℕ) (log : List Event) → IsLegalLog C counts log → taken_in i log ≡ one_to (hands i log)
 in_order C counts i = legal_induction C counts (λ log. taken_in i log ≡ one_to (hands i log)) refl more
   where
-    more : (log : List Event) (e : Event) → taken_in i log ≡ one_to (hands i log) → MayFollow C counts log e → taken_in i (log ++ e ∷ []) ≡ one_to (hands i (log ++ e ∷ []))
+    more : (log : List Event) (e : Event) → taken_in i log ≡ one_to (hands i log) → MayFollowEvents C counts log e → taken_in i (log ++ e ∷ []) ≡ one_to (hands i (log ++ e ∷ []))
     more log (Offered t) p m = let h = hands-more i log (Offered t) in let same : hands i log ≡ hands i (log ++ (Offered t) ∷ []) = omega arith in
         taken-more i log (Offered t) ∙ numbers-nil (taken_in i log) ∙ p ∙ ap one_to same
     more log (Closed o) p m = let h = hands-more i log (Closed o) in let same : hands i log ≡ hands i (log ++ (Closed o) ∷ []) = omega arith in
@@ -82,19 +82,21 @@ closed_at (x ∷ xs) zero op h = subst (λ (e : Event). (closes_in (index op) e 
 closed_at (x ∷ xs) (suc j) op h = ap (λ (b : Bool). closes_in (index op) x || b) (closed_at xs j op h) ∙ or_true (closes_in (index op) x)
 
 -- no ticket is offered after its operator was closed
-pub none_after : (C : ℕ) (counts : List ℕ) (log : List Event) → IsLegal C counts log → (j k : ℕ) (op : Op) (t : Ticket) → get_elem? log j ≡ some (Closed op)
+pub none_after : (C : ℕ) (counts : List ℕ) (log : List Event) → IsLegalLog C counts log → (j k : ℕ) (op : Op) (t : Ticket) → get_elem? log j ≡ some (Closed op)
     → get_elem? log k ≡ some (Offered t) → t.op ≡ op → k < j
 none_after C counts = legal_induction C counts (λ log. (j k : ℕ) (op : Op) (t : Ticket) → get_elem? log j ≡ some (Closed op) → get_elem? log k ≡ some (Offered t) → t.op ≡ op → k < j)
     (λ j k op t c o e. absurd (some-ne-none (Closed op) (sym c)))
     more
   where
-    more : (log : List Event) (e : Event) → ((j k : ℕ) (op : Op) (t : Ticket) → get_elem? log j ≡ some (Closed op) → get_elem? log k ≡ some (Offered t) → t.op ≡ op → k < j) → MayFollow C counts log e
+    more : (log : List Event) (e : Event)
+        → ((j k : ℕ) (op : Op) (t : Ticket) → get_elem? log j ≡ some (Closed op) → get_elem? log k ≡ some (Offered t) → t.op ≡ op → k < j)
+        → MayFollowEvents C counts log e
         → (j k : ℕ) (op : Op) (t : Ticket) → get_elem? (log ++ e ∷ []) j ≡ some (Closed op) → get_elem? (log ++ e ∷ []) k ≡ some (Offered t) → t.op ≡ op → k < j
     more log e p m j k op t c o same = ⊎_elim
         (λ (c' : get_elem? log j ≡ some (Closed op)). ⊎_elim
         (λ (o' : get_elem? log k ≡ some (Offered t)). p j k op t c' o' same)
         (λ (o' : (k ≡ length log) × (e ≡ Offered t)).
-        let may : MayFollow C counts log (Offered t) = subst (MayFollow C counts log) o'.1 m in
+        let may : MayFollowEvents C counts log (Offered t) = subst (MayFollowEvents C counts log) o'.1 m in
         let shut : closes (index t.op) log ≡ true = subst (λ (x : Op). closes (index x) log ≡ true) (sym same) (closed_at log j op c') in
         absurd (true≢false (sym shut ∙ may.2)))
         (at_end log e k (Offered t) o))
@@ -105,7 +107,7 @@ none_after C counts = legal_induction C counts (λ log. (j k : ℕ) (op : Op) (t
         (at_end log e j (Closed op) c)
 
 -- a log is legal for any counts that the operators have
-may_follow : (C : ℕ) (a b : List ℕ) → ((op : Op) → slice_index a (index op) ≡ slice_index b (index op)) → (log : List Event) (e : Event) → MayFollow C a log e → MayFollow C b log e
+may_follow : (C : ℕ) (a b : List ℕ) → ((op : Op) → slice_index a (index op) ≡ slice_index b (index op)) → (log : List Event) (e : Event) → MayFollowEvents C a log e → MayFollowEvents C b log e
 may_follow C a b same log (Offered t) m = let s = same t.op in let le = m.1 in (m.0, omega arith, m.2, m.3)
 may_follow C a b same log (Handed t) m = m
 may_follow C a b same log (Closed op) m = m

@@ -15,12 +15,13 @@ use Rattle.mothra_exchange.specs.declared.log.Event.TheVariants.{Offered, Handed
 use Rattle.mothra_exchange.specs.declared.answer.Offer.TheVariants.{Accepted}
 use Rattle.mothra_exchange.specs.declared.answer.Take.TheVariants.{Taken}
 use Rattle.mothra_exchange.specs.declared.answer.Close.TheVariants.{Done}
-use Rattle.mothra_codes.specs.Op.{index, op_at}
+use Rattle.mothra_codes.specs.Op.{index}
+use Rattle.mothra_codes.specs.code.Op.{op_at}
 use Rattle.mothra_exchange.specs.Word.{bit, InBounds, opening_word, word_after_offer, word_after_take, word_after_close}
 use Rattle.mothra_codes.specs.Ticket.{one_if, ticket}
-use Rattle.mothra_exchange.specs.Log.{offers_in, hands_in, closes_in, offers, hands, closes, word_of, Stands, MayFollow, IsLegalAfter, IsLegal}
+use Rattle.mothra_exchange.specs.Log.{offers_in, hands_in, closes_in, offers, hands, closes, word_of, IsOffered, MayFollowEvents, IsLegalAfter, IsLegalLog}
 use Rattle.mothra_exchange.specs.Answer.{offer_answer, take_answer, close_answer}
-use Rattle.mothra_exchange.specs.State.{History, history, used_by, used, room, counts_of, Keeps}
+use Rattle.mothra_exchange.specs.State.{History, history, used_by, words_used, room, counts_of, KeepsLog}
 use Rattle.mothra_exchange.proofs.Answering.{accepted, taken, done, above}
 use Rattle.mothra_exchange.proofs.Counting.{get_or-set_there, get_or-set_else}
 use Rattle.mothra_codes.proofs.Operators.{index_below, index-op_at, same_op}
@@ -57,18 +58,18 @@ pub append-nil : (xs : List Event) → xs ++ [] ≡ xs
 append-nil [] = refl
 append-nil (x ∷ xs) = ap (λ (l : List Event). x ∷ l) (append-nil xs)
 
-pub legal_more : (C : ℕ) (counts : List ℕ) (pre es : List Event) (e : Event) → IsLegalAfter C counts pre es → MayFollow C counts (pre ++ es) e → IsLegalAfter C counts pre (es ++ e ∷ [])
-legal_more C counts pre [] e h m = (subst (λ (l : List Event). MayFollow C counts l e) (append-nil pre) m, tt)
-legal_more C counts pre (x ∷ xs) e h m = (h.0, legal_more C counts (pre ++ x ∷ []) xs e h.1 (subst (λ (l : List Event). MayFollow C counts l e) (sym (append-cons pre x xs)) m))
+pub legal_more : (C : ℕ) (counts : List ℕ) (pre es : List Event) (e : Event) → IsLegalAfter C counts pre es → MayFollowEvents C counts (pre ++ es) e → IsLegalAfter C counts pre (es ++ e ∷ [])
+legal_more C counts pre [] e h m = (subst (λ (l : List Event). MayFollowEvents C counts l e) (append-nil pre) m, tt)
+legal_more C counts pre (x ∷ xs) e h m = (h.0, legal_more C counts (pre ++ x ∷ []) xs e h.1 (subst (λ (l : List Event). MayFollowEvents C counts l e) (sym (append-cons pre x xs)) m))
 
 -- the numbers offered so far stand in the log
 abbrev AllStand : Op → List Event → Type 0
-AllStand op log = (k : ℕ) → 0 < k → k ≤ offers (index op) log → Stands (ticket op k) log
+AllStand op log = (k : ℕ) → 0 < k → k ≤ offers (index op) log → IsOffered (ticket op k) log
 
-longer : (t : Ticket) (log es : List Event) → Stands t log → Stands t (log ++ es)
+longer : (t : Ticket) (log es : List Event) → IsOffered t log → IsOffered t (log ++ es)
 longer t log es s = (s.0, at_longer log es s.0 (Offered t) s.1)
 
-stand_more : (C : ℕ) (counts : List ℕ) (op : Op) (log : List Event) (e : Event) → AllStand op log → MayFollow C counts log e → AllStand op (log ++ e ∷ [])
+stand_more : (C : ℕ) (counts : List ℕ) (op : Op) (log : List Event) (e : Event) → AllStand op log → MayFollowEvents C counts log e → AllStand op (log ++ e ∷ [])
 stand_more C counts op log (Offered t) all may k pos le = dite (ℕ_discrete (index t.op) (index op))
     (λ same. dite (dec_le k (offers (index op) log))
     (λ old. longer (ticket op k) log (Offered t ∷ []) (all k pos old))
@@ -90,7 +91,7 @@ all_stand : (C : ℕ) (counts : List ℕ) (op : Op) (pre es : List Event) → Al
 all_stand C counts op pre [] all h = subst (AllStand op) (sym (append-nil pre)) all
 all_stand C counts op pre (x ∷ xs) all h = subst (AllStand op) (append-cons pre x xs) (all_stand C counts op (pre ++ x ∷ []) xs (stand_more C counts op pre x all h.0) h.1)
 
-pub stands : (C : ℕ) (counts : List ℕ) (op : Op) (log : List Event) (k : ℕ) → IsLegal C counts log → 0 < k → k ≤ offers (index op) log → Stands (ticket op k) log
+pub stands : (C : ℕ) (counts : List ℕ) (op : Op) (log : List Event) (k : ℕ) → IsLegalLog C counts log → 0 < k → k ≤ offers (index op) log → IsOffered (ticket op k) log
 stands C counts op log k h pos le = all_stand C counts op [] log (λ j p l. absurd (omega arith)) h k pos le
 
 -- the words of a log that grew
@@ -136,7 +137,7 @@ word-other counts log (Closed op) i ne =
     word_equal _ _ refl (omega arith) (omega arith) (closes-more i log (Closed op) ∙ ap (λ (b : Bool). closes i log || b) (ne_eqb (index op) i (λ e. ne (sym e))) ∙ or-false (closes i log))
 
 -- sums over the words
-pub used_set : (ws : List Word) (i : ℕ) (w : Word) → i < length ws → used (set ws i w) + used_by (get_or ws i (opening_word 0)) ≡ used ws + used_by w
+pub used_set : (ws : List Word) (i : ℕ) (w : Word) → i < length ws → words_used (set ws i w) + used_by (get_or ws i (opening_word 0)) ≡ words_used ws + used_by w
 used_set [] i w h = absurd (omega arith)
 used_set (x ∷ xs) zero w h = omega arith
 used_set (x ∷ xs) (suc i) w h = let r = used_set xs i w (omega arith) in omega arith
@@ -158,17 +159,17 @@ used_most C w b = let c = bit_most w.closed in omega arith
     bit_most true = omega arith
     bit_most false = omega arith
 
-used_at_most : (C : ℕ) (ws : List Word) → ((j : ℕ) → j < length ws → InBounds C (get_or ws j (opening_word 0))) → used ws ≤ room ws
+used_at_most : (C : ℕ) (ws : List Word) → ((j : ℕ) → j < length ws → InBounds C (get_or ws j (opening_word 0))) → words_used ws ≤ room ws
 used_at_most C [] h = omega arith
 used_at_most C (x ∷ xs) h = let a = used_most C x (h zero (omega arith)) in let r = used_at_most C xs (λ j l. h (suc j) (omega arith)) in omega arith
 
 used_below : (C : ℕ) (ws : List Word) (i : ℕ) → ((j : ℕ) → j < length ws → InBounds C (get_or ws j (opening_word 0))) → i < length ws
-    → used_by (get_or ws i (opening_word 0)) < 2 * (get_or ws i (opening_word 0)).count + 1 → used ws < room ws
+    → used_by (get_or ws i (opening_word 0)) < 2 * (get_or ws i (opening_word 0)).count + 1 → words_used ws < room ws
 used_below C [] i h l u = absurd (omega arith)
 used_below C (x ∷ xs) zero h l u = let r = used_at_most C xs (λ j m. h (suc j) (omega arith)) in omega arith
 used_below C (x ∷ xs) (suc i) h l u = let a = used_most C x (h zero (omega arith)) in let r = used_below C xs i (λ j m. h (suc j) (omega arith)) (omega arith) u in omega arith
 
-pub has_room : (C : ℕ) (ws : List Word) (log : List Event) (capacity : ℕ) (op : Op) → Keeps C ws log capacity
+pub has_room : (C : ℕ) (ws : List Word) (log : List Event) (capacity : ℕ) (op : Op) → KeepsLog C ws log capacity
     → used_by (get_or ws (index op) (opening_word 0)) < 2 * (get_or ws (index op) (opening_word 0)).count + 1 → length log < capacity
 has_room C ws log capacity op k u =
     let n = k.length_is in
@@ -178,16 +179,16 @@ has_room C ws log capacity op k u =
     let r = used_below C ws (index op) (λ j l. subst (λ (i : ℕ). InBounds C (get_or ws i (opening_word 0))) (index-op_at j (omega arith)) (k.bounds (op_at j))) (omega arith) u in omega arith
 
 -- one event more
-pub grows : (C : ℕ) (ws : List Word) (log : List Event) (capacity capacity' : ℕ) (e : Event) (w : Word) → Keeps C ws log capacity → capacity ≤ capacity' → MayFollow C (counts_of ws) log e
+pub grows : (C : ℕ) (ws : List Word) (log : List Event) (capacity capacity' : ℕ) (e : Event) (w : Word) → KeepsLog C ws log capacity → capacity ≤ capacity' → MayFollowEvents C (counts_of ws) log e
     → w.count ≡ (get_or ws (index (op_of e)) (opening_word 0)).count → w ≡ word_of (counts_of ws) (log ++ e ∷ []) (index (op_of e)) → InBounds C w
     → used_by w ≡ used_by (get_or ws (index (op_of e)) (opening_word 0)) + 1
-    → Keeps C (set ws (index (op_of e)) w) (log ++ e ∷ []) capacity'
+    → KeepsLog C (set ws (index (op_of e)) w) (log ++ e ∷ []) capacity'
 grows C ws log capacity capacity' e w k le may count is bounds one =
     let i = index (op_of e) in
     let n = k.length_is in
     let small : i < length ws = let b = index_below (op_of e) in omega arith in
     let same = counts_set ws i w count small in record {
-      legal = subst (λ (c : List ℕ). IsLegal C c (log ++ e ∷ [])) (sym same) (legal_more C (counts_of ws) [] log e k.legal may);
+      legal = subst (λ (c : List ℕ). IsLegalLog C c (log ++ e ∷ [])) (sym same) (legal_more C (counts_of ws) [] log e k.legal may);
       shows = λ o. subst (λ (c : List ℕ). get_or (set ws i w) (index o) (opening_word 0) ≡ word_of c (log ++ e ∷ []) (index o)) (sym same) (dite (ℕ_discrete (index o) i)
           (λ q. subst (λ (j : ℕ). get_or (set ws i w) j (opening_word 0) ≡ word_of (counts_of ws) (log ++ e ∷ []) j) (sym q) (get_or-set_there ws i w (opening_word 0) small ∙ is))
           (λ ne. get_or-set_else ws i (index o) w (opening_word 0) ne ∙ k.shows o ∙ sym (word-other (counts_of ws) log e (index o) ne)));
@@ -200,11 +201,11 @@ grows C ws log capacity capacity' e w k le may count is bounds one =
     }
 
 -- what each call leaves
-pub offer_keeps : (C : ℕ) (ws : List Word) (log log' : List Event) (capacity capacity' : ℕ) (t : Ticket) (i : ℕ) → i ≡ index t.op → Keeps C ws log capacity → capacity ≤ capacity'
+pub offer_keeps : (C : ℕ) (ws : List Word) (log log' : List Event) (capacity capacity' : ℕ) (t : Ticket) (i : ℕ) → i ≡ index t.op → KeepsLog C ws log capacity → capacity ≤ capacity'
     → log' ≡ log ++ Offered t ∷ [] → offer_answer C t.number (get_or ws i (opening_word 0)) ≡ Accepted
-    → Keeps C (set ws i (word_after_offer (get_or ws i (opening_word 0)))) log' capacity'
+    → KeepsLog C (set ws i (word_after_offer (get_or ws i (opening_word 0)))) log' capacity'
 offer_keeps C ws log log' capacity capacity' t i here k le is answer =
-    subst (λ (j : ℕ). offer_answer C t.number (get_or ws j (opening_word 0)) ≡ Accepted → Keeps C (set ws j (word_after_offer (get_or ws j (opening_word 0)))) log' capacity') (sym here)
+    subst (λ (j : ℕ). offer_answer C t.number (get_or ws j (opening_word 0)) ≡ Accepted → KeepsLog C (set ws j (word_after_offer (get_or ws j (opening_word 0)))) log' capacity') (sym here)
     (λ answer.
     let w = get_or ws (index t.op) (opening_word 0) in
     let b = k.bounds t.op in
@@ -217,17 +218,17 @@ offer_keeps C ws log log' capacity capacity' t i here k le is answer =
     let within : t.number ≤ w.count = a.1 in
     let turn : t.number ≡ w.offered + 1 = a.2 in
     let few : w.offered < w.handed + C = a.3 b.waiting in
-    subst (λ (l : List Event). Keeps C (set ws (index t.op) (word_after_offer w)) l capacity') (sym is)
+    subst (λ (l : List Event). KeepsLog C (set ws (index t.op) (word_after_offer w)) l capacity') (sym is)
     (grows C ws log capacity capacity' (Offered t) (word_after_offer w) k le (omega arith, omega arith, sym c ∙ a.0, omega arith) refl
     (ap word_after_offer shown ∙ sym (word-offered (counts_of ws) log t))
     (record { handed = omega arith; offered = omega arith; waiting = omega arith; count = omega arith }) (omega arith)))
     answer
 
-pub take_keeps : (C : ℕ) (ws : List Word) (log log' : List Event) (capacity capacity' : ℕ) (op : Op) (t : Ticket) (i : ℕ) → i ≡ index op → Keeps C ws log capacity → capacity ≤ capacity'
+pub take_keeps : (C : ℕ) (ws : List Word) (log log' : List Event) (capacity capacity' : ℕ) (op : Op) (t : Ticket) (i : ℕ) → i ≡ index op → KeepsLog C ws log capacity → capacity ≤ capacity'
     → log' ≡ log ++ Handed t ∷ [] → take_answer op (get_or ws i (opening_word 0)) ≡ Taken t
-    → Keeps C (set ws i (word_after_take (get_or ws i (opening_word 0)))) log' capacity'
+    → KeepsLog C (set ws i (word_after_take (get_or ws i (opening_word 0)))) log' capacity'
 take_keeps C ws log log' capacity capacity' op t i here k le is answer =
-    subst (λ (j : ℕ). take_answer op (get_or ws j (opening_word 0)) ≡ Taken t → Keeps C (set ws j (word_after_take (get_or ws j (opening_word 0)))) log' capacity') (sym here)
+    subst (λ (j : ℕ). take_answer op (get_or ws j (opening_word 0)) ≡ Taken t → KeepsLog C (set ws j (word_after_take (get_or ws j (opening_word 0)))) log' capacity') (sym here)
     (λ answer.
     let w = get_or ws (index op) (opening_word 0) in
     let n = w.handed + 1 in
@@ -237,17 +238,17 @@ take_keeps C ws log log' capacity capacity' op t i here k le is answer =
     let o : w.offered ≡ offers (index op) log = ap (λ (x : Word). x.offered) shown in
     let h : w.handed ≡ hands (index op) log = ap (λ (x : Word). x.handed) shown in
     let left : w.handed < w.offered = above w.handed w.offered b.handed a.1 in
-    subst (λ (l : List Event). Keeps C (set ws (index op) (word_after_take w)) l capacity') (sym (is ∙ ap (λ (x : Ticket). log ++ Handed x ∷ []) (sym a.0)))
+    subst (λ (l : List Event). KeepsLog C (set ws (index op) (word_after_take w)) l capacity') (sym (is ∙ ap (λ (x : Ticket). log ++ Handed x ∷ []) (sym a.0)))
     (grows C ws log capacity capacity' (Handed (ticket op n)) (word_after_take w) k le (omega arith, stands C (counts_of ws) op log n k.legal (omega arith) (omega arith)) refl
     (ap word_after_take shown ∙ sym (word-handed (counts_of ws) log (ticket op n)))
     (record { handed = omega arith; offered = omega arith; waiting = omega arith; count = omega arith }) (omega arith)))
     answer
 
-pub close_keeps : (C : ℕ) (ws : List Word) (log log' : List Event) (capacity capacity' : ℕ) (op : Op) (i : ℕ) → i ≡ index op → Keeps C ws log capacity → capacity ≤ capacity'
+pub close_keeps : (C : ℕ) (ws : List Word) (log log' : List Event) (capacity capacity' : ℕ) (op : Op) (i : ℕ) → i ≡ index op → KeepsLog C ws log capacity → capacity ≤ capacity'
     → log' ≡ log ++ Closed op ∷ [] → close_answer (get_or ws i (opening_word 0)) ≡ Done
-    → Keeps C (set ws i (word_after_close (get_or ws i (opening_word 0)))) log' capacity'
+    → KeepsLog C (set ws i (word_after_close (get_or ws i (opening_word 0)))) log' capacity'
 close_keeps C ws log log' capacity capacity' op i here k le is answer =
-    subst (λ (j : ℕ). close_answer (get_or ws j (opening_word 0)) ≡ Done → Keeps C (set ws j (word_after_close (get_or ws j (opening_word 0)))) log' capacity') (sym here)
+    subst (λ (j : ℕ). close_answer (get_or ws j (opening_word 0)) ≡ Done → KeepsLog C (set ws j (word_after_close (get_or ws j (opening_word 0)))) log' capacity') (sym here)
     (λ answer.
     let w = get_or ws (index op) (opening_word 0) in
     let is_open : w.closed ≡ false = done w answer in
@@ -255,7 +256,7 @@ close_keeps C ws log log' capacity capacity' op i here k le is answer =
     let shown = k.shows op in
     let c : w.closed ≡ closes (index op) log = ap (λ (x : Word). x.closed) shown in
     let z : bit w.closed ≡ 0 = ap bit is_open in
-    subst (λ (l : List Event). Keeps C (set ws (index op) (word_after_close w)) l capacity') (sym is)
+    subst (λ (l : List Event). KeepsLog C (set ws (index op) (word_after_close w)) l capacity') (sym is)
     (grows C ws log capacity capacity' (Closed op) (word_after_close w) k le (sym c ∙ is_open) refl
     (ap word_after_close shown ∙ sym (word-closed (counts_of ws) log op))
     (record { handed = omega arith; offered = omega arith; waiting = omega arith; count = omega arith }) (omega arith)))
@@ -268,7 +269,7 @@ view_more ws i w log log' events e v is small count more same =
     let q = more ∙ ap (λ (x : History). x.events ++ e ∷ []) is ∙ sym same in λ j. history (p j) (q j)
 
 -- there is room for the event of a call that wins
-fits_one : (C : ℕ) (ws : List Word) (log : List Event) (capacity : ℕ) (op : Op) (i : ℕ) → i ≡ index op → Keeps C ws log capacity
+fits_one : (C : ℕ) (ws : List Word) (log : List Event) (capacity : ℕ) (op : Op) (i : ℕ) → i ≡ index op → KeepsLog C ws log capacity
     → ((get_or ws i (opening_word 0)).closed ≡ false) ⊎ ((get_or ws i (opening_word 0)).handed ≢ (get_or ws i (opening_word 0)).offered) → length log < capacity
 fits_one C ws log capacity op i here k more = has_room C ws log capacity op k (spare C (get_or ws (index op) (opening_word 0)) (k.bounds op)
     (subst (λ (j : ℕ). ((get_or ws j (opening_word 0)).closed ≡ false) ⊎ ((get_or ws j (opening_word 0)).handed ≢ (get_or ws j (opening_word 0)).offered)) here more))
@@ -280,14 +281,14 @@ fits_one C ws log capacity op i here k more = has_room C ws log capacity op k (s
     spare : (C : ℕ) (w : Word) → InBounds C w → (w.closed ≡ false) ⊎ (w.handed ≢ w.offered) → used_by w < 2 * w.count + 1
     spare C w b more = ⊎_elim (λ (e : w.closed ≡ false). let z : bit w.closed ≡ 0 = ap bit e in omega arith) (λ (ne : w.handed ≢ w.offered). let z = bit_most w.closed in omega arith) more
 
-pub fits_offer : (C : ℕ) (ws : List Word) (log : List Event) (capacity k : ℕ) (op : Op) (i : ℕ) → i ≡ index op → Keeps C ws log capacity
+pub fits_offer : (C : ℕ) (ws : List Word) (log : List Event) (capacity k : ℕ) (op : Op) (i : ℕ) → i ≡ index op → KeepsLog C ws log capacity
     → offer_answer C k (get_or ws i (opening_word 0)) ≡ Accepted → length log < capacity
 fits_offer C ws log capacity k op i here keeps answer = fits_one C ws log capacity op i here keeps (inl (accepted C k (get_or ws i (opening_word 0)) answer).0)
 
-pub fits_take : (C : ℕ) (ws : List Word) (log : List Event) (capacity : ℕ) (op : Op) (t : Ticket) (i : ℕ) → i ≡ index op → Keeps C ws log capacity
+pub fits_take : (C : ℕ) (ws : List Word) (log : List Event) (capacity : ℕ) (op : Op) (t : Ticket) (i : ℕ) → i ≡ index op → KeepsLog C ws log capacity
     → take_answer op (get_or ws i (opening_word 0)) ≡ Taken t → length log < capacity
 fits_take C ws log capacity op t i here keeps answer = fits_one C ws log capacity op i here keeps (inr (taken op t (get_or ws i (opening_word 0)) answer).1)
 
-pub fits_close : (C : ℕ) (ws : List Word) (log : List Event) (capacity : ℕ) (op : Op) (i : ℕ) → i ≡ index op → Keeps C ws log capacity
+pub fits_close : (C : ℕ) (ws : List Word) (log : List Event) (capacity : ℕ) (op : Op) (i : ℕ) → i ≡ index op → KeepsLog C ws log capacity
     → close_answer (get_or ws i (opening_word 0)) ≡ Done → length log < capacity
 fits_close C ws log capacity op i here keeps answer = fits_one C ws log capacity op i here keeps (inl (done (get_or ws i (opening_word 0)) answer))

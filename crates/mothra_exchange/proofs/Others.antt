@@ -13,7 +13,7 @@ use Rattle.mothra_exchange.specs.declared.answer.Take.TheVariants.{Finished, Emp
 use Rattle.mothra_exchange.specs.declared.answer.Close.{Close}
 use Rattle.mothra_exchange.specs.declared.answer.Close.TheVariants.{Already, Busy as CloseBusy, Done, GaveUp as CloseGaveUp}
 use Rattle.mothra_codes.specs.Ticket.{one_if, is_ticket, ticket}
-use Rattle.mothra_exchange.specs.View.{closing, is_closing, first_look, look_at, with_look, view_after_load, view_after_finding, view_after_take, view_after_offer, view_after_close}
+use Rattle.mothra_exchange.specs.View.{closing, closes_operator, first_look, look_at, with_look, view_after_load, view_after_finding, view_after_take, view_after_offer, view_after_close}
 use Rattle.mothra_exchange.specs.Calls.{LostTo, OfferDid, TakeDid, CloseDid}
 use Rattle.mothra_exchange.specs.Law.{ChangesOnly}
 use Rattle.mothra_exchange.proofs.Counting.{times-more, times_closed-more, is_ticket-other, is_closing-other, get_or-set_else}
@@ -48,7 +48,7 @@ not_more : (op o : Op) (n k : ℕ) → o ≢ op → one_if (is_ticket (index o) 
 not_more op o n k ne = ap one_if (is_ticket-other op (index o) n k (λ e. ne (same_op o op e)))
 
 -- nor is a closing
-not_closed_more : (op o : Op) (n k : ℕ) → o ≢ op → one_if (is_closing (index o) k (closing op n)) ≡ 0
+not_closed_more : (op o : Op) (n k : ℕ) → o ≢ op → one_if (closes_operator (index o) k (closing op n)) ≡ 0
 not_closed_more op o n k ne = ap one_if (is_closing-other op (index o) n k (λ e. ne (same_op o op e)))
 
 only_offer : (op : Op) (v : View) (w : Word) → ChangesOnly op v (view_after_offer v op w)

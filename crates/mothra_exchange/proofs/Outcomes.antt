@@ -5,16 +5,17 @@ use Rattle.atomic_table.specs.Table.{Me, step}
 use Rattle.mothra_codes.specs.declared.op.Op.{Op}
 use Rattle.mothra_exchange.specs.declared.word.Word.{Word}
 use Rattle.mothra_exchange.specs.declared.view.View.{View}
-use Rattle.mothra_codes.specs.Op.{index, op_at}
+use Rattle.mothra_codes.specs.Op.{index}
+use Rattle.mothra_codes.specs.code.Op.{op_at}
 use Rattle.mothra_codes.proofs.Operators.{op_at-index}
 use Rattle.mothra_exchange.specs.Word.{pack, AtMost}
 use Rattle.mothra_exchange.specs.View.{look_at, view_after_finding}
-use Rattle.mothra_exchange.specs.Exchange.{Change, IsNew, view_after, Exchanges}
+use Rattle.mothra_exchange.specs.code.Exchange.{ChangeOfTable, IsNewChange, view_after, Exchanges}
 use Rattle.mothra_exchange.specs.Calls.{LostTo}
 use Rattle.mothra_exchange.proofs.Exchanges.{change_apart}
 
 -- in either case
-pub stays : {S : Type 0} (c : Change) (i slots first second found : ℕ) (me new : Me S View) → Exchanges c (step slots i first second none) me found new
+pub stays : {S : Type 0} (c : ChangeOfTable) (i slots first second found : ℕ) (me new : Me S View) → Exchanges c (step slots i first second none) me found new
     → (new.1 ≡ me.1) × (new.0.part ≡ me.0.part) × (length new.0.looks ≡ length me.0.looks)
 stays {S} c i slots first second found me new told = ⊎_elim
     (λ t. let a = change_apart c (op_at i) me.0 (look_at me.0 i).loaded in (
@@ -30,17 +31,17 @@ stays {S} c i slots first second found me new told = ⊎_elim
     told
 
 -- it won where it found what it expected
-pub won : {S : Type 0} (c : Change) (op : Op) (i slots first second found : ℕ) (me new : Me S View) (w : Word) → i ≡ index op → (look_at me.0 (index op)).loaded ≡ w
-    → found ≡ first → Exchanges c (step slots i first second none) me found new → IsNew c me.0 op w × (new.0 ≡ view_after c me.0 op w)
+pub won : {S : Type 0} (c : ChangeOfTable) (op : Op) (i slots first second found : ℕ) (me new : Me S View) (w : Word) → i ≡ index op → (look_at me.0 (index op)).loaded ≡ w
+    → found ≡ first → Exchanges c (step slots i first second none) me found new → IsNewChange c me.0 op w × (new.0 ≡ view_after c me.0 op w)
 won {S} c op i slots first second found me new w here loaded hit told = ⊎_elim
-    (λ t. subst (λ (y : Op × Word). IsNew c me.0 y.0 y.1 × (new.0 ≡ view_after c me.0 y.0 y.1))
+    (λ t. subst (λ (y : Op × Word). IsNewChange c me.0 y.0 y.1 × (new.0 ≡ view_after c me.0 y.0 y.1))
     (λ k. ((ap op_at here ∙ op_at-index op) k, (ap (λ (j : ℕ). (look_at me.0 j).loaded) here ∙ loaded) k))
     (t.1, ap (λ (m : Me S View). m.0) t.2))
     (λ t. absurd (t.2 hit))
     told
 
 -- and else it was lost
-pub lost : {S : Type 0} (c : Change) (op : Op) (i slots first second found : ℕ) (me new : Me S View) (w : Word) → i ≡ index op → (look_at me.0 (index op)).loaded ≡ w
+pub lost : {S : Type 0} (c : ChangeOfTable) (op : Op) (i slots first second found : ℕ) (me new : Me S View) (w : Word) → i ≡ index op → (look_at me.0 (index op)).loaded ≡ w
     → first ≡ pack w → found ≢ first → Exchanges c (step slots i first second none) me found new → LostTo me.0 op w new.0
 lost {S} c op i slots first second found me new w here loaded is miss told = ⊎_elim
     (λ t. absurd (miss t.0))

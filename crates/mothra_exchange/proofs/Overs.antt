@@ -11,8 +11,10 @@ use Rattle.mothra_exchange.specs.declared.answer.Take.TheVariants.{Finished, Emp
 use Rattle.mothra_codes.specs.Op.{index}
 use Rattle.mothra_codes.specs.Ticket.{ticket}
 use Rattle.mothra_exchange.specs.Word.{AtMost, greater_word, word_after_take}
-use Rattle.mothra_exchange.specs.View.{look_at, joined_look, united_view, merging_view, view_after_load, view_after_split, split_off_view}
-use Rattle.mothra_exchange.specs.Rule.{Loads, Agrees}
+use Rattle.mothra_exchange.specs.View.{look_at, joined_look, united_view, view_after_load, view_after_split, split_off_view}
+use Rattle.mothra_exchange.specs.code.View.{merging_view}
+use Rattle.mothra_exchange.specs.Rule.{Loads}
+use Rattle.mothra_exchange.specs.code.Rule.{AgreesWithViews}
 use Rattle.mothra_exchange.specs.Sharing.{IsOver, MergesWell}
 use Rattle.mothra_exchange.specs.Answer.{take_answer}
 use Rattle.mothra_exchange.specs.Calls.{TakeDid, OfferDid}
@@ -46,7 +48,7 @@ right_below a b x p q = record {
   close = λ c. let e = (q.close c).1 in let f = p.offered in (or_right a.closed b.closed c, omega arith);
 }
 
-pub merges_well : (C : ℕ) (v w : View) → length v.looks ≡ 22 → length w.looks ≡ 22 → Agrees C (merging_view v w) → MergesWell v w
+pub merges_well : (C : ℕ) (v w : View) → length v.looks ≡ 22 → length w.looks ≡ 22 → AgreesWithViews C (merging_view v w) → MergesWell v w
 merges_well C v w lv lw agree op =
     let i = index op in
     let small = index_below op in

@@ -5,15 +5,16 @@ use Rattle.std.specs.Prelude.{slice_index}
 use mathlib.Core.Logic.{dite}
 use native.Mathlib.Decide.{ℕ_discrete}
 use Rattle.mothra_codes.specs.declared.op.Op.{Op}
-use Rattle.mothra_codes.specs.Op.{index, op_at}
+use Rattle.mothra_codes.specs.Op.{index}
+use Rattle.mothra_codes.specs.code.Op.{op_at}
 use Rattle.mothra_exchange.specs.declared.word.Word.{Word}
 use Rattle.mothra_exchange.specs.declared.view.View.{View}
 use Rattle.mothra_exchange.specs.declared.log.Event.{Event}
 use Rattle.mothra_exchange.specs.declared.log.Event.TheVariants.{Offered, Handed, Closed}
 use Rattle.mothra_exchange.specs.Word.{InBounds, opening_word, word_after_offer, word_after_take, word_after_close}
 use Rattle.mothra_codes.specs.Ticket.{ticket}
-use Rattle.mothra_exchange.specs.Log.{offers, hands, closes, word_of, IsLegal}
-use Rattle.mothra_exchange.specs.Rule.{IsSound, Loads}
+use Rattle.mothra_exchange.specs.Log.{offers, hands, closes, word_of, IsLegalLog}
+use Rattle.mothra_exchange.specs.Rule.{IsSoundExchange, Loads}
 use Rattle.mothra_exchange.specs.Law.{ShowOneLog, ShowsLog}
 use Rattle.mothra_exchange.proofs.Logs.{legal_more, stands, word-offered, word-handed, word-closed, word-other}
 use Rattle.mothra_exchange.proofs.Exchanges.{fits, pack-injective}
@@ -25,7 +26,7 @@ numbers n o h c = record { count = n; offered = o; handed = h; closed = c }
 -- in some legal log op has the numbers w, and every other operator has those that it has in `log`
 record Reaches (C : ℕ) (counts : List ℕ) (log : List Event) (op : Op) (w : Word) : Type 0 where
   more : List Event
-  legal : IsLegal C counts more
+  legal : IsLegalLog C counts more
   shows : word_of counts more (index op) ≡ w
   others : (o : Op) → o ≢ op → word_of counts more (index o) ≡ word_of counts log (index o)
 
@@ -86,7 +87,7 @@ all_waiting C counts log op n h (suc k) count le few r =
     subst (λ (o : ℕ). Reaches C counts log op (numbers n o h false)) e (next_offer C counts log op n (h + k) h count (omega arith) (omega arith) was)
 
 reaches : (C : ℕ) (counts : List ℕ) (log : List Event) (op : Op) (w : Word) → w.count ≡ slice_index counts (index op) → InBounds C w → 0 < C
-    → IsLegal C counts log → word_of counts log (index op) ≡ opening_word (slice_index counts (index op)) → Reaches C counts log op w
+    → IsLegalLog C counts log → word_of counts log (index op) ≡ opening_word (slice_index counts (index op)) → Reaches C counts log op w
 reaches C counts log op w count b pos legal is_new =
     let start : Reaches C counts log op (numbers w.count 0 0 false) = record {
       more = log;
@@ -106,7 +107,7 @@ reaches C counts log op w count b pos legal is_new =
 -- the first m operators have their words in the log, and the others nothing
 record ShowsFirst (C : ℕ) (counts : List ℕ) (word : Op → Word) (m : ℕ) : Type 0 where
   log : List Event
-  legal : IsLegal C counts log
+  legal : IsLegalLog C counts log
   shows : (op : Op) → index op < m → word_of counts log (index op) ≡ word op
   opens : (op : Op) → m ≤ index op → word_of counts log (index op) ≡ opening_word (slice_index counts (index op))
 
@@ -126,7 +127,7 @@ shows_first C counts word count bounds pos (suc m) le =
       opens = λ o more. r.others o (λ same. let e : index o ≡ m = ap index same ∙ at in absurd (omega arith)) ∙ was.opens o (omega arith);
     }
 
-pub shows_one_log : (C : ℕ) (counts words : List ℕ) (views : List View) → IsSound C counts words views → 0 < C → ShowOneLog C counts words views
+pub shows_one_log : (C : ℕ) (counts words : List ℕ) (views : List View) → IsSoundExchange C counts words views → 0 < C → ShowOneLog C counts words views
 shows_one_log C counts words views h pos =
     let s = shows_first C counts (λ op. (h.ops op).0) (λ op. (h.ops op).2.count) (λ op. (h.ops op).2.bounds) pos 22 (omega arith) in (
       s.log,

@@ -12,10 +12,10 @@ use Rattle.mothra_codes.specs.declared.ticket.Ticket.{Ticket}
 use Rattle.mothra_exchange.specs.declared.word.Word.{Word}
 use Rattle.mothra_exchange.specs.declared.view.View.{View}
 use Rattle.mothra_exchange.specs.Word.{AtMost}
-use Rattle.mothra_codes.specs.Ticket.{one_if, times, once_up_to}
+use Rattle.mothra_codes.specs.Ticket.{one_if, ticket_times, once_up_to}
 use Rattle.mothra_exchange.specs.View.{times_closed, total, once_if_closed, spent_view, look_at}
-use Rattle.mothra_exchange.specs.Rule.{OpRule, IsLive, IsSound}
-use Rattle.mothra_exchange.specs.Law.{IsWordOf, IsAmong, StandsInOne, StandsInNone, AreOneTo, AreInOrder}
+use Rattle.mothra_exchange.specs.Rule.{OpRule, IsLive, IsSoundExchange}
+use Rattle.mothra_exchange.specs.Law.{IsWordOf, IsOneOfViews, StandsInOne, StandsInNone, AreOneTo, AreViewsInOrder}
 use Rattle.mothra_exchange.proofs.Counting.{total_has}
 use Rattle.mothra_exchange.proofs.Exchanges.{fits, pack-injective}
 
@@ -47,26 +47,27 @@ once-zero n k e = grind (arith, nat_tests)
 once-past : (n k : ℕ) → n < k → once_up_to n k ≡ 0
 once-past n k lt = grind (arith, nat_tests)
 
-are_one_to : (list : View → List Ticket) (op : Op) (n : ℕ) (views : List View) → ((k : ℕ) → total (λ v. times (index op) k (list v)) views ≡ once_up_to n k) → AreOneTo list op n views
+are_one_to : (list : View → List Ticket) (op : Op) (n : ℕ) (views : List View) → ((k : ℕ) → total (λ v. ticket_times (index op) k (list v)) views ≡ once_up_to n k) → AreOneTo list op n views
 are_one_to list op n views h = record {
-  each = λ k pos le. one_has (λ v. times (index op) k (list v)) views (h k ∙ once-in n k pos le);
-  no_other = λ k out v at. none_has (λ u. times (index op) k (list u)) views (h k ∙ ⊎_elim (λ (e : k ≡ 0). once-zero n k e) (λ (lt : n < k). once-past n k lt) out) at.0 v at.1;
+  each = λ k pos le. one_has (λ v. ticket_times (index op) k (list v)) views (h k ∙ once-in n k pos le);
+  no_other = λ k out v at. none_has (λ u. ticket_times (index op) k (list u)) views (h k ∙ ⊎_elim (λ (e : k ≡ 0). once-zero n k e) (λ (lt : n < k). once-past n k lt) out) at.0 v at.1;
 }
 
 -- a packed word is that of one record
-pub rule_at : (C : ℕ) (counts words : List ℕ) (views : List View) → IsSound C counts words views → (op : Op) (w : Word) → IsWordOf words op w
+pub rule_at : (C : ℕ) (counts words : List ℕ) (views : List View) → IsSoundExchange C counts words views → (op : Op) (w : Word) → IsWordOf words op w
     → OpRule C (index op) (slice_index counts (index op)) w views
 rule_at C counts words views h op w is =
     let was = h.ops op in
     subst (λ (x : Word). OpRule C (index op) (slice_index counts (index op)) x views) (pack-injective was.0 w (fits C was.0 was.2.bounds) is.0 (sym was.1 ∙ is.1)) was.2
 
-pub has_word : (C : ℕ) (counts words : List ℕ) (views : List View) → IsSound C counts words views → (op : Op) → (w : Word) × IsWordOf words op w
+pub has_word : (C : ℕ) (counts words : List ℕ) (views : List View) → IsSoundExchange C counts words views → (op : Op) → (w : Word) × IsWordOf words op w
 has_word C counts words views h op = let was = h.ops op in (was.0, (fits C was.0 was.2.bounds, was.1))
 
-pub taken_stand : (C : ℕ) (counts words : List ℕ) (views : List View) → IsSound C counts words views → (op : Op) (w : Word) → IsWordOf words op w → AreOneTo (λ v. v.taken) op w.handed views
+pub taken_stand : (C : ℕ) (counts words : List ℕ) (views : List View) → IsSoundExchange C counts words views → (op : Op) (w : Word) → IsWordOf words op w → AreOneTo (λ v. v.taken) op w.handed views
 taken_stand C counts words views h op w is = are_one_to (λ v. v.taken) op w.handed views (rule_at C counts words views h op w is).taken
 
-pub offered_stand : (C : ℕ) (counts words : List ℕ) (views : List View) → IsSound C counts words views → (op : Op) (w : Word) → IsWordOf words op w → AreOneTo (λ v. v.offered) op w.offered views
+pub offered_stand : (C : ℕ) (counts words : List ℕ) (views : List View)
+    → IsSoundExchange C counts words views → (op : Op) (w : Word) → IsWordOf words op w → AreOneTo (λ v. v.offered) op w.offered views
 offered_stand C counts words views h op w is = are_one_to (λ v. v.offered) op w.offered views (rule_at C counts words views h op w is).offered
 
 closed-at : (w : Word) (k : ℕ) → w.closed ≡ true → k ≡ w.offered → once_if_closed w k ≡ 1
@@ -82,37 +83,37 @@ closed-else w k ne = rw (ne_eqb w.offered k (λ e. ne (sym e))) (both w.closed)
 open-at : (w : Word) (k : ℕ) → w.closed ≡ false → once_if_closed w k ≡ 0
 open-at w k e = rw e refl
 
-pub closing_stands : (C : ℕ) (counts words : List ℕ) (views : List View) → IsSound C counts words views → (op : Op) (w : Word) → IsWordOf words op w → w.closed ≡ true
+pub closing_stands : (C : ℕ) (counts words : List ℕ) (views : List View) → IsSoundExchange C counts words views → (op : Op) (w : Word) → IsWordOf words op w → w.closed ≡ true
     → StandsInOne (λ v. times_closed (index op) w.offered v.closings) views
 closing_stands C counts words views h op w is c = one_has (λ v. times_closed (index op) w.offered v.closings) views
     ((rule_at C counts words views h op w is).closings w.offered ∙ closed-at w w.offered c refl)
 
-pub no_other_closing : (C : ℕ) (counts words : List ℕ) (views : List View) → IsSound C counts words views → (op : Op) (w : Word) → IsWordOf words op w → (k : ℕ)
+pub no_other_closing : (C : ℕ) (counts words : List ℕ) (views : List View) → IsSoundExchange C counts words views → (op : Op) (w : Word) → IsWordOf words op w → (k : ℕ)
     → (w.closed ≡ false) ⊎ (k ≢ w.offered) → StandsInNone (λ v. times_closed (index op) k v.closings) views
 no_other_closing C counts words views h op w is k out v at = none_has (λ u. times_closed (index op) k u.closings) views
     ((rule_at C counts words views h op w is).closings k ∙ ⊎_elim (λ (e : w.closed ≡ false). open-at w k e) (λ (ne : k ≢ w.offered). closed-else w k ne) out) at.0 v at.1
 
-pub in_bounds : (C : ℕ) (counts words : List ℕ) (views : List View) → IsSound C counts words views → (op : Op) (w : Word) → IsWordOf words op w
+pub in_bounds : (C : ℕ) (counts words : List ℕ) (views : List View) → IsSoundExchange C counts words views → (op : Op) (w : Word) → IsWordOf words op w
     → (w.handed ≤ w.offered) × (w.offered ≤ w.count) × (w.offered ≤ w.handed + C)
 in_bounds C counts words views h op w is = let b = (rule_at C counts words views h op w is).bounds in (b.handed, b.offered, b.waiting)
 
-pub same_count : (C : ℕ) (counts words : List ℕ) (views : List View) → IsSound C counts words views → (op : Op) (w : Word) → IsWordOf words op w → (v : View) → IsAmong views v
+pub same_count : (C : ℕ) (counts words : List ℕ) (views : List View) → IsSoundExchange C counts words views → (op : Op) (w : Word) → IsWordOf words op w → (v : View) → IsOneOfViews views v
     → v ≢ spent_view → slice_index v.counts (index op) ≡ w.count
 same_count C counts words views h op w is v at ne = ⊎_elim
     (λ (l : IsLive counts v). ap (λ (c : List ℕ). slice_index c (index op)) l.0 ∙ sym (rule_at C counts words views h op w is).count)
     (λ (e : v ≡ spent_view). absurd (ne e))
     (h.lives at.0 v at.1)
 
-pub not_below : (C : ℕ) (counts words : List ℕ) (views : List View) → IsSound C counts words views → (op : Op) (w : Word) → IsWordOf words op w → (v : View) → IsAmong views v
+pub not_below : (C : ℕ) (counts words : List ℕ) (views : List View) → IsSoundExchange C counts words views → (op : Op) (w : Word) → IsWordOf words op w → (v : View) → IsOneOfViews views v
     → AtMost (look_at v (index op)).seen w
 not_below C counts words views h op w is v at = ((rule_at C counts words views h op w is).seen at.0 v at.1).0
 
-pub stays_closed : (C : ℕ) (counts words : List ℕ) (views : List View) → IsSound C counts words views → (op : Op) (w : Word) → IsWordOf words op w → (v : View) → IsAmong views v
+pub stays_closed : (C : ℕ) (counts words : List ℕ) (views : List View) → IsSoundExchange C counts words views → (op : Op) (w : Word) → IsWordOf words op w → (v : View) → IsOneOfViews views v
     → (look_at v (index op)).seen.closed ≡ true
     → (w.closed ≡ true) × (w.offered ≡ (look_at v (index op)).seen.offered)
 stays_closed C counts words views h op w is v at c = (not_below C counts words views h op w is v at).close c
 
-pub are_in_order : (C : ℕ) (counts words : List ℕ) (views : List View) → IsSound C counts words views → AreInOrder words views
+pub are_in_order : (C : ℕ) (counts words : List ℕ) (views : List View) → IsSoundExchange C counts words views → AreViewsInOrder words views
 are_in_order C counts words views h op =
     let x = has_word C counts words views h op in (
       x.0,

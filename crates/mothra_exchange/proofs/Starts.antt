@@ -5,7 +5,7 @@ use Rattle.mothra_exchange.specs.declared.word.Word.{Word}
 use Rattle.mothra_exchange.specs.declared.log.Event.{Event}
 use Rattle.mothra_codes.specs.Op.{index}
 use Rattle.mothra_exchange.specs.Word.{InBounds, opening_word}
-use Rattle.mothra_exchange.specs.State.{used, room, counts_of, Keeps}
+use Rattle.mothra_exchange.specs.State.{words_used, room, counts_of, KeepsLog}
 use Rattle.mothra_exchange.specs.Fault.{AllCountsFit}
 use Rattle.mothra_codes.proofs.Operators.{index_below}
 
@@ -28,7 +28,7 @@ pub counts_of-opening : (counts : List ℕ) → counts_of (map opening_word coun
 counts_of-opening [] = refl
 counts_of-opening (n ∷ ns) = ap (λ (l : List ℕ). n ∷ l) (counts_of-opening ns)
 
-used-opening : (counts : List ℕ) → used (map opening_word counts) ≡ 0
+used-opening : (counts : List ℕ) → words_used (map opening_word counts) ≡ 0
 used-opening [] = refl
 used-opening (n ∷ ns) = let h = used-opening ns in omega arith
 
@@ -45,8 +45,8 @@ pub opened : (words : List Word) (counts : List ℕ) → length words ≡ 22 →
 opened words counts l m h = same_list (opening_word 0) words (map opening_word counts) (let e = length-opening counts in omega arith) (λ k lt. h k (omega arith) ∙ sym (opening_at counts k))
 
 pub starts : (C : ℕ) (counts : List ℕ) (words : List Word) (log : List Event) (capacity : ℕ) → length counts ≡ 22 → AllCountsFit counts → words ≡ map opening_word counts
-    → log ≡ [] → room (map opening_word counts) ≤ capacity → Keeps C words log capacity
-starts C counts words log capacity l small e f r = subst (λ (y : List Word × List Event). Keeps C y.0 y.1 capacity) (λ i. (sym e i, sym f i)) (record {
+    → log ≡ [] → room (map opening_word counts) ≤ capacity → KeepsLog C words log capacity
+starts C counts words log capacity l small e f r = subst (λ (y : List Word × List Event). KeepsLog C y.0 y.1 capacity) (λ i. (sym e i, sym f i)) (record {
   legal = tt;
   shows = λ op. opening_at counts (index op) ∙ ap (λ (c : List ℕ). opening_word (slice_index c (index op))) (sym (counts_of-opening counts));
   bounds = λ op. subst (InBounds C) (sym (opening_at counts (index op))) (record { handed = omega arith; offered = omega arith; waiting = omega arith; count = small (index op) (index_below op) });

@@ -13,16 +13,17 @@ use Rattle.mothra_exchange.specs.declared.view.Look.{Look}
 use Rattle.mothra_exchange.specs.declared.view.View.{View}
 use Rattle.mothra_codes.specs.Op.{index}
 use Rattle.mothra_exchange.specs.Word.{pack, AtMost, InBounds}
-use Rattle.mothra_codes.specs.Ticket.{times, once_up_to}
+use Rattle.mothra_codes.specs.Ticket.{ticket_times, once_up_to}
 use Rattle.mothra_exchange.specs.View.{times_closed, look_at, view_after_load, spent_view, with_look, first_look, once_if_closed}
-use Rattle.mothra_exchange.specs.Rule.{Knows, OpRule, IsLive, Holds, Looks}
+use Rattle.mothra_exchange.specs.Rule.{Knows, OpRule, IsLive}
+use Rattle.mothra_exchange.specs.code.Rule.{HoldsRule, Looks}
 use Rattle.mothra_exchange.proofs.Counting.{total_set, AtMost-refl, AtMost-trans, get_or-set_there, get_or-set_else}
 use Rattle.mothra_codes.proofs.Operators.{index_below, same_op}
 
 -- what a step of one view on the word w₀, which becomes w, says of its operator
 pub record Moves (i : ℕ) (w₀ w : Word) (v v' : View) : Type 0 where
-  pub taken : (k : ℕ) → times i k v'.taken + once_up_to w₀.handed k ≡ times i k v.taken + once_up_to w.handed k
-  pub offered : (k : ℕ) → times i k v'.offered + once_up_to w₀.offered k ≡ times i k v.offered + once_up_to w.offered k
+  pub taken : (k : ℕ) → ticket_times i k v'.taken + once_up_to w₀.handed k ≡ ticket_times i k v.taken + once_up_to w.handed k
+  pub offered : (k : ℕ) → ticket_times i k v'.offered + once_up_to w₀.offered k ≡ ticket_times i k v.offered + once_up_to w.offered k
   pub closings : (k : ℕ) → times_closed i k v'.closings + once_if_closed w₀ k ≡ times_closed i k v.closings + once_if_closed w k
   pub rises : AtMost w₀ w
   pub seen : AtMost (look_at v' i).seen w
@@ -38,8 +39,8 @@ pub op_moves : (C i n : ℕ) (w₀ w : Word) (views : List View) (by : ℕ) (v v
 op_moves C i n w₀ w views by v v' at h bounds count m = record {
   count = count ∙ h.count;
   bounds = bounds;
-  taken = λ k. let t = total_set (λ u. times i k u.taken) views by v v' at in let a = h.taken k in let b = m.taken k in omega arith;
-  offered = λ k. let t = total_set (λ u. times i k u.offered) views by v v' at in let a = h.offered k in let b = m.offered k in omega arith;
+  taken = λ k. let t = total_set (λ u. ticket_times i k u.taken) views by v v' at in let a = h.taken k in let b = m.taken k in omega arith;
+  offered = λ k. let t = total_set (λ u. ticket_times i k u.offered) views by v v' at in let a = h.offered k in let b = m.offered k in omega arith;
   closings = λ k. let t = total_set (λ u. times_closed i k u.closings) views by v v' at in let a = h.closings k in let b = m.closings k in omega arith;
   seen = λ j u e. ⊎_elim
       (λ (x : (j ≡ by) × (v' ≡ u)). subst (λ (y : View). Knows i y w) x.1
@@ -54,8 +55,8 @@ op_moves C i n w₀ w views by v v' at h bounds count m = record {
 
 -- what a step of one view leaves as it was of another operator
 pub record Keeps (i : ℕ) (v v' : View) : Type 0 where
-  pub taken : (k : ℕ) → times i k v'.taken ≡ times i k v.taken
-  pub offered : (k : ℕ) → times i k v'.offered ≡ times i k v.offered
+  pub taken : (k : ℕ) → ticket_times i k v'.taken ≡ ticket_times i k v.taken
+  pub offered : (k : ℕ) → ticket_times i k v'.offered ≡ ticket_times i k v.offered
   pub closings : (k : ℕ) → times_closed i k v'.closings ≡ times_closed i k v.closings
   pub knows : (w : Word) → Knows i v w → Knows i v' w
 
@@ -63,8 +64,8 @@ pub op_keeps : (C i n : ℕ) (w : Word) (views : List View) (by : ℕ) (v v' : V
 op_keeps C i n w views by v v' at h m = record {
   count = h.count;
   bounds = h.bounds;
-  taken = λ k. let t = total_set (λ u. times i k u.taken) views by v v' at in let a = h.taken k in let b = m.taken k in omega arith;
-  offered = λ k. let t = total_set (λ u. times i k u.offered) views by v v' at in let a = h.offered k in let b = m.offered k in omega arith;
+  taken = λ k. let t = total_set (λ u. ticket_times i k u.taken) views by v v' at in let a = h.taken k in let b = m.taken k in omega arith;
+  offered = λ k. let t = total_set (λ u. ticket_times i k u.offered) views by v v' at in let a = h.offered k in let b = m.offered k in omega arith;
   closings = λ k. let t = total_set (λ u. times_closed i k u.closings) views by v v' at in let a = h.closings k in let b = m.closings k in omega arith;
   seen = λ j u e. ⊎_elim
       (λ (x : (j ≡ by) × (v' ≡ u)). subst (λ (y : View). Knows i y w) x.1 (m.knows w (h.seen by v at)))
@@ -90,10 +91,10 @@ pub lives : (counts : List ℕ) (v : View) → 0 < v.part → (IsLive counts v) 
 lives counts v part known = ⊎_elim (λ (l : IsLive counts v). l) (λ (e : v ≡ spent_view). let none : v.part ≡ 0 = ap (λ (u : View). u.part) e in absurd (omega arith)) known
 
 -- the whole_view rule after a step on op's word
-pub turns : {S : Type 0} (C : ℕ) (counts : List ℕ) (s : State S View) (id : ℕ) (v v' : View) (op : Op) (w₀ w : Word) (n : ℕ) → Holds C counts s → get_elem? s.views id ≡ some v
+pub turns : {S : Type 0} (C : ℕ) (counts : List ℕ) (s : State S View) (id : ℕ) (v v' : View) (op : Op) (w₀ w : Word) (n : ℕ) → HoldsRule C counts s → get_elem? s.views id ≡ some v
     → 0 < v.part → slice_index s.words (index op) ≡ pack w₀ → n ≡ pack w
     → Apart op v v' → OpRule C (index op) (slice_index counts (index op)) w (set s.views id v')
-    → (homes : List (Option S)) → Holds C counts (record { words = slice_set s.words (index op) n; homes = homes; views = slice_set s.views id v' })
+    → (homes : List (Option S)) → HoldsRule C counts (record { words = slice_set s.words (index op) n; homes = homes; views = slice_set s.views id v' })
 turns {S} C counts s id v v' op w₀ w n h at part is new apart own homes = record {
   length_is = length-set s.words (index op) n ∙ h.length_is;
   ops = λ o. dite (ℕ_discrete (index o) (index op))
@@ -133,7 +134,7 @@ pub new_look : (op : Op) (v : View) (l : Look) → length v.looks ≡ 22 → loo
 new_look op v l is = let lt : index op < length v.looks = subst (λ (m : ℕ). index op < m) (sym is) (index_below op) in get_or-set_there v.looks (index op) l (first_look 0) lt
 
 pub loads : {S : Type 0} (C : ℕ) (counts : List ℕ) (slots id : ℕ) (me : Me S View) (op : Op) → 0 < me.0.part
-    → Allows (Holds C counts) slots id me (index op) (λ n. n) (Looks C (step slots (index op) 0 0 none) me)
+    → Allows (HoldsRule C counts) slots id me (index op) (λ n. n) (Looks C (step slots (index op) 0 0 none) me)
 loads {S} C counts slots id me op part s h homes at small =
     let was = h.ops op in
     let w = was.0 in
@@ -158,5 +159,7 @@ loads {S} C counts slots id me op part s h homes at small =
     )
 
 pub loads_at : {S : Type 0} (C : ℕ) (counts : List ℕ) (slots id : ℕ) (me : Me S View) (op : Op) (i : ℕ) → i ≡ index op → 0 < me.0.part
-    → Allows (Holds C counts) slots id me i (λ n. n) (Looks C (step slots i 0 0 none) me)
-loads_at C counts slots id me op i here part = subst (λ (j : ℕ). Allows (Holds C counts) slots id me j (λ n. n) (Looks C (step slots j 0 0 none) me)) (sym here) (loads C counts slots id me op part)
+    → Allows (HoldsRule C counts) slots id me i (λ n. n) (Looks C (step slots i 0 0 none) me)
+loads_at C counts slots id me op i here part =
+    subst (λ (j : ℕ). Allows (HoldsRule C counts) slots id me j (λ n. n) (Looks C (step slots j 0 0 none) me)) (sym here)
+    (loads C counts slots id me op part)

@@ -11,49 +11,52 @@ use Rattle.mothra_exchange.specs.declared.answer.Take.{Take}
 use Rattle.mothra_exchange.specs.declared.answer.Take.TheVariants.{Busy as TakeBusy, Taken, GaveUp as TakeGaveUp}
 use Rattle.mothra_exchange.specs.declared.answer.Close.{Close}
 use Rattle.mothra_exchange.specs.declared.answer.Close.TheVariants.{Busy as CloseBusy, Done, GaveUp as CloseGaveUp}
-use Rattle.mothra_exchange.specs.Word.{AtMost, InBounds}
-use Rattle.mothra_codes.specs.Ticket.{times}
-use Rattle.mothra_exchange.specs.View.{times_closed, look_at, view_after_load, view_after_finding, view_after_take, view_after_offer, view_after_close}
+use Rattle.mothra_exchange.specs.Word.{AtMost}
+use Rattle.mothra_codes.specs.Ticket.{ticket_times}
+use Rattle.mothra_exchange.specs.View.{times_closed, view_after_load, view_after_finding}
+use Rattle.mothra_exchange.specs.View.{view_after_take, view_after_offer, view_after_close}
 use Rattle.mothra_exchange.specs.Rule.{Loads}
 use Rattle.mothra_exchange.specs.Answer.{offer_answer, take_answer, close_answer}
 
--- the last thing that the pass did with the operator at the place i is to load w
-pub record HasLoaded (C : ℕ) (v : View) (i : ℕ) (w : Word) : Type 0 where
-  pub loaded : (look_at v i).loaded ≡ w
-  pub seen : (look_at v i).seen ≡ w
-  pub bounds : InBounds C w
-
 -- the exchange found another word than the one loaded, which lies above it
 abbrev pub LostTo : View → Op → Word → View → Type 0
-LostTo v op w new = (found : Word) × AtMost w found × (found ≢ w) × (new ≡ view_after_finding v (index op) found)
+LostTo v op w new =
+    (found : Word) × AtMost w found × (found ≢ w) × (new ≡ view_after_finding v (index op) found)
 
 -- v is the view after a load that found w, and new the view after the answer
 abbrev pub OfferLeaves : ℕ → View → Ticket → Word → Offer → View → Type 0
 OfferLeaves C v t w Accepted new =
-    (offer_answer C t.number w ≡ Accepted) × (times (index t.op) (w.offered + 1) v.offered ≡ 0) × (new ≡ view_after_offer v t.op w)
+    (offer_answer C t.number w ≡ Accepted)
+    × (ticket_times (index t.op) (w.offered + 1) v.offered ≡ 0)
+    × (new ≡ view_after_offer v t.op w)
 OfferLeaves C v t w OfferBusy new = (offer_answer C t.number w ≡ Accepted) × LostTo v t.op w new
 OfferLeaves C v t w OfferGaveUp new = ⊥
 OfferLeaves C v t w a new = (offer_answer C t.number w ≡ a) × (new ≡ v)
 
 abbrev pub TakeLeaves : View → Op → Word → Take → View → Type 0
-TakeLeaves v op w (Taken t) new = (take_answer op w ≡ Taken t) × (times (index op) (w.handed + 1) v.taken ≡ 0) × (new ≡ view_after_take v op w)
+TakeLeaves v op w (Taken t) new = (take_answer op w ≡ Taken t)
+    × (ticket_times (index op) (w.handed + 1) v.taken ≡ 0) × (new ≡ view_after_take v op w)
 TakeLeaves v op w TakeBusy new = ((t : Ticket) × (take_answer op w ≡ Taken t)) × LostTo v op w new
 TakeLeaves v op w TakeGaveUp new = ⊥
 TakeLeaves v op w a new = (take_answer op w ≡ a) × (new ≡ v)
 
 abbrev pub CloseLeaves : View → Op → Word → Close → View → Type 0
 CloseLeaves v op w Done new =
-    (close_answer w ≡ Done) × ((k : ℕ) → times_closed (index op) k v.closings ≡ 0) × (new ≡ view_after_close v op w)
+    (close_answer w ≡ Done)
+    × ((k : ℕ) → times_closed (index op) k v.closings ≡ 0) × (new ≡ view_after_close v op w)
 CloseLeaves v op w CloseBusy new = (close_answer w ≡ Done) × LostTo v op w new
 CloseLeaves v op w CloseGaveUp new = ⊥
 CloseLeaves v op w a new = (close_answer w ≡ a) × (new ≡ v)
 
 -- from the view before the call to the view after it
 abbrev pub OfferDid : ℕ → View → Ticket → Offer → View → Type 0
-OfferDid C v t a new = (w : Word) × Loads C v (index t.op) w × OfferLeaves C (view_after_load v (index t.op) w) t w a new
+OfferDid C v t a new = (w : Word)
+    × Loads C v (index t.op) w × OfferLeaves C (view_after_load v (index t.op) w) t w a new
 
 abbrev pub TakeDid : ℕ → View → Op → Take → View → Type 0
-TakeDid C v op a new = (w : Word) × Loads C v (index op) w × TakeLeaves (view_after_load v (index op) w) op w a new
+TakeDid C v op a new =
+    (w : Word) × Loads C v (index op) w × TakeLeaves (view_after_load v (index op) w) op w a new
 
 abbrev pub CloseDid : ℕ → View → Op → Close → View → Type 0
-CloseDid C v op a new = (w : Word) × Loads C v (index op) w × CloseLeaves (view_after_load v (index op) w) op w a new
+CloseDid C v op a new =
+    (w : Word) × Loads C v (index op) w × CloseLeaves (view_after_load v (index op) w) op w a new

@@ -1,6 +1,5 @@
 pub mod Answer
 pub mod Calls
-pub mod Exchange
 pub mod Fault
 pub mod Gate
 pub mod Law
@@ -13,3 +12,4 @@ pub mod Table
 pub mod Tally
 pub mod View
 pub mod Word
+pub mod code

@@ -1,5 +1,6 @@
 -- The events of an exchange, and which lists of them are legal.
-use Rattle.std.specs.Prelude.{◌≡◌, ℕ, zero, suc, ◌+◌, ◌<◌, ◌≤◌, Bool, false, ◌||◌, ◌==◌, if◌then◌else◌, List, [], ◌∷◌, ◌++◌, slice_index}
+use Rattle.std.specs.Prelude.{◌≡◌, ℕ, zero, suc, ◌+◌, ◌<◌, ◌≤◌, Bool, false, ◌||◌}
+use Rattle.std.specs.Prelude.{◌==◌, if◌then◌else◌, List, [], ◌∷◌, ◌++◌, slice_index}
 use mathlib.Core.Option.{some}
 use lib.ListN.{get_elem?}
 use Rattle.mothra_codes.specs.declared.op.Op.{Op}
@@ -48,28 +49,35 @@ closes i (e ∷ es) = closes_in i e || closes i es
 
 -- the numbers of a log; a packed word shows the log where it packs these
 abbrev pub word_of : List ℕ → List Event → ℕ → Word
-word_of counts log i = record { count = slice_index counts i; offered = offers i log; handed = hands i log; closed = closes i log }
+word_of counts log i = record {
+  count = slice_index counts i;
+  offered = offers i log;
+  handed = hands
+      i log;
+  closed = closes i log;
+}
 
-abbrev pub Stands : Ticket → List Event → Type 0
-Stands t log = (j : ℕ) × (get_elem? log j ≡ some (Offered t))
+abbrev pub IsOffered : Ticket → List Event → Type 0
+IsOffered t log = (j : ℕ) × (get_elem? log j ≡ some (Offered t))
 
 -- e may come after these events, where C tickets of an operator may be offered and not handed out
-abbrev pub MayFollow : ℕ → List ℕ → List Event → Event → Type 0
-MayFollow C counts log (Offered t) =
+abbrev pub MayFollowEvents : ℕ → List ℕ → List Event → Event → Type 0
+MayFollowEvents C counts log (Offered t) =
     (t.number ≡ offers (index t.op) log + 1)
     × (t.number ≤ slice_index counts (index t.op))
     × (closes (index t.op) log ≡ false)
     × (offers (index t.op) log < hands (index t.op) log + C)
-MayFollow C counts log (Handed t) = (t.number ≡ hands (index t.op) log + 1) × Stands t log
-MayFollow C counts log (Closed op) = closes (index op) log ≡ false
+MayFollowEvents C counts log (Handed t) = (t.number ≡ hands (index t.op) log + 1) × IsOffered t log
+MayFollowEvents C counts log (Closed op) = closes (index op) log ≡ false
 
 -- the events es may come one by one after the log
 abbrev pub IsLegalAfter : ℕ → List ℕ → List Event → List Event → Type 0
 IsLegalAfter C counts log [] = Unit {0}
-IsLegalAfter C counts log (e ∷ es) = MayFollow C counts log e × IsLegalAfter C counts (log ++ e ∷ []) es
+IsLegalAfter C counts log (e ∷ es) =
+    MayFollowEvents C counts log e × IsLegalAfter C counts (log ++ e ∷ []) es
 
-abbrev pub IsLegal : ℕ → List ℕ → List Event → Type 0
-IsLegal C counts log = IsLegalAfter C counts [] log
+abbrev pub IsLegalLog : ℕ → List ℕ → List Event → Type 0
+IsLegalLog C counts log = IsLegalAfter C counts [] log
 
 -- the log after a call: its one event where the answer is Accepted, Taken or Done, else none
 abbrev pub log_after_offer : List Event → Ticket → Offer → List Event

@@ -1,16 +1,14 @@
 -- What holds between any two steps, and what each step tells.
-use Rattle.std.specs.Prelude.{◌≡◌, ◌⊎◌, ℕ, ◌<◌, ◌≤◌, List, length, slice_index_or, slice_index}
+use Rattle.std.specs.Prelude.{◌≡◌, ◌⊎◌, ℕ, ◌<◌, List, length, slice_index_or, slice_index}
 use mathlib.Core.Option.{some}
 use lib.ListN.{get_elem?}
-use Rattle.atomic_table.specs.Table.{State, Step, Me}
 use Rattle.mothra_codes.specs.declared.op.Op.{Op}
 use Rattle.mothra_codes.specs.Op.{index}
 use Rattle.mothra_exchange.specs.declared.word.Word.{Word}
 use Rattle.mothra_exchange.specs.declared.view.View.{View}
 use Rattle.mothra_exchange.specs.Word.{pack, AtMost, InBounds}
-use Rattle.mothra_codes.specs.Ticket.{times, once_up_to}
-use Rattle.mothra_exchange.specs.View.{times_closed, once_if_closed, total, first_look, look_at, whole_part, spent_view, settled_view}
-use Rattle.mothra_exchange.specs.View.{view_after_load}
+use Rattle.mothra_codes.specs.Ticket.{ticket_times, once_up_to}
+use Rattle.mothra_exchange.specs.View.{times_closed, once_if_closed, total, first_look, look_at, whole_part, spent_view}
 
 -- the last words that a view has seen of the operator at the place i are at most w
 abbrev pub Knows : ℕ → View → Word → Type 0
@@ -23,8 +21,8 @@ Knows i v w =
 pub record OpRule (C : ℕ) (i : ℕ) (n : ℕ) (w : Word) (views : List View) : Type 0 where
   pub count : w.count ≡ n
   pub bounds : InBounds C w
-  pub taken : (k : ℕ) → total (λ v. times i k v.taken) views ≡ once_up_to w.handed k
-  pub offered : (k : ℕ) → total (λ v. times i k v.offered) views ≡ once_up_to w.offered k
+  pub taken : (k : ℕ) → total (λ v. ticket_times i k v.taken) views ≡ once_up_to w.handed k
+  pub offered : (k : ℕ) → total (λ v. ticket_times i k v.offered) views ≡ once_up_to w.offered k
   pub closings : (k : ℕ) → total (λ v. times_closed i k v.closings) views ≡ once_if_closed w k
   pub seen : (by : ℕ) (v : View) → get_elem? views by ≡ some v → Knows i v w
 
@@ -33,38 +31,19 @@ abbrev pub IsLive : List ℕ → View → Type 0
 IsLive counts v = (v.counts ≡ counts) × (0 < v.part) × (length v.looks ≡ 22)
 
 -- the words and the views of an exchange between any two steps
-pub record IsSound (C : ℕ) (counts : List ℕ) (words : List ℕ) (views : List View) : Type 0 where
+pub record IsSoundExchange (C : ℕ) (counts : List ℕ) (words : List ℕ)
+    (views : List View) : Type 0 where
   pub length_is : length words ≡ 22
-  pub ops : (op : Op) → (w : Word) × (slice_index words (index op) ≡ pack w) × OpRule C (index op) (slice_index counts (index op)) w views
+  pub ops : (op : Op)
+      → (w : Word) × (slice_index words (index op) ≡ pack w)
+      × OpRule C (index op) (slice_index counts (index op)) w views
   pub parts : total (λ v. v.part) views ≡ whole_part
   pub lives : (by : ℕ) (v : View) → get_elem? views by ≡ some v → IsLive counts v ⊎ (v ≡ spent_view)
 
-abbrev pub Holds : {S : Type 0} → ℕ → List ℕ → State S View → Type 0
-Holds C counts s = IsSound C counts s.words s.views
-
--- a load finds a word w with numbers that a legal log can have, with no field below what the view had seen
+-- a load finds a word w with numbers that a legal log
+-- can have, with no field below what the view had seen
 pub record Loads (C : ℕ) (v : View) (i : ℕ) (w : Word) : Type 0 where
   pub bounds : InBounds C w
   pub rises : AtMost (look_at v i).seen w
   pub count : w.count ≡ slice_index v.counts i
   pub looks : length v.looks ≡ 22
-
--- what the seat of a pass is told of each kind of step
-abbrev pub Looks : {S : Type 0} → ℕ → Step S → Me S View → ℕ → Me S View → Type 0
-Looks C s me found new = (w : Word) × (found ≡ pack w) × Loads C me.0 s.word w × (new ≡ (view_after_load me.0 s.word w, me.1))
-
--- of the operator at the place i, whose word is w: the view and the two that were merged into it had seen no more, and no
--- ticket or closing stands twice
-pub record AgreesAt (C : ℕ) (i : ℕ) (v : View) (w : Word) : Type 0 where
-  pub bounds : InBounds C w
-  pub knows : Knows i v w
-  pub taken : (k : ℕ) → times i k v.taken ≤ 1
-  pub offered : (k : ℕ) → times i k v.offered ≤ 1
-  pub closings : (k : ℕ) → times_closed i k v.closings ≤ 1
-
-abbrev pub Agrees : ℕ → View → Type 0
-Agrees C v = (op : Op) → (w : Word) × AgreesAt C (index op) v w
-
--- the load that ends a merge
-abbrev pub Settles : {S : Type 0} → ℕ → Step S → Me S View → ℕ → Me S View → Type 0
-Settles C s me found new = Agrees C me.0 × (new ≡ (settled_view me.0, me.1))

@@ -1,12 +1,13 @@
--- What a state keeps: its numbers are those of its legal log, and each event that can come has room.
+-- What a state keeps: its numbers are those of its
+-- legal log, and each event that can come has room.
 use Rattle.std.specs.Prelude.{◌≡◌, ℕ, ◌+◌, ◌*◌, ◌≤◌, List, [], ◌∷◌, map, length}
 use Rattle.mothra_codes.specs.declared.op.Op.{Op}
 use Rattle.mothra_codes.specs.Op.{index}
 use Rattle.mothra_exchange.specs.declared.word.Word.{Word}
 use Rattle.mothra_exchange.specs.declared.log.Event.{Event}
 use Rattle.mothra_exchange.specs.Word.{bit, InBounds}
-use Rattle.mothra_exchange.specs.Tally.{word_at}
-use Rattle.mothra_exchange.specs.Log.{word_of, IsLegal}
+use Rattle.mothra_exchange.specs.Tally.{operator_word}
+use Rattle.mothra_exchange.specs.Log.{word_of, IsLegalLog}
 
 -- what a contract sees of a state
 pub record History : Type 0 where
@@ -24,9 +25,9 @@ numbers_of h op = word_of h.counts h.events (index op)
 abbrev pub used_by : Word → ℕ
 used_by w = w.offered + w.handed + bit w.closed
 
-abbrev pub used : List Word → ℕ
-used [] = 0
-used (w ∷ ws) = used_by w + used ws
+abbrev pub words_used : List Word → ℕ
+words_used [] = 0
+words_used (w ∷ ws) = used_by w + words_used ws
 
 -- how many events can come: each ticket is offered and handed out, and each operator is closed
 abbrev pub room : List Word → ℕ
@@ -36,10 +37,10 @@ room (w ∷ ws) = (2 * w.count + 1) + room ws
 abbrev pub counts_of : List Word → List ℕ
 counts_of ws = map (λ (w : Word). w.count) ws
 
-pub record Keeps (C : ℕ) (words : List Word) (events : List Event) (capacity : ℕ) : Type 0 where
-  pub legal : IsLegal C (counts_of words) events
-  pub shows : (op : Op) → word_at words op ≡ word_of (counts_of words) events (index op)
-  pub bounds : (op : Op) → InBounds C (word_at words op)
+pub record KeepsLog (C : ℕ) (words : List Word) (events : List Event) (capacity : ℕ) : Type 0 where
+  pub legal : IsLegalLog C (counts_of words) events
+  pub shows : (op : Op) → operator_word words op ≡ word_of (counts_of words) events (index op)
+  pub bounds : (op : Op) → InBounds C (operator_word words op)
   pub length_is : length words ≡ 22
-  pub many : length events ≡ used words
+  pub many : length events ≡ words_used words
   pub fit : room words ≤ capacity

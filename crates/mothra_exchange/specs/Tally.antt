@@ -5,17 +5,17 @@ use Rattle.mothra_codes.specs.Op.{index}
 use Rattle.mothra_exchange.specs.declared.word.Word.{Word}
 use Rattle.mothra_exchange.specs.declared.view.View.{View}
 use Rattle.mothra_exchange.specs.Word.{AtMost, InBounds, opening_word}
-use Rattle.mothra_codes.specs.Ticket.{times, once_up_to}
+use Rattle.mothra_codes.specs.Ticket.{ticket_times, once_up_to}
 use Rattle.mothra_exchange.specs.View.{times_closed, look_at, whole_part, once_if_closed}
 
 -- an operator's numbers in a tally
-abbrev pub word_at : List Word → Op → Word
-word_at words op = slice_index_or words (index op) (opening_word 0)
+abbrev pub operator_word : List Word → Op → Word
+operator_word words op = slice_index_or words (index op) (opening_word 0)
 
 -- the view has each ticket taken and offered, and the closing
 pub record HasAll (i : ℕ) (v : View) (w : Word) : Type 0 where
-  pub taken : (k : ℕ) → times i k v.taken ≡ once_up_to w.handed k
-  pub offered : (k : ℕ) → times i k v.offered ≡ once_up_to w.offered k
+  pub taken : (k : ℕ) → ticket_times i k v.taken ≡ once_up_to w.handed k
+  pub offered : (k : ℕ) → ticket_times i k v.offered ≡ once_up_to w.offered k
   pub closings : (k : ℕ) → times_closed i k v.closings ≡ once_if_closed w k
 
 -- one operator's numbers w, where the pass that finished had the view v
@@ -23,10 +23,10 @@ pub record EndsAt (C : ℕ) (i : ℕ) (v : View) (w : Word) : Type 0 where
   pub bounds : InBounds C w
   pub count : w.count ≡ slice_index v.counts i
   pub seen : AtMost (look_at v i).seen w
-  pub taken : (k : ℕ) → times i k v.taken ≤ once_up_to w.handed k
-  pub offered : (k : ℕ) → times i k v.offered ≤ once_up_to w.offered k
+  pub taken : (k : ℕ) → ticket_times i k v.taken ≤ once_up_to w.handed k
+  pub offered : (k : ℕ) → ticket_times i k v.offered ≤ once_up_to w.offered k
   pub closings : (k : ℕ) → times_closed i k v.closings ≤ once_if_closed w k
   pub whole : v.part ≡ whole_part → HasAll i v w
 
-abbrev pub Ends : ℕ → View → List Word → Type 0
-Ends C v words = (op : Op) → EndsAt C (index op) v (word_at words op)
+abbrev pub EndsAsViews : ℕ → View → List Word → Type 0
+EndsAsViews C v words = (op : Op) → EndsAt C (index op) v (operator_word words op)

@@ -6,20 +6,21 @@ use Rattle.mothra_exchange.specs.declared.word.Word.{Word}
 use Rattle.mothra_exchange.specs.declared.view.Look.{Look}
 use Rattle.mothra_exchange.specs.declared.view.Closing.{Closing}
 use Rattle.mothra_exchange.specs.declared.view.View.{View}
-use Rattle.mothra_exchange.specs.Word.{field, opening_word, word_after_offer, word_after_take, word_after_close, greater_word}
+use Rattle.mothra_exchange.specs.Word.{field, opening_word, word_after_offer}
+use Rattle.mothra_exchange.specs.Word.{word_after_take, word_after_close, greater_word}
 use Rattle.mothra_codes.specs.Ticket.{one_if, ticket}
 
 abbrev pub closing : Op → ℕ → Closing
 closing op k = record { op = op; offered = k }
 
 -- c closes the operator at the place i with k offered
-abbrev pub is_closing : ℕ → ℕ → Closing → Bool
-is_closing i k c = index c.op == i && c.offered == k
+abbrev pub closes_operator : ℕ → ℕ → Closing → Bool
+closes_operator i k c = index c.op == i && c.offered == k
 
 -- how often the closings close the operator at the place i with k offered
 abbrev pub times_closed : ℕ → ℕ → List Closing → ℕ
 times_closed i k [] = 0
-times_closed i k (c ∷ cs) = one_if (is_closing i k c) + times_closed i k cs
+times_closed i k (c ∷ cs) = one_if (closes_operator i k c) + times_closed i k cs
 
 -- f of each view, added up
 abbrev pub total : (View → ℕ) → List View → ℕ
@@ -56,35 +57,58 @@ whole_view counts = record {
 
 -- what a pass leaves that was merged into another
 abbrev pub spent_view : View
-spent_view = record { counts = []; part = 0; offered = []; taken = []; closings = []; looks = []; mine = []; theirs = [] }
+spent_view = record {
+  counts = [];
+  part = 0;
+  offered = [];
+  taken = [];
+  closings = [];
+  looks = [];
+  mine = [];
+  theirs = [];
+}
 
 abbrev pub with_look : View → ℕ → Look → View
 with_look v i l = record v { looks = slice_set v.looks i l }
 
 -- after a load that found w
 abbrev pub view_after_load : View → ℕ → Word → View
-view_after_load v i w = with_look v i (record { loads = (look_at v i).loads + 1; loaded = w; seen = w })
+view_after_load v i w =
+    with_look v i (record { loads = (look_at v i).loads + 1; loaded = w; seen = w })
 
 -- after an exchange that found or wrote w
 abbrev pub view_after_finding : View → ℕ → Word → View
-view_after_finding v i w = with_look v i (record { loads = (look_at v i).loads; loaded = (look_at v i).loaded; seen = w })
+view_after_finding v i w =
+    with_look v i (record { loads = (look_at v i).loads; loaded = (look_at v i).loaded; seen = w })
 
 -- after a winning offer, take or close that found w
 abbrev pub view_after_offer : View → Op → Word → View
-view_after_offer v op w = record (view_after_finding v (index op) (word_after_offer w)) { offered = v.offered ++ ticket op (w.offered + 1) ∷ [] }
+view_after_offer v op w = record (view_after_finding v (index op)
+    (word_after_offer w)) { offered = v.offered ++ ticket op (w.offered + 1) ∷ [] }
 
 abbrev pub view_after_take : View → Op → Word → View
-view_after_take v op w = record (view_after_finding v (index op) (word_after_take w)) { taken = v.taken ++ ticket op (w.handed + 1) ∷ [] }
+view_after_take v op w = record (view_after_finding v (index op)
+    (word_after_take w)) { taken = v.taken ++ ticket op (w.handed + 1) ∷ [] }
 
 abbrev pub view_after_close : View → Op → Word → View
-view_after_close v op w = record (view_after_finding v (index op) (word_after_close w)) { closings = v.closings ++ closing op w.offered ∷ [] }
+view_after_close v op w = record (view_after_finding v (index op)
+    (word_after_close w)) { closings = v.closings ++ closing op w.offered ∷ [] }
 
 -- a split: the pass that is lent gives one share, and the new pass knows what it knew
 abbrev pub view_after_split : View → View
 view_after_split v = record v { part = v.part - 1 }
 
 abbrev pub split_off_view : View → View
-split_off_view v = record { counts = v.counts; part = 1; offered = []; taken = []; closings = []; looks = v.looks; mine = []; theirs = [] }
+split_off_view v = record {
+  counts = v.counts;
+  part = 1;
+  offered = [];
+  taken = [];
+  closings = [];
+  looks = v.looks;
+  mine = [];
+  theirs = [];
+}
 
 -- the loads of the pass that stays, and the greater of the words seen
 abbrev pub joined_look : Look → Look → Look
@@ -107,10 +131,3 @@ united_view v w = record {
   mine = [];
   theirs = [];
 }
-
--- between the two steps of a merge the view has the looks of both passes
-abbrev pub merging_view : View → View → View
-merging_view v w = record (united_view v w) { mine = v.looks; theirs = w.looks }
-
-abbrev pub settled_view : View → View
-settled_view v = record v { mine = []; theirs = [] }

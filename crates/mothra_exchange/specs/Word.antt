@@ -18,8 +18,8 @@ abbrev pub pack : Word → ℕ
 pack w = w.count + field * w.offered + field ^ 2 * w.handed + field ^ 3 * bit w.closed
 
 -- each number is at most the largest count, so that none runs into the next
-abbrev pub Fits : Word → Type 0
-Fits w = (w.count ≤ largest_count) × (w.offered ≤ largest_count) × (w.handed ≤ largest_count)
+abbrev pub FitsWord : Word → Type 0
+FitsWord w = (w.count ≤ largest_count) × (w.offered ≤ largest_count) × (w.handed ≤ largest_count)
 
 -- the numbers that a legal log can have whose bound is C
 pub record InBounds (C : ℕ) (w : Word) : Type 0 where

@@ -4,7 +4,8 @@ ghost use Rattle.std.specs.Prelude.{◌≡◌};
 ghost use Rattle.mothra_codes.specs.Op.{index};
 ghost use Rattle.mothra_exchange.specs.View.{view_after_load};
 ghost use Rattle.mothra_exchange.specs.Rule.{Loads};
-ghost use Rattle.mothra_exchange.specs.Calls.{HasLoaded, OfferDid, TakeDid, CloseDid, OfferLeaves, TakeLeaves, CloseLeaves};
+ghost use Rattle.mothra_exchange.specs.code.Calls.{HasLoaded};
+ghost use Rattle.mothra_exchange.specs.Calls.{OfferDid, TakeDid, CloseDid, OfferLeaves, TakeLeaves, CloseLeaves};
 ghost use Rattle.mothra_exchange.specs.Table.{view_of, IsPassOf};
 
 use crate::answer::{Close, Offer, Take};

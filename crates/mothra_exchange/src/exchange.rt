@@ -2,8 +2,9 @@
 
 ghost use Rattle.std.specs.Prelude.{◌≡◌, true, false};
 ghost use Rattle.mothra_codes.specs.Op.{index};
-ghost use Rattle.mothra_exchange.specs.Exchange.{Change, MayChange, word_after, view_after, IsNew};
-ghost use Rattle.mothra_exchange.specs.Calls.{HasLoaded, LostTo};
+ghost use Rattle.mothra_exchange.specs.code.Exchange.{ChangeOfTable, MayChange, word_after, view_after, IsNewChange};
+ghost use Rattle.mothra_exchange.specs.code.Calls.{HasLoaded};
+ghost use Rattle.mothra_exchange.specs.Calls.{LostTo};
 ghost use Rattle.mothra_exchange.specs.Table.{view_of, IsPassOf};
 
 use crate::table::{Pass, TableExchange};
@@ -15,13 +16,13 @@ use std::marker::PhantomData;
 
 /// What an exchange changes where it wins.
 pub(crate) trait Changes {
-    ghost change: { Change };
+    ghost change: { ChangeOfTable };
 }
 
 pub(crate) struct AnOffer;
 
 impl Changes for AnOffer {
-    ghost use Rattle.mothra_exchange.specs.Exchange.{an_offer};
+    ghost use Rattle.mothra_exchange.specs.code.Exchange.{an_offer};
 
     ghost change = { an_offer };
 }
@@ -29,7 +30,7 @@ impl Changes for AnOffer {
 pub(crate) struct ATake;
 
 impl Changes for ATake {
-    ghost use Rattle.mothra_exchange.specs.Exchange.{a_take};
+    ghost use Rattle.mothra_exchange.specs.code.Exchange.{a_take};
 
     ghost change = { a_take };
 }
@@ -37,7 +38,7 @@ impl Changes for ATake {
 pub(crate) struct AClose;
 
 impl Changes for AClose {
-    ghost use Rattle.mothra_exchange.specs.Exchange.{a_close};
+    ghost use Rattle.mothra_exchange.specs.code.Exchange.{a_close};
 
     ghost change = { a_close };
 }
@@ -47,7 +48,7 @@ pub(crate) struct ExchangePlay<P> {
 }
 
 impl<P: Changes> Play<(), View> for ExchangePlay<P> {
-    ghost use Rattle.mothra_exchange.specs.Exchange.{Exchanges};
+    ghost use Rattle.mothra_exchange.specs.code.Exchange.{Exchanges};
 
     ghost then = { Exchanges P.change };
 }
@@ -67,7 +68,7 @@ impl<const C: u32> TableExchange<C> {
         requires may { MayChange P.change C word }
         requires next { next ≡ word_after P.change word }
         ensures own { IsPassOf self.now pass.new }
-        ensures won { result ≡ true → IsNew P.change (view_of pass.old) op word
+        ensures won { result ≡ true → IsNewChange P.change (view_of pass.old) op word
             × (view_of pass.new ≡ view_after P.change (view_of pass.old) op word) }
         ensures lost { result ≡ false → LostTo (view_of pass.old) op word (view_of pass.new) }
     {

@@ -1,7 +1,7 @@
 //! Why an exchange could not be made.
 
 ghost use Rattle.std.specs.Prelude.{IfNone, IfSome};
-ghost use Rattle.mothra_exchange.specs.Fault.{AllCountsFit, IsFaultOf};
+ghost use Rattle.mothra_exchange.specs.Fault.{AllCountsFit, IsFaultOfCounts};
 
 use crate::word::LARGEST_COUNT;
 use mothra_codes::Op;
@@ -21,7 +21,7 @@ pub enum ExchangeFault {
 // The first operator whose count no word holds.
 pub(crate) fn first_too_large(counts: &[u32; 22]) -> Option<Op>
     ensures none { IfNone result (AllCountsFit counts.now) }
-    ensures first { IfSome result (λ op. IsFaultOf counts.now (ExchangeFault.CountTooLarge op)) }
+    ensures first { IfSome result (λ op. IsFaultOfCounts counts.now (ExchangeFault.CountTooLarge op)) }
 {
     for i in 0..22 {
         if counts[i] > LARGEST_COUNT {

@@ -4,7 +4,7 @@ ghost use Rattle.std.specs.Prelude.{◌≡◌, ℕ, ◌+◌, ◌<◌, Bool, true
 ghost use Rattle.mothra_exchange.specs.declared.view.View.{View};
 ghost use Rattle.mothra_exchange.specs.View.{view_after_split, split_off_view, united_view};
 ghost use Rattle.mothra_exchange.specs.Sharing.{MergesWell};
-ghost use Rattle.mothra_exchange.specs.Tally.{Ends};
+ghost use Rattle.mothra_exchange.specs.Tally.{EndsAsViews};
 ghost use Rattle.mothra_exchange.specs.Gate.{MayOffer, MayTake, MayClose, OfferKept, TakeKept, CloseKept};
 
 use crate::answer::{Close, Offer, Take};
@@ -87,5 +87,5 @@ pub trait Gate {
     /// Ends the exchange. Passes that were not merged into this one are of no more use.
     fn finish(self, pass: Self::Pass) -> Tally
         requires own { is_pass self pass }
-        ensures records { keeps_records ≡ true → Ends bound (view pass) result };
+        ensures records { keeps_records ≡ true → EndsAsViews bound (view pass) result };
 }

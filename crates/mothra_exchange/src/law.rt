@@ -18,14 +18,15 @@ ghost use Rattle.mothra_exchange.specs.declared.answer.Close.{Close};
 ghost use Rattle.mothra_exchange.specs.declared.answer.Close.TheVariants.{Done};
 ghost use Rattle.mothra_exchange.specs.Word.{AtMost, word_after_offer, word_after_take, word_after_close};
 ghost use Rattle.mothra_codes.specs.Ticket.{ticket};
-ghost use Rattle.mothra_exchange.specs.View.{times_closed, total, look_at, whole_part, spent_view, view_after_split, split_off_view, united_view};
-ghost use Rattle.mothra_exchange.specs.Rule.{IsSound, Loads};
+ghost use Rattle.mothra_exchange.specs.View.{times_closed, total, look_at, whole_part, spent_view};
+ghost use Rattle.mothra_exchange.specs.View.{view_after_split, split_off_view, united_view};
+ghost use Rattle.mothra_exchange.specs.Rule.{IsSoundExchange, Loads};
 ghost use Rattle.mothra_exchange.specs.Answer.{offer_answer, take_answer, close_answer};
 ghost use Rattle.mothra_exchange.specs.Calls.{OfferDid, TakeDid, CloseDid};
 ghost use Rattle.mothra_exchange.specs.Sharing.{IsOver, MergesWell};
 ghost use Rattle.mothra_exchange.specs.Log.{offers, hands, taken_in, one_to};
-ghost use Rattle.mothra_exchange.specs.Law.{IsWordOf, IsAmong, StandsInOne, StandsInNone, AreOneTo, ChangesOnly, BetweenSteps};
-ghost use Rattle.mothra_exchange.specs.Law.{InLegalLogs, Shows, ShowsNext, ShowOneLog, ShowsLog};
+ghost use Rattle.mothra_exchange.specs.Law.{IsWordOf, IsOneOfViews, StandsInOne, StandsInNone, AreOneTo, ChangesOnly};
+ghost use Rattle.mothra_exchange.specs.Law.{BetweenSteps, InLegalLogs, IsShownInLog, ShowsNext, ShowOneLog, ShowsLog};
 
 /// In a legal log the tickets of an operator are handed out in order, each once.
 pub fn handed_in_order()
@@ -50,13 +51,13 @@ pub fn legal_logs_stay_in_bounds()
 /// Where a word shows a legal log, the word after a winning step shows that log with the step's
 /// event at its end, and that log is legal.
 pub fn words_follow_the_log()
-    ensures offer { InLegalLogs (λ C counts log. (op : Op) (k : ℕ) (w : Word) → Shows counts log op w
+    ensures offer { InLegalLogs (λ C counts log. (op : Op) (k : ℕ) (w : Word) → IsShownInLog counts log op w
         → offer_answer C k w ≡ Accepted
         → ShowsNext C counts log (Offered (ticket op k)) op (word_after_offer w)) }
-    ensures take { InLegalLogs (λ C counts log. (op : Op) (t : Ticket) (w : Word) → Shows counts log op w
+    ensures take { InLegalLogs (λ C counts log. (op : Op) (t : Ticket) (w : Word) → IsShownInLog counts log op w
         → take_answer op w ≡ Taken t
         → ShowsNext C counts log (Handed t) op (word_after_take w)) }
-    ensures close { InLegalLogs (λ C counts log. (op : Op) (w : Word) → Shows counts log op w
+    ensures close { InLegalLogs (λ C counts log. (op : Op) (w : Word) → IsShownInLog counts log op w
         → close_answer w ≡ Done
         → ShowsNext C counts log (Closed op) op (word_after_close w)) }
 {}
@@ -85,18 +86,18 @@ pub fn closed_once()
 /// Between any two steps each operator has a word, in bounds, with the count of every view that is
 /// not spent.
 pub fn words_stay_in_bounds()
-    ensures word { (C : ℕ) (counts words : List ℕ) (views : List View) → IsSound C counts words views
+    ensures word { (C : ℕ) (counts words : List ℕ) (views : List View) → IsSoundExchange C counts words views
         → (op : Op) → (w : Word) × IsWordOf words op w }
     ensures bounds { BetweenSteps (λ C views op w.
         (w.handed ≤ w.offered) × (w.offered ≤ w.count) × (w.offered ≤ w.handed + C)) }
-    ensures count { BetweenSteps (λ C views op w. (v : View) → IsAmong views v → v ≢ spent_view
+    ensures count { BetweenSteps (λ C views op w. (v : View) → IsOneOfViews views v → v ≢ spent_view
         → slice_index v.counts (index op) ≡ w.count) }
 {}
 
 /// Where a ticket may wait, the words show a legal log between any two steps, one log for all
 /// operators, and so does each word that a call loads.
 pub fn words_show_a_legal_log()
-    ensures words { (C : ℕ) (counts words : List ℕ) (views : List View) → IsSound C counts words views → 0 < C
+    ensures words { (C : ℕ) (counts words : List ℕ) (views : List View) → IsSoundExchange C counts words views → 0 < C
         → ShowOneLog C counts words views }
     ensures loaded { (C : ℕ) (v : View) (op : Op) (w : Word) → Loads C v (index op) w → 0 < C
         → ShowsLog C v.counts op w }
@@ -105,12 +106,12 @@ pub fn words_show_a_legal_log()
 /// Between any two steps no number of a word is below what any view saw of it. Where a view saw it
 /// closed, it is closed, and as much is offered as then: what is offered stays from the close on.
 pub fn words_never_fall()
-    ensures seen { BetweenSteps (λ C views op w. (v : View) → IsAmong views v
+    ensures seen { BetweenSteps (λ C views op w. (v : View) → IsOneOfViews views v
         → AtMost (look_at v (index op)).seen w) }
-    ensures closed { BetweenSteps (λ C views op w. (v : View) → IsAmong views v
+    ensures closed { BetweenSteps (λ C views op w. (v : View) → IsOneOfViews views v
         → (look_at v (index op)).seen.closed ≡ true
         → (w.closed ≡ true) × (w.offered ≡ (look_at v (index op)).seen.offered)) }
-    ensures parts { (C : ℕ) (counts words : List ℕ) (views : List View) → IsSound C counts words views
+    ensures parts { (C : ℕ) (counts words : List ℕ) (views : List View) → IsSoundExchange C counts words views
         → total (λ v. v.part) views ≡ whole_part }
 {}
 

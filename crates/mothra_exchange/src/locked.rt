@@ -4,10 +4,10 @@ ghost use Rattle.std.specs.Prelude.{◌≡◌, IfOk, IfErr, OnOk, true, false};
 ghost use Rattle.mothra_exchange.specs.View.{spent_view};
 ghost use Rattle.mothra_exchange.specs.Answer.{offer_answer, take_answer, close_answer};
 ghost use Rattle.mothra_exchange.specs.Gate.{MayOffer, MayTake, MayClose, OfferKept, TakeKept, CloseKept};
-ghost use Rattle.mothra_exchange.specs.Log.{IsLegal};
+ghost use Rattle.mothra_exchange.specs.Log.{IsLegalLog};
 ghost use Rattle.mothra_exchange.specs.State.{History, numbers_of};
-ghost use Rattle.mothra_exchange.specs.Fault.{AllCountsFit, IsFaultOf};
-ghost use Rattle.mothra_exchange.specs.Tally.{Ends};
+ghost use Rattle.mothra_exchange.specs.Fault.{AllCountsFit, IsFaultOfCounts};
+ghost use Rattle.mothra_exchange.specs.Tally.{EndsAsViews};
 ghost use Rattle.mothra_exchange.specs.Locked.{counts_given, TalliesLog};
 
 use crate::answer::{Close, Offer, Take};
@@ -39,7 +39,7 @@ impl<const C: u32> LockedExchange<C> {
     ) -> Result<(LockedExchange<C>, LockedPass), ExchangeFault>
         ensures counts { IfOk result (λ r. counts_given r.0 ≡ counts) }
         ensures fits { OnOk result (AllCountsFit counts) }
-        ensures fault { IfErr result (IsFaultOf counts) }
+        ensures fault { IfErr result (IsFaultOfCounts counts) }
     {
         let state = State::new(alloc, counts)?;
         let exchange = LockedExchange {
@@ -78,7 +78,7 @@ impl<const C: u32> Gate for LockedExchange<C> {
     fn offer<R: Wait>(&self, rt: &R, _pass: &mut LockedPass, ticket: Ticket) -> Offer
         ensures gives_up { MayOffer false result }
         ensures records { false ≡ true → OfferKept C spent_view ticket result spent_view }
-        ensures answer { (h : History) × IsLegal C h.counts h.events
+        ensures answer { (h : History) × IsLegalLog C h.counts h.events
             × (result ≡ offer_answer C ticket.number (numbers_of h ticket.op)) }
     {
         self.state.lock(rt).offer(ticket)
@@ -87,7 +87,7 @@ impl<const C: u32> Gate for LockedExchange<C> {
     fn take<R: Wait>(&self, rt: &R, _pass: &mut LockedPass, op: Op) -> Take
         ensures gives_up { MayTake false result }
         ensures records { false ≡ true → TakeKept C spent_view op result spent_view }
-        ensures answer { (h : History) × IsLegal C h.counts h.events
+        ensures answer { (h : History) × IsLegalLog C h.counts h.events
             × (result ≡ take_answer op (numbers_of h op)) }
     {
         self.state.lock(rt).take(op)
@@ -96,7 +96,7 @@ impl<const C: u32> Gate for LockedExchange<C> {
     fn close<R: Wait>(&self, rt: &R, _pass: &mut LockedPass, op: Op) -> Close
         ensures gives_up { MayClose false result }
         ensures records { false ≡ true → CloseKept C spent_view op result spent_view }
-        ensures answer { (h : History) × IsLegal C h.counts h.events
+        ensures answer { (h : History) × IsLegalLog C h.counts h.events
             × (result ≡ close_answer (numbers_of h op)) }
     {
         self.state.lock(rt).close(op)
@@ -104,7 +104,7 @@ impl<const C: u32> Gate for LockedExchange<C> {
 
     // Some legal log for the counts given has the numbers of the tally.
     fn finish(self, _pass: LockedPass) -> Tally
-        ensures records { false ≡ true → Ends C spent_view result }
+        ensures records { false ≡ true → EndsAsViews C spent_view result }
         ensures log { TalliesLog C (counts_given self.entry) result }
     {
         let LockedExchange { counts, state } = self;

@@ -7,10 +7,10 @@ use atomic_table::{Join, Play, Split, TableRule};
 pub struct Bound<const C: u32>;
 
 impl<const C: u32> TableRule<(), View, [u32; 22]> for Bound<C> {
-    ghost use Rattle.mothra_exchange.specs.Rule.{Holds};
+    ghost use Rattle.mothra_exchange.specs.code.Rule.{HoldsRule};
     ghost use Rattle.mothra_exchange.specs.View.{whole_view};
 
-    ghost holds = { Holds C };
+    ghost holds = { HoldsRule C };
 
     ghost first = { whole_view };
 }
@@ -18,7 +18,7 @@ impl<const C: u32> TableRule<(), View, [u32; 22]> for Bound<C> {
 pub(crate) struct LoadPlay<const C: u32>;
 
 impl<const C: u32> Play<(), View> for LoadPlay<C> {
-    ghost use Rattle.mothra_exchange.specs.Rule.{Looks};
+    ghost use Rattle.mothra_exchange.specs.code.Rule.{Looks};
 
     ghost then = { Looks C };
 }
@@ -26,7 +26,7 @@ impl<const C: u32> Play<(), View> for LoadPlay<C> {
 pub(crate) struct SettlePlay<const C: u32>;
 
 impl<const C: u32> Play<(), View> for SettlePlay<C> {
-    ghost use Rattle.mothra_exchange.specs.Rule.{Settles};
+    ghost use Rattle.mothra_exchange.specs.code.Rule.{Settles};
 
     ghost then = { Settles C };
 }
@@ -42,7 +42,8 @@ impl Split<View> for Sharing {
 }
 
 impl Join<View> for Sharing {
-    ghost use Rattle.mothra_exchange.specs.View.{merging_view, spent_view};
+    ghost use Rattle.mothra_exchange.specs.code.View.{merging_view};
+    ghost use Rattle.mothra_exchange.specs.View.{spent_view};
 
     ghost both = { merging_view };
 

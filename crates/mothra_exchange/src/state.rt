@@ -4,10 +4,10 @@ ghost use Rattle.std.specs.Prelude.{◌≡◌, [], map, IfOk, IfErr, OnOk, vec_c
 ghost use Rattle.mothra_codes.specs.declared.op.Op.{Op};
 ghost use Rattle.mothra_exchange.specs.Word.{opening_word};
 ghost use Rattle.mothra_exchange.specs.Answer.{offer_answer, take_answer, close_answer};
-ghost use Rattle.mothra_exchange.specs.Log.{IsLegal, log_after_offer, log_after_take, log_after_close};
-ghost use Rattle.mothra_exchange.specs.State.{History, history, numbers_of, Keeps, counts_of, room};
-ghost use Rattle.mothra_exchange.specs.Fault.{AllCountsFit, IsFaultOf};
-ghost use Rattle.mothra_exchange.specs.Tally.{word_at};
+ghost use Rattle.mothra_exchange.specs.Log.{IsLegalLog, log_after_offer, log_after_take, log_after_close};
+ghost use Rattle.mothra_exchange.specs.State.{History, history, numbers_of, KeepsLog, counts_of, room};
+ghost use Rattle.mothra_exchange.specs.Fault.{AllCountsFit, IsFaultOfCounts};
+ghost use Rattle.mothra_exchange.specs.Tally.{operator_word};
 
 use crate::answer::{Close, Offer, Take};
 use crate::fault::{ExchangeFault, first_too_large};
@@ -32,7 +32,7 @@ impl<const C: u32> Model for State<C> {
 
     ghost view = { λ s. history (counts_of s.words) s.log.items };
 
-    ghost invariant = { λ s. Keeps C s.words s.log.items (vec_capacity s.log) };
+    ghost invariant = { λ s. KeepsLog C s.words s.log.items (vec_capacity s.log) };
 }
 
 // Each operator's numbers with nothing offered.
@@ -64,7 +64,7 @@ impl<const C: u32> State<C> {
     pub fn new(alloc: Global, counts: [u32; 22]) -> Result<State<C>, ExchangeFault>
         ensures empty { IfOk result (λ s. s ≡ history counts []) }
         ensures fits { OnOk result (AllCountsFit counts) }
-        ensures fault { IfErr result (IsFaultOf counts) }
+        ensures fault { IfErr result (IsFaultOfCounts counts) }
     {
         if let Some(op) = first_too_large(&counts) {
             return Err(ExchangeFault::CountTooLarge(op));
@@ -80,8 +80,8 @@ impl<const C: u32> State<C> {
 
     // The numbers of the log.
     pub(crate) fn into_tally(self) -> Tally
-        ensures shows { (op : Op) → word_at result op ≡ numbers_of self.entry op }
-        ensures legal { IsLegal C self.entry.counts self.entry.events }
+        ensures shows { (op : Op) → operator_word result op ≡ numbers_of self.entry op }
+        ensures legal { IsLegalLog C self.entry.counts self.entry.events }
     {
         let State { words, log: _ } = self;
         Tally { words }
@@ -90,14 +90,14 @@ impl<const C: u32> State<C> {
     /// The log: what was offered, handed out and closed, in order.
     pub fn events(&self) -> &[Event]
         ensures log { result.now ≡ self.now.events }
-        ensures legal { IsLegal C self.now.counts self.now.events }
+        ensures legal { IsLegalLog C self.now.counts self.now.events }
     {
         self.log.as_slice()
     }
 
     /// Offers a ticket. Only an accepted one is logged.
     pub fn offer(&mut self, ticket: Ticket) -> Offer
-        ensures legal { IsLegal C self.old.counts self.old.events }
+        ensures legal { IsLegalLog C self.old.counts self.old.events }
         ensures answer { result ≡ offer_answer C ticket.number (numbers_of self.old ticket.op) }
         ensures log { self.new ≡ record self.old { events = log_after_offer self.old.events ticket result } }
     {
@@ -115,7 +115,7 @@ impl<const C: u32> State<C> {
 
     /// Takes the next ticket of an operator. Only a take that got one is logged.
     pub fn take(&mut self, op: Op) -> Take
-        ensures legal { IsLegal C self.old.counts self.old.events }
+        ensures legal { IsLegalLog C self.old.counts self.old.events }
         ensures answer { result ≡ take_answer op (numbers_of self.old op) }
         ensures log { self.new ≡ record self.old { events = log_after_take self.old.events result } }
     {
@@ -133,7 +133,7 @@ impl<const C: u32> State<C> {
 
     /// Closes an operator: no ticket of it is accepted from then on. Only the first close is logged.
     pub fn close(&mut self, op: Op) -> Close
-        ensures legal { IsLegal C self.old.counts self.old.events }
+        ensures legal { IsLegalLog C self.old.counts self.old.events }
         ensures answer { result ≡ close_answer (numbers_of self.old op) }
         ensures log { self.new ≡ record self.old { events = log_after_close self.old.events op result } }
     {

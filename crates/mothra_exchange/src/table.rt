@@ -2,10 +2,10 @@
 
 ghost use Rattle.std.specs.Prelude.{◌≡◌, ◌<◌, [], length, IfOk, IfErr, OnOk};
 ghost use Rattle.mothra_exchange.specs.View.{whole_view};
-ghost use Rattle.mothra_exchange.specs.Fault.{AllCountsFit, IsFaultOf};
-ghost use Rattle.mothra_exchange.specs.Tally.{Ends};
-ghost use Rattle.mothra_exchange.specs.Rule.{IsSound};
-ghost use Rattle.mothra_exchange.specs.Law.{AreInOrder, ShowOneLog};
+ghost use Rattle.mothra_exchange.specs.Fault.{AllCountsFit, IsFaultOfCounts};
+ghost use Rattle.mothra_exchange.specs.Tally.{EndsAsViews};
+ghost use Rattle.mothra_exchange.specs.Rule.{IsSoundExchange};
+ghost use Rattle.mothra_exchange.specs.Law.{AreViewsInOrder, ShowOneLog};
 
 use crate::fault::{ExchangeFault, first_too_large};
 use crate::rule::Bound;
@@ -53,13 +53,13 @@ impl<const C: u32> TableExchange<C> {
         ensures own { IfOk result (λ r. IsPassOf r.0 r.1) }
         ensures view { IfOk result (λ r. view_of r.1 ≡ whole_view counts) }
         ensures between { IfOk result (λ r.
-            BetweenStepsOf ⟦<Bound<C> as TableRule<(), View, [u32; 22]>>⟧.holds r.0 (IsSound C counts)) }
+            BetweenStepsOf ⟦<Bound<C> as TableRule<(), View, [u32; 22]>>⟧.holds r.0 (IsSoundExchange C counts)) }
         ensures in_order { IfOk result (λ r.
-            BetweenStepsOf ⟦<Bound<C> as TableRule<(), View, [u32; 22]>>⟧.holds r.0 AreInOrder) }
+            BetweenStepsOf ⟦<Bound<C> as TableRule<(), View, [u32; 22]>>⟧.holds r.0 AreViewsInOrder) }
         ensures log { 0 < C → IfOk result (λ r.
             BetweenStepsOf ⟦<Bound<C> as TableRule<(), View, [u32; 22]>>⟧.holds r.0 (ShowOneLog C counts)) }
         ensures fits { OnOk result (AllCountsFit counts) }
-        ensures fault { IfErr result (IsFaultOf counts) }
+        ensures fault { IfErr result (IsFaultOfCounts counts) }
     {
         if let Some(op) = first_too_large(&counts) {
             return Err(ExchangeFault::CountTooLarge(op));
@@ -73,7 +73,7 @@ impl<const C: u32> TableExchange<C> {
     // The numbers that the words end with.
     pub(crate) fn close_all(self, pass: Pass) -> Tally
         requires { IsPassOf self pass }
-        ensures { Ends C (view_of pass) result }
+        ensures { EndsAsViews C (view_of pass) result }
     {
         let TableExchange { table } = self;
         let Pass { seat } = pass;

@@ -4,7 +4,7 @@ ghost use Rattle.std.specs.Prelude.{◌≡◌, true, List, slice_index};
 ghost use Rattle.mothra_codes.specs.declared.op.Op.{Op};
 ghost use Rattle.mothra_codes.specs.Op.{index};
 ghost use Rattle.mothra_exchange.specs.declared.word.Word.{Word};
-ghost use Rattle.mothra_exchange.specs.Tally.{word_at};
+ghost use Rattle.mothra_exchange.specs.Tally.{operator_word};
 
 use crate::word::Word;
 use mothra_codes::Op;
@@ -25,41 +25,41 @@ impl Model for Tally {
 impl Tally {
     /// How many tickets the operator had.
     pub fn count(&self, op: Op) -> u32
-        ensures { result ≡ (word_at self.now op).count }
+        ensures { result ≡ (operator_word self.now op).count }
     {
         self.words[op.index()].count
     }
 
     /// How many of them were offered and accepted.
     pub fn offered(&self, op: Op) -> u32
-        ensures { result ≡ (word_at self.now op).offered }
+        ensures { result ≡ (operator_word self.now op).offered }
     {
         self.words[op.index()].offered
     }
 
     /// How many were handed out: those with the numbers 1 to this one.
     pub fn handed(&self, op: Op) -> u32
-        ensures { result ≡ (word_at self.now op).handed }
+        ensures { result ≡ (operator_word self.now op).handed }
     {
         self.words[op.index()].handed
     }
 
     /// Whether the operator was closed.
     pub fn closed(&self, op: Op) -> bool
-        ensures { result ≡ (word_at self.now op).closed }
+        ensures { result ≡ (operator_word self.now op).closed }
     {
         self.words[op.index()].closed
     }
     // Whether these are the counts.
     pub(crate) fn has_counts(&self, counts: &[u32; 22]) -> bool
-        ensures { result ≡ true → (op : Op) → (word_at self.now op).count ≡ slice_index counts.now (index op) }
+        ensures { result ≡ true → (op : Op) → (operator_word self.now op).count ≡ slice_index counts.now (index op) }
     {
         have_counts(&self.words, counts)
     }
 }
 
 fn have_counts(words: &[Word; 22], counts: &[u32; 22]) -> bool
-    ensures { result ≡ true → (op : Op) → (word_at words.now op).count ≡ slice_index counts.now (index op) }
+    ensures { result ≡ true → (op : Op) → (operator_word words.now op).count ≡ slice_index counts.now (index op) }
 {
     for i in 0..22 {
         if words[i].count != counts[i] {

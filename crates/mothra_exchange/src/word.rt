@@ -2,7 +2,7 @@
 
 ghost use Rattle.std.specs.Prelude.{◌≡◌};
 ghost use Rattle.mothra_exchange.specs.declared.word.Word.{Word};
-ghost use Rattle.mothra_exchange.specs.Word.{pack, Fits, InBounds, opening_word};
+ghost use Rattle.mothra_exchange.specs.Word.{pack, FitsWord, InBounds, opening_word};
 ghost use Rattle.mothra_exchange.specs.Answer as table;
 
 use crate::answer::{Close, Offer, Take};
@@ -45,7 +45,7 @@ impl Word {
 
     /// The word that packs the numbers.
     pub fn pack(self) -> u64
-        requires { Fits self }
+        requires { FitsWord self }
         ensures { result ≡ pack self }
     {
         u64::from(self.count)
@@ -56,7 +56,7 @@ impl Word {
 
     /// The numbers of a packed word.
     pub fn unpack(bits: u64) -> Word
-        ensures { (w : Word) → Fits w → bits ≡ pack w → result ≡ w }
+        ensures { (w : Word) → FitsWord w → bits ≡ pack w → result ≡ w }
     {
         Word {
             count: (bits % FIELD) as u32,
@@ -88,7 +88,7 @@ impl Word {
 
     /// The answer to a take.
     pub fn take_answer(self, op: Op) -> Take
-        requires { Fits self }
+        requires { FitsWord self }
         ensures { result ≡ table.take_answer op self }
     {
         if self.handed == self.offered {

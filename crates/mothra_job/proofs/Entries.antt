@@ -12,7 +12,8 @@ use Rattle.std.proofs.lemmas.Fmt.{decimal-digits_value, decimal_digit, digits_va
 use Rattle.std.proofs.lemmas.Slice.Eq.{bytes_eq-Decides}
 use Rattle.std.proofs.lemmas.Str.Parse.{numerals_by_value, tells_digits, without_leading_plus_none}
 use Rattle.std.proofs.lemmas.Str.Pattern.{IsSplitOnceResult, split_after}
-use Rattle.mothra_job.specs.Equivalent.{Names, if_named, named, ticket_text}
+use Rattle.mothra_job.specs.code.Equivalent.{Names}
+use Rattle.mothra_job.specs.Equivalent.{if_named, named, ticket_text}
 use Rattle.mothra_cli.specs.Operators.{operator_of}
 use Rattle.mothra_codes.proofs.Codes.{op_found}
 use Rattle.mothra_codes.specs.Op.{code_of}

@@ -6,8 +6,9 @@ use Rattle.std.specs.List.{cons_option}
 use Rattle.serde_json.specs.Data.{Data, Members}
 use Rattle.serde_json.specs.Find.{as_object}
 use Rattle.mothra_job.specs.Equivalent.{entry_faults}
-use Rattle.mothra_job.specs.FirstFault.{absent, first_or}
-use Rattle.mothra_job.specs.Job.{JobFields, JobRead, equivalent_in, faults, job_fields, job_of, json_of, list_faults, object_faults, size_faults, source_in, suite_in, unknown_keys, value_faults}
+use Rattle.mothra_job.specs.FirstFault.{absent, fault_or}
+use Rattle.mothra_job.specs.Job.{JobFields, JobRead, equivalent_in, job_faults, job_fields, job_of, json_of, list_faults}
+use Rattle.mothra_job.specs.Job.{object_faults, job_size_faults, source_in, suite_in, unknown_keys, value_faults}
 use Rattle.mothra_job.specs.Suite.{count_faults, suite_faults, test, test_faults, tests_of}
 use Rattle.mothra_job.specs.declared.job.JobFault.{JobFault}
 use Rattle.mothra_job.specs.declared.job.JobFault.TheVariants.{Key, TooManyTests}
@@ -21,7 +22,7 @@ rest_none [] ys e = e
 rest_none (x ∷ xs) ys e = cc
 
 -- what comes without a fault
-without_fault : {A : Type 0} (fs : List JobFault) (x y : A) → (let one : Result A JobFault = Ok y in one ≡ first_or fs x) → (fs ≡ []) × (x ≡ y)
+without_fault : {A : Type 0} (fs : List JobFault) (x y : A) → (let one : Result A JobFault = Ok y in one ≡ fault_or fs x) → (fs ≡ []) × (x ≡ y)
 without_fault [] x y e = let same : x ≡ y = cc in (refl, same)
 without_fault (f ∷ fs) x y e = cc
 
@@ -75,8 +76,8 @@ of_value (Some value) none = go (as_object value) none
     go (Some members) e = of_members value members e
 
 pub few_tests : (bytes : List ℕ) (job : JobFields) → (let one : JobRead = Ok job in one ≡ job_of bytes) → length job.suite ≤ 256
-unfolding job_of faults
+unfolding job_of job_faults
 few_tests bytes job is =
-    let parts = without_fault (faults bytes) (job_fields (json_of bytes)) job is in
+    let parts = without_fault (job_faults bytes) (job_fields (json_of bytes)) job is in
     subst (λ (j : JobFields). length j.suite ≤ 256) parts.1
-    (of_value (json_of bytes) (rest_none (size_faults bytes) (value_faults (json_of bytes)) parts.0))
+    (of_value (json_of bytes) (rest_none (job_size_faults bytes) (value_faults (json_of bytes)) parts.0))

@@ -1,5 +1,6 @@
--- The mutants that a job declares equivalent: each by the code of its operator, one blank and its number.
-use Rattle.std.specs.Prelude.{◌≡◌, ◌≤◌, ℕ, ◌&&◌, nat_le, not, List, ◌++◌, codes, drop, filter, filter_map, map, take}
+-- The mutants that a job declares equivalent: each by
+-- the code of its operator, one blank and its number.
+use Rattle.std.specs.Prelude.{ℕ, ◌&&◌, nat_le, not, List, ◌++◌, codes, drop, filter, filter_map, map, take}
 use Rattle.std.specs.Prelude.{Option, Some, None, if◌then◌else◌, is_some, option_and_then}
 use Rattle.std.specs.Fmt.{decimal}
 use Rattle.std.specs.List.{enumerate_from}
@@ -18,28 +19,27 @@ use Rattle.mothra_codes.specs.declared.ticket.Ticket.{Ticket}
 abbrev pub ticket_text : Ticket → List ℕ
 ticket_text t = code_of t.op ++ (codes " " ++ decimal t.number)
 
--- the text names this mutant, by a number that an operator's list may have
-abbrev pub Names : List ℕ → Ticket → Type 0
-Names text t = (text ≡ ticket_text t) × (1 ≤ t.number) × (t.number ≤ 1048575)
-
 -- this mutant, where the text names it
 abbrev pub if_named : List ℕ → Ticket → Option Ticket
 if_named text t =
-    if (nat_le 1 t.number && nat_le t.number 1048575) && bytes_eq (ticket_text t) text then Some t else None
+    if (nat_le 1 t.number && nat_le t.number 1048575) && bytes_eq (ticket_text t) text
+    then Some t else None
 
 -- the mutant that a text names; a code has three letters
 unfoldable pub named : List ℕ → Option Ticket
-named text = option_and_then (λ op. if_named text (ticket op (digits_value 10 (drop 4 text)))) (operator_of (take 3 text))
+named text = option_and_then (λ op. if_named text (ticket op (digits_value 10 (drop 4 text))))
+    (operator_of (take 3 text))
 
 -- the mutant that an entry names
-abbrev pub entry : Data → Option Ticket
-entry value = option_and_then named (as_str value)
+abbrev pub ticket_of_value : Data → Option Ticket
+ticket_of_value value = option_and_then named (as_str value)
 
 -- the mutants that values name
-abbrev pub entries_of : List Data → List Ticket
-entries_of values = filter_map entry values
+abbrev pub tickets_named : List Data → List Ticket
+tickets_named values = filter_map ticket_of_value values
 
 -- J5 of each value that names no mutant, by its number; that of the first is given
 abbrev pub entry_faults : ℕ → List Data → List JobFault
 entry_faults first values =
-    map (λ numbered. Equivalent numbered.0) (filter (λ numbered. not (is_some (entry numbered.1))) (enumerate_from first values))
+    map (λ numbered. Equivalent numbered.0) (filter
+    (λ numbered. not (is_some (ticket_of_value numbered.1))) (enumerate_from first values))

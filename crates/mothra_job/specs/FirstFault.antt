@@ -8,6 +8,6 @@ absent fault None = fault ∷ []
 absent fault (Some x) = []
 
 -- the first fault, or this value where there is none
-abbrev pub first_or : {A : Type 0} → List JobFault → A → Result A JobFault
-first_or [] value = Ok value
-first_or (fault ∷ others) value = Err fault
+abbrev pub fault_or : {A : Type 0} → List JobFault → A → Result A JobFault
+fault_or [] value = Ok value
+fault_or (fault ∷ others) value = Err fault

@@ -1,13 +1,14 @@
 -- The job that bytes are, or the first of their faults.
-use Rattle.std.specs.Prelude.{ℕ, zero, suc, ◌||◌, Bool, not, nat_lt, if◌then◌else◌, List, [], ◌∷◌, ◌++◌, slice_get, codes, filter, length, map}
-use Rattle.std.specs.Prelude.{Option, Some, None, Result, option_and_then, option_map, unwrap_or}
+use Rattle.std.specs.Prelude.{ℕ, zero, suc, ◌||◌, Bool, not, nat_lt, if◌then◌else◌, List}
+use Rattle.std.specs.Prelude.{[], ◌∷◌, ◌++◌, slice_get, codes, filter, length, map, Option}
+use Rattle.std.specs.Prelude.{Some, None, Result, option_and_then, option_map, unwrap_or}
 use Rattle.std.specs.Str.{bytes_eq, is_utf8}
 use Rattle.serde_json.specs.Data.{Data, Items, no_items, item, Members, no_members, member}
 use Rattle.serde_json.specs.Read.{read}
 use Rattle.serde_json.specs.Find.{as_array, as_object, as_str, get}
 use Rattle.f77_run.specs.declared.argument.Arg.{Arg}
-use Rattle.mothra_job.specs.Equivalent.{entries_of, entry_faults}
-use Rattle.mothra_job.specs.FirstFault.{absent, first_or}
+use Rattle.mothra_job.specs.Equivalent.{tickets_named, entry_faults}
+use Rattle.mothra_job.specs.FirstFault.{absent, fault_or}
 use Rattle.mothra_job.specs.Suite.{suite_faults, tests_of}
 use Rattle.mothra_job.specs.declared.job.JobFault.{JobFault}
 use Rattle.mothra_job.specs.declared.job.JobFault.TheVariants.{NotJson, Key, TooLarge}
@@ -29,7 +30,8 @@ abbrev pub json_of : List ℕ → Option Data
 json_of bytes = if is_utf8 bytes then read bytes else None
 
 abbrev pub is_known : List ℕ → Bool
-is_known key = bytes_eq key (codes "source") || (bytes_eq key (codes "suite") || bytes_eq key (codes "equivalent"))
+is_known key = bytes_eq key (codes "source")
+    || (bytes_eq key (codes "suite") || bytes_eq key (codes "equivalent"))
 
 -- the keys of an object: its members are in the order of their bytes
 abbrev pub keys_of : Members → List (List ℕ)
@@ -43,22 +45,22 @@ unknown_keys members = filter (λ key. not (is_known key)) (keys_of members)
 abbrev pub source_in : Data → Option (List ℕ)
 source_in value = option_and_then as_str (get (codes "source") value)
 
-abbrev pub listed : Items → List Data
-listed no_items = []
-listed (item value rest) = value ∷ listed rest
+abbrev pub data_listed : Items → List Data
+data_listed no_items = []
+data_listed (item value rest) = value ∷ data_listed rest
 
 -- the values of a list; a job without the key has none
-abbrev pub values_in : Option Data → Option (List Data)
-values_in None = Some []
-values_in (Some value) = option_map listed (as_array value)
+abbrev pub listed_values : Option Data → Option (List Data)
+listed_values None = Some []
+listed_values (Some value) = option_map data_listed (as_array value)
 
 -- the values of the list at the key `suite`
 abbrev pub suite_in : Data → Option (List Data)
-suite_in value = values_in (get (codes "suite") value)
+suite_in value = listed_values (get (codes "suite") value)
 
 -- the values of the list at the key `equivalent`
 abbrev pub equivalent_in : Data → Option (List Data)
-equivalent_in value = values_in (get (codes "equivalent") value)
+equivalent_in value = listed_values (get (codes "equivalent") value)
 
 -- the values of the test of this number, from 1
 abbrev pub test_at : List (List Arg) → ℕ → Option (List Arg)
@@ -69,8 +71,10 @@ test_at suite (suc i) = slice_get suite i
 abbrev pub list_faults : List Data → List Data → List JobFault
 list_faults suite entries = suite_faults suite ++ entry_faults 1 entries
 
--- the faults of an object with this source, these tests, these entries and these unknown keys, in the order in which they are told
-abbrev pub member_faults : Option (List ℕ) → Option (List Data) → Option (List Data) → List (List ℕ) → List JobFault
+-- the faults of an object with this source, these tests, these
+-- entries and these unknown keys, in the order in which they are told
+abbrev pub member_faults : Option (List ℕ)
+    → Option (List Data) → Option (List Data) → List (List ℕ) → List JobFault
 member_faults source suite entries unknown =
     absent (Key (codes "source")) source
     ++ (absent (Key (codes "suite")) suite
@@ -81,7 +85,8 @@ member_faults source suite entries unknown =
 -- J2 of a value that is no object, or the faults of its members
 abbrev pub object_faults : Data → Option Members → List JobFault
 object_faults value None = NotJson ∷ []
-object_faults value (Some members) = member_faults (source_in value) (suite_in value) (equivalent_in value) (unknown_keys members)
+object_faults value (Some members) =
+    member_faults (source_in value) (suite_in value) (equivalent_in value) (unknown_keys members)
 
 -- J2 of bytes that are no JSON text, or the faults of their value
 abbrev pub value_faults : Option Data → List JobFault
@@ -89,19 +94,19 @@ value_faults None = NotJson ∷ []
 value_faults (Some value) = object_faults value (as_object value)
 
 -- J7
-abbrev pub size_faults : List ℕ → List JobFault
-size_faults bytes = if nat_lt 1048576 (length bytes) then TooLarge ∷ [] else []
+abbrev pub job_size_faults : List ℕ → List JobFault
+job_size_faults bytes = if nat_lt 1048576 (length bytes) then TooLarge ∷ [] else []
 
 -- all faults of a job, in the order in which they are told
-unfoldable pub faults : List ℕ → List JobFault
-faults bytes = size_faults bytes ++ value_faults (json_of bytes)
+unfoldable pub job_faults : List ℕ → List JobFault
+job_faults bytes = job_size_faults bytes ++ value_faults (json_of bytes)
 
 -- the job of this source, these tests and these entries
 abbrev pub job_with : Option (List ℕ) → Option (List Data) → Option (List Data) → JobFields
 job_with source suite entries = record {
   source = unwrap_or source [];
   suite = tests_of (unwrap_or suite []);
-  equivalent = entries_of (unwrap_or entries []);
+  equivalent = tickets_named (unwrap_or entries []);
 }
 
 abbrev pub job_fields : Option Data → JobFields
@@ -110,4 +115,4 @@ job_fields (Some value) = job_with (source_in value) (suite_in value) (equivalen
 
 -- the job that bytes without a fault are, or the first fault
 unfoldable pub job_of : List ℕ → JobRead
-job_of bytes = first_or (faults bytes) (job_fields (json_of bytes))
+job_of bytes = fault_or (job_faults bytes) (job_fields (json_of bytes))

@@ -1,6 +1,6 @@
 -- The test suite of a job: the values that each test gives to the dummy arguments.
-use Rattle.std.specs.Prelude.{ℕ, ℤ, pos, negsuc, ◌&&◌, not, int_le, nat_lt, if◌then◌else◌, List, [], ◌∷◌, ◌++◌, length, map, filter, filter_map}
-use Rattle.std.specs.Prelude.{Option, Some, None, is_some, option_map, option_and_then}
+use Rattle.std.specs.Prelude.{ℕ, ℤ, pos, negsuc, ◌&&◌, not, int_le, nat_lt, if◌then◌else◌, List, [], ◌∷◌, ◌++◌, length}
+use Rattle.std.specs.Prelude.{map, filter, filter_map, Option, Some, None, is_some, option_map, option_and_then}
 use Rattle.std.specs.List.{enumerate_from}
 use Rattle.std.specs.Option.{option_or}
 use Rattle.serde_json.specs.Data.{Data, Items, no_items, item}
@@ -11,29 +11,33 @@ use Rattle.mothra_job.specs.declared.job.JobFault.{JobFault}
 use Rattle.mothra_job.specs.declared.job.JobFault.TheVariants.{TooManyTests, Suite}
 
 -- the number, where INTEGER holds it
-abbrev pub in_range : ℤ → Option ℤ
-in_range z = if int_le (negsuc 2147483647) z && int_le z (pos 2147483647) then Some z else None
+abbrev pub integer_in_range : ℤ → Option ℤ
+integer_in_range z =
+    if int_le (negsuc 2147483647) z && int_le z (pos 2147483647) then Some z else None
 
 -- the whole number of the INTEGER range that a value is; 1.0, 1e0 and -0 are no whole numbers
 abbrev pub integer : Data → Option ℤ
-integer value = option_and_then in_range (option_and_then as_i64 (as_number value))
+integer value = option_and_then integer_in_range (option_and_then as_i64 (as_number value))
 
 -- what each of the items is, where none of them is something else
 abbrev pub each : {A : Type 0} → (Data → Option A) → Items → Option (List A)
 each read no_items = Some []
-each read (item value rest) = option_and_then (λ x. option_map (λ xs. x ∷ xs) (each read rest)) (read value)
+each read (item value rest) =
+    option_and_then (λ x. option_map (λ xs. x ∷ xs) (each read rest)) (read value)
 
 -- one number or more, or one truth value or more
-abbrev pub elements : Items → Option Arg
-elements no_items = None
-elements (item value rest) =
-    option_or (option_map (λ zs. Ints zs) (each integer (item value rest))) (option_map (λ bs. Truths bs) (each as_bool (item value rest)))
+abbrev pub array_of_items : Items → Option Arg
+array_of_items no_items = None
+array_of_items (item value rest) =
+    option_or (option_map (λ zs. Ints zs) (each integer (item value rest)))
+    (option_map (λ bs. Truths bs) (each as_bool (item value rest)))
 
 -- the value of a dummy argument: a number, a truth value, or the elements of an array
 abbrev pub argument : Data → Option Arg
 argument value =
     option_or (option_map (λ z. Int z) (integer value))
-    (option_or (option_map (λ b. Truth b) (as_bool value)) (option_and_then elements (as_array value)))
+    (option_or (option_map (λ b. Truth b) (as_bool value))
+    (option_and_then array_of_items (as_array value)))
 
 -- a test: a list of such values
 abbrev pub test : Data → Option (List Arg)
@@ -50,7 +54,8 @@ count_faults values = if nat_lt 256 (length values) then TooManyTests ∷ [] els
 -- J4 of each value that is no test, by its number; that of the first is given
 abbrev pub test_faults : ℕ → List Data → List JobFault
 test_faults first values =
-    map (λ numbered. Suite numbered.0) (filter (λ numbered. not (is_some (test numbered.1))) (enumerate_from first values))
+    map (λ numbered. Suite numbered.0)
+    (filter (λ numbered. not (is_some (test numbered.1))) (enumerate_from first values))
 
 -- the faults of a suite, in the order in which they are told
 unfoldable pub suite_faults : List Data → List JobFault

@@ -4,8 +4,9 @@ ghost use Rattle.std.specs.Prelude.{◌≡◌, ◌≤◌, ◌⊎◌, ℕ, Err, I
 ghost use Rattle.std.specs.Fmt.{decimal};
 ghost use Rattle.serde_json.specs.View.{view as value_of};
 ghost use Rattle.mothra_job.specs.Equivalent as definition;
-ghost use Rattle.mothra_job.specs.Equivalent.{Names, entries_of, entry_faults};
-ghost use Rattle.mothra_job.specs.FirstFault.{first_or};
+ghost use Rattle.mothra_job.specs.code.Equivalent.{Names};
+ghost use Rattle.mothra_job.specs.Equivalent.{tickets_named, entry_faults};
+ghost use Rattle.mothra_job.specs.FirstFault.{fault_or};
 ghost use Rattle.mothra_job.specs.declared.job.JobFault.TheVariants.{Memory};
 
 use crate::job::JobFault;
@@ -45,7 +46,7 @@ fn named(text: &str) -> Option<Ticket>
 
 /// The mutant that an entry names.
 fn entry(value: &Value) -> Option<Ticket>
-    ensures { result ≡ definition.entry (value_of value.now) }
+    ensures { result ≡ definition.ticket_of_value (value_of value.now) }
 {
     named(value.as_str()?)
 }
@@ -53,7 +54,7 @@ fn entry(value: &Value) -> Option<Ticket>
 /// The mutants that the values name, or J5 at the first that names none.
 pub(crate) fn equivalent(alloc: Global, values: &[Value]) -> Result<Values<Ticket>, JobFault>
     ensures { let entries = map value_of values.now in
-        (result ≡ first_or (entry_faults 1 entries) (entries_of entries)) ⊎ (result ≡ Err Memory) }
+        (result ≡ fault_or (entry_faults 1 entries) (tickets_named entries)) ⊎ (result ≡ Err Memory) }
 {
     let mut tickets = Vec::new(alloc);
     for (index, value) in values.iter().enumerate() {

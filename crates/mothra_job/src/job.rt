@@ -5,11 +5,11 @@ ghost use Rattle.std.specs.BTreeMap.{keys};
 ghost use Rattle.serde_json.specs.Errors.{IsMemory};
 ghost use Rattle.serde_json.specs.Find.{get};
 ghost use Rattle.serde_json.specs.View.{view as value_of, members_view};
-ghost use Rattle.mothra_job.specs.FirstFault.{first_or};
+ghost use Rattle.mothra_job.specs.FirstFault.{fault_or};
 ghost use Rattle.mothra_job.specs.Job as definition;
-ghost use Rattle.mothra_job.specs.Job.{values_in, job_fields, job_of, job_with, member_faults};
+ghost use Rattle.mothra_job.specs.Job.{listed_values, job_fields, job_of, job_with, member_faults};
 ghost use Rattle.mothra_job.specs.Job.{list_faults, test_at, unknown_keys, value_faults};
-ghost use Rattle.mothra_job.specs.Equivalent.{entries_of, entry_faults};
+ghost use Rattle.mothra_job.specs.Equivalent.{tickets_named, entry_faults};
 ghost use Rattle.mothra_job.specs.declared.job.JobFault.TheVariants as fault;
 
 use crate::equivalent::equivalent;
@@ -163,7 +163,7 @@ fn fault_of(error: &serde_json::Error) -> JobFault
 /// The job that a value is.
 fn job_in(alloc: Global, value: &Value) -> Result<Job, JobFault>
     ensures { let json = Some (value_of value.now) in
-        (result ≡ first_or (value_faults json) (job_fields json)) ⊎ (result ≡ Err JobFault.Memory) }
+        (result ≡ fault_or (value_faults json) (job_fields json)) ⊎ (result ≡ Err JobFault.Memory) }
 {
     match value.as_object() {
         Some(members) => with_members(
@@ -187,7 +187,7 @@ fn source_in(value: &Value) -> Option<&str>
 /// The values of the list at a key: none where there is no such key.
 fn values_at<'a>(value: &'a Value, key: &str) -> Option<&'a [Value]>
     ensures { option_map (λ values. map value_of values.now) result
-        ≡ values_in (get key.now (value_of value.entry.now)) }
+        ≡ listed_values (get key.now (value_of value.entry.now)) }
 {
     match value.get(key) {
         Some(list) => Some(list.as_array()?.as_slice()),
@@ -203,8 +203,8 @@ fn with_suite(
     entries: &[Value],
 ) -> Result<Job, JobFault>
     ensures { let declared = map value_of entries.now in
-        (result ≡ first_or (entry_faults 1 declared)
-        (record { source = source.now; suite = suite; equivalent = entries_of declared }))
+        (result ≡ fault_or (entry_faults 1 declared)
+        (record { source = source.now; suite = suite; equivalent = tickets_named declared }))
         ⊎ (result ≡ Err JobFault.Memory) }
 {
     match equivalent(alloc, entries) {
@@ -226,7 +226,7 @@ fn with_lists(
 ) -> Result<Job, JobFault>
     ensures { let tests = map value_of values.now in
         let declared = map value_of entries.now in
-        (result ≡ first_or (list_faults tests declared) (job_with (Some source.now) (Some tests) (Some declared)))
+        (result ≡ fault_or (list_faults tests declared) (job_with (Some source.now) (Some tests) (Some declared)))
         ⊎ (result ≡ Err JobFault.Memory) }
 {
     match suite(alloc, values) {
@@ -246,7 +246,7 @@ fn with_members(
     ensures { let text = option_map (λ s. s.now) source.entry in
         let tests = option_map (λ values. map value_of values.now) suite.entry in
         let declared = option_map (λ values. map value_of values.now) entries.entry in
-        (result ≡ first_or (member_faults text tests declared (unknown_keys (members_view members.now.entries)))
+        (result ≡ fault_or (member_faults text tests declared (unknown_keys (members_view members.now.entries)))
         (job_with text tests declared))
         ⊎ (result ≡ Err JobFault.Memory) }
 {
@@ -274,7 +274,8 @@ fn is_known(key: &str) -> bool
 
 /// The first key by its bytes that a job does not have.
 fn unknown_key(members: &Map<String, Value>) -> Option<&String>
-    ensures { option_map (λ s. s.now) result ≡ find (λ k. not (definition.is_known (string_bytes k))) (keys members.now) }
+    ensures { option_map (λ s. s.now) result
+        ≡ find (λ k. not (definition.is_known (string_bytes k))) (keys members.now) }
 {
     members.keys().find(|key| !is_known(key.as_str()))
 }

@@ -4,7 +4,7 @@ ghost use Rattle.std.specs.Prelude.{◌≡◌, ◌⊎◌, ◌≤◌, Err, IfOk, 
 ghost use Rattle.serde_json.specs.Find.{as_bool};
 ghost use Rattle.serde_json.specs.View.{view as value_of, items_view};
 ghost use Rattle.mothra_job.specs.Suite as definition;
-ghost use Rattle.mothra_job.specs.FirstFault.{first_or};
+ghost use Rattle.mothra_job.specs.FirstFault.{fault_or};
 ghost use Rattle.mothra_job.specs.Suite.{each, suite_faults, test_faults, tests_of};
 ghost use Rattle.mothra_job.specs.declared.job.JobFault.TheVariants.{Memory};
 
@@ -56,7 +56,7 @@ fn truths(alloc: Global, values: &[Value]) -> Result<Option<Values<bool>>, Alloc
 
 /// The elements of an array, if there are any and all are of one kind.
 fn elements(alloc: Global, values: &[Value]) -> Result<Option<Arg>, AllocError>
-    ensures { IfOk result (λ argument. argument ≡ definition.elements (items_view values.now)) }
+    ensures { IfOk result (λ argument. argument ≡ definition.array_of_items (items_view values.now)) }
 {
     if values.is_empty() {
         return Ok(None);
@@ -111,7 +111,7 @@ fn test(alloc: Global, value: &Value) -> Result<Option<Values<Arg>>, AllocError>
 fn tests(alloc: Global, values: &[Value]) -> Result<Values<Values<Arg>>, JobFault>
     requires { length values.now ≤ 256 }
     ensures { let suite = map value_of values.now in
-        (result ≡ first_or (test_faults 1 suite) (tests_of suite)) ⊎ (result ≡ Err Memory) }
+        (result ≡ fault_or (test_faults 1 suite) (tests_of suite)) ⊎ (result ≡ Err Memory) }
 {
     let mut tests = Vec::new(alloc);
     for (index, value) in values.iter().enumerate() {
@@ -127,7 +127,7 @@ fn tests(alloc: Global, values: &[Value]) -> Result<Values<Values<Arg>>, JobFaul
 #[tactic(auto, using(crate::proofs::Suites::too_many, crate::proofs::Suites::few_enough))]
 pub(crate) fn suite(alloc: Global, values: &[Value]) -> Result<Values<Values<Arg>>, JobFault>
     ensures { let suite = map value_of values.now in
-        (result ≡ first_or (suite_faults suite) (tests_of suite)) ⊎ (result ≡ Err Memory) }
+        (result ≡ fault_or (suite_faults suite) (tests_of suite)) ⊎ (result ≡ Err Memory) }
 {
     if values.len() > MOST_TESTS {
         return Err(JobFault::TooManyTests);

@@ -3,7 +3,8 @@ use Rattle.std.proofs.Common.{◌≡◌, List, Some, None, refl, ap, sym, ◌∙
 use Rattle.std.proofs.lemmas.Option.{none-some, same_Some}
 use Rattle.f77_program.specs.Program.{LineFields}
 use Rattle.f77_tree.specs.Statement.{Statement}
-use Rattle.mothra_ops.specs.Edits.{IsMadeBy, IsMutant, made}
+use Rattle.mothra_ops.specs.code.Edits.{IsMadeBy}
+use Rattle.mothra_ops.specs.Edits.{IsMutant, made}
 use Rattle.mothra_ops.specs.Pools.{PoolFields, pools_of}
 use Rattle.mothra_ops.specs.declared.edit.Edit.{Edit}
 

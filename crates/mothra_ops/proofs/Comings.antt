@@ -6,8 +6,9 @@ use Rattle.f77_program.specs.Program.{LineFields}
 use Rattle.f77_tree.specs.Statement.{Statement}
 use Rattle.f77_sites.specs.Sites.{changed}
 use Rattle.mothra_ops.specs.Edits.{IsCountedList, IsMember, IsMutant, IsNoList, IsTooLong, Lists, most_edits, most_whole, numbered, thinned}
-use Rattle.mothra_ops.specs.Listing.{HasCome, Holds, So, longest}
-use Rattle.mothra_ops.specs.Original.{Has, StandsAt}
+use Rattle.mothra_ops.specs.code.Listing.{HasCome, So}
+use Rattle.mothra_ops.specs.Listing.{HoldsEdits, longest}
+use Rattle.mothra_ops.specs.code.Original.{HasStatement, StandsAt}
 use Rattle.mothra_ops.specs.Pools.{pools_of}
 use Rattle.mothra_ops.specs.Replacements.{gives}
 use Rattle.mothra_ops.specs.declared.edit.Edit.{Edit}
@@ -21,10 +22,10 @@ use Rattle.mothra_ops.proofs.Members.{own_op, rank_first, statement_first, state
 
 -- what adding an edit does to a list that holds others
 abbrev pub Adds : Listing → Listing → Edit → Type 0
-Adds old new edit = (whole : List Edit) → Holds old whole → Holds new (whole ++ edit ∷ [])
+Adds old new edit = (whole : List Edit) → HoldsEdits old whole → HoldsEdits new (whole ++ edit ∷ [])
 
 abbrev pub Overflows : Listing → Edit → Type 0
-Overflows old edit = (whole : List Edit) → Holds old whole
+Overflows old edit = (whole : List Edit) → HoldsEdits old whole
     → (old.limits.kept < length (thinned old.every (whole ++ edit ∷ []))) ⊎ (old.limits.whole < length (whole ++ edit ∷ []))
 
 -- the same list with other memory
@@ -84,7 +85,7 @@ node_done l program s p r stmt node here past come = record {
   holds = come.holds;
 }
 
-pub statement_done : (l : Listing) (program : List LineFields) (s p : ℕ) (stmt : Statement) → Has program s stmt → length (nodes_of stmt) ≤ p
+pub statement_done : (l : Listing) (program : List LineFields) (s p : ℕ) (stmt : Statement) → HasStatement program s stmt → length (nodes_of stmt) ≤ p
     → HasCome l program s p 0 → HasCome l program (s + 1) 0 0
 statement_done l program s p stmt has past come = record {
   limits = come.limits;
@@ -94,7 +95,7 @@ statement_done l program s p stmt has past come = record {
   holds = come.holds;
 }
 
-pub come_at_start : (l : Listing) (program : List LineFields) → l.limits ≡ longest → Holds l [] → HasCome l program 1 0 0
+pub come_at_start : (l : Listing) (program : List LineFields) → l.limits ≡ longest → HoldsEdits l [] → HasCome l program 1 0 0
 come_at_start l program limits holds = record {
   limits = limits;
   found = [];

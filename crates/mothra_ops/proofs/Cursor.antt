@@ -4,7 +4,7 @@ use Rattle.std.specs.Prelude.{◌⊎◌, Contains}
 use Rattle.std.proofs.lemmas.Bool.{cases_lt}
 use Rattle.std.proofs.lemmas.List.{get_or_append_left, get_or_push, length_push, get_or_default}
 use Rattle.std.proofs.lemmas.List.Quantifiers.{all_pairs_push}
-use Rattle.mothra_ops.specs.Edits.{Below, Before, Lists}
+use Rattle.mothra_ops.specs.Edits.{Below, BeforeEdit, Lists}
 use Rattle.mothra_ops.specs.declared.edit.Edit.{Edit}
 use Rattle.mothra_codes.specs.declared.op.Op.{Op}
 
@@ -55,7 +55,7 @@ Ahead P s p r e = P e × Below s p r e
 module _ (op : Op) (P : Edit → Type 0) (own : (e : Edit) → P e → e.op ≡ op) (xs : List Edit) where
   pub kept : (s p r : ℕ) → Lists (Ahead P s p r) xs → P (edit_at op s p r) → Lists (Ahead P s p (r + 1)) (xs ++ edit_at op s p r ∷ [])
   kept s p r l is = record {
-    ordered = all_pairs_push Before xs (edit_at op s p r) l.ordered (λ k d h. ((l.exactly (get_or xs k d)).0 (k, h, get_or_default xs k (get_or xs k d) d h)).1);
+    ordered = all_pairs_push BeforeEdit xs (edit_at op s p r) l.ordered (λ k d h. ((l.exactly (get_or xs k d)).0 (k, h, get_or_default xs k (get_or xs k d) d h)).1);
     exactly = λ e. (
       (λ h. elim (contains_push xs (edit_at op s p r) e h) [
         | inl old ↦ let so : Ahead P s p r e = (l.exactly e).0 old in (so.0, below_next s p r e so.1)

@@ -15,7 +15,7 @@ use Rattle.f77_tree.specs.Statement.{Statement, form_of, same_statement}
 use Rattle.f77_tree.specs.Tree.{Tree, Trees}
 use Rattle.f77_tree.proofs.Tests.{and_true}
 use Rattle.f77_nodes.specs.Node.{NodeOf}
-use Rattle.f77_program.specs.Formed.{all_formed, formed, is_some_list}
+use Rattle.f77_program.specs.code.Formed.{all_formed, formed, is_some_list}
 use Rattle.f77_program.proofs.Back.{reference_formed}
 use Rattle.f77_program.proofs.Forming.{a_reference}
 use Rattle.f77_legal.specs.Kinds.{same_kind}
@@ -24,7 +24,9 @@ use Rattle.mothra_codes.specs.declared.op.Op.{Op}
 use Rattle.mothra_codes.specs.declared.op.Op.TheVariants.{Aar, Abs, Acr, Aor, Asr, Car, Cnr, Crp, Csr, Der, Dsa}
 use Rattle.mothra_codes.specs.declared.op.Op.TheVariants.{Glr, Lcr, Ror, Rsr, San, Sar, Scr, Sdl, Src, Svr, Uoi}
 use Rattle.mothra_ops.specs.Pools.{PoolFields, scalar}
-use Rattle.mothra_ops.specs.Replacements.{absolute, absolute_value, acts, acts_or_continues, altered, arithmetic, comparable, connectors, drawn, exchanged, gives, in_computed, in_labels, in_parts, in_place, in_places, in_statements, in_values, in_variables, is_comparable, is_constant, is_element, is_in, is_scalar, kind_in, lowered, next_constants, operands, others, raised, relations, replacements, stands_in, target, truths, variable, with_group, with_unary}
+use Rattle.mothra_ops.specs.Replacements.{absolute, absolute_value, is_replaceable_action, acts_or_continues, altered, arithmetic_operators, comparable, connectors, drawn, exchanged, gives}
+use Rattle.mothra_ops.specs.Replacements.{in_computed, in_labels, in_parts, in_place, in_places, in_statements, in_values, in_variables, is_comparable, is_constant, is_element, is_in, is_scalar}
+use Rattle.mothra_ops.specs.Replacements.{kind_of_expression, lowered, next_constants, operands, others, raised, relations, replacements, stands_in, target, truths, variable, with_group, with_unary}
 use Rattle.mothra_ops.proofs.FormedNodes.{IsFormedTree, IsNamed, IsNoFunction, each_mapped, node_formed}
 use Rattle.mothra_ops.proofs.FormedPools.{AreFormed}
 use Rattle.mothra_ops.proofs.FormedSites.{is_fit}
@@ -53,7 +55,7 @@ chosen P false xs ys one other = other
 drawn_formed : (is_site : Tree → Bool) (kinds : Symbol → Kind) (pool : List Tree) (t : Tree) → AllFormed pool → AllFormed (drawn is_site kinds pool t)
 drawn_formed is_site kinds pool t all =
     chosen IsFormedTree (is_site t) (others kinds pool t) []
-    (All-filter (λ u. same_kind (kind_in kinds u) (kind_in kinds t) && not (same_tree u t)) IsFormedTree pool all) no_trees
+    (All-filter (λ u. same_kind (kind_of_expression kinds u) (kind_of_expression kinds t) && not (same_tree u t)) IsFormedTree pool all) no_trees
 
 -- the subscripts of a reference
 abbrev items_formed : Tree → Bool
@@ -190,11 +192,11 @@ module _ (pools : PoolFields) (are : AreFormed pools) where
   replacements_fit : (op : Op) (node : NodeOf) → node_formed node ≡ true → All IsFit (replacements op pools node)
   replacements_fit Aar node f = places_fit (in_place Aar pools) (λ t g. drawn_formed is_element pools.kinds pools.references t are.references) node f
   replacements_fit Abs node f =
-      computed_fit (λ t. if same_kind Integer (kind_in pools.kinds t) then absolute t else [])
-      (λ t g. chosen IsFormedTree (same_kind Integer (kind_in pools.kinds t)) (absolute t) [] (absolute_formed t g) no_trees) node f
+      computed_fit (λ t. if same_kind Integer (kind_of_expression pools.kinds t) then absolute t else [])
+      (λ t g. chosen IsFormedTree (same_kind Integer (kind_of_expression pools.kinds t)) (absolute t) [] (absolute_formed t g) no_trees) node f
   replacements_fit Acr node f =
       parts_fit (drawn is_constant pools.kinds pools.references) (λ t g. drawn_formed is_constant pools.kinds pools.references t are.references) node f
-  replacements_fit Aor node f = parts_fit (with_group arithmetic operands) (group_formed arithmetic operands operands_formed) node f
+  replacements_fit Aor node f = parts_fit (with_group arithmetic_operators operands) (group_formed arithmetic_operators operands operands_formed) node f
   replacements_fit Asr node f = places_fit (in_place Asr pools) (λ t g. drawn_formed is_scalar pools.kinds pools.references t are.references) node f
   replacements_fit Car node f =
       parts_fit (drawn is_element pools.kinds pools.constants) (λ t g. drawn_formed is_element pools.kinds pools.constants t are.constants) node f
@@ -215,11 +217,11 @@ module _ (pools : PoolFields) (are : AreFormed pools) where
   replacements_fit Sar node f = places_fit (in_place Sar pools) (λ t g. drawn_formed is_element pools.kinds pools.scalars t are.scalars) node f
   replacements_fit Scr node f =
       parts_fit (drawn is_constant pools.kinds pools.scalars) (λ t g. drawn_formed is_constant pools.kinds pools.scalars t are.scalars) node f
-  replacements_fit Sdl node f = statements_fit acts Statement.Continue refl node
+  replacements_fit Sdl node f = statements_fit is_replaceable_action Statement.Continue refl node
   replacements_fit Src node f =
       parts_fit (drawn is_constant pools.kinds pools.constants) (λ t g. drawn_formed is_constant pools.kinds pools.constants t are.constants) node f
   replacements_fit Svr node f = in_variables_fit (in_place Svr pools) (λ t g. drawn_formed is_scalar pools.kinds pools.scalars t are.scalars) node f
-  replacements_fit Uoi node f = computed_fit (λ t. with_unary (kind_in pools.kinds t) t) (λ t g. unary_formed (kind_in pools.kinds t) t g) node f
+  replacements_fit Uoi node f = computed_fit (λ t. with_unary (kind_of_expression pools.kinds t) t) (λ t g. unary_formed (kind_of_expression pools.kinds t) t g) node f
 
   pub gives_fit : (op : Op) (s : Statement) (node : NodeOf) → node_formed node ≡ true → All IsFit (gives op pools s node)
   gives_fit op s node f = chosen IsFit (stands_in op s) (replacements op pools node) [] (replacements_fit op node f) no_nodes

@@ -6,14 +6,16 @@ use Rattle.std.proofs.lemmas.List.Elements.{All-nil, All-cons, All-head, All-tai
 use Rattle.f77_tree.specs.Tree.{Tree, Trees, DeclFields, GroupFields}
 use Rattle.f77_tree.specs.Grammar.{is_name}
 use Rattle.f77_tree.specs.Intrinsic.{function_named}
-use Rattle.f77_tree.specs.Joined.{has_items, some_all}
+use Rattle.f77_tree.specs.Joined.{has_items}
+use Rattle.f77_tree.specs.code.Joined.{some_all}
 use Rattle.f77_tree.specs.Declaration.{all_bounded}
 use Rattle.f77_tree.specs.Statement.{Statement}
 use Rattle.f77_tree.proofs.Tests.{and_true}
-use Rattle.f77_nodes.specs.Node.{NodeOf, parts, all_parts, step_parts, group_nodes, name_of, names_of, nodes_behind, nodes_of}
-use Rattle.f77_program.specs.Data.{any_value, is_group}
-use Rattle.f77_program.specs.Declaration.{declaration_formed, is_decl}
-use Rattle.f77_program.specs.Formed.{formed, all_formed, is_action, is_some_list, statement_formed, value_formed}
+use Rattle.f77_nodes.specs.Node.{NodeOf, parts, all_parts, step_parts, group_nodes, node_name, names_of, nodes_behind, nodes_of}
+use Rattle.f77_program.specs.code.Data.{any_value, is_group}
+use Rattle.f77_program.specs.code.Declaration.{declaration_formed, is_decl}
+use Rattle.f77_program.specs.code.Formed.{formed, all_formed, is_some_list, statement_formed, value_formed}
+use Rattle.f77_program.specs.Formed.{is_action}
 use Rattle.f77_program.specs.Program.{IsProgram, LineFields}
 use Rattle.f77_program.specs.declared.group.Group.{Group}
 use Rattle.f77_program.proofs.Back.{reference_formed}
@@ -170,21 +172,21 @@ pub nodes_formed : (s : Statement) → statement_formed s ≡ true → All IsFor
 nodes_formed s f = All-cons IsFormedNode (NodeOf.Itself s) (nodes_behind s) f (behind_formed s f)
 
 -- the names that nodes bear
-nodes_named : (nodes : List NodeOf) → All IsFormedNode nodes → All IsNamed (filter_map name_of nodes)
+nodes_named : (nodes : List NodeOf) → All IsFormedNode nodes → All IsNamed (filter_map node_name nodes)
 nodes_named [] all = All-nil IsNamed
 nodes_named (node ∷ nodes) all = by node (All-head IsFormedNode node nodes all) (nodes_named nodes (All-tail IsFormedNode node nodes all))
   where
-    by_tree : (t : Tree) → formed t ≡ true → All IsNamed (filter_map name_of nodes) → All IsNamed (filter_map name_of (NodeOf.Part t ∷ nodes))
-    by_tree (Tree.Reference name items) f rest = All-cons IsNamed name (filter_map name_of nodes) (reference_formed name items f).0 rest
+    by_tree : (t : Tree) → formed t ≡ true → All IsNamed (filter_map node_name nodes) → All IsNamed (filter_map node_name (NodeOf.Part t ∷ nodes))
+    by_tree (Tree.Reference name items) f rest = All-cons IsNamed name (filter_map node_name nodes) (reference_formed name items f).0 rest
     by_tree _ f rest = rest
 
-    by : (n : NodeOf) → node_formed n ≡ true → All IsNamed (filter_map name_of nodes) → All IsNamed (filter_map name_of (n ∷ nodes))
+    by : (n : NodeOf) → node_formed n ≡ true → All IsNamed (filter_map node_name nodes) → All IsNamed (filter_map node_name (n ∷ nodes))
     by (NodeOf.Itself s) f rest = rest
     by (NodeOf.Target name items) f rest =
-        All-cons IsNamed name (filter_map name_of nodes) (and_true (is_name name) (all_formed items) f).0 rest
+        All-cons IsNamed name (filter_map node_name nodes) (and_true (is_name name) (all_formed items) f).0 rest
     by (NodeOf.Part t) f rest = by_tree t f rest
-    by (NodeOf.Named name) f rest = All-cons IsNamed name (filter_map name_of nodes) f rest
-    by (NodeOf.Declared d) f rest = All-cons IsNamed d.name (filter_map name_of nodes) f rest
+    by (NodeOf.Named name) f rest = All-cons IsNamed name (filter_map node_name nodes) f rest
+    by (NodeOf.Declared d) f rest = All-cons IsNamed d.name (filter_map node_name nodes) f rest
     by (NodeOf.Labelled label) f rest = rest
     by (NodeOf.Initial value) f rest = rest
 

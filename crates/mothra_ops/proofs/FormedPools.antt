@@ -10,8 +10,8 @@ use Rattle.f77_tree.specs.Grammar.{is_name}
 use Rattle.f77_tree.specs.Statement.{Statement}
 use Rattle.f77_tree.specs.Tree.{Tree, Trees}
 use Rattle.f77_tree.proofs.Tests.{and_true}
-use Rattle.f77_nodes.specs.Node.{NodeOf, name_of, names_of, nodes_of}
-use Rattle.f77_program.specs.Formed.{all_formed, formed, statement_formed}
+use Rattle.f77_nodes.specs.Node.{NodeOf, node_name, names_of, nodes_of}
+use Rattle.f77_program.specs.code.Formed.{all_formed, formed, statement_formed}
 use Rattle.f77_program.specs.Program.{IsProgram, LineFields}
 use Rattle.f77_program.proofs.Forming.{a_reference}
 use Rattle.f77_legal.specs.Legal.{IsLegal, is_array}
@@ -51,7 +51,7 @@ constants_formed (node ∷ nodes) = by node (constants_formed nodes)
 
 -- a formed node that bears the name of no function
 abbrev IsOwn : NodeOf → Type 0
-IsOwn node = IsFormedNode node × IfSome (name_of node) IsNoFunction
+IsOwn node = IsFormedNode node × IfSome (node_name node) IsNoFunction
 
 references_formed : (nodes : List NodeOf) → All IsOwn nodes → All IsFormedTree (filter_map array_reference nodes)
 references_formed [] all = All-nil IsFormedTree
@@ -76,10 +76,10 @@ first_named : (o : Option Symbol) (names : List Symbol) → All IsNoFunction (co
 first_named None names all = (tt, all)
 first_named (Some name) names all = (All-head IsNoFunction name names all, All-tail IsNoFunction name names all)
 
-own_each : (nodes : List NodeOf) → All IsFormedNode nodes → All IsNoFunction (filter_map name_of nodes) → All IsOwn nodes
+own_each : (nodes : List NodeOf) → All IsFormedNode nodes → All IsNoFunction (filter_map node_name nodes) → All IsOwn nodes
 own_each [] formed names = All-nil IsOwn
 own_each (node ∷ nodes) formed names =
-    let named = first_named (name_of node) (filter_map name_of nodes) names in
+    let named = first_named (node_name node) (filter_map node_name nodes) names in
     All-cons IsOwn node nodes (All-head IsFormedNode node nodes formed, named.0)
     (own_each nodes (All-tail IsFormedNode node nodes formed) named.1)
 

@@ -7,13 +7,16 @@ use Rattle.f77_tree.specs.declared.data.Value.{Value}
 use Rattle.f77_tree.specs.Form.{acts}
 use Rattle.f77_tree.specs.Tree.{Tree, Trees, GroupFields}
 use Rattle.f77_tree.specs.Grammar.{is_call, is_name}
-use Rattle.f77_tree.specs.Joined.{has_items, some_all}
+use Rattle.f77_tree.specs.Joined.{has_items}
+use Rattle.f77_tree.specs.code.Joined.{some_all}
 use Rattle.f77_tree.specs.Statement.{Statement, form_of}
 use Rattle.f77_tree.proofs.Tests.{and_true}
 use Rattle.f77_nodes.specs.Node.{NodeOf}
-use Rattle.f77_sites.specs.Sites.{Site, fixed, group_sites, item_sites, label_sites, list_sites, name_or, name_sites, part_or, part_then, parts_behind, sites_behind, statement_or, statement_then, step_sites, target_or, target_sites, tree_sites, value_sites, within}
-use Rattle.f77_program.specs.Data.{any_value, is_group}
-use Rattle.f77_program.specs.Formed.{formed, all_formed, is_action, is_some_list, statement_formed, value_formed}
+use Rattle.f77_sites.specs.Sites.{Site, fixed, group_sites, item_sites, label_sites, list_sites, name_or, name_sites, part_or, part_then, parts_behind}
+use Rattle.f77_sites.specs.Sites.{sites_behind, statement_or, statement_then, step_sites, target_or, target_sites, tree_sites, value_sites, site_within}
+use Rattle.f77_program.specs.code.Data.{any_value, is_group}
+use Rattle.f77_program.specs.code.Formed.{formed, all_formed, is_some_list, statement_formed, value_formed}
+use Rattle.f77_program.specs.Formed.{is_action}
 use Rattle.f77_program.proofs.Back.{reference_formed}
 use Rattle.f77_program.proofs.Forming.{a_reference}
 use Rattle.mothra_ops.proofs.FormedNodes.{each_mapped, each_of_some, node_formed, some_of_each}
@@ -62,36 +65,36 @@ module _ (node : NodeOf) (fit : is_fit node ≡ true) where
     parts_put (Tree.Truth b) f = All-nil FormedTree
     parts_put (Tree.Reference name Trees.None) f = All-nil FormedTree
     parts_put (Tree.Reference name (Trees.Then t ts)) f =
-        All-map FormedTree (within (Tree.Reference name)) (item_sites (Trees.Then t ts))
+        All-map FormedTree (site_within (Tree.Reference name)) (item_sites (Trees.Then t ts))
         (All-weaker FormedItems (λ site. formed (Tree.Reference name (site.1 node)) ≡ true) (λ site h. reference_kept name t ts (site.1 node) f h)
         (item_sites (Trees.Then t ts)) (items_put (Trees.Then t ts) (reference_formed name (Trees.Then t ts) f).2))
     parts_put (Tree.Call g items) f =
-        All-map FormedTree (within (Tree.Call g)) (item_sites items)
+        All-map FormedTree (site_within (Tree.Call g)) (item_sites items)
         (All-weaker FormedItems (λ site. formed (Tree.Call g (site.1 node)) ≡ true) (λ site h. rw (h.1, h.0) refl)
         (item_sites items) (items_put items (and_true (is_some_list items) (all_formed items) f).1))
-    parts_put (Tree.Signed sign t) f = All-map FormedTree (within (Tree.Signed sign)) (tree_sites t) (then_formed t f (parts_put t f))
-    parts_put (Tree.Not t) f = All-map FormedTree (within Tree.Not) (tree_sites t) (then_formed t f (parts_put t f))
+    parts_put (Tree.Signed sign t) f = All-map FormedTree (site_within (Tree.Signed sign)) (tree_sites t) (then_formed t f (parts_put t f))
+    parts_put (Tree.Not t) f = All-map FormedTree (site_within Tree.Not) (tree_sites t) (then_formed t f (parts_put t f))
     parts_put (Tree.Binary op a b) f =
         let (first, second) = and_true (formed a) (formed b) f in
-        All-append FormedTree (map (within (λ c. Tree.Binary op c b)) (tree_sites a)) (map (within (Tree.Binary op a)) (tree_sites b))
-        (All-map FormedTree (within (λ c. Tree.Binary op c b)) (tree_sites a)
+        All-append FormedTree (map (site_within (λ c. Tree.Binary op c b)) (tree_sites a)) (map (site_within (Tree.Binary op a)) (tree_sites b))
+        (All-map FormedTree (site_within (λ c. Tree.Binary op c b)) (tree_sites a)
         (All-weaker FormedTree (λ site. formed (Tree.Binary op (site.1 node) b) ≡ true) (λ site h. rw (h, second) refl) (tree_sites a)
         (then_formed a first (parts_put a first))))
-        (All-map FormedTree (within (Tree.Binary op a)) (tree_sites b)
+        (All-map FormedTree (site_within (Tree.Binary op a)) (tree_sites b)
         (All-weaker FormedTree (λ site. formed (Tree.Binary op a (site.1 node)) ≡ true) (λ site h. rw (first, h) refl) (tree_sites b)
         (then_formed b second (parts_put b second))))
-    parts_put (Tree.ZeroPush t) f = All-map FormedTree (within Tree.ZeroPush) (tree_sites t) (then_formed t f (parts_put t f))
+    parts_put (Tree.ZeroPush t) f = All-map FormedTree (site_within Tree.ZeroPush) (tree_sites t) (then_formed t f (parts_put t f))
 
     items_put : (items : Trees) → all_formed items ≡ true → All FormedItems (item_sites items)
     items_put Trees.None f = All-nil FormedItems
     items_put (Trees.Then t ts) f =
         let (first, others) = and_true (formed t) (all_formed ts) f in
-        All-append FormedItems (map (within (λ u. Trees.Then u ts)) (tree_sites t)) (map (within (Trees.Then t)) (item_sites ts))
-        (All-map FormedItems (within (λ u. Trees.Then u ts)) (tree_sites t)
-        (All-weaker FormedTree (λ site. FormedItems (within (λ u. Trees.Then u ts) site)) (λ site h. (rw (h, others) refl, some_then (site.1 node) ts)) (tree_sites t)
+        All-append FormedItems (map (site_within (λ u. Trees.Then u ts)) (tree_sites t)) (map (site_within (Trees.Then t)) (item_sites ts))
+        (All-map FormedItems (site_within (λ u. Trees.Then u ts)) (tree_sites t)
+        (All-weaker FormedTree (λ site. FormedItems (site_within (λ u. Trees.Then u ts) site)) (λ site h. (rw (h, others) refl, some_then (site.1 node) ts)) (tree_sites t)
         (then_formed t first (parts_put t first))))
-        (All-map FormedItems (within (Trees.Then t)) (item_sites ts)
-        (All-weaker FormedItems (λ site. FormedItems (within (Trees.Then t) site)) (λ site h. (rw (first, h.0) refl, some_then t (site.1 node))) (item_sites ts)
+        (All-map FormedItems (site_within (Trees.Then t)) (item_sites ts)
+        (All-weaker FormedItems (λ site. FormedItems (site_within (Trees.Then t) site)) (λ site h. (rw (first, h.0) refl, some_then t (site.1 node))) (item_sites ts)
         (items_put ts others)))
 
   tree_put : (t : Tree) → formed t ≡ true → All FormedTree (tree_sites t)
@@ -99,7 +102,7 @@ module _ (node : NodeOf) (fit : is_fit node ≡ true) where
 
   step_put : (c : Option Tree) → value_formed c ≡ true → All (λ site. value_formed (site.1 node) ≡ true) (step_sites c)
   step_put None f = All-nil (λ site. value_formed (site.1 node) ≡ true)
-  step_put (Some t) f = All-map (λ site. value_formed (site.1 node) ≡ true) (within Some) (tree_sites t) (tree_put t f)
+  step_put (Some t) f = All-map (λ site. value_formed (site.1 node) ≡ true) (site_within Some) (tree_sites t) (tree_put t f)
 
   -- the reference that an assignment assigns to
   abbrev FormedTarget : Site (List ℕ × Trees) → Type 0
@@ -112,10 +115,10 @@ module _ (node : NodeOf) (fit : is_fit node ≡ true) where
 
   target_put : (name : List ℕ) (items : Trees) → is_name name ≡ true → all_formed items ≡ true → All FormedTarget (target_sites (name, items))
   target_put name items is all =
-      All-cons FormedTarget (NodeOf.Target name items, target_or (name, items)) (map (within (λ others. (name, others))) (item_sites items))
+      All-cons FormedTarget (NodeOf.Target name items, target_or (name, items)) (map (site_within (λ others. (name, others))) (item_sites items))
       (target_by node name items fit is all)
-      (All-map FormedTarget (within (λ others. (name, others))) (item_sites items)
-      (All-weaker FormedItems (λ site. FormedTarget (within (λ others. (name, others)) site)) (λ site h. (is, h.0)) (item_sites items) (items_put items all)))
+      (All-map FormedTarget (site_within (λ others. (name, others))) (item_sites items)
+      (All-weaker FormedItems (λ site. FormedTarget (site_within (λ others. (name, others)) site)) (λ site h. (is, h.0)) (item_sites items) (items_put items all)))
 
   -- a list, of which each item is put so
   module _ {X : Type 0} (test : X → Bool) (of : X → List (Site X))
@@ -127,21 +130,21 @@ module _ (node : NodeOf) (fit : is_fit node ≡ true) where
     list_put [] h = All-nil FormedList
     list_put (x ∷ xs) h =
         let (first, others) = and_true (test x) (list_all test xs) h in
-        All-append FormedList (map (within (λ y. y ∷ xs)) (of x)) (map (within (λ ys. x ∷ ys)) (list_sites of xs))
-        (All-map FormedList (within (λ y. y ∷ xs)) (of x)
-        (All-weaker (λ site. test (site.1 node) ≡ true) (λ site. FormedList (within (λ y. y ∷ xs) site)) (λ site e. (rw (e, others) refl, refl)) (of x) (each x first)))
-        (All-map FormedList (within (λ ys. x ∷ ys)) (list_sites of xs)
-        (All-weaker FormedList (λ site. FormedList (within (λ ys. x ∷ ys) site)) (λ site e. (rw (first, e.0) refl, refl)) (list_sites of xs) (list_put xs others)))
+        All-append FormedList (map (site_within (λ y. y ∷ xs)) (of x)) (map (site_within (λ ys. x ∷ ys)) (list_sites of xs))
+        (All-map FormedList (site_within (λ y. y ∷ xs)) (of x)
+        (All-weaker (λ site. test (site.1 node) ≡ true) (λ site. FormedList (site_within (λ y. y ∷ xs) site)) (λ site e. (rw (e, others) refl, refl)) (of x) (each x first)))
+        (All-map FormedList (site_within (λ ys. x ∷ ys)) (list_sites of xs)
+        (All-weaker FormedList (λ site. FormedList (site_within (λ ys. x ∷ ys) site)) (λ site e. (rw (first, e.0) refl, refl)) (list_sites of xs) (list_put xs others)))
 
   group_put : (g : GroupFields) → is_group g ≡ true → All (λ site. is_group (site.1 node) ≡ true) (group_sites g)
   group_put g h =
       let (named, valued) = and_true (some_all is_name g.names) (some_all any_value g.values) h in
       let whole : List Value → GroupFields = λ values. record { names = g.names; values = values } in
       let P : Site GroupFields → Type 0 = λ site. is_group (site.1 node) ≡ true in
-      All-append P (map (λ name. fixed g (NodeOf.Named name)) g.names) (map (within whole) (list_sites value_sites g.values))
+      All-append P (map (λ name. fixed g (NodeOf.Named name)) g.names) (map (site_within whole) (list_sites value_sites g.values))
       (each_mapped P (λ name. fixed g (NodeOf.Named name)) g.names (λ name. h))
-      (All-map P (within whole) (list_sites value_sites g.values)
-      (All-weaker (FormedList any_value value_sites values_put) (λ site. P (within whole site)) (λ site e. rw (named, some_of_each any_value (site.1 node) e.1 e.0) refl)
+      (All-map P (site_within whole) (list_sites value_sites g.values)
+      (All-weaker (FormedList any_value value_sites values_put) (λ site. P (site_within whole site)) (λ site e. rw (named, some_of_each any_value (site.1 node) e.1 e.0) refl)
       (list_sites value_sites g.values) (list_put any_value value_sites values_put g.values (each_of_some any_value g.values valued))))
     where
       values_put : (v : Value) → any_value v ≡ true → All (λ site. any_value (site.1 node) ≡ true) (value_sites v)
@@ -159,15 +162,15 @@ module _ (node : NodeOf) (fit : is_fit node ≡ true) where
   -- of a statement that has expressions in one place
   by_trees : (s : Statement) (whole : Tree → Statement) (t : Tree) → formed t ≡ true
       → ((u : Tree) → formed u ≡ true → (statement_formed (whole u) ≡ true) × (form_of (whole u) ≡ form_of s))
-      → All (Keeps s) (map (within whole) (tree_sites t))
+      → All (Keeps s) (map (site_within whole) (tree_sites t))
   by_trees s whole t f kept =
-      All-map (Keeps s) (within whole) (tree_sites t)
-      (All-weaker FormedTree (λ site. Keeps s (within whole site)) (λ site h. kept (site.1 node) h) (tree_sites t) (tree_put t f))
+      All-map (Keeps s) (site_within whole) (tree_sites t)
+      (All-weaker FormedTree (λ site. Keeps s (site_within whole site)) (λ site h. kept (site.1 node) h) (tree_sites t) (tree_put t f))
 
   -- and of one that has labels, which are of any size
   by_labels : (s : Statement) (whole : ℕ → Statement) (label : ℕ)
-      → ((l : ℕ) → (statement_formed (whole l) ≡ true) × (form_of (whole l) ≡ form_of s)) → All (Keeps s) (map (within whole) (label_sites label))
-  by_labels s whole label kept = each_mapped (Keeps s) (within whole) (label_sites label) (λ site. kept (site.1 node))
+      → ((l : ℕ) → (statement_formed (whole l) ≡ true) × (form_of (whole l) ≡ form_of s)) → All (Keeps s) (map (site_within whole) (label_sites label))
+  by_labels s whole label kept = each_mapped (Keeps s) (site_within whole) (label_sites label) (λ site. kept (site.1 node))
 
   name_by : (n : NodeOf) (name : List ℕ) → is_fit n ≡ true → is_name name ≡ true → is_name (name_or name n) ≡ true
   name_by (NodeOf.Named other) name h is = h
@@ -181,8 +184,8 @@ module _ (node : NodeOf) (fit : is_fit node ≡ true) where
   behind_put (Statement.Dimension ds) f =
       each_mapped (Keeps (Statement.Dimension ds)) (λ d. fixed (Statement.Dimension ds) (NodeOf.Declared d)) ds (λ d. (f, refl))
   behind_put (Statement.Preset gs) f =
-      All-map (Keeps (Statement.Preset gs)) (within Statement.Preset) (list_sites group_sites gs)
-      (All-weaker (FormedList is_group group_sites group_put) (λ site. Keeps (Statement.Preset gs) (within Statement.Preset site))
+      All-map (Keeps (Statement.Preset gs)) (site_within Statement.Preset) (list_sites group_sites gs)
+      (All-weaker (FormedList is_group group_sites group_put) (λ site. Keeps (Statement.Preset gs) (site_within Statement.Preset site))
       (λ site e. (some_of_each is_group (site.1 node) e.1 e.0, refl)) (list_sites group_sites gs)
       (list_put is_group group_sites group_put gs (each_of_some is_group gs f)))
   behind_put (Statement.Assign name items t) f =
@@ -190,9 +193,9 @@ module _ (node : NodeOf) (fit : is_fit node ≡ true) where
       let (all, value) = and_true (all_formed items) (formed t) rest in
       let s : Statement = Statement.Assign name items t in
       let whole : List ℕ × Trees → Statement = λ place. Statement.Assign place.0 place.1 t in
-      All-append (Keeps s) (map (within whole) (target_sites (name, items))) (map (within (Statement.Assign name items)) (tree_sites t))
-      (All-map (Keeps s) (within whole) (target_sites (name, items))
-      (All-weaker FormedTarget (λ site. Keeps s (within whole site)) (λ site h. (rw (h.0, h.1, value) refl, refl)) (target_sites (name, items))
+      All-append (Keeps s) (map (site_within whole) (target_sites (name, items))) (map (site_within (Statement.Assign name items)) (tree_sites t))
+      (All-map (Keeps s) (site_within whole) (target_sites (name, items))
+      (All-weaker FormedTarget (λ site. Keeps s (site_within whole site)) (λ site h. (rw (h.0, h.1, value) refl, refl)) (target_sites (name, items))
       (target_put name items is all)))
       (by_trees s (Statement.Assign name items) t value (λ u h. (rw (is, all, h) refl, refl)))
   behind_put (Statement.Goto label) f = by_labels (Statement.Goto label) Statement.Goto label (λ l. (refl, refl))
@@ -200,9 +203,9 @@ module _ (node : NodeOf) (fit : is_fit node ≡ true) where
       let (some, value) = and_true (has_items labels) (formed t) f in
       let s : Statement = Statement.ComputedGoto labels t in
       let whole : List ℕ → Statement = λ ls. Statement.ComputedGoto ls t in
-      All-append (Keeps s) (map (within whole) (list_sites label_sites labels)) (map (within (Statement.ComputedGoto labels)) (tree_sites t))
-      (All-map (Keeps s) (within whole) (list_sites label_sites labels)
-      (All-weaker (FormedList (λ (l : ℕ). true) label_sites labels_put) (λ site. Keeps s (within whole site)) (λ site e. (rw (e.1, value) refl, refl))
+      All-append (Keeps s) (map (site_within whole) (list_sites label_sites labels)) (map (site_within (Statement.ComputedGoto labels)) (tree_sites t))
+      (All-map (Keeps s) (site_within whole) (list_sites label_sites labels)
+      (All-weaker (FormedList (λ (l : ℕ). true) label_sites labels_put) (λ site. Keeps s (site_within whole site)) (λ site e. (rw (e.1, value) refl, refl))
       (list_sites label_sites labels) (list_put (λ (l : ℕ). true) label_sites labels_put labels (each_true labels))))
       (by_trees s (Statement.ComputedGoto labels) t value (λ u h. (rw (some, h) refl, refl)))
     where
@@ -214,26 +217,26 @@ module _ (node : NodeOf) (fit : is_fit node ≡ true) where
       each_true (l ∷ ls) = each_true ls
   behind_put (Statement.ArithIf t l m n) f =
       let s : Statement = Statement.ArithIf t l m n in
-      let third = map (within (λ k. Statement.ArithIf t l k n)) (label_sites m) ++ map (within (Statement.ArithIf t l m)) (label_sites n) in
-      let second = map (within (λ k. Statement.ArithIf t k m n)) (label_sites l) ++ third in
-      All-append (Keeps s) (map (within (λ u. Statement.ArithIf u l m n)) (tree_sites t)) second
+      let third = map (site_within (λ k. Statement.ArithIf t l k n)) (label_sites m) ++ map (site_within (Statement.ArithIf t l m)) (label_sites n) in
+      let second = map (site_within (λ k. Statement.ArithIf t k m n)) (label_sites l) ++ third in
+      All-append (Keeps s) (map (site_within (λ u. Statement.ArithIf u l m n)) (tree_sites t)) second
       (by_trees s (λ u. Statement.ArithIf u l m n) t f (λ u h. (h, refl)))
-      (All-append (Keeps s) (map (within (λ k. Statement.ArithIf t k m n)) (label_sites l)) third
+      (All-append (Keeps s) (map (site_within (λ k. Statement.ArithIf t k m n)) (label_sites l)) third
       (by_labels s (λ k. Statement.ArithIf t k m n) l (λ k. (f, refl)))
-      (All-append (Keeps s) (map (within (λ k. Statement.ArithIf t l k n)) (label_sites m)) (map (within (Statement.ArithIf t l m)) (label_sites n))
+      (All-append (Keeps s) (map (site_within (λ k. Statement.ArithIf t l k n)) (label_sites m)) (map (site_within (Statement.ArithIf t l m)) (label_sites n))
       (by_labels s (λ k. Statement.ArithIf t l k n) m (λ k. (f, refl))) (by_labels s (Statement.ArithIf t l m) n (λ k. (f, refl)))))
   behind_put (Statement.LogicalIf t inner) f =
       let (test, rest) = and_true (formed t) (is_action inner && statement_formed inner) f in
       let (is, own) = and_true (is_action inner) (statement_formed inner) rest in
       let s : Statement = Statement.LogicalIf t inner in
       let first = inner_by node inner fit is own in
-      All-append (Keeps s) (map (within (λ u. Statement.LogicalIf u inner)) (tree_sites t))
-      (map (within (Statement.LogicalIf t)) (statement_then inner (sites_behind inner)))
+      All-append (Keeps s) (map (site_within (λ u. Statement.LogicalIf u inner)) (tree_sites t))
+      (map (site_within (Statement.LogicalIf t)) (statement_then inner (sites_behind inner)))
       (by_trees s (λ u. Statement.LogicalIf u inner) t test (λ u h. (rw (h, is, own) refl, refl)))
-      (All-map (Keeps s) (within (Statement.LogicalIf t)) (statement_then inner (sites_behind inner))
-      (All-cons (λ site. Keeps s (within (Statement.LogicalIf t) site)) (NodeOf.Itself inner, statement_or inner) (sites_behind inner)
+      (All-map (Keeps s) (site_within (Statement.LogicalIf t)) (statement_then inner (sites_behind inner))
+      (All-cons (λ site. Keeps s (site_within (Statement.LogicalIf t) site)) (NodeOf.Itself inner, statement_or inner) (sites_behind inner)
       (rw (test, first.0, first.1) refl, refl)
-      (All-weaker (Keeps inner) (λ site. Keeps s (within (Statement.LogicalIf t) site))
+      (All-weaker (Keeps inner) (λ site. Keeps s (site_within (Statement.LogicalIf t) site))
       (λ site h. (rw (test, ap acts h.1 ∙ is, h.0) refl, refl)) (sites_behind inner) (behind_put inner own))))
   behind_put (Statement.BlockIf t) f = by_trees (Statement.BlockIf t) Statement.BlockIf t f (λ u h. (h, refl))
   behind_put (Statement.ElseIf t) f = by_trees (Statement.ElseIf t) Statement.ElseIf t f (λ u h. (h, refl))
@@ -244,20 +247,20 @@ module _ (node : NodeOf) (fit : is_fit node ≡ true) where
       let (first, others) = and_true (formed a) (formed b && value_formed c) rest in
       let (second, third) = and_true (formed b) (value_formed c) others in
       let s : Statement = Statement.Loop label name a b c in
-      let lasts = map (within (λ u. Statement.Loop label name a u c)) (tree_sites b) ++ map (within (Statement.Loop label name a b)) (step_sites c) in
-      let firsts = map (within (λ u. Statement.Loop label name u b c)) (tree_sites a) ++ lasts in
-      All-append (Keeps s) (map (within (λ l. Statement.Loop l name a b c)) (label_sites label))
-      (map (within (λ n. Statement.Loop label n a b c)) (name_sites name) ++ firsts)
+      let lasts = map (site_within (λ u. Statement.Loop label name a u c)) (tree_sites b) ++ map (site_within (Statement.Loop label name a b)) (step_sites c) in
+      let firsts = map (site_within (λ u. Statement.Loop label name u b c)) (tree_sites a) ++ lasts in
+      All-append (Keeps s) (map (site_within (λ l. Statement.Loop l name a b c)) (label_sites label))
+      (map (site_within (λ n. Statement.Loop label n a b c)) (name_sites name) ++ firsts)
       (by_labels s (λ l. Statement.Loop l name a b c) label (λ l. (f, refl)))
-      (All-append (Keeps s) (map (within (λ n. Statement.Loop label n a b c)) (name_sites name)) firsts
-      (All-cons (Keeps s) (within (λ n. Statement.Loop label n a b c) (NodeOf.Named name, name_or name)) []
+      (All-append (Keeps s) (map (site_within (λ n. Statement.Loop label n a b c)) (name_sites name)) firsts
+      (All-cons (Keeps s) (site_within (λ n. Statement.Loop label n a b c) (NodeOf.Named name, name_or name)) []
       (rw (name_by node name fit is, first, second, third) refl, refl) (All-nil (Keeps s)))
-      (All-append (Keeps s) (map (within (λ u. Statement.Loop label name u b c)) (tree_sites a)) lasts
+      (All-append (Keeps s) (map (site_within (λ u. Statement.Loop label name u b c)) (tree_sites a)) lasts
       (by_trees s (λ u. Statement.Loop label name u b c) a first (λ u h. (rw (is, h, second, third) refl, refl)))
-      (All-append (Keeps s) (map (within (λ u. Statement.Loop label name a u c)) (tree_sites b)) (map (within (Statement.Loop label name a b)) (step_sites c))
+      (All-append (Keeps s) (map (site_within (λ u. Statement.Loop label name a u c)) (tree_sites b)) (map (site_within (Statement.Loop label name a b)) (step_sites c))
       (by_trees s (λ u. Statement.Loop label name a u c) b second (λ u h. (rw (is, first, h, third) refl, refl)))
-      (All-map (Keeps s) (within (Statement.Loop label name a b)) (step_sites c)
-      (All-weaker (λ site. value_formed (site.1 node) ≡ true) (λ site. Keeps s (within (Statement.Loop label name a b) site))
+      (All-map (Keeps s) (site_within (Statement.Loop label name a b)) (step_sites c)
+      (All-weaker (λ site. value_formed (site.1 node) ≡ true) (λ site. Keeps s (site_within (Statement.Loop label name a b) site))
       (λ site h. (rw (is, first, second, h) refl, refl)) (step_sites c) (step_put c third))))))
   behind_put Statement.Continue f = All-nil (Keeps Statement.Continue)
   behind_put Statement.Return f = All-nil (Keeps Statement.Return)

@@ -9,9 +9,10 @@ use Rattle.f77_tree.specs.Statement.{statement_of, Statement}
 use Rattle.f77_program.specs.declared.program.Line.{Line}
 use Rattle.f77_sites.specs.Sites.{Site, changed, sites}
 use Rattle.mothra_ops.specs.Edits.{made, numbered}
-use Rattle.mothra_ops.specs.Given.{IsFor, IsGiven, given_at}
+use Rattle.mothra_ops.specs.code.Given.{IsFor}
+use Rattle.mothra_ops.specs.Given.{IsGiven, given_at}
 use Rattle.mothra_ops.specs.Original.{lines_of}
-use Rattle.mothra_ops.specs.Pools.{PoolFields, fields_of}
+use Rattle.mothra_ops.specs.Pools.{PoolFields, pool_fields}
 use Rattle.mothra_ops.specs.Replacements.{gives}
 use Rattle.mothra_ops.specs.declared.edit.Edit.{Edit}
 use Rattle.mothra_ops.specs.declared.given.Given.{Given}
@@ -80,8 +81,8 @@ module _ (pools : PoolFields) (lines : List Line) (edit : Edit) where
 
 -- what is kept is given for the edit
 pub given_for : (original : Original) (given : Given) (edit : Edit) → IsGiven original given → IsFor given edit
-    → map new_of given.news.items ≡ given_at (fields_of original.pools) (lines_of original) edit.op edit.statement edit.position
+    → map new_of given.news.items ≡ given_at (pool_fields original.pools) (lines_of original) edit.op edit.statement edit.position
 given_for original given edit is own =
-    is ∙ ap (λ (op : Op). given_at (fields_of original.pools) (lines_of original) op given.statement given.position) own.op
-    ∙ ap (λ (n : ℕ). given_at (fields_of original.pools) (lines_of original) edit.op n given.position) own.statement
-    ∙ ap (λ (n : ℕ). given_at (fields_of original.pools) (lines_of original) edit.op edit.statement n) own.position
+    is ∙ ap (λ (op : Op). given_at (pool_fields original.pools) (lines_of original) op given.statement given.position) own.op
+    ∙ ap (λ (n : ℕ). given_at (pool_fields original.pools) (lines_of original) edit.op n given.position) own.statement
+    ∙ ap (λ (n : ℕ). given_at (pool_fields original.pools) (lines_of original) edit.op edit.statement n) own.position

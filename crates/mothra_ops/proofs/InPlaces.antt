@@ -6,11 +6,11 @@ use Rattle.f77_nodes.specs.Node.{NodeOf}
 use Rattle.f77_tree.specs.Statement.{same_statement, form_of, Statement}
 use Rattle.f77_tree.specs.Tree.{Tree, Trees, DeclFields}
 use Rattle.f77_tree.specs.declared.form.Form.{Form}
-use Rattle.f77_tree.specs.View.{trees, place_of}
+use Rattle.f77_tree.specs.View.{trees, reference_fields}
 use Rattle.f77_tree.specs.declared.tree.Kind.{Kind}
 use Rattle.f77_tree.specs.declared.tree.Ref.{Ref}
 use Rattle.f77_legal.specs.Names.{Symbol}
-use Rattle.mothra_ops.specs.InPlaces.{target_of, variable_of}
+use Rattle.mothra_ops.specs.code.InPlaces.{target_node, variable_node}
 use Rattle.mothra_ops.specs.Pools.{PoolFields, reference_of, scalar}
 use Rattle.mothra_ops.specs.Replacements.{is_element, is_scalar, comparable, drawn, target, variable, others, in_place, in_statements, replacements}
 use Rattle.mothra_codes.specs.declared.op.Op.{Op}
@@ -62,13 +62,13 @@ nowhere Sar pools t e s c = rw e refl
 nowhere Svr pools t e s c = rw s refl
 nowhere _ pools t e s c = refl
 
-targets : (xs : List Ref) → filter_map target (map reference_of xs) ≡ map target_of xs
+targets : (xs : List Ref) → filter_map target (map reference_of xs) ≡ map target_node xs
 targets [] = refl
-targets (x ∷ xs) = ap (λ (ys : List NodeOf). target_of x ∷ ys) (targets xs)
+targets (x ∷ xs) = ap (λ (ys : List NodeOf). target_node x ∷ ys) (targets xs)
 
-variables : (xs : List Ref) → filter_map variable (map reference_of xs) ≡ map variable_of xs
+variables : (xs : List Ref) → filter_map variable (map reference_of xs) ≡ map variable_node xs
 variables [] = refl
-variables (x ∷ xs) = ap (λ (ys : List NodeOf). variable_of x ∷ ys) (variables xs)
+variables (x ∷ xs) = ap (λ (ys : List NodeOf). variable_node x ∷ ys) (variables xs)
 
 at_target : (op : Op) (pools : PoolFields) (name : Symbol) (items : Trees)
     → filter_map target (in_place op pools (Tree.Reference name items)) ≡ replacements op pools (NodeOf.Target name items)
@@ -81,12 +81,12 @@ at_target _ pools name items = refl
 
 -- the references in the place of a target
 pub of_target : (op : Op) (pools : PoolFields) (own : Ref) (xs : List Ref) → map reference_of xs ≡ in_place op pools (reference_of own)
-    → map target_of xs ≡ replacements op pools (NodeOf.Target (place_of own).0 (trees (place_of own).1))
-of_target op pools own xs e = sym (targets xs) ∙ (ap (filter_map target) e ∙ at_target op pools (place_of own).0 (trees (place_of own).1))
+    → map target_node xs ≡ replacements op pools (NodeOf.Target (reference_fields own).0 (trees (reference_fields own).1))
+of_target op pools own xs e = sym (targets xs) ∙ (ap (filter_map target) e ∙ at_target op pools (reference_fields own).0 (trees (reference_fields own).1))
 
 -- the names of scalars in the place of a DO variable
 pub of_variable : (pools : PoolFields) (name : Symbol) (xs : List Ref) → map reference_of xs ≡ others pools.kinds pools.scalars (scalar name)
-    → map variable_of xs ≡ replacements Svr pools (NodeOf.Named name)
+    → map variable_node xs ≡ replacements Svr pools (NodeOf.Named name)
 of_variable pools name xs e = sym (variables xs) ∙ ap (filter_map variable) e
 
 -- nothing in the place of a declared name

@@ -13,7 +13,7 @@ use Rattle.f77_sites.specs.New.{new_of}
 use Rattle.f77_sites.specs.Sites.{Site, changed, sites}
 use Rattle.f77_sites.specs.declared.new.New.{New}
 use Rattle.mothra_ops.specs.Edits.{made, numbered}
-use Rattle.mothra_ops.specs.Original.{Has}
+use Rattle.mothra_ops.specs.code.Original.{HasStatement}
 use Rattle.mothra_ops.specs.Pools.{PoolFields}
 use Rattle.mothra_ops.specs.Replacements.{gives}
 use Rattle.mothra_ops.specs.declared.edit.Edit.{Edit}
@@ -45,7 +45,7 @@ pub node_listed : (nodes : List Node) (s : Statement) (k : ℕ) (node : Node) �
 node_listed nodes s k node all low is =
     ap (λ (ns : List NodeOf). slice_get ns k) (sym all) ∙ slice_get-map node_of nodes k ∙ ap (option_map node_of) (slice_get_read nodes (length nodes) k node refl low is)
 
-pub line_has : (lines : List Line) (k : ℕ) (line : Line) → k < length lines → line ≡ get_or lines k line → Has (map line_of lines) (k + 1) (statement_of line.stmt)
+pub line_has : (lines : List Line) (k : ℕ) (line : Line) → k < length lines → line ≡ get_or lines k line → HasStatement (map line_of lines) (k + 1) (statement_of line.stmt)
 line_has lines k line low is =
     let e : k + 1 ≡ suc k = omega arith in
     ap (λ (j : ℕ). option_map (λ (l : LineFields). l.stmt) (numbered (map line_of lines) j)) e

@@ -8,7 +8,8 @@ use Rattle.f77_tree.specs.declared.form.Form.{Form}
 use Rattle.f77_tree.specs.Statement.{Statement, form_of, same_statement}
 use Rattle.f77_nodes.specs.Node.{NodeOf, nodes_of}
 use Rattle.f77_sites.specs.Sites.{Site, sites, sites_behind, statement_or}
-use Rattle.f77_program.specs.Formed.{is_action, statement_formed}
+use Rattle.f77_program.specs.Formed.{is_action}
+use Rattle.f77_program.specs.code.Formed.{statement_formed}
 use Rattle.f77_program.specs.Group.{form_group, group_of}
 use Rattle.f77_program.specs.Patching.{Fits}
 use Rattle.f77_program.specs.Program.{IsProgram, LineFields}
@@ -20,7 +21,7 @@ use Rattle.mothra_codes.specs.declared.op.Op.{Op}
 use Rattle.mothra_codes.specs.declared.op.Op.TheVariants.{Rsr, San, Sdl}
 use Rattle.mothra_ops.specs.Edits.{IsMember, MakesLegal, made, numbered}
 use Rattle.mothra_ops.specs.Pools.{PoolFields, pools_of}
-use Rattle.mothra_ops.specs.Replacements.{acts, acts_or_continues, gives, in_statements, replacements, stands_in}
+use Rattle.mothra_ops.specs.Replacements.{is_replaceable_action, acts_or_continues, gives, in_statements, replacements, stands_in}
 use Rattle.mothra_ops.specs.declared.edit.Edit.{Edit}
 use Rattle.mothra_ops.proofs.FormedGiven.{IsFit, chosen, gives_fit}
 use Rattle.mothra_ops.proofs.FormedNodes.{IsFormedLine, IsFormedNode, lines_formed, nodes_formed}
@@ -45,7 +46,7 @@ counted program (suc k) line at = let e : suc k - 1 ≡ k = omega arith in (omeg
 abbrev IsOfGroup : Statement → NodeOf → Type 0
 IsOfGroup s new = group_of (statement_or s new) ≡ group_of s
 
-acts_too : (form : Form) → acts form ≡ true → acts_or_continues form ≡ true
+acts_too : (form : Form) → is_replaceable_action form ≡ true → acts_or_continues form ≡ true
 acts_too Form.Continue e = refl
 acts_too _ e = e
 
@@ -72,7 +73,7 @@ module _ (pools : PoolFields) (s : Statement) where
   replacements_of_group : (op : Op) → All (IsOfGroup s) (replacements op pools (NodeOf.Itself s))
   replacements_of_group Rsr = statements_of_group acts_or_continues (λ form e. e) Statement.Return s refl
   replacements_of_group San = statements_of_group acts_or_continues (λ form e. e) Statement.Trap s refl
-  replacements_of_group Sdl = statements_of_group acts acts_too Statement.Continue s refl
+  replacements_of_group Sdl = statements_of_group is_replaceable_action acts_too Statement.Continue s refl
   replacements_of_group _ = All-nil (IsOfGroup s)
 
   gives_of_group : (op : Op) → All (IsOfGroup s) (gives op pools s (NodeOf.Itself s))

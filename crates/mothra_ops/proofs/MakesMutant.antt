@@ -40,5 +40,6 @@ pub is_mutant : (lines : List Line) (number : ℕ) (line : Line) (s : Statement)
 is_mutant lines number line s at other fits legal = record {
   fits = fits;
   legal = legal;
-  differs = λ e. other (same_Some s (statement_of line.stmt) (sym e ∙ ap (option_map (λ (l : LineFields). l.stmt)) (counted_at (map line_of lines) number fits.counted ∙ line_numbered lines number ∙ ap (option_map line_of) at)));
+  differs = λ e. other (same_Some s (statement_of line.stmt) (sym e ∙ ap (option_map (λ (l : LineFields). l.stmt))
+      (counted_at (map line_of lines) number fits.counted ∙ line_numbered lines number ∙ ap (option_map line_of) at)));
 }

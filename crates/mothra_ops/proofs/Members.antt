@@ -6,10 +6,10 @@ use Rattle.std.proofs.lemmas.Option.{same_Some, none-some, slice_get-map, slice_
 use Rattle.f77_nodes.specs.Node.{NodeOf, nodes_of}
 use Rattle.f77_program.specs.Program.{LineFields}
 use Rattle.f77_tree.specs.Statement.{Statement}
-use Rattle.f77_sites.specs.Sites.{Site, node_at, put, changed, sites}
+use Rattle.f77_sites.specs.Sites.{Site, node_at, put_node, changed, sites}
 use Rattle.f77_sites.proofs.Numbering.{numbering}
 use Rattle.mothra_ops.specs.Edits.{IsMember, IsMutant, made, numbered}
-use Rattle.mothra_ops.specs.Original.{Has, StandsAt}
+use Rattle.mothra_ops.specs.code.Original.{HasStatement, StandsAt}
 use Rattle.mothra_ops.specs.Pools.{PoolFields, pools_of}
 use Rattle.mothra_ops.specs.Replacements.{gives}
 use Rattle.mothra_ops.specs.declared.edit.Edit.{Edit}
@@ -38,7 +38,9 @@ pub record Steps (pools : PoolFields) (program : List LineFields) (e : Edit) (st
 pub steps : (pools : PoolFields) (program : List LineFields) (e : Edit) (statement : Statement) → made pools program e ≡ Some statement → Steps pools program e statement
 steps pools program e statement h =
     option_and_then_some
-    (λ (line : LineFields). option_and_then (λ (site : Site Statement). option_and_then (λ node. Some (site.1 node)) (numbered (gives e.op pools line.stmt site.0) e.rank)) (slice_get (sites line.stmt) e.position))
+    (λ (line : LineFields). option_and_then
+    (λ (site : Site Statement). option_and_then (λ node. Some (site.1 node)) (numbered (gives e.op pools line.stmt site.0) e.rank))
+    (slice_get (sites line.stmt) e.position))
     (numbered program e.statement) statement h
     (λ line of_line h. option_and_then_some
     (λ (site : Site Statement). option_and_then (λ node. Some (site.1 node)) (numbered (gives e.op pools line.stmt site.0) e.rank))
@@ -59,13 +61,16 @@ made_there pools program op s p r stmt node new here at =
     (λ line of_line same. elim (slice_get_cases (sites stmt) p).1 [
       | inl (site, low, of_site, i) ↦
           let node_is : site.0 ≡ node = same_Some _ _ (sym (node_there stmt p site of_site) ∙ here.node_at) in
-          ap (option_and_then (λ (l : LineFields). option_and_then (λ (x : Site Statement). option_and_then (λ n. Some (x.1 n)) (numbered (gives op pools l.stmt x.0) r)) (slice_get (sites l.stmt) p))) of_line
+          ap (option_and_then (λ (l : LineFields). option_and_then
+          (λ (x : Site Statement). option_and_then (λ n. Some (x.1 n)) (numbered (gives op pools l.stmt x.0) r)) (slice_get (sites l.stmt) p)))
+          of_line
           ∙ ap (λ (t : Statement). option_and_then (λ (x : Site Statement). option_and_then (λ n. Some (x.1 n)) (numbered (gives op pools t x.0) r)) (slice_get (sites t) p)) same
           ∙ ap (option_and_then (λ (x : Site Statement). option_and_then (λ n. Some (x.1 n)) (numbered (gives op pools stmt x.0) r))) of_site
           ∙ ap (option_and_then (λ n. Some (site.1 n))) (ap (λ m. numbered (gives op pools stmt m) r) node_is ∙ at)
-          ∙ ap Some (ap (λ (o : Option (Site Statement)). put o new stmt) (sym of_site))
+          ∙ ap Some (ap (λ (o : Option (Site Statement)). put_node o new stmt) (sym of_site))
       | inr (high, none) ↦
-          absurd (none-some node (sym (ap (λ ns. slice_get ns p) (sym (numbering stmt)) ∙ slice_get-map (node_at {X = Statement}) (sites stmt) p ∙ ap (option_map (node_at {X = Statement})) none) ∙ here.node_at))
+          absurd (none-some node (sym (ap (λ ns. slice_get ns p) (sym (numbering stmt))
+          ∙ slice_get-map (node_at {X = Statement}) (sites stmt) p ∙ ap (option_map (node_at {X = Statement})) none) ∙ here.node_at))
     ])
 
 module _ (op : Op) (program : List LineFields) where
@@ -85,10 +90,10 @@ module _ (op : Op) (program : List LineFields) where
       let low = (number_within program e.statement k.line k.of_line).1 in
       omega (arith, low)
 
-  stmt_there : (s : ℕ) (stmt : Statement) (line : LineFields) (t : ℕ) → Has program s stmt → t ≡ s → numbered program t ≡ Some line → line.stmt ≡ stmt
+  stmt_there : (s : ℕ) (stmt : Statement) (line : LineFields) (t : ℕ) → HasStatement program s stmt → t ≡ s → numbered program t ≡ Some line → line.stmt ≡ stmt
   stmt_there s stmt line t has same at = same_Some _ _ (sym (ap (option_map (λ (l : LineFields). l.stmt)) at) ∙ ap (λ (k : ℕ). option_map (λ (l : LineFields). l.stmt) (numbered program k)) same ∙ has)
 
-  pub position_last : (s : ℕ) (stmt : Statement) → Has program s stmt → (e : Edit) → IsMember op program e → e.statement ≡ s → e.position < length (nodes_of stmt)
+  pub position_last : (s : ℕ) (stmt : Statement) → HasStatement program s stmt → (e : Edit) → IsMember op program e → e.statement ≡ s → e.position < length (nodes_of stmt)
   position_last s stmt has e m same =
       let k = steps (pools_of program) program e m.statement m.makes in
       slice_get_within (nodes_of stmt) e.position k.site.0

@@ -10,8 +10,8 @@ use Rattle.f77_tree.specs.Statement.{statement_of, Statement}
 use Rattle.mothra_ops.specs.Edits.{IsMember, IsMutant, made, numbered, thinned}
 use Rattle.mothra_ops.specs.Mutants.{MutantFields, change_text, edit_text, mutant_fields, mutant_made, mutant_name, mutant_of, mutant_text, program_of}
 use Rattle.mothra_ops.specs.Original.{IsOriginal, lines_of}
-use Rattle.mothra_ops.specs.Plan.{ListFields, PlanFields, IsPlan, asked, edits_of, list_of}
-use Rattle.mothra_ops.specs.Pools.{PoolFields, fields_of, pools_of}
+use Rattle.mothra_ops.specs.Plan.{ListFields, PlanFields, IsPlan, asked, edits_of, list_of_operator}
+use Rattle.mothra_ops.specs.Pools.{PoolFields, pool_fields, pools_of}
 use Rattle.mothra_ops.specs.declared.edit.Edit.{Edit}
 use Rattle.mothra_ops.specs.declared.mutants.Mutant.{Mutant}
 use Rattle.mothra_ops.specs.declared.original.Original.{Original}
@@ -32,9 +32,9 @@ of_thinned q xs (suc k) x some at = listed xs (k * q) x (sym (thinned_items q xs
 
 module _ (plan : PlanFields) (is : IsPlan plan) (op : Op) (number : ℕ) (edit : Edit) (at : numbered (edits_of plan op) number ≡ Some edit) where
   was_asked : asked plan op ≡ true
-  was_asked = by (list_of plan op) refl
+  was_asked = by (list_of_operator plan op) refl
     where
-      by : (o : Option ListFields) → list_of plan op ≡ o → is_some (list_of plan op) ≡ true
+      by : (o : Option ListFields) → list_of_operator plan op ≡ o → is_some (list_of_operator plan op) ≡ true
       by (Some list) e = ap is_some e
       by None e = absurd (none-some edit (sym (nothing_numbered number)
           ∙ ap (λ (o : Option ListFields). numbered (option_map_or (λ list. list.edits) o []) number) (sym e) ∙ at))
@@ -61,7 +61,7 @@ module _ (plan : PlanFields) (is : IsPlan plan) (op : Op) (number : ℕ) (edit :
 
 -- what an edit makes of the plan's program
 pub made_of : (original : Original) (plan : PlanFields) (edit : Edit) (answer : Option Statement) → IsOriginal original → original.checked.now ≡ plan.checked
-    → answer ≡ made (fields_of original.pools) (lines_of original) edit
+    → answer ≡ made (pool_fields original.pools) (lines_of original) edit
     → option_map (λ statement. record { number = edit.statement; statement = statement }) answer ≡ mutant_made (program_of plan) edit
 made_of original plan edit answer own same is =
     ap (option_map (λ (statement : Statement). record { number = edit.statement; statement = statement }))

@@ -2,15 +2,15 @@
 use Rattle.std.proofs.Common.{◌≡◌, ◌≤◌, zero, suc, length, List, [], ◌∷◌, refl, sym, ◌∙◌, subst, arith, inl, inr}
 use Rattle.std.specs.Prelude.{◌⊎◌, AllPairs, Contains}
 use Rattle.mothra_ops.specs.declared.edit.Edit.{Edit}
-use Rattle.mothra_ops.specs.Edits.{Before, Lists}
+use Rattle.mothra_ops.specs.Edits.{BeforeEdit, Lists}
 
 -- no edit is before itself, and of two only one is before the other
-not_before_itself : (e : Edit) → ¬ (Before e e)
+not_before_itself : (e : Edit) → ¬ (BeforeEdit e e)
 not_before_itself e (inl less) = absurd (omega (arith, less))
 not_before_itself e (inr (same, inl less)) = absurd (omega (arith, less))
 not_before_itself e (inr (same, inr (alike, less))) = absurd (omega (arith, less))
 
-not_both : (a b : Edit) → Before a b → ¬ (Before b a)
+not_both : (a b : Edit) → BeforeEdit a b → ¬ (BeforeEdit b a)
 not_both a b (inl h) (inl g) = absurd (omega (arith, h, g))
 not_both a b (inl h) (inr (g, _)) = absurd (omega (arith, h, g))
 not_both a b (inr (h, _)) (inl g) = absurd (omega (arith, h, g))
@@ -33,14 +33,14 @@ first_or_rest x xs e (suc k, low, at) = inr (k, omega (arith, low), at)
 none_in : (e : Edit) → ¬ (Contains [] e)
 none_in e (k, low, at) = absurd (omega (arith, low))
 
-rest_ordered : (x : Edit) (xs : List Edit) → AllPairs Before (x ∷ xs) → AllPairs Before xs
+rest_ordered : (x : Edit) (xs : List Edit) → AllPairs BeforeEdit (x ∷ xs) → AllPairs BeforeEdit xs
 rest_ordered x xs pairs i j d one two = pairs (suc i) (suc j) d (omega (arith, one)) (omega (arith, two))
 
-first_before : (x : Edit) (xs : List Edit) → AllPairs Before (x ∷ xs) → (e : Edit) → Contains xs e → Before x e
-first_before x xs pairs e (k, low, at) = subst (Before x) at (pairs 0 (suc k) e (omega arith) (omega (arith, low)))
+first_before : (x : Edit) (xs : List Edit) → AllPairs BeforeEdit (x ∷ xs) → (e : Edit) → Contains xs e → BeforeEdit x e
+first_before x xs pairs e (k, low, at) = subst (BeforeEdit x) at (pairs 0 (suc k) e (omega arith) (omega (arith, low)))
 
 -- an ordered list within another is no longer
-pub no_longer : (some whole : List Edit) → AllPairs Before some → AllPairs Before whole → ((e : Edit) → Contains some e → Contains whole e)
+pub no_longer : (some whole : List Edit) → AllPairs BeforeEdit some → AllPairs BeforeEdit whole → ((e : Edit) → Contains some e → Contains whole e)
     → length some ≤ length whole
 no_longer [] whole one other within = omega arith
 no_longer (x ∷ xs) [] one other within = absurd (none_in x (within x (first_in x xs)))
@@ -51,15 +51,15 @@ no_longer (x ∷ xs) (y ∷ ys) one other within =
     rest e has = elim (first_or_rest y ys e (within e (in_rest x xs e has))) [
       | inr later ↦ later
       | inl same ↦
-          let before : Before x y = subst (Before x) (sym same) (first_before x xs one e has) in
+          let before : BeforeEdit x y = subst (BeforeEdit x) (sym same) (first_before x xs one e has) in
           elim (first_or_rest y ys x (within x (first_in x xs))) [
-            | inl first ↦ absurd (not_before_itself x (subst (Before x) first before))
+            | inl first ↦ absurd (not_before_itself x (subst (BeforeEdit x) first before))
             | inr later ↦ absurd (not_both x y before (first_before y ys other x later))
           ]
     ]
 
 -- two ordered lists with the same members are one
-pub one_of : (one other : List Edit) → AllPairs Before one → AllPairs Before other → ((e : Edit) → Contains one e → Contains other e)
+pub one_of : (one other : List Edit) → AllPairs BeforeEdit one → AllPairs BeforeEdit other → ((e : Edit) → Contains one e → Contains other e)
     → ((e : Edit) → Contains other e → Contains one e) → one ≡ other
 one_of [] [] ordered too there back = refl
 one_of [] (y ∷ ys) ordered too there back = absurd (none_in y (back y (first_in y ys)))
@@ -79,13 +79,13 @@ one_of (x ∷ xs) (y ∷ ys) ordered too there back =
     on : (e : Edit) → Contains xs e → Contains ys e
     on e has = elim (first_or_rest y ys e (there e (in_rest x xs e has))) [
       | inr later ↦ later
-      | inl same ↦ absurd (not_before_itself x (subst (Before x) (sym (first ∙ same)) (first_before x xs ordered e has)))
+      | inl same ↦ absurd (not_before_itself x (subst (BeforeEdit x) (sym (first ∙ same)) (first_before x xs ordered e has)))
     ]
 
     off : (e : Edit) → Contains ys e → Contains xs e
     off e has = elim (first_or_rest x xs e (back e (in_rest y ys e has))) [
       | inr later ↦ later
-      | inl same ↦ absurd (not_before_itself y (subst (Before y) (sym (sym first ∙ same)) (first_before y ys too e has)))
+      | inl same ↦ absurd (not_before_itself y (subst (BeforeEdit y) (sym (sym first ∙ same)) (first_before y ys too e has)))
     ]
 
 pub one_list : (P : Edit → Type 0) (one other : List Edit) → Lists P one → Lists P other → one ≡ other

@@ -1,5 +1,6 @@
 -- The lists of a plan that is being made.
-use Rattle.std.proofs.Common.{◌≡◌, ◌<◌, ◌≤◌, ◌⊎◌, ◌+◌, ◌++◌, ℕ, zero, suc, List, [], ◌∷◌, map, filter, take, Bool, true, false, eqb, nat_eq, Option, Some, None, refl, sym, ap, ◌∙◌, cond, arith, inl, inr, subst, Bor, true≢false}
+use Rattle.std.proofs.Common.{◌≡◌, ◌<◌, ◌≤◌, ◌⊎◌, ◌+◌, ◌++◌, ℕ, zero, suc, List, [], ◌∷◌, map, filter, take, Bool, true, false}
+use Rattle.std.proofs.Common.{eqb, nat_eq, Option, Some, None, refl, sym, ap, ◌∙◌, cond, arith, inl, inr, subst, Bor, true≢false}
 use Rattle.std.specs.Prelude.{All, Contains, is_some}
 use Rattle.std.specs.Bool.{Decides}
 use Rattle.std.specs.List.{find}
@@ -12,8 +13,9 @@ use Rattle.std.proofs.lemmas.Bool.Decides.{nat_tests}
 use Rattle.f77_program.specs.Program.{LineFields, line_of}
 use Rattle.f77_check.specs.Checked.{CheckedFields}
 use Rattle.mothra_ops.specs.Edits.{IsCountedList, IsList, IsNoList, IsTooLong}
-use Rattle.mothra_codes.specs.Op.{all_ops, index, op_at}
-use Rattle.mothra_ops.specs.Plan.{ListFields, HasOneEach, IsPlan, IsNoPlan, asked, fields_of, list_fields}
+use Rattle.mothra_codes.specs.Op.{all_ops, index}
+use Rattle.mothra_codes.specs.code.Op.{op_at}
+use Rattle.mothra_ops.specs.Plan.{ListFields, HasOneEach, IsPlan, IsNoPlan, asked, plan_fields, list_fields}
 use Rattle.mothra_ops.specs.declared.edit.Edit.{Edit}
 use Rattle.mothra_ops.specs.declared.fault.OpsFault.{OpsFault}
 use Rattle.mothra_ops.specs.declared.fault.OpsFault.TheVariants.{Memory, NotASite, TooMany}
@@ -272,7 +274,7 @@ alike false false there back = refl
 
 operators_of : (ops : List Op) (checked : CheckedFields) (every : ℕ) (lists : List Listing)
     → HasLists ops (map line_of checked.program) every 22 lists
-    → HasOneEach (fields_of checked every lists)
+    → HasOneEach (plan_fields checked every lists)
 unfolding HasOneEach
 operators_of ops checked every lists has = ops_of lists ∙ has.operators ∙ ap (filter (is_named ops)) (take_all 22 all_ops (omega arith))
     ∙ ap (λ (test : Op → Bool). filter test all_ops) (λ k op. same op k)
@@ -284,12 +286,12 @@ operators_of ops checked every lists has = ops_of lists ∙ has.operators ∙ ap
     ops_of [] = refl
     ops_of (list ∷ some) = ap (λ (os : List Op). list.op ∷ os) (ops_of some)
 
-    same : (op : Op) → is_named ops op ≡ asked (fields_of checked every lists) op
-    same op = alike (is_named ops op) (asked (fields_of checked every lists) op)
+    same : (op : Op) → is_named ops op ≡ asked (plan_fields checked every lists) op
+    same op = alike (is_named ops op) (asked (plan_fields checked every lists) op)
         (λ e. is_asked ops program every lists has op (is_one ops op e)) (λ e. named ops op (was_asked ops program every lists has op e))
 
 pub is_plan : (ops : List Op) (checked : CheckedFields) (every : ℕ) (lists : List Listing) → 1 ≤ every
-    → HasLists ops (map line_of checked.program) every 22 lists → IsPlan (fields_of checked every lists)
+    → HasLists ops (map line_of checked.program) every 22 lists → IsPlan (plan_fields checked every lists)
 is_plan ops checked every lists some has = record {
   some = some;
   operators = operators_of ops checked every lists has;

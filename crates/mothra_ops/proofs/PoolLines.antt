@@ -13,13 +13,13 @@ use Rattle.f77_tree.specs.declared.tree.Kind.{Kind}
 use Rattle.f77_legal.specs.Labels.{labels}
 use Rattle.f77_legal.specs.Legal.{is_array}
 use Rattle.f77_legal.specs.Names.{Symbol, mentions, symbols, some_items}
-use Rattle.f77_legal.specs.NameTable.{FactsFields, IsNameTable, fields_of, facts_of, kind_at, bounds_at}
+use Rattle.f77_legal.specs.NameTable.{FactsFields, IsNameTable, facts_fields, facts_of, kind_at, array_bounds}
 use Rattle.f77_legal.specs.declared.names.Names.{Names}
 use Rattle.f77_legal.proofs.Lookups.{same_kinds, same_bounds}
 use Rattle.f77_legal.proofs.NameTables.{rows}
-use Rattle.mothra_ops.specs.Pools.{PoolFields, pools_of, placed, ascending, each_once, scalar, array_reference, constant, executable_nodes}
+use Rattle.mothra_ops.specs.Pools.{PoolFields, pools_of, placed_ascending, ascending, each_once, scalar, array_reference, constant, executable_nodes}
 
-pub placed_at : (ns : List ℕ) (n i : ℕ) → i < length ns → ((k : ℕ) → k < i → get_or ns k 0 < n) → n ≤ get_or ns i 0 → insert ns i n ≡ placed n ns
+pub placed_at : (ns : List ℕ) (n i : ℕ) → i < length ns → ((k : ℕ) → k < i → get_or ns k 0 < n) → n ≤ get_or ns i 0 → insert ns i n ≡ placed_ascending n ns
 placed_at [] n i lt below above = absurd (omega (arith, lt))
 placed_at (m ∷ ms) n zero lt below above = let e : nat_lt m n ≡ false = grind (arith, nat_tests) in rw e refl
 placed_at (m ∷ ms) n (suc i) lt below above =
@@ -27,7 +27,7 @@ placed_at (m ∷ ms) n (suc i) lt below above =
     let e : nat_lt m n ≡ true = grind (arith, nat_tests) in
     rw e (ap (λ z. m ∷ z) (placed_at ms n i (omega (arith, lt)) (λ k less. below (suc k) (omega (arith, less))) above))
 
-pub placed_last : (ns : List ℕ) (n : ℕ) → ((k : ℕ) → k < length ns → get_or ns k 0 < n) → insert ns (length ns) n ≡ placed n ns
+pub placed_last : (ns : List ℕ) (n : ℕ) → ((k : ℕ) → k < length ns → get_or ns k 0 < n) → insert ns (length ns) n ≡ placed_ascending n ns
 placed_last [] n below = refl
 placed_last (m ∷ ms) n below =
     let low = below 0 (omega arith) in
@@ -40,7 +40,7 @@ keys_rows f (name ∷ names) = ap (λ z. name ∷ z) (keys_rows f names)
 
 keys_are : (names : Names) (program : List LineFields) → IsNameTable names program → keys names.facts ≡ symbols program
 keys_are names program is =
-    sym (keys_of-map_values fields_of names.facts.entries) ∙ (ap keys_of is ∙ keys_rows (facts_of (mentions program)) (symbols program))
+    sym (keys_of-map_values facts_fields names.facts.entries) ∙ (ap keys_of is ∙ keys_rows (facts_of (mentions program)) (symbols program))
 
 abbrev drawn_from : (Symbol → Kind) → (Symbol → List ℕ) → List Symbol → List Symbol → List Tree → List Tree → List ℕ → PoolFields
 drawn_from kinds bounds scalars arrays references constants ordered = record {
@@ -55,10 +55,10 @@ drawn_from kinds bounds scalars arrays references constants ordered = record {
 
 -- what the table of a program's names tells
 module _ (names : Names) (program : List LineFields) (is : IsNameTable names program) where
-  pub scalars_are : filter (λ name. not (is_some (some_items (bounds_at names name)))) (keys names.facts) ≡ filter (λ name. not (is_array program name)) (symbols program)
+  pub scalars_are : filter (λ name. not (is_some (some_items (array_bounds names name)))) (keys names.facts) ≡ filter (λ name. not (is_array program name)) (symbols program)
   scalars_are = λ i. filter (λ name. not (is_some (some_items (same_bounds names program is i name)))) (keys_are names program is i)
 
-  pub arrays_are : filter (λ name. is_some (some_items (bounds_at names name))) (keys names.facts) ≡ filter (is_array program) (symbols program)
+  pub arrays_are : filter (λ name. is_some (some_items (array_bounds names name))) (keys names.facts) ≡ filter (is_array program) (symbols program)
   arrays_are = λ i. filter (λ name. is_some (some_items (same_bounds names program is i name))) (keys_are names program is i)
 
   pub pools_are : (scalars arrays : List Symbol) (references constants : List Tree) (ordered : List ℕ)
@@ -67,7 +67,7 @@ module _ (names : Names) (program : List LineFields) (is : IsNameTable names pro
       → references ≡ each_once same_tree (filter_map array_reference (executable_nodes program))
       → constants ≡ each_once same_tree (filter_map constant (executable_nodes program))
       → ordered ≡ ascending (labels program)
-      → drawn_from (kind_at names) (bounds_at names) scalars arrays references constants ordered ≡ pools_of program
+      → drawn_from (kind_at names) (array_bounds names) scalars arrays references constants ordered ≡ pools_of program
   pools_are scalars arrays references constants ordered without with_bounds referred constant_is sorted = λ i. record {
     kinds = same_kinds names program is i;
     bounds = same_bounds names program is i;

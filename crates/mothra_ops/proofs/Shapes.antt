@@ -15,7 +15,7 @@ use Rattle.f77_program.specs.declared.group.Group.{Group}
 use Rattle.f77_program.specs.declared.group.Group.TheVariants.{Subroutine, Declaration}
 use Rattle.f77_tree.specs.declared.tree.Kind.TheVariants.{Integer}
 use Rattle.f77_legal.specs.Heading.{dummies_of, dummies}
-use Rattle.f77_legal.specs.Names.{Symbol, Mention, Plain, name_in, mentions_of, mentions, kind_in, bounds_in, some_items, first_or}
+use Rattle.f77_legal.specs.Names.{Symbol, Mention, Plain, name_in, mentions_of, mentions, kind_in, bounds_in, some_items, first_item_or}
 use Rattle.f77_legal.specs.Presets.{product}
 use Rattle.f77_check.specs.Checked.{shapes}
 use Rattle.f77_sites.specs.Sites.{Site, sites}
@@ -91,9 +91,9 @@ shapes_replaced : (p : List LineFields) (i : ℕ) (line : LineFields) (s : State
     → is_quiet (group_of s) ≡ true → shapes (replaced p i s) ≡ shapes p
 shapes_replaced p i line s at old new =
     λ k. map (λ name. record {
-      kind = first_or Integer (given_replaced kind_in (λ other. refl) name p i line s at old new k);
-      elements = if is_some (some_items (first_or [] (given_replaced bounds_in (λ other. refl) name p i line s at old new k)))
-          then Some (product (first_or [] (given_replaced bounds_in (λ other. refl) name p i line s at old new k)))
+      kind = first_item_or Integer (given_replaced kind_in (λ other. refl) name p i line s at old new k);
+      elements = if is_some (some_items (first_item_or [] (given_replaced bounds_in (λ other. refl) name p i line s at old new k)))
+          then Some (product (first_item_or [] (given_replaced bounds_in (λ other. refl) name p i line s at old new k)))
           else None;
     }) (dummies_replaced p i line s at old new k)
 

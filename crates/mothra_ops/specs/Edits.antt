@@ -1,11 +1,12 @@
 -- The edits of an operator: which there are, and their list.
-use Rattle.std.specs.Prelude.{◌≡◌, ◌≢◌, ◌↔◌, ◌⊎◌, ◌<◌, ◌≤◌, ◌-◌, ◌==◌, ◌%◌, ⊤, ℕ, zero, suc, List, Option, Some, None, slice_get, All, AllPairs, Contains, length, map, filter}
+use Rattle.std.specs.Prelude.{◌≡◌, ◌≢◌, ◌↔◌, ◌⊎◌, ◌<◌, ◌≤◌, ◌-◌, ◌==◌, ◌%◌, ⊤, ℕ, zero, suc, List, Option}
+use Rattle.std.specs.Prelude.{Some, None, slice_get, All, AllPairs, Contains, length, map, filter}
 use Rattle.std.specs.List.{enumerate_from}
 use Rattle.std.specs.Option.{option_and_then}
 use Rattle.f77_program.specs.Program.{LineFields}
 use Rattle.f77_program.specs.Patching.{Fits, patched}
 use Rattle.f77_tree.specs.Statement.{Statement}
-use Rattle.f77_legal.specs.Labels.{statement_at}
+use Rattle.f77_legal.specs.Labels.{nth_statement}
 use Rattle.f77_legal.specs.Legal.{IsLegal}
 use Rattle.mothra_ops.specs.Pools.{PoolFields, pools_of}
 use Rattle.mothra_ops.specs.Replacements.{gives}
@@ -20,20 +21,23 @@ abbrev pub numbered : {X : Type 0} → List X → ℕ → Option X
 numbered xs zero = None
 numbered xs (suc k) = slice_get xs k
 
--- the statement that an edit makes: at its position the replacement of its rank, of those that its operator gives the node there
+-- the statement that an edit makes: at its position the replacement
+-- of its rank, of those that its operator gives the node there
 abbrev pub made : PoolFields → List LineFields → Edit → Option Statement
 made pools program edit =
     option_and_then
     (λ line. option_and_then
-    (λ site. option_and_then (λ node. Some (site.1 node)) (numbered (gives edit.op pools line.stmt site.0) edit.rank))
+    (λ site. option_and_then (λ node. Some (site.1 node))
+    (numbered (gives edit.op pools line.stmt site.0) edit.rank))
     (slice_get (sites line.stmt) edit.position))
     (numbered program edit.statement)
 
--- The program with this statement in the place of the one with this number is a mutant: it is legal, and another one.
+-- The program with this statement in the place of the one
+-- with this number is a mutant: it is legal, and another one.
 pub record IsMutant (program : List LineFields) (number : ℕ) (statement : Statement) : Type 0 where
   pub fits : Fits program number statement
   pub legal : IsLegal (patched program number statement)
-  pub differs : statement_at program (number - 1) ≢ Some statement
+  pub differs : nth_statement program (number - 1) ≢ Some statement
 
 -- The edit is one of the operator's: what it makes is a mutant.
 pub record IsMember (op : Op) (program : List LineFields) (edit : Edit) : Type 0 where
@@ -48,29 +52,26 @@ pub record MakesLegal (op : Op) (program : List LineFields) (edit : Edit) : Type
   pub statement : Statement
   pub makes : made (pools_of program) program edit ≡ Some statement
   pub legal : IsLegal (patched program edit.statement statement)
-  pub differs : statement_at program (edit.statement - 1) ≢ Some statement
-
--- what an edit makes, where it is one of its operator's, and nothing where it is none
-abbrev pub IsMadeBy : List LineFields → Edit → Option Statement → Type 0
-IsMadeBy program edit None = ¬ (IsMember edit.op program edit)
-IsMadeBy program edit (Some statement) = (member : IsMember edit.op program edit) × (member.statement ≡ statement)
+  pub differs : nth_statement program (edit.statement - 1) ≢ Some statement
 
 -- the order of statement, position and rank
 abbrev pub Below : ℕ → ℕ → ℕ → Edit → Type 0
 Below statement position rank edit =
-    (edit.statement < statement) ⊎ ((edit.statement ≡ statement) × ((edit.position < position) ⊎ ((edit.position ≡ position) × (edit.rank < rank))))
+    (edit.statement < statement) ⊎ ((edit.statement ≡ statement)
+    × ((edit.position < position) ⊎ ((edit.position ≡ position) × (edit.rank < rank))))
 
-abbrev pub Before : Edit → Edit → Type 0
-Before one other = Below other.statement other.position other.rank one
+abbrev pub BeforeEdit : Edit → Edit → Type 0
+BeforeEdit one other = Below other.statement other.position other.rank one
 
 -- the edits with this property in their order, each once
 pub record Lists (P : Edit → Type 0) (edits : List Edit) : Type 0 where
-  pub ordered : AllPairs Before edits
+  pub ordered : AllPairs BeforeEdit edits
   pub exactly : (edit : Edit) → Contains edits edit ↔ P edit
 
 -- of the items of a list each q-th, from the first
 abbrev pub thinned : {X : Type 0} → ℕ → List X → List X
-thinned q xs = map (λ numbered. numbered.1) (filter (λ numbered. numbered.0 % q == 0) (enumerate_from 0 xs))
+thinned q xs =
+    map (λ numbered. numbered.1) (filter (λ numbered. numbered.0 % q == 0) (enumerate_from 0 xs))
 
 -- the most items of a list that is thinned, and of one before that
 abbrev pub most_edits : ℕ
@@ -90,12 +91,13 @@ pub record IsList (op : Op) (program : List LineFields) (q : ℕ) (edits : List 
 -- some of its edits, in order, are too many
 pub record IsTooLong (op : Op) (program : List LineFields) (q : ℕ) : Type 0 where
   pub some : List Edit
-  pub ordered : AllPairs Before some
+  pub ordered : AllPairs BeforeEdit some
   pub members : All (IsMember op program) some
   pub many : (most_edits < length (thinned q some)) ⊎ (most_whole < length some)
 
 -- the list thinned by q, with the length of the whole one
-pub record IsCountedList (op : Op) (program : List LineFields) (q : ℕ) (edits : List Edit) (count : ℕ) : Type 0 where
+pub record IsCountedList (op : Op) (program : List LineFields) (q : ℕ) (edits : List Edit)
+    (count : ℕ) : Type 0 where
   pub list : IsList op program q edits
   pub counted : count ≡ length list.whole
 

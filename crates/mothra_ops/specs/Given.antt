@@ -6,25 +6,22 @@ use Rattle.f77_program.specs.Program.{LineFields}
 use Rattle.f77_sites.specs.New.{new_of}
 use Rattle.mothra_ops.specs.Edits.{numbered}
 use Rattle.mothra_ops.specs.Original.{lines_of}
-use Rattle.mothra_ops.specs.Pools.{PoolFields, fields_of}
+use Rattle.mothra_ops.specs.Pools.{PoolFields, pool_fields}
 use Rattle.mothra_ops.specs.Replacements.{gives}
-use Rattle.mothra_ops.specs.declared.edit.Edit.{Edit}
 use Rattle.mothra_ops.specs.declared.given.Given.{Given}
 use Rattle.mothra_ops.specs.declared.original.Original.{Original}
 use Rattle.mothra_codes.specs.declared.op.Op.{Op}
 
--- what the operator gives the node at this position of the statement of this number; nothing where there is no such node
+-- what the operator gives the node at this position of the
+-- statement of this number; nothing where there is no such node
 abbrev pub given_at : PoolFields → List LineFields → Op → ℕ → ℕ → List NodeOf
 given_at pools program op statement position =
-    option_map_or (λ line. option_map_or (gives op pools line.stmt) (slice_get (nodes_of line.stmt) position) []) (numbered program statement) []
+    option_map_or (λ line. option_map_or (gives op pools line.stmt)
+    (slice_get (nodes_of line.stmt) position) []) (numbered program statement) []
 
 -- it is what its operator gives its node in this program
 abbrev pub IsGiven : Original → Given → Type 0
 IsGiven original given =
-    map new_of given.news.items ≡ given_at (fields_of original.pools) (lines_of original) given.op given.statement given.position
-
--- it is of the operator and the node of the edit
-pub record IsFor (given : Given) (edit : Edit) : Type 0 where
-  pub op : given.op ≡ edit.op
-  pub statement : given.statement ≡ edit.statement
-  pub position : given.position ≡ edit.position
+    map new_of given.news.items
+    ≡ given_at (pool_fields original.pools) (lines_of original) given.op
+    given.statement given.position

@@ -6,5 +6,5 @@ pub mod Given
 pub mod Giving
 pub mod Listing
 pub mod Plan
-pub mod InPlaces
 pub mod Mutants
+pub mod code

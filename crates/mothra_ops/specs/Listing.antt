@@ -1,30 +1,18 @@
--- A list of edits that is being made, statement by statement, node by node, replacement by replacement.
-use Rattle.std.specs.Prelude.{◌≡◌, ◌≤◌, ℕ, List, length}
-use Rattle.f77_program.specs.Program.{LineFields}
-use Rattle.mothra_ops.specs.Edits.{Below, IsMember, Lists, most_edits, most_whole, thinned}
+-- A list of edits that is being made, statement by
+-- statement, node by node, replacement by replacement.
+use Rattle.std.specs.Prelude.{◌≡◌, ◌≤◌, List, length}
+use Rattle.mothra_ops.specs.Edits.{most_edits, most_whole, thinned}
 use Rattle.mothra_ops.specs.declared.edit.Edit.{Edit}
 use Rattle.mothra_ops.specs.declared.listing.Limits.{Limits}
 use Rattle.mothra_ops.specs.declared.listing.Listing.{Listing}
-use Rattle.mothra_codes.specs.declared.op.Op.{Op}
 
 -- the most edits of an operator's list
 abbrev pub longest : Limits
 longest = record { kept = most_edits; whole = most_whole }
 
 -- it has the edits of this whole list, thinned, and their number
-pub record Holds (listing : Listing) (list : List Edit) : Type 0 where
+pub record HoldsEdits (listing : Listing) (list : List Edit) : Type 0 where
   pub edits : listing.edits.items ≡ thinned listing.every list
   pub whole : listing.whole ≡ length list
   pub few : length listing.edits.items ≤ listing.limits.kept
   pub few_whole : length list ≤ listing.limits.whole
-
--- the members of an operator's list that stand before a place
-abbrev pub So : Op → List LineFields → ℕ → ℕ → ℕ → Edit → Type 0
-So op program number position rank edit = IsMember op program edit × Below number position rank edit
-
--- it has come to this place of the program: it holds the edits that stand before it
-pub record HasCome (listing : Listing) (program : List LineFields) (number position rank : ℕ) : Type 0 where
-  pub limits : listing.limits ≡ longest
-  pub found : List Edit
-  pub lists : Lists (So listing.op program number position rank) found
-  pub holds : Holds listing found

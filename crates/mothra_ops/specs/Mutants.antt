@@ -26,11 +26,14 @@ program_of plan = map line_of plan.checked.program
 
 -- what an edit makes
 abbrev pub mutant_made : List LineFields → Edit → Option MutantFields
-mutant_made program edit = option_map (λ statement. record { number = edit.statement; statement = statement }) (made (pools_of program) program edit)
+mutant_made program edit =
+    option_map (λ statement. record { number = edit.statement; statement = statement })
+    (made (pools_of program) program edit)
 
 -- what the operator's edit of this number makes, none where it has no such edit
 abbrev pub mutant_of : PlanFields → Op → ℕ → Option MutantFields
-mutant_of plan op number = option_and_then (mutant_made (program_of plan)) (numbered (edits_of plan op) number)
+mutant_of plan op number =
+    option_and_then (mutant_made (program_of plan)) (numbered (edits_of plan op) number)
 
 -- the number in the whole list of the item of this number in the list thinned by q
 abbrev pub original_number : ℕ → ℕ → ℕ
@@ -38,20 +41,25 @@ original_number q number = (number - 1) * q + 1
 
 -- how a mutant is named: the operator's code, its number, and its number in the whole list
 abbrev pub mutant_name : ℕ → Op → ℕ → List ℕ
-mutant_name q op number = code_of op ++ (codes " " ++ (decimal number ++ (codes " " ++ decimal (original_number q number))))
+mutant_name q op number = code_of op
+    ++ (codes " " ++ (decimal number ++ (codes " " ++ decimal (original_number q number))))
 
 -- the line number of the statement of this number
-abbrev pub line_at : List LineFields → ℕ → ℕ
-line_at program number = option_map_or (λ line. line.line) (numbered program number) 0
+abbrev pub line_number_at : List LineFields → ℕ → ℕ
+line_number_at program number = option_map_or (λ line. line.line) (numbered program number) 0
 
--- where a mutant is changed: the line number of the statement, and the text of what stands in its place
+-- where a mutant is changed: the line number of the
+-- statement, and the text of what stands in its place
 abbrev pub change_text : List LineFields → MutantFields → List ℕ
-change_text program mutant = codes "LINE " ++ (decimal (line_at program mutant.number) ++ (codes " " ++ statement_text mutant.statement))
+change_text program mutant = codes "LINE " ++ (decimal (line_number_at program mutant.number)
+    ++ (codes " " ++ statement_text mutant.statement))
 
 -- how the mutant of this number is told that an edit makes, as ABS 2 3 LINE 4 K=IABS(I)
 abbrev pub edit_text : List LineFields → ℕ → Op → ℕ → Edit → List ℕ
 edit_text program q op number edit =
-    option_map_or (λ mutant. mutant_name q op number ++ (codes " " ++ change_text program mutant)) (mutant_made program edit) []
+    option_map_or (λ mutant. mutant_name q op number ++ (codes " " ++ change_text program mutant))
+    (mutant_made program edit) []
 
 abbrev pub mutant_text : PlanFields → Op → ℕ → List ℕ
-mutant_text plan op number = option_map_or (edit_text (program_of plan) plan.every op number) (numbered (edits_of plan op) number) []
+mutant_text plan op number = option_map_or (edit_text (program_of plan) plan.every op number)
+    (numbered (edits_of plan op) number) []

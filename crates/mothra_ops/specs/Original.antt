@@ -1,29 +1,12 @@
 -- A program that mutants are made of.
-use Rattle.std.specs.Prelude.{◌≡◌, ℕ, List, Some, map, option_map, slice_get}
-use Rattle.f77_nodes.specs.Node.{NodeOf, node_of, nodes_of}
+use Rattle.std.specs.Prelude.{◌≡◌, List, map}
 use Rattle.f77_program.specs.Program.{LineFields, line_of}
-use Rattle.f77_tree.specs.Statement.{statement_of, Statement}
-use Rattle.mothra_ops.specs.Edits.{numbered}
-use Rattle.mothra_ops.specs.Pools.{fields_of, pools_of}
+use Rattle.mothra_ops.specs.Pools.{pool_fields, pools_of}
 use Rattle.mothra_ops.specs.declared.original.Original.{Original}
-use Rattle.mothra_ops.specs.declared.site.Site.{Site}
 
 abbrev pub lines_of : Original → List LineFields
 lines_of original = map line_of original.checked.now.program
 
 -- its pools are those of the program
 abbrev pub IsOriginal : Original → Type 0
-IsOriginal original = fields_of original.pools ≡ pools_of (lines_of original)
-
--- the statement of this number
-abbrev pub Has : List LineFields → ℕ → Statement → Type 0
-Has program number statement = option_map (λ line. line.stmt) (numbered program number) ≡ Some statement
-
--- the statement of this number has this node at this position
-pub record StandsAt (program : List LineFields) (number position : ℕ) (statement : Statement) (node : NodeOf) : Type 0 where
-  pub statement_at : Has program number statement
-  pub node_at : slice_get (nodes_of statement) position ≡ Some node
-
--- the site is one of the program's
-abbrev pub IsSiteOf : List LineFields → Site → Type 0
-IsSiteOf program site = StandsAt program site.number site.position (statement_of site.stmt.now) (node_of site.node)
+IsOriginal original = pool_fields original.pools ≡ pools_of (lines_of original)

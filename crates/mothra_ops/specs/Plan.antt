@@ -27,37 +27,44 @@ pub record PlanFields : Type 0 where
 abbrev pub list_fields : Listing → ListFields
 list_fields listing = record { op = listing.op; edits = listing.edits.items; whole = listing.whole }
 
-abbrev pub fields_of : CheckedFields → ℕ → List Listing → PlanFields
-fields_of checked every lists = record { checked = checked; every = every; lists = map list_fields lists }
+abbrev pub plan_fields : CheckedFields → ℕ → List Listing → PlanFields
+plan_fields checked every lists =
+    record { checked = checked; every = every; lists = map list_fields lists }
 
-abbrev pub list_of : PlanFields → Op → Option ListFields
-list_of plan op = find (λ list. index list.op == index op) plan.lists
+abbrev pub list_of_operator : PlanFields → Op → Option ListFields
+list_of_operator plan op = find (λ list. index list.op == index op) plan.lists
 
--- an operator that was asked for; its list, empty of one that was not, and the length of the whole one
+-- an operator that was asked for; its list, empty of
+-- one that was not, and the length of the whole one
 abbrev pub asked : PlanFields → Op → Bool
-asked plan op = is_some (list_of plan op)
+asked plan op = is_some (list_of_operator plan op)
 
 abbrev pub edits_of : PlanFields → Op → List Edit
-edits_of plan op = option_map_or (λ list. list.edits) (list_of plan op) []
+edits_of plan op = option_map_or (λ list. list.edits) (list_of_operator plan op) []
 
 abbrev pub whole_of : PlanFields → Op → ℕ
-whole_of plan op = option_map_or (λ list. list.whole) (list_of plan op) 0
+whole_of plan op = option_map_or (λ list. list.whole) (list_of_operator plan op) 0
 
 -- one list for each operator asked for, in the order of the operators
 unfoldable pub HasOneEach : PlanFields → Type 0
 HasOneEach plan = map (λ list. list.op) plan.lists ≡ filter (asked plan) all_ops
 
--- what each plan is: one list for each operator asked for, in their order, and each of them its program's
+-- what each plan is: one list for each operator asked
+-- for, in their order, and each of them its program's
 pub record IsPlan (plan : PlanFields) : Type 0 where
   pub some : 1 ≤ plan.every
   pub operators : HasOneEach plan
-  pub lists : (op : Op) → asked plan op ≡ true → IsCountedList op (map line_of plan.checked.program) plan.every (edits_of plan op) (whole_of plan op)
+  pub lists : (op : Op) → asked plan op ≡ true
+      → IsCountedList op (map line_of plan.checked.program) plan.every
+      (edits_of plan op) (whole_of plan op)
 
 -- the operator is the first of those asked for whose list is too long
-pub record IsFirstTooLong (ops : List Op) (program : List LineFields) (every : ℕ) (op : Op) : Type 0 where
+pub record IsFirstTooLong (ops : List Op) (program : List LineFields) (every : ℕ)
+    (op : Op) : Type 0 where
   pub asked : Contains ops op
   pub long : IsTooLong op program every
-  pub others : (other : Op) → Contains ops other → index other < index op → (edits : List Edit) × IsList other program every edits
+  pub others : (other : Op) → Contains ops other
+      → index other < index op → (edits : List Edit) × IsList other program every edits
 
 -- why there is no plan
 abbrev pub IsNoPlan : List Op → List LineFields → ℕ → OpsFault → Type 0

@@ -1,5 +1,7 @@
--- What the operators draw from: the scalars and arrays of a program, its array references, its constants and its labels.
-use Rattle.std.specs.Prelude.{ℕ, Bool, true, false, not, nat_lt, List, [], ◌∷◌, filter, map, fold, Option, Some, None, if◌then◌else◌}
+-- What the operators draw from: the scalars and arrays of a
+-- program, its array references, its constants and its labels.
+use Rattle.std.specs.Prelude.{ℕ, Bool, true, false, not, nat_lt, List, [], ◌∷◌}
+use Rattle.std.specs.Prelude.{filter, map, fold, Option, Some, None, if◌then◌else◌}
 use Rattle.std.specs.List.{flat_map, filter_map}
 use Rattle.f77_tree.specs.declared.form.Form.{Form}
 use Rattle.f77_tree.specs.Statement.{form_of, Statement}
@@ -7,12 +9,12 @@ use Rattle.f77_tree.specs.Comparing.{same_tree}
 use Rattle.f77_nodes.specs.Node.{NodeOf, nodes_of}
 use Rattle.f77_program.specs.Program.{LineFields}
 use Rattle.f77_tree.specs.Tree.{Tree, Trees}
-use Rattle.f77_tree.specs.View.{trees, tree_of, place_of}
+use Rattle.f77_tree.specs.View.{trees, tree_of, reference_fields}
 use Rattle.f77_tree.specs.declared.tree.Kind.{Kind}
 use Rattle.f77_tree.specs.declared.tree.Ref.{Ref}
 use Rattle.f77_legal.specs.Labels.{labels}
 use Rattle.f77_legal.specs.Legal.{is_array}
-use Rattle.f77_legal.specs.NameTable.{kind_at, bounds_at}
+use Rattle.f77_legal.specs.NameTable.{kind_at, array_bounds}
 use Rattle.f77_legal.specs.Names.{Symbol, symbols, kind_of, bounds_of}
 use Rattle.mothra_ops.specs.declared.pools.Pools.{Pools}
 
@@ -22,12 +24,12 @@ each_once same [] = []
 each_once same (x ∷ xs) = x ∷ filter (λ y. not (same x y)) (each_once same xs)
 
 -- a number in its place among ascending ones
-abbrev pub placed : ℕ → List ℕ → List ℕ
-placed n [] = n ∷ []
-placed n (m ∷ ms) = if nat_lt m n then m ∷ placed n ms else n ∷ (m ∷ ms)
+abbrev pub placed_ascending : ℕ → List ℕ → List ℕ
+placed_ascending n [] = n ∷ []
+placed_ascending n (m ∷ ms) = if nat_lt m n then m ∷ placed_ascending n ms else n ∷ (m ∷ ms)
 
 abbrev pub ascending : List ℕ → List ℕ
-ascending = fold (λ ns n. placed n ns) []
+ascending = fold (λ ns n. placed_ascending n ns) []
 
 abbrev pub executes : Form → Bool
 executes Form.Subroutine = false
@@ -41,12 +43,15 @@ is_executable statement = executes (form_of statement)
 
 -- the nodes of the executable statements, in order
 abbrev pub executable_nodes : List LineFields → List NodeOf
-executable_nodes program = flat_map (λ line. if is_executable line.stmt then nodes_of line.stmt else []) program
+executable_nodes program =
+    flat_map (λ line. if is_executable line.stmt then nodes_of line.stmt else []) program
 
 -- a reference with subscripts, also where it is assigned to
 abbrev pub array_reference : NodeOf → Option Tree
-array_reference (NodeOf.Target name (Trees.Then t ts)) = Some (Tree.Reference name (Trees.Then t ts))
-array_reference (NodeOf.Part (Tree.Reference name (Trees.Then t ts))) = Some (Tree.Reference name (Trees.Then t ts))
+array_reference (NodeOf.Target name (Trees.Then t ts)) =
+    Some (Tree.Reference name (Trees.Then t ts))
+array_reference (NodeOf.Part (Tree.Reference name (Trees.Then t ts))) =
+    Some (Tree.Reference name (Trees.Then t ts))
 array_reference _ = None
 
 abbrev pub constant : NodeOf → Option Tree
@@ -57,8 +62,9 @@ constant _ = None
 abbrev pub scalar : Symbol → Tree
 scalar name = Tree.Reference name Trees.None
 
--- The kinds and the bounds of names; the scalars and the arrays in order of first appearance, array references and constants in order of first
--- occurrence in executable statements, and the labels that stand on statements, ascending.
+-- The kinds and the bounds of names; the scalars and the arrays in order of
+-- first appearance, array references and constants in order of first occurrence
+-- in executable statements, and the labels that stand on statements, ascending.
 pub record PoolFields : Type 0 where
   pub kinds : Symbol → Kind
   pub bounds : Symbol → List ℕ
@@ -81,12 +87,13 @@ pools_of program = record {
 
 -- what pools of the program stand for
 abbrev pub reference_of : Ref → Tree
-reference_of reference = Tree.Reference (place_of reference).0 (trees (place_of reference).1)
+reference_of reference =
+    Tree.Reference (reference_fields reference).0 (trees (reference_fields reference).1)
 
-abbrev pub fields_of : Pools → PoolFields
-fields_of pools = record {
+abbrev pub pool_fields : Pools → PoolFields
+pool_fields pools = record {
   kinds = kind_at pools.names;
-  bounds = bounds_at pools.names;
+  bounds = array_bounds pools.names;
   scalars = map scalar pools.scalars.items;
   arrays = pools.arrays.items;
   references = map (λ reference. reference_of reference.now) pools.references.items;

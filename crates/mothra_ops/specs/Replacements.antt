@@ -1,6 +1,8 @@
--- What each operator puts in the place of a node (King and Offutt 1991, the operators of Mothra). A rank is a place in these lists, from 1.
-use Rattle.std.specs.Prelude.{ℕ, zero, suc, ◌+◌, ◌==◌, ◌&&◌, ◌+ℤ◌, ◌-ℤ◌, pos, nat_abs, Bool, true, false, not, nat_eq, nat_lt, nat_le}
-use Rattle.std.specs.Prelude.{List, [], ◌∷◌, ◌++◌, length, map, filter, Option, Some, None, if◌then◌else◌}
+-- What each operator puts in the place of a node (King and Offutt 1991,
+-- the operators of Mothra). A rank is a place in these lists, from 1.
+use Rattle.std.specs.Prelude.{ℕ, zero, suc, ◌+◌, ◌==◌, ◌&&◌, ◌+ℤ◌, ◌-ℤ◌, pos, nat_abs, Bool}
+use Rattle.std.specs.Prelude.{true, false, not, nat_eq, nat_lt, nat_le, List, [], ◌∷◌, ◌++◌}
+use Rattle.std.specs.Prelude.{length, map, filter, Option, Some, None, if◌then◌else◌}
 use Rattle.std.specs.List.{filter_map}
 use Rattle.std.specs.Str.{bytes_eq}
 use Rattle.f77_tree.specs.Comparing.{same_tree, same_operator}
@@ -24,15 +26,15 @@ use Rattle.mothra_codes.specs.declared.op.Op.TheVariants.{Aar, Abs, Acr, Aor, As
 use Rattle.mothra_codes.specs.declared.op.Op.TheVariants.{Glr, Lcr, Ror, Rsr, San, Sar, Scr, Sdl, Src, Svr, Uoi}
 
 -- the kind of an expression, where names are of these kinds
-abbrev pub kind_in : (Symbol → Kind) → Tree → Kind
-kind_in kinds (Tree.Number n) = Integer
-kind_in kinds (Tree.Truth b) = Logical
-kind_in kinds (Tree.Reference name items) = kinds name
-kind_in kinds (Tree.Call function items) = Integer
-kind_in kinds (Tree.Signed sign t) = Integer
-kind_in kinds (Tree.Not t) = Logical
-kind_in kinds (Tree.Binary op a b) = result_kind op
-kind_in kinds (Tree.ZeroPush t) = Integer
+abbrev pub kind_of_expression : (Symbol → Kind) → Tree → Kind
+kind_of_expression kinds (Tree.Number n) = Integer
+kind_of_expression kinds (Tree.Truth b) = Logical
+kind_of_expression kinds (Tree.Reference name items) = kinds name
+kind_of_expression kinds (Tree.Call function items) = Integer
+kind_of_expression kinds (Tree.Signed sign t) = Integer
+kind_of_expression kinds (Tree.Not t) = Logical
+kind_of_expression kinds (Tree.Binary op a b) = result_kind op
+kind_of_expression kinds (Tree.ZeroPush t) = Integer
 
 -- an array reference, a scalar, a constant
 abbrev pub is_element : Tree → Bool
@@ -50,7 +52,9 @@ is_constant _ = false
 
 -- AAR, ACR, ASR, SAR, SCR, SVR, CAR, CSR, SRC: each other one of a pool, of the same kind
 abbrev pub others : (Symbol → Kind) → List Tree → Tree → List Tree
-others kinds pool t = filter (λ u. same_kind (kind_in kinds u) (kind_in kinds t) && not (same_tree u t)) pool
+others kinds pool t = filter
+    (λ u. same_kind (kind_of_expression kinds u) (kind_of_expression kinds t)
+    && not (same_tree u t)) pool
 
 abbrev pub drawn : (Tree → Bool) → (Symbol → Kind) → List Tree → Tree → List Tree
 drawn is_site kinds pool t = if is_site t then others kinds pool t else []
@@ -58,11 +62,13 @@ drawn is_site kinds pool t = if is_site t then others kinds pool t else []
 -- CNR: each other array of the same kind and number of bounds, with the same subscripts
 abbrev pub is_comparable : PoolFields → Symbol → Symbol → Bool
 is_comparable pools name other =
-    same_kind (pools.kinds other) (pools.kinds name) && (length (pools.bounds other) == length (pools.bounds name) && not (bytes_eq other name))
+    same_kind (pools.kinds other) (pools.kinds name)
+    && (length (pools.bounds other) == length (pools.bounds name) && not (bytes_eq other name))
 
 abbrev pub comparable : PoolFields → Tree → List Tree
 comparable pools (Tree.Reference name (Trees.Then t ts)) =
-    map (λ other. Tree.Reference other (Trees.Then t ts)) (filter (is_comparable pools name) pools.arrays)
+    map (λ other. Tree.Reference other (Trees.Then t ts))
+    (filter (is_comparable pools name) pools.arrays)
 comparable pools _ = []
 
 -- ABS
@@ -75,16 +81,19 @@ absolute t = absolute_value t ∷ (Tree.Signed Minus (absolute_value t) ∷ (Tre
 -- UOI
 abbrev pub with_unary : Kind → Tree → List Tree
 with_unary Integer t =
-    Tree.Signed Minus t ∷ (Tree.Binary operator.Add t (Tree.Number 1) ∷ (Tree.Binary operator.Subtract t (Tree.Number 1) ∷ []))
+    Tree.Signed Minus t ∷ (Tree.Binary operator.Add t (Tree.Number 1)
+    ∷ (Tree.Binary operator.Subtract t (Tree.Number 1) ∷ []))
 with_unary Logical t = Tree.Not t ∷ []
 
 -- the other operators of the same group, in the order of the group
-abbrev pub arithmetic : List Operator
-arithmetic = operator.Add ∷ (operator.Subtract ∷ (operator.Multiply ∷ (operator.Divide ∷ (operator.Power ∷ []))))
+abbrev pub arithmetic_operators : List Operator
+arithmetic_operators = operator.Add
+    ∷ (operator.Subtract ∷ (operator.Multiply ∷ (operator.Divide ∷ (operator.Power ∷ []))))
 
 abbrev pub relations : List Operator
 relations =
-    operator.Less ∷ (operator.LessOrEqual ∷ (operator.Equal ∷ (operator.NotEqual ∷ (operator.GreaterOrEqual ∷ (operator.Greater ∷ [])))))
+    operator.Less ∷ (operator.LessOrEqual ∷ (operator.Equal
+    ∷ (operator.NotEqual ∷ (operator.GreaterOrEqual ∷ (operator.Greater ∷ [])))))
 
 abbrev pub connectors : List Operator
 connectors = operator.And ∷ (operator.Or ∷ (operator.Equivalent ∷ (operator.NotEquivalent ∷ [])))
@@ -98,7 +107,8 @@ exchanged group op a b = map (λ o. Tree.Binary o a b) (filter (λ o. not (same_
 
 -- AOR, LCR and ROR: the others of the group, and behind them what else may stand there
 abbrev pub with_group : List Operator → (Tree → Tree → List Tree) → Tree → List Tree
-with_group group more (Tree.Binary op a b) = if is_in group op then exchanged group op a b ++ more a b else []
+with_group group more (Tree.Binary op a b) =
+    if is_in group op then exchanged group op a b ++ more a b else []
 with_group group more _ = []
 
 abbrev pub operands : Tree → Tree → List Tree
@@ -120,7 +130,8 @@ altered (Tree.Number n) = raised n ++ (lowered n ∷ [])
 altered (Tree.Truth b) = Tree.Truth (not b) ∷ []
 altered _ = []
 
--- in the place of an expression; of an expression or a target; of a target that is a scalar, or a DO variable
+-- in the place of an expression; of an expression or a
+-- target; of a target that is a scalar, or a DO variable
 abbrev pub in_parts : (Tree → List Tree) → NodeOf → List NodeOf
 in_parts gives (NodeOf.Part t) = map NodeOf.Part (gives t)
 in_parts gives _ = []
@@ -148,31 +159,37 @@ in_computed gives = in_parts (λ t. if is_constant t then [] else gives t)
 
 -- DSA: one more and one less, within 2147483647 either way; the other truth value
 abbrev pub next_constants : Constant → List Constant
-next_constants (Constant.Number z) = map Constant.Number (filter (λ w. nat_le (nat_abs w) 2147483647) ((z +ℤ pos 1) ∷ ((z -ℤ pos 1) ∷ [])))
+next_constants (Constant.Number z) = map Constant.Number
+    (filter (λ w. nat_le (nat_abs w) 2147483647) ((z +ℤ pos 1) ∷ ((z -ℤ pos 1) ∷ [])))
 next_constants (Constant.Truth b) = Constant.Truth (not b) ∷ []
 
 abbrev pub in_values : NodeOf → List NodeOf
-in_values (NodeOf.Initial value) = map (λ constant. NodeOf.Initial (record { times = value.times; constant = constant })) (next_constants value.constant)
+in_values (NodeOf.Initial value) =
+    map (λ constant. NodeOf.Initial (record { times = value.times; constant = constant }))
+    (next_constants value.constant)
 in_values _ = []
 
 -- GLR and DER: each other label
 abbrev pub in_labels : List ℕ → NodeOf → List NodeOf
-in_labels labels (NodeOf.Labelled label) = map NodeOf.Labelled (filter (λ other. not (nat_eq other label)) labels)
+in_labels labels (NodeOf.Labelled label) =
+    map NodeOf.Labelled (filter (λ other. not (nat_eq other label)) labels)
 in_labels labels _ = []
 
--- SDL, RSR and SAN: in the place of a statement that does something: an action that is no CONTINUE, or a logical IF
-abbrev pub acts : Form → Bool
-acts Form.LogicalIf = true
-acts Form.Continue = false
-acts Form.Trap = false
-acts form = forms.acts form
+-- SDL, RSR and SAN: in the place of a statement that does
+-- something: an action that is no CONTINUE, or a logical IF
+abbrev pub is_replaceable_action : Form → Bool
+is_replaceable_action Form.LogicalIf = true
+is_replaceable_action Form.Continue = false
+is_replaceable_action Form.Trap = false
+is_replaceable_action form = forms.acts form
 
 abbrev pub acts_or_continues : Form → Bool
 acts_or_continues Form.Continue = true
-acts_or_continues form = acts form
+acts_or_continues form = is_replaceable_action form
 
 abbrev pub in_statements : (Form → Bool) → Statement → NodeOf → List NodeOf
-in_statements is_site new (NodeOf.Itself s) = if is_site (form_of s) && not (same_statement new s) then NodeOf.Itself new ∷ [] else []
+in_statements is_site new (NodeOf.Itself s) =
+    if is_site (form_of s) && not (same_statement new s) then NodeOf.Itself new ∷ [] else []
 in_statements is_site new _ = []
 
 -- what the operators that put references in the place of references put there
@@ -186,9 +203,10 @@ in_place _ pools t = []
 
 abbrev pub replacements : Op → PoolFields → NodeOf → List NodeOf
 replacements Aar pools = in_places (in_place Aar pools)
-replacements Abs pools = in_computed (λ t. if same_kind Integer (kind_in pools.kinds t) then absolute t else [])
+replacements Abs pools = in_computed
+    (λ t. if same_kind Integer (kind_of_expression pools.kinds t) then absolute t else [])
 replacements Acr pools = in_parts (drawn is_constant pools.kinds pools.references)
-replacements Aor pools = in_parts (with_group arithmetic operands)
+replacements Aor pools = in_parts (with_group arithmetic_operators operands)
 replacements Asr pools = in_places (in_place Asr pools)
 replacements Car pools = in_parts (drawn is_element pools.kinds pools.constants)
 replacements Cnr pools = in_places (in_place Cnr pools)
@@ -203,24 +221,25 @@ replacements Rsr pools = in_statements acts_or_continues Statement.Return
 replacements San pools = in_statements acts_or_continues Statement.Trap
 replacements Sar pools = in_places (in_place Sar pools)
 replacements Scr pools = in_parts (drawn is_constant pools.kinds pools.scalars)
-replacements Sdl pools = in_statements acts Statement.Continue
+replacements Sdl pools = in_statements is_replaceable_action Statement.Continue
 replacements Src pools = in_parts (drawn is_constant pools.kinds pools.constants)
 replacements Svr pools = in_variables (in_place Svr pools)
-replacements Uoi pools = in_computed (λ t. with_unary (kind_in pools.kinds t) t)
+replacements Uoi pools = in_computed (λ t. with_unary (kind_of_expression pools.kinds t) t)
 
-abbrev pub is_loop : Form → Bool
-is_loop Form.Loop = true
-is_loop _ = false
+abbrev pub is_loop_form : Form → Bool
+is_loop_form Form.Loop = true
+is_loop_form _ = false
 
 abbrev pub is_preset : Form → Bool
 is_preset Form.Preset = true
 is_preset _ = false
 
--- The statements in which an operator has sites: executable ones, but for DATA; of the two that exchange labels DER has the DOs.
+-- The statements in which an operator has sites: executable ones,
+-- but for DATA; of the two that exchange labels DER has the DOs.
 abbrev pub stands_in : Op → Statement → Bool
-stands_in Der s = is_loop (form_of s)
+stands_in Der s = is_loop_form (form_of s)
 stands_in Dsa s = is_preset (form_of s)
-stands_in Glr s = is_executable s && not (is_loop (form_of s))
+stands_in Glr s = is_executable s && not (is_loop_form (form_of s))
 stands_in _ s = is_executable s
 
 abbrev pub gives : Op → PoolFields → Statement → NodeOf → List NodeOf

@@ -6,9 +6,11 @@ ghost use Rattle.f77_program.specs.Patching.{patched};
 ghost use Rattle.f77_tree.specs.Statement.{statement_of};
 ghost use Rattle.f77_sites.specs.New.{new_of};
 ghost use Rattle.f77_sites.specs.Sites.{changed};
-ghost use Rattle.mothra_ops.specs.Edits.{IsCountedList, IsList, IsMadeBy, IsMember, IsMutant, IsNoList};
-ghost use Rattle.mothra_ops.specs.Listing.{HasCome};
-ghost use Rattle.mothra_ops.specs.Original.{Has, IsOriginal, IsSiteOf, lines_of};
+ghost use Rattle.mothra_ops.specs.Edits.{IsCountedList, IsList, IsMember, IsMutant, IsNoList};
+ghost use Rattle.mothra_ops.specs.code.Edits.{IsMadeBy};
+ghost use Rattle.mothra_ops.specs.code.Listing.{HasCome};
+ghost use Rattle.mothra_ops.specs.code.Original.{HasStatement, IsSiteOf};
+ghost use Rattle.mothra_ops.specs.Original.{IsOriginal, lines_of};
 ghost use Rattle.mothra_ops.specs.declared.fault.OpsFault.TheVariants.{Memory, NotASite};
 
 use crate::edit::Edit;
@@ -29,7 +31,8 @@ impl Original<'_> {
     fn makes_mutant(&self, alloc: Global, site: Site<'_>, new: &New) -> Result<bool, OpsFault>
         requires { site.position + 1 < 2 ^ 64 }
         ensures decided { IfOk result (λ yes. IsTrue yes
-            ↔ IsMutant (lines_of self.now) site.entry.number (changed (statement_of site.entry.stmt.now) site.entry.position (new_of new.now))) }
+            ↔ IsMutant (lines_of self.now) site.entry.number
+            (changed (statement_of site.entry.stmt.now) site.entry.position (new_of new.now))) }
         ensures memory { IfErr result (λ fault. fault ≡ Memory) }
     {
         let made = put(alloc, site.stmt, site.position, new)?;
@@ -79,10 +82,12 @@ impl Original<'_> {
         requires { 1 ≤ listing.now.every }
         ensures same_op { listing.new.op ≡ listing.old.op }
         ensures same_every { listing.new.every ≡ listing.old.every }
-        ensures come { OnOk result (IsOriginal self.now → Has (lines_of self.now) number (statement_of stmt.now)
+        ensures come { OnOk result
+            (IsOriginal self.now → HasStatement (lines_of self.now) number (statement_of stmt.now)
             → HasCome listing.old (lines_of self.now) number 0 0
             → HasCome listing.new (lines_of self.now) (number + 1) 0 0) }
-        ensures refused { IfErr result (λ fault. IsOriginal self.now → Has (lines_of self.now) number (statement_of stmt.now)
+        ensures refused { IfErr result
+            (λ fault. IsOriginal self.now → HasStatement (lines_of self.now) number (statement_of stmt.now)
             → HasCome listing.old (lines_of self.now) number 0 0
             → IsNoList listing.old.op (lines_of self.now) listing.old.every fault) }
     {
@@ -103,7 +108,8 @@ impl Original<'_> {
     pub(crate) fn listing(&self, alloc: Global, op: Op, every: u32) -> Result<Listing, OpsFault>
         requires { 1 ≤ every }
         ensures op { IfOk result (λ listing. listing.op ≡ op) }
-        ensures list { IfOk result (λ listing. IsOriginal self.now → IsCountedList op (lines_of self.now) every listing.edits.items listing.whole) }
+        ensures list { IfOk result (λ listing. IsOriginal self.now
+            → IsCountedList op (lines_of self.now) every listing.edits.items listing.whole) }
         ensures refused { IfErr result (λ fault. IsOriginal self.now → IsNoList op (lines_of self.now) every fault) }
     {
         let mut listing = Listing::new(alloc, op, every, Limits::of_lists());
@@ -115,8 +121,8 @@ impl Original<'_> {
     }
 }
 
-/// The edits of the operator's list, in the order of statement, position and rank, thinned: of the whole list its items 1,
-/// `every` + 1, 2 * `every` + 1 and on.
+/// The edits of the operator's list, in the order of statement, position and rank,
+/// thinned: of the whole list its items 1, `every` + 1, 2 * `every` + 1 and on.
 ///
 /// It is refused where the thinned list has over 1,048,575 edits, or the whole list over 4,294,967,295.
 pub fn edits(alloc: Global, checked: &Checked, op: Op, every: u32) -> Result<Vec<Edit>, OpsFault>
@@ -131,7 +137,8 @@ pub fn edits(alloc: Global, checked: &Checked, op: Op, every: u32) -> Result<Vec
 
 /// The statement that an edit makes, where it is one of its operator's.
 fn made_by(alloc: Global, checked: &Checked, edit: &Edit) -> Result<Option<Stmt>, OpsFault>
-    ensures made { IfOk result (λ made. IsMadeBy (map line_of checked.now.program) edit.now (option_map statement_of made)) }
+    ensures made { IfOk result
+        (λ made. IsMadeBy (map line_of checked.now.program) edit.now (option_map statement_of made)) }
     ensures memory { IfErr result (λ fault. fault ≡ Memory) }
 {
     let original = Original::of(alloc, checked)?;
@@ -141,9 +148,11 @@ fn made_by(alloc: Global, checked: &Checked, edit: &Edit) -> Result<Option<Stmt>
 /// The program that an edit of the whole list makes, checked. Every other edit is refused.
 pub fn apply(alloc: Global, checked: &Checked, edit: &Edit) -> Result<Checked, OpsFault>
     ensures program { let program = map line_of checked.now.program in IfOk result
-        (λ made. (member : IsMember edit.now.op program edit.now) × (map line_of made.program ≡ patched program edit.now.statement member.statement)) }
+        (λ made. (member : IsMember edit.now.op program edit.now)
+        × (map line_of made.program ≡ patched program edit.now.statement member.statement)) }
     ensures refused { IfErr result
-        (λ fault. (fault ≡ Memory) ⊎ ((fault ≡ NotASite) × ¬ (IsMember edit.now.op (map line_of checked.now.program) edit.now))) }
+        (λ fault. (fault ≡ Memory)
+        ⊎ ((fault ≡ NotASite) × ¬ (IsMember edit.now.op (map line_of checked.now.program) edit.now))) }
 {
     let Some(made) = made_by(alloc, checked, edit)? else {
         return Err(OpsFault::NotASite);

@@ -51,7 +51,7 @@ pub(crate) fn is_constant(expr: &Expr) -> bool
 
 /// The kind of an expression (ANSI X3.9-1978, 6.1, 6.3 and 6.4).
 pub(crate) fn kind_in(names: &Names, expr: &Expr) -> Kind
-    ensures { result ≡ model.kind_in (kind_at names.now) (tree_of expr.now) }
+    ensures { result ≡ model.kind_of_expression (kind_at names.now) (tree_of expr.now) }
 {
     match expr {
         Expr::Reference(place) => names.kind(&place.name),
@@ -85,7 +85,8 @@ fn exchanged(
     left: &Expr,
     right: &Expr,
 ) -> Result<Vec<Expr>, OpsFault>
-    ensures list { IfOk result (λ list. map tree_of list.items ≡ exchanged group.now operator (tree_of left.now) (tree_of right.now)) }
+    ensures list { IfOk result
+        (λ list. map tree_of list.items ≡ exchanged group.now operator (tree_of left.now) (tree_of right.now)) }
     ensures memory { IfErr result (λ fault. fault ≡ Memory) }
 {
     let mut list = Vec::new(alloc);
@@ -120,7 +121,8 @@ fn add_truths(list: &mut Vec<Expr>) -> Result<(), OpsFault>
 
 /// The other arithmetic operators, and each operand alone.
 pub(crate) fn arithmetic(alloc: Global, expr: &Expr) -> Result<Vec<Expr>, OpsFault>
-    ensures list { IfOk result (λ list. map tree_of list.items ≡ model.with_group model.arithmetic operands (tree_of expr.now)) }
+    ensures list { IfOk result
+        (λ list. map tree_of list.items ≡ model.with_group model.arithmetic_operators operands (tree_of expr.now)) }
     ensures memory { IfErr result (λ fault. fault ≡ Memory) }
 {
     match expr {
@@ -135,7 +137,8 @@ pub(crate) fn arithmetic(alloc: Global, expr: &Expr) -> Result<Vec<Expr>, OpsFau
 
 /// The other relational operators, and the truth values.
 pub(crate) fn relational(alloc: Global, expr: &Expr) -> Result<Vec<Expr>, OpsFault>
-    ensures list { IfOk result (λ list. map tree_of list.items ≡ model.with_group model.relations (λ a b. truths) (tree_of expr.now)) }
+    ensures list { IfOk result
+        (λ list. map tree_of list.items ≡ model.with_group model.relations (λ a b. truths) (tree_of expr.now)) }
     ensures memory { IfErr result (λ fault. fault ≡ Memory) }
 {
     match expr {

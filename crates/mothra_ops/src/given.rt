@@ -27,9 +27,10 @@ impl Given {
     ghost use Rattle.std.specs.Prelude.{◌≡◌, ◌↔◌, option_map, OnOk, IfOk, IfErr, IsTrue};
     ghost use Rattle.f77_tree.specs.Statement.{statement_of};
     ghost use Rattle.mothra_ops.specs.Edits.{made};
-    ghost use Rattle.mothra_ops.specs.Given.{IsFor, IsGiven};
+    ghost use Rattle.mothra_ops.specs.code.Given.{IsFor};
+    ghost use Rattle.mothra_ops.specs.Given.{IsGiven};
     ghost use Rattle.mothra_ops.specs.Original.{lines_of};
-    ghost use Rattle.mothra_ops.specs.Pools.{fields_of};
+    ghost use Rattle.mothra_ops.specs.Pools.{pool_fields};
     ghost use Rattle.mothra_ops.specs.declared.fault.OpsFault.TheVariants.{Memory};
     ghost use Rattle.mothra_ops.specs.declared.original.Original.{Original};
 
@@ -94,7 +95,7 @@ impl Given {
         requires given { IsGiven original.now self.now }
         requires edit { IsFor self.now edit.now }
         ensures made { IfOk result (λ statement. option_map statement_of statement
-            ≡ made (fields_of original.now.pools) (lines_of original.now) edit.now) }
+            ≡ made (pool_fields original.now.pools) (lines_of original.now) edit.now) }
         ensures memory { IfErr result (λ fault. fault ≡ Memory) }
     {
         if edit.rank == 0 || edit.rank > self.news.len() {

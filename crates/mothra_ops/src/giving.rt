@@ -5,7 +5,7 @@ ghost use Rattle.f77_tree.specs.Statement.{statement_of};
 ghost use Rattle.mothra_ops.specs.Edits.{made};
 ghost use Rattle.mothra_ops.specs.Giving.{AreGiven};
 ghost use Rattle.mothra_ops.specs.Original.{lines_of};
-ghost use Rattle.mothra_ops.specs.Pools.{fields_of};
+ghost use Rattle.mothra_ops.specs.Pools.{pool_fields};
 ghost use Rattle.mothra_ops.specs.declared.fault.OpsFault.TheVariants.{Memory};
 ghost use Rattle.mothra_ops.specs.declared.original.Original.{Original as OriginalModel};
 
@@ -37,8 +37,8 @@ impl Giving {
         Ok(Giving { list })
     }
 
-    /// The statement that the edit makes; none where no replacement has its rank. What the operator gives the node is found once
-    /// for edits of the node in a row.
+    /// The statement that the edit makes; none where no replacement has its rank.
+    /// What the operator gives the node is found once for edits of the node in a row.
     pub(crate) fn made(
         &mut self,
         alloc: Global,
@@ -48,7 +48,7 @@ impl Giving {
         requires { AreGiven original.now self.old.list.items }
         ensures given { AreGiven original.now self.new.list.items }
         ensures made { IfOk result (λ statement. option_map statement_of statement
-            ≡ made (fields_of original.now.pools) (lines_of original.now) edit.now) }
+            ≡ made (pool_fields original.now.pools) (lines_of original.now) edit.now) }
         ensures memory { IfErr result (λ fault. fault ≡ Memory) }
     {
         let place = edit.op.index();

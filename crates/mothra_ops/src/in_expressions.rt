@@ -5,7 +5,7 @@ ghost use Rattle.f77_nodes.specs.Node.{NodeOf};
 ghost use Rattle.f77_tree.specs.View.{tree_of};
 ghost use Rattle.f77_legal.specs.Kinds.{same_kind};
 ghost use Rattle.f77_tree.specs.declared.tree.Kind.TheVariants.{Integer};
-ghost use Rattle.mothra_ops.specs.Pools.{fields_of};
+ghost use Rattle.mothra_ops.specs.Pools.{pool_fields};
 ghost use Rattle.mothra_ops.specs.Replacements as model;
 ghost use Rattle.mothra_ops.specs.Replacements.{drawn};
 ghost use Rattle.mothra_ops.specs.declared.fault.OpsFault.TheVariants.{Memory};
@@ -47,7 +47,7 @@ fn constants_for_element(
     expr: &Expr,
 ) -> Result<Vec<Expr>, OpsFault>
     ensures list { IfOk result (λ list. map tree_of list.items
-        ≡ drawn model.is_element (fields_of pools.now).kinds (fields_of pools.now).constants (tree_of expr.now)) }
+        ≡ drawn model.is_element (pool_fields pools.now).kinds (pool_fields pools.now).constants (tree_of expr.now)) }
     ensures memory { IfErr result (λ fault. fault ≡ Memory) }
 {
     if is_array_element(expr) {
@@ -64,7 +64,7 @@ fn constants_for_scalar(
     expr: &Expr,
 ) -> Result<Vec<Expr>, OpsFault>
     ensures list { IfOk result (λ list. map tree_of list.items
-        ≡ drawn model.is_scalar (fields_of pools.now).kinds (fields_of pools.now).constants (tree_of expr.now)) }
+        ≡ drawn model.is_scalar (pool_fields pools.now).kinds (pool_fields pools.now).constants (tree_of expr.now)) }
     ensures memory { IfErr result (λ fault. fault ≡ Memory) }
 {
     if is_scalar(expr) {
@@ -77,7 +77,7 @@ fn constants_for_scalar(
 /// The other constants in the place of a constant.
 fn constants_for(alloc: Global, pools: &Pools<'_>, expr: &Expr) -> Result<Vec<Expr>, OpsFault>
     ensures list { IfOk result (λ list. map tree_of list.items
-        ≡ drawn model.is_constant (fields_of pools.now).kinds (fields_of pools.now).constants (tree_of expr.now)) }
+        ≡ drawn model.is_constant (pool_fields pools.now).kinds (pool_fields pools.now).constants (tree_of expr.now)) }
     ensures memory { IfErr result (λ fault. fault ≡ Memory) }
 {
     if is_constant(expr) {
@@ -91,7 +91,7 @@ fn constants_for(alloc: Global, pools: &Pools<'_>, expr: &Expr) -> Result<Vec<Ex
 #[tactic(auto, using(crate::proofs::Elements::references_apart))]
 fn references_for(alloc: Global, pools: &Pools<'_>, expr: &Expr) -> Result<Vec<Expr>, OpsFault>
     ensures list { IfOk result (λ list. map tree_of list.items
-        ≡ drawn model.is_constant (fields_of pools.now).kinds (fields_of pools.now).references (tree_of expr.now)) }
+        ≡ drawn model.is_constant (pool_fields pools.now).kinds (pool_fields pools.now).references (tree_of expr.now)) }
     ensures memory { IfErr result (λ fault. fault ≡ Memory) }
 {
     if is_constant(expr) {
@@ -106,7 +106,7 @@ fn references_for(alloc: Global, pools: &Pools<'_>, expr: &Expr) -> Result<Vec<E
 #[tactic(auto, using(crate::proofs::Elements::scalars_apart))]
 fn scalars_for(alloc: Global, pools: &Pools<'_>, expr: &Expr) -> Result<Vec<Expr>, OpsFault>
     ensures list { IfOk result (λ list. map tree_of list.items
-        ≡ drawn model.is_constant (fields_of pools.now).kinds (fields_of pools.now).scalars (tree_of expr.now)) }
+        ≡ drawn model.is_constant (pool_fields pools.now).kinds (pool_fields pools.now).scalars (tree_of expr.now)) }
     ensures memory { IfErr result (λ fault. fault ≡ Memory) }
 {
     if is_constant(expr) {
@@ -120,7 +120,8 @@ fn scalars_for(alloc: Global, pools: &Pools<'_>, expr: &Expr) -> Result<Vec<Expr
 /// The absolute values of an INTEGER expression that is no constant.
 fn absolutes(alloc: Global, pools: &Pools<'_>, expr: &Expr) -> Result<Vec<Expr>, OpsFault>
     ensures list { IfOk result (λ list. map tree_of list.items ≡ (if model.is_constant (tree_of expr.now) then []
-        else (if same_kind Integer (model.kind_in (fields_of pools.now).kinds (tree_of expr.now)) then model.absolute (tree_of expr.now) else []))) }
+        else (if same_kind Integer (model.kind_of_expression (pool_fields pools.now).kinds (tree_of expr.now))
+        then model.absolute (tree_of expr.now) else []))) }
     ensures memory { IfErr result (λ fault. fault ≡ Memory) }
 {
     if is_constant(expr) {
@@ -136,7 +137,8 @@ fn absolutes(alloc: Global, pools: &Pools<'_>, expr: &Expr) -> Result<Vec<Expr>,
 /// What a sign makes of an expression that is no constant.
 fn unaries(alloc: Global, pools: &Pools<'_>, expr: &Expr) -> Result<Vec<Expr>, OpsFault>
     ensures list { IfOk result (λ list. map tree_of list.items ≡ (if model.is_constant (tree_of expr.now) then []
-        else model.with_unary (model.kind_in (fields_of pools.now).kinds (tree_of expr.now)) (tree_of expr.now))) }
+        else model.with_unary (model.kind_of_expression (pool_fields pools.now).kinds (tree_of expr.now))
+        (tree_of expr.now))) }
     ensures memory { IfErr result (λ fault. fault ≡ Memory) }
 {
     if is_constant(expr) {
@@ -154,7 +156,7 @@ pub(crate) fn in_expression(
     expr: &Expr,
 ) -> Result<Vec<Expr>, OpsFault>
     ensures list { IfOk result (λ list. map NodeOf.Part (map tree_of list.items)
-        ≡ model.replacements op (fields_of pools.now) (NodeOf.Part (tree_of expr.now))) }
+        ≡ model.replacements op (pool_fields pools.now) (NodeOf.Part (tree_of expr.now))) }
     ensures memory { IfErr result (λ fault. fault ≡ Memory) }
 {
     match op {

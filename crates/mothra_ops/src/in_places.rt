@@ -2,9 +2,9 @@
 
 ghost use Rattle.std.specs.Prelude.{◌≡◌, true, false, map, IfOk, IfErr};
 ghost use Rattle.f77_nodes.specs.Node.{NodeOf};
-ghost use Rattle.f77_tree.specs.View.{trees, tree_of, place_of};
+ghost use Rattle.f77_tree.specs.View.{trees, tree_of, reference_fields};
 ghost use Rattle.f77_sites.specs.New.{new_of};
-ghost use Rattle.mothra_ops.specs.Pools.{fields_of, reference_of};
+ghost use Rattle.mothra_ops.specs.Pools.{pool_fields, reference_of};
 ghost use Rattle.mothra_ops.specs.Replacements as model;
 ghost use Rattle.mothra_ops.specs.Replacements.{in_place};
 ghost use Rattle.mothra_ops.specs.declared.fault.OpsFault.TheVariants.{Memory};
@@ -21,7 +21,8 @@ use std::alloc::Global;
 /// What an operator that puts references in the place of others puts in the place of an array element.
 fn in_element(alloc: Global, op: Op, pools: &Pools<'_>, own: &Ref) -> Result<Vec<Ref>, OpsFault>
     requires { model.is_element (reference_of own.now) ≡ true }
-    ensures list { IfOk result (λ list. map reference_of list.items ≡ in_place op (fields_of pools.now) (reference_of own.now)) }
+    ensures list { IfOk result
+        (λ list. map reference_of list.items ≡ in_place op (pool_fields pools.now) (reference_of own.now)) }
     ensures memory { IfErr result (λ fault. fault ≡ Memory) }
 {
     match op {
@@ -35,7 +36,8 @@ fn in_element(alloc: Global, op: Op, pools: &Pools<'_>, own: &Ref) -> Result<Vec
 /// The same in the place of a scalar.
 fn in_scalar(alloc: Global, op: Op, pools: &Pools<'_>, own: &Ref) -> Result<Vec<Ref>, OpsFault>
     requires { model.is_element (reference_of own.now) ≡ false }
-    ensures list { IfOk result (λ list. map reference_of list.items ≡ in_place op (fields_of pools.now) (reference_of own.now)) }
+    ensures list { IfOk result
+        (λ list. map reference_of list.items ≡ in_place op (pool_fields pools.now) (reference_of own.now)) }
     ensures memory { IfErr result (λ fault. fault ≡ Memory) }
 {
     match op {
@@ -47,7 +49,8 @@ fn in_scalar(alloc: Global, op: Op, pools: &Pools<'_>, own: &Ref) -> Result<Vec<
 
 /// The same in the place of any reference.
 fn in_place(alloc: Global, op: Op, pools: &Pools<'_>, own: &Ref) -> Result<Vec<Ref>, OpsFault>
-    ensures list { IfOk result (λ list. map reference_of list.items ≡ in_place op (fields_of pools.now) (reference_of own.now)) }
+    ensures list { IfOk result
+        (λ list. map reference_of list.items ≡ in_place op (pool_fields pools.now) (reference_of own.now)) }
     ensures memory { IfErr result (λ fault. fault ≡ Memory) }
 {
     if is_element(own) {
@@ -65,7 +68,8 @@ pub(crate) fn in_place_of(
     pools: &Pools<'_>,
     expr: &Expr,
 ) -> Result<Vec<Expr>, OpsFault>
-    ensures list { IfOk result (λ list. map tree_of list.items ≡ in_place op (fields_of pools.now) (tree_of expr.now)) }
+    ensures list { IfOk result
+        (λ list. map tree_of list.items ≡ in_place op (pool_fields pools.now) (tree_of expr.now)) }
     ensures memory { IfErr result (λ fault. fault ≡ Memory) }
 {
     match expr {
@@ -83,7 +87,8 @@ pub(crate) fn in_target(
     own: &Ref,
 ) -> Result<Vec<New>, OpsFault>
     ensures list { IfOk result (λ list. map new_of list.items
-        ≡ model.replacements op (fields_of pools.now) (NodeOf.Target (place_of own.now).0 (trees (place_of own.now).1))) }
+        ≡ model.replacements op (pool_fields pools.now)
+        (NodeOf.Target (reference_fields own.now).0 (trees (reference_fields own.now).1))) }
     ensures memory { IfErr result (λ fault. fault ≡ Memory) }
 {
     let list = in_place(alloc, op, pools, own)?;
@@ -98,7 +103,8 @@ pub(crate) fn in_variable(
     pools: &Pools<'_>,
     name: &Name,
 ) -> Result<Vec<New>, OpsFault>
-    ensures list { IfOk result (λ list. map new_of list.items ≡ model.replacements op (fields_of pools.now) (NodeOf.Named name.now)) }
+    ensures list { IfOk result
+        (λ list. map new_of list.items ≡ model.replacements op (pool_fields pools.now) (NodeOf.Named name.now)) }
     ensures memory { IfErr result (λ fault. fault ≡ Memory) }
 {
     match op {

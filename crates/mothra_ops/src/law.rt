@@ -18,7 +18,8 @@ pub fn one_list()
 
 /// A list that is told to be too long is so, whichever whole list is thinned.
 pub fn too_long()
-    ensures { (op : Op) (program : List LineFields) (q : ℕ) (whole : List Edit) → 1 ≤ q → IsTooLong op program q → Lists (IsMember op program) whole
+    ensures { (op : Op) (program : List LineFields) (q : ℕ) (whole : List Edit)
+        → 1 ≤ q → IsTooLong op program q → Lists (IsMember op program) whole
         → (most_edits < length (thinned q whole)) ⊎ (most_whole < length whole) }
 {}
 

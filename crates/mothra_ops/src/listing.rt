@@ -2,7 +2,7 @@
 
 ghost use Rattle.std.specs.Prelude.{◌≡◌, ◌⊎◌, ◌++◌, ◌∷◌, [], ◌<◌, ◌≤◌, List, OnOk, IfErr, length};
 ghost use Rattle.mothra_ops.specs.Edits.{thinned};
-ghost use Rattle.mothra_ops.specs.Listing.{Holds, longest};
+ghost use Rattle.mothra_ops.specs.Listing.{HoldsEdits, longest};
 ghost use Rattle.mothra_ops.specs.declared.edit.Edit.{Edit};
 ghost use Rattle.mothra_ops.specs.declared.fault.OpsFault.TheVariants.{Memory, TooMany};
 
@@ -50,7 +50,7 @@ impl Listing {
         ensures op { result.op ≡ op }
         ensures every { result.every ≡ every }
         ensures limits { result.limits ≡ limits }
-        ensures empty { Holds result [] }
+        ensures empty { HoldsEdits result [] }
     {
         Listing {
             op,
@@ -81,9 +81,10 @@ impl Listing {
         ensures same_op { self.new.op ≡ self.old.op }
         ensures same_every { self.new.every ≡ self.old.every }
         ensures same_limits { self.new.limits ≡ self.old.limits }
-        ensures added { OnOk result ((whole : List Edit) → Holds self.old whole → Holds self.new (whole ++ edit ∷ [])) }
+        ensures added { OnOk result
+            ((whole : List Edit) → HoldsEdits self.old whole → HoldsEdits self.new (whole ++ edit ∷ [])) }
         ensures refused { IfErr result (λ fault. (fault ≡ Memory) ⊎ ((fault ≡ TooMany self.old.op)
-            × ((whole : List Edit) → Holds self.old whole
+            × ((whole : List Edit) → HoldsEdits self.old whole
             → (self.old.limits.kept < length (thinned self.old.every (whole ++ edit ∷ [])))
             ⊎ (self.old.limits.whole < length (whole ++ edit ∷ []))))) }
     {

@@ -7,7 +7,8 @@ ghost use Rattle.f77_program.specs.Canonical.{statement_text};
 ghost use Rattle.f77_program.specs.Patching.{patched};
 ghost use Rattle.f77_tree.specs.Statement.{statement_of};
 ghost use Rattle.mothra_ops.specs.Edits.{IsMutant, numbered};
-ghost use Rattle.mothra_ops.specs.Mutants.{change_text, line_at, mutant_fields, mutant_made, mutant_name, mutant_of, mutant_text, program_of};
+ghost use Rattle.mothra_ops.specs.Mutants.{change_text, line_number_at, mutant_fields, mutant_made};
+ghost use Rattle.mothra_ops.specs.Mutants.{mutant_name, mutant_of, mutant_text, program_of};
 ghost use Rattle.mothra_ops.specs.Original.{IsOriginal};
 ghost use Rattle.mothra_ops.specs.Plan.{PlanFields, IsPlan, edits_of};
 ghost use Rattle.mothra_ops.specs.declared.fault.OpsFault.TheVariants.{Memory};
@@ -32,8 +33,8 @@ pub struct Mutant {
     pub stmt: Stmt,
 }
 
-/// The mutants of a plan. What the operators draw from its program is found once, and what an operator gives a node once for
-/// its mutants of that node in a row.
+/// The mutants of a plan. What the operators draw from its program is found once,
+/// and what an operator gives a node once for its mutants of that node in a row.
 #[derive(Drop)]
 pub struct Mutants<'a> {
     plan: &'a Plan,
@@ -68,7 +69,8 @@ impl<'a> Model for Mutants<'a> {
 
     ghost view = { λ mutants. mutants.plan.now };
 
-    ghost invariant = { λ mutants. IsOriginal mutants.original × (mutants.original.checked.now ≡ mutants.plan.now.checked)
+    ghost invariant = { λ mutants. IsOriginal mutants.original
+        × (mutants.original.checked.now ≡ mutants.plan.now.checked)
         × AreGiven mutants.original mutants.giving.list.items };
 }
 
@@ -92,10 +94,12 @@ impl<'a> Mutants<'a> {
         ensures plan { self.new ≡ self.old }
         ensures mutant { IfOk result (λ mutant. option_map mutant_fields mutant ≡ mutant_of self.old op number) }
         // What it makes is legal, and another program.
-        ensures legal { IfOk result (λ mutant. IfSome mutant (λ m. IsMutant (program_of self.old) m.number (statement_of m.stmt))) }
+        ensures legal { IfOk result
+            (λ mutant. IfSome mutant (λ m. IsMutant (program_of self.old) m.number (statement_of m.stmt))) }
         // It takes the arguments that the program takes.
         ensures shapes { IfOk result (λ mutant. IfSome mutant
-            (λ m. shapes (patched (program_of self.old) m.number (statement_of m.stmt)) ≡ shapes (program_of self.old))) }
+            (λ m. shapes (patched (program_of self.old) m.number (statement_of m.stmt))
+            ≡ shapes (program_of self.old))) }
         ensures none { IfOk result (λ mutant. IfNone mutant (numbered (edits_of self.old op) number ≡ None)) }
         ensures memory { IfErr result (λ fault. fault ≡ Memory) }
     {
@@ -108,7 +112,8 @@ impl<'a> Mutants<'a> {
     /// What an edit of the plan makes.
     fn made(&mut self, alloc: Global, edit: &Edit) -> Result<Option<Mutant>, OpsFault>
         ensures plan { self.new ≡ self.old }
-        ensures made { IfOk result (λ mutant. option_map mutant_fields mutant ≡ mutant_made (program_of self.old) edit.now) }
+        ensures made { IfOk result
+            (λ mutant. option_map mutant_fields mutant ≡ mutant_made (program_of self.old) edit.now) }
         ensures memory { IfErr result (λ fault. fault ≡ Memory) }
     {
         match self.giving.made(alloc, &self.original, edit)? {
@@ -122,7 +127,7 @@ impl<'a> Mutants<'a> {
 
     /// The line number of a statement; 0 where the program has none of this number.
     fn line_number(&self, number: usize) -> u32
-        ensures { result ≡ line_at (program_of self.now) number }
+        ensures { result ≡ line_number_at (program_of self.now) number }
     {
         match self.plan.program().program().line(number) {
             Some(line) => line.line,
@@ -130,9 +135,11 @@ impl<'a> Mutants<'a> {
         }
     }
 
-    /// Where this mutant is changed: the line number of the statement, and the canonical text of what stands in its place.
+    /// Where this mutant is changed: the line number of the
+    /// statement, and the canonical text of what stands in its place.
     fn change(&self, alloc: Global, mutant: &Mutant) -> Result<String, OpsFault>
-        ensures text { IfOk result (λ text. string_bytes text ≡ change_text (program_of self.now) (mutant_fields mutant.now)) }
+        ensures text { IfOk result
+            (λ text. string_bytes text ≡ change_text (program_of self.now) (mutant_fields mutant.now)) }
         ensures memory { IfErr result (λ fault. fault ≡ Memory) }
     {
         let line = self.line_number(mutant.number);

@@ -4,7 +4,7 @@ ghost use Rattle.std.specs.Prelude.{◌≡◌, map, IfOk, IfErr};
 ghost use Rattle.f77_nodes.specs.Node.{NodeOf};
 ghost use Rattle.f77_tree.specs.View.{tree_of};
 ghost use Rattle.f77_sites.specs.New.{new_of};
-ghost use Rattle.mothra_ops.specs.InPlaces.{target_of, variable_of};
+ghost use Rattle.mothra_ops.specs.code.InPlaces.{target_node, variable_node};
 ghost use Rattle.mothra_ops.specs.Pools.{reference_of};
 ghost use Rattle.mothra_ops.specs.declared.fault.OpsFault.TheVariants.{Memory};
 
@@ -38,7 +38,7 @@ pub(crate) fn in_parts(alloc: Global, list: Vec<Expr>) -> Result<Vec<New>, OpsFa
 }
 
 pub(crate) fn in_targets(alloc: Global, list: Vec<Ref>) -> Result<Vec<New>, OpsFault>
-    ensures made { IfOk result (λ made. map new_of made.items ≡ map target_of list.items) }
+    ensures made { IfOk result (λ made. map new_of made.items ≡ map target_node list.items) }
     ensures memory { IfErr result (λ fault. fault ≡ Memory) }
 {
     let mut made = Vec::with_capacity(alloc, list.len())?;
@@ -50,7 +50,7 @@ pub(crate) fn in_targets(alloc: Global, list: Vec<Ref>) -> Result<Vec<New>, OpsF
 
 #[tactic(auto, using(crate::proofs::Elements::as_variable))]
 pub(crate) fn in_variables(alloc: Global, list: Vec<Ref>) -> Result<Vec<New>, OpsFault>
-    ensures made { IfOk result (λ made. map new_of made.items ≡ map variable_of list.items) }
+    ensures made { IfOk result (λ made. map new_of made.items ≡ map variable_node list.items) }
     ensures memory { IfErr result (λ fault. fault ≡ Memory) }
 {
     let mut made = Vec::with_capacity(alloc, list.len())?;

@@ -4,10 +4,11 @@ ghost use Rattle.std.specs.Prelude.{◌≡◌, ◌↔◌, ◌<◌, ◌+◌, ◌^
 ghost use Rattle.f77_tree.specs.Statement.{statement_of};
 ghost use Rattle.f77_sites.specs.New.{new_of};
 ghost use Rattle.f77_sites.specs.Sites.{changed};
-ghost use Rattle.mothra_ops.specs.Edits.{IsMadeBy, IsMutant};
+ghost use Rattle.mothra_ops.specs.code.Edits.{IsMadeBy};
+ghost use Rattle.mothra_ops.specs.Edits.{IsMutant};
 ghost use Rattle.mothra_ops.specs.Given.{given_at};
 ghost use Rattle.mothra_ops.specs.Original.{IsOriginal, lines_of};
-ghost use Rattle.mothra_ops.specs.Pools.{fields_of};
+ghost use Rattle.mothra_ops.specs.Pools.{pool_fields};
 ghost use Rattle.mothra_ops.specs.declared.fault.OpsFault.TheVariants.{Memory};
 
 use crate::edit::Edit;
@@ -49,7 +50,8 @@ impl<'a> Original<'a> {
 
     /// Whether the statement makes a mutant in the place of the one with this number.
     pub(crate) fn is_mutant(&self, number: usize, made: &Stmt) -> Result<bool, OpsFault>
-        ensures decided { IfOk result (λ yes. IsTrue yes ↔ IsMutant (lines_of self.now) number (statement_of made.now)) }
+        ensures decided { IfOk result
+            (λ yes. IsTrue yes ↔ IsMutant (lines_of self.now) number (statement_of made.now)) }
         ensures memory { IfErr result (λ fault. fault ≡ Memory) }
     {
         let Some(line) = self.checked.program().line(number) else {
@@ -65,11 +67,12 @@ impl<'a> Original<'a> {
         }
     }
 
-    /// What the operator of the edit puts in the place of the node of the edit, in the order of the ranks; nothing where
-    /// there is no such node.
+    /// What the operator of the edit puts in the place of the node of the
+    /// edit, in the order of the ranks; nothing where there is no such node.
     pub(crate) fn given(&self, alloc: Global, edit: &Edit) -> Result<Vec<New>, OpsFault>
         ensures list { IfOk result (λ list. map new_of list.items
-            ≡ given_at (fields_of self.now.pools) (lines_of self.now) edit.now.op edit.now.statement edit.now.position) }
+            ≡ given_at (pool_fields self.now.pools) (lines_of self.now) edit.now.op edit.now.statement
+            edit.now.position) }
         ensures counted { IfOk result (λ list. 0 < length list.items → edit.now.position + 1 < 2 ^ 64) }
         ensures memory { IfErr result (λ fault. fault ≡ Memory) }
     {
@@ -85,7 +88,8 @@ impl<'a> Original<'a> {
 
     /// The statement that the edit makes, where that makes a mutant.
     pub(crate) fn mutant_made(&self, alloc: Global, edit: &Edit) -> Result<Option<Stmt>, OpsFault>
-        ensures made { IfOk result (λ made. IsOriginal self.now → IsMadeBy (lines_of self.now) edit.now (option_map statement_of made)) }
+        ensures made { IfOk result
+            (λ made. IsOriginal self.now → IsMadeBy (lines_of self.now) edit.now (option_map statement_of made)) }
         ensures memory { IfErr result (λ fault. fault ≡ Memory) }
     {
         let given = Given::of(alloc, self, edit)?;

@@ -3,9 +3,9 @@
 ghost use Rattle.std.specs.Prelude.{◌≡◌, ◌&&◌, not, map, filter, IfOk, IfErr};
 ghost use Rattle.f77_tree.specs.Comparing.{same_tree};
 ghost use Rattle.f77_tree.specs.Tree.{Tree};
-ghost use Rattle.f77_tree.specs.View.{tree_of, trees, place_of};
+ghost use Rattle.f77_tree.specs.View.{tree_of, trees, reference_fields};
 ghost use Rattle.f77_legal.specs.Kinds.{same_kind};
-ghost use Rattle.mothra_ops.specs.Pools.{fields_of, reference_of, scalar};
+ghost use Rattle.mothra_ops.specs.Pools.{pool_fields, reference_of, scalar};
 ghost use Rattle.mothra_ops.specs.Replacements as model;
 ghost use Rattle.mothra_ops.specs.Replacements.{others};
 ghost use Rattle.mothra_ops.specs.declared.fault.OpsFault.TheVariants.{Memory};
@@ -38,7 +38,8 @@ pub(crate) fn scalar(alloc: Global, name: &Name) -> Ref
 }
 
 fn is_reference_of_kind(pools: &Pools<'_>, reference: &Ref, kind: Kind) -> bool
-    ensures { result ≡ same_kind (model.kind_in (fields_of pools.now).kinds (reference_of reference.now)) kind }
+    ensures { result
+        ≡ same_kind (model.kind_of_expression (pool_fields pools.now).kinds (reference_of reference.now)) kind }
 {
     pools.names.kind(&reference.name) == kind
 }
@@ -51,7 +52,8 @@ pub(crate) fn references_of_kind(
     kind: Kind,
 ) -> Result<Vec<Ref>, OpsFault>
     ensures list { IfOk result (λ list. map reference_of list.items
-        ≡ filter (λ t. same_kind (model.kind_in (fields_of pools.now).kinds t) kind) (fields_of pools.now).references) }
+        ≡ filter (λ t. same_kind (model.kind_of_expression (pool_fields pools.now).kinds t) kind)
+        (pool_fields pools.now).references) }
     ensures memory { IfErr result (λ fault. fault ≡ Memory) }
 {
     let mut list = Vec::new(alloc);
@@ -65,8 +67,8 @@ pub(crate) fn references_of_kind(
 
 /// Whether another reference may be drawn in the place of this one.
 fn is_drawn(pools: &Pools<'_>, reference: &Ref, own: &Ref) -> bool
-    ensures { result ≡ (same_kind (model.kind_in (fields_of pools.now).kinds (reference_of reference.now))
-        (model.kind_in (fields_of pools.now).kinds (reference_of own.now))
+    ensures { result ≡ (same_kind (model.kind_of_expression (pool_fields pools.now).kinds (reference_of reference.now))
+        (model.kind_of_expression (pool_fields pools.now).kinds (reference_of own.now))
         && not (same_tree (reference_of reference.now) (reference_of own.now))) }
 {
     pools.names.kind(&reference.name) == pools.names.kind(&own.name) && *reference != *own
@@ -80,7 +82,7 @@ pub(crate) fn other_references(
     own: &Ref,
 ) -> Result<Vec<Ref>, OpsFault>
     ensures list { IfOk result (λ list. map reference_of list.items
-        ≡ others (fields_of pools.now).kinds (fields_of pools.now).references (reference_of own.now)) }
+        ≡ others (pool_fields pools.now).kinds (pool_fields pools.now).references (reference_of own.now)) }
     ensures memory { IfErr result (λ fault. fault ≡ Memory) }
 {
     let mut list = Vec::new(alloc);
@@ -93,7 +95,7 @@ pub(crate) fn other_references(
 }
 
 fn is_of_kind(pools: &Pools<'_>, name: &Name, kind: Kind) -> bool
-    ensures { result ≡ same_kind (model.kind_in (fields_of pools.now).kinds (scalar name.now)) kind }
+    ensures { result ≡ same_kind (model.kind_of_expression (pool_fields pools.now).kinds (scalar name.now)) kind }
 {
     pools.names.kind(name) == kind
 }
@@ -106,7 +108,8 @@ pub(crate) fn scalars_of_kind(
     kind: Kind,
 ) -> Result<Vec<Ref>, OpsFault>
     ensures list { IfOk result (λ list. map reference_of list.items
-        ≡ filter (λ t. same_kind (model.kind_in (fields_of pools.now).kinds t) kind) (fields_of pools.now).scalars) }
+        ≡ filter (λ t. same_kind (model.kind_of_expression (pool_fields pools.now).kinds t) kind)
+        (pool_fields pools.now).scalars) }
     ensures memory { IfErr result (λ fault. fault ≡ Memory) }
 {
     let mut list = Vec::new(alloc);
@@ -121,8 +124,8 @@ pub(crate) fn scalars_of_kind(
 /// Whether the scalar of this name may be drawn in the place of the reference.
 #[tactic(auto, using(crate::proofs::Elements::other_scalar))]
 fn is_drawn_scalar(pools: &Pools<'_>, name: &Name, own: &Ref) -> bool
-    ensures { result ≡ (same_kind (model.kind_in (fields_of pools.now).kinds (scalar name.now))
-        (model.kind_in (fields_of pools.now).kinds (reference_of own.now))
+    ensures { result ≡ (same_kind (model.kind_of_expression (pool_fields pools.now).kinds (scalar name.now))
+        (model.kind_of_expression (pool_fields pools.now).kinds (reference_of own.now))
         && not (same_tree (scalar name.now) (reference_of own.now))) }
 {
     pools.names.kind(name) == pools.names.kind(&own.name) && (*name != own.name || is_element(own))
@@ -136,7 +139,7 @@ pub(crate) fn other_scalars(
     own: &Ref,
 ) -> Result<Vec<Ref>, OpsFault>
     ensures list { IfOk result (λ list. map reference_of list.items
-        ≡ others (fields_of pools.now).kinds (fields_of pools.now).scalars (reference_of own.now)) }
+        ≡ others (pool_fields pools.now).kinds (pool_fields pools.now).scalars (reference_of own.now)) }
     ensures memory { IfErr result (λ fault. fault ≡ Memory) }
 {
     let mut list = Vec::new(alloc);
@@ -150,8 +153,8 @@ pub(crate) fn other_scalars(
 
 /// Whether another expression may be drawn in the place of this one.
 fn is_drawn_constant(pools: &Pools<'_>, constant: &Expr, own: &Expr) -> bool
-    ensures { result ≡ (same_kind (model.kind_in (fields_of pools.now).kinds (tree_of constant.now))
-        (model.kind_in (fields_of pools.now).kinds (tree_of own.now))
+    ensures { result ≡ (same_kind (model.kind_of_expression (pool_fields pools.now).kinds (tree_of constant.now))
+        (model.kind_of_expression (pool_fields pools.now).kinds (tree_of own.now))
         && not (same_tree (tree_of constant.now) (tree_of own.now))) }
 {
     kind_in(&pools.names, constant) == kind_in(&pools.names, own) && *constant != *own
@@ -165,7 +168,7 @@ pub(crate) fn other_constants(
     own: &Expr,
 ) -> Result<Vec<Expr>, OpsFault>
     ensures list { IfOk result (λ list. map tree_of list.items
-        ≡ others (fields_of pools.now).kinds (fields_of pools.now).constants (tree_of own.now)) }
+        ≡ others (pool_fields pools.now).kinds (pool_fields pools.now).constants (tree_of own.now)) }
     ensures memory { IfErr result (λ fault. fault ≡ Memory) }
 {
     let mut list = Vec::new(alloc);
@@ -179,7 +182,7 @@ pub(crate) fn other_constants(
 
 /// Whether the array may stand in the place of another one: it has its kind and its number of bounds.
 fn is_comparable(pools: &Pools<'_>, name: &Name, other: &Name) -> bool
-    ensures { result ≡ model.is_comparable (fields_of pools.now) name.now other.now }
+    ensures { result ≡ model.is_comparable (pool_fields pools.now) name.now other.now }
 {
     pools.names.kind(other) == pools.names.kind(name)
         && pools.names.bounds(other).len() == pools.names.bounds(name).len()
@@ -189,7 +192,8 @@ fn is_comparable(pools: &Pools<'_>, name: &Name, other: &Name) -> bool
 /// A name with the subscripts of the reference.
 #[tactic(auto, using(crate::proofs::Elements::renamed))]
 fn renamed(name: &Name, own: &Ref) -> Result<Ref, OpsFault>
-    ensures made { IfOk result (λ made. reference_of made ≡ Tree.Reference name.now (trees (place_of own.now).1)) }
+    ensures made { IfOk result
+        (λ made. reference_of made ≡ Tree.Reference name.now (trees (reference_fields own.now).1)) }
     ensures memory { IfErr result (λ fault. fault ≡ Memory) }
 {
     Ok(Ref {
@@ -205,8 +209,9 @@ pub(crate) fn with_subscripts(
     own: &Ref,
 ) -> Result<Vec<Ref>, OpsFault>
     ensures list { IfOk result (λ list. map reference_of list.items
-        ≡ map (λ other. Tree.Reference other (trees (place_of own.now).1))
-        (filter (model.is_comparable (fields_of pools.now) (place_of own.now).0) (fields_of pools.now).arrays)) }
+        ≡ map (λ other. Tree.Reference other (trees (reference_fields own.now).1))
+        (filter (model.is_comparable (pool_fields pools.now) (reference_fields own.now).0)
+        (pool_fields pools.now).arrays)) }
     ensures memory { IfErr result (λ fault. fault ≡ Memory) }
 {
     let mut list = Vec::new(alloc);

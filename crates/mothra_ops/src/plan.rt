@@ -11,7 +11,8 @@ ghost use Rattle.f77_actions.specs.contracts.expression.Element as element;
 ghost use Rattle.f77_actions.specs.contracts.expression.Number as number;
 ghost use Rattle.mothra_ops.specs.Edits.{numbered};
 ghost use Rattle.mothra_codes.specs.declared.op.Op.{Op};
-ghost use Rattle.mothra_ops.specs.Plan.{PlanFields, IsPlan, IsNoPlan, fields_of, list_fields, list_of, asked, edits_of, whole_of};
+ghost use Rattle.mothra_ops.specs.Plan.{PlanFields, IsPlan, IsNoPlan, plan_fields, list_fields};
+ghost use Rattle.mothra_ops.specs.Plan.{list_of_operator, asked, edits_of, whole_of};
 
 use crate::edit::Edit;
 use crate::fault::OpsFault;
@@ -44,16 +45,17 @@ impl Model for Plan {
       action.the_row.coded,
     ) };
 
-    ghost view = { λ plan. fields_of plan.checked plan.every plan.lists.items };
+    ghost view = { λ plan. plan_fields plan.checked plan.every plan.lists.items };
 
-    ghost invariant = { λ plan. IsPlan (fields_of plan.checked plan.every plan.lists.items) };
+    ghost invariant = { λ plan. IsPlan (plan_fields plan.checked plan.every plan.lists.items) };
 }
 
 /// The lists of these operators in their order, each thinned. What they draw from is found once.
 fn lists(alloc: Global, checked: &Checked, ops: &[Op], every: u32) -> Result<Vec<Listing>, OpsFault>
     requires { 1 ≤ every }
-    ensures asked { IfOk result (λ lists. (op : Op) → IsTrue (asked (fields_of checked.now every lists.items) op) ↔ Contains ops.now op) }
-    ensures lists { IfOk result (λ lists. IsPlan (fields_of checked.now every lists.items)) }
+    ensures asked { IfOk result
+        (λ lists. (op : Op) → IsTrue (asked (plan_fields checked.now every lists.items) op) ↔ Contains ops.now op) }
+    ensures lists { IfOk result (λ lists. IsPlan (plan_fields checked.now every lists.items)) }
     ensures refused { IfErr result (λ fault. IsNoPlan ops.now (map line_of checked.now.program) every fault) }
 {
     let original = Original::of(alloc, checked)?;
@@ -88,7 +90,7 @@ impl Plan {
 
     /// The list of an operator that was asked for. It takes no memory.
     fn list(&self, op: Op) -> Option<&Listing>
-        ensures list { option_map (λ list. list_fields list.now) result ≡ list_of self.now op }
+        ensures list { option_map (λ list. list_fields list.now) result ≡ list_of_operator self.now op }
         ensures plan { IsPlan self.now }
     {
         self.lists.iter().find(|list| list.op == op)

@@ -11,9 +11,10 @@ ghost use Rattle.f77_tree.specs.View.{tree_of};
 ghost use Rattle.f77_legal.specs.Labels as labelled;
 ghost use Rattle.f77_legal.specs.Legal.{is_array};
 ghost use Rattle.f77_legal.specs.Names.{some_items, symbols};
-ghost use Rattle.f77_legal.specs.NameTable.{IsNameTable, bounds_at};
+ghost use Rattle.f77_legal.specs.NameTable.{IsNameTable, array_bounds};
 ghost use Rattle.mothra_ops.specs.Pools as model;
-ghost use Rattle.mothra_ops.specs.Pools.{each_once, placed, ascending, array_reference, constant, pools_of, fields_of, reference_of};
+ghost use Rattle.mothra_ops.specs.Pools.{each_once, placed_ascending, ascending, array_reference};
+ghost use Rattle.mothra_ops.specs.Pools.{constant, pools_of, pool_fields, reference_of};
 ghost use Rattle.mothra_ops.specs.declared.fault.OpsFault.TheVariants.{Memory};
 
 use crate::fault::{OpsFault, memory_fault};
@@ -68,7 +69,7 @@ fn executable_nodes<'a>(alloc: Global, lines: &'a [Shared<Line>]) -> Result<Vec<
 
 /// Whether the name is that of an array.
 fn has_bounds(names: &Names, name: &Name) -> bool
-    ensures { result ≡ is_some (some_items (bounds_at names.now name.now)) }
+    ensures { result ≡ is_some (some_items (array_bounds names.now name.now)) }
 {
     !names.bounds(name).is_empty()
 }
@@ -76,9 +77,9 @@ fn has_bounds(names: &Names, name: &Name) -> bool
 /// The names of a table in its order: those without bounds, and those with bounds.
 fn scalars_and_arrays(alloc: Global, names: &Names) -> Result<(Vec<Name>, Vec<Name>), OpsFault>
     ensures scalars { IfOk result (λ lists. lists.0.items
-        ≡ filter (λ name. not (is_some (some_items (bounds_at names.now name)))) (keys names.now.facts)) }
+        ≡ filter (λ name. not (is_some (some_items (array_bounds names.now name)))) (keys names.now.facts)) }
     ensures arrays { IfOk result (λ lists. lists.1.items
-        ≡ filter (λ name. is_some (some_items (bounds_at names.now name))) (keys names.now.facts)) }
+        ≡ filter (λ name. is_some (some_items (array_bounds names.now name))) (keys names.now.facts)) }
     ensures memory { IfErr result (λ fault. fault ≡ Memory) }
 {
     let mut scalars = Vec::new(alloc);
@@ -153,7 +154,7 @@ fn constants<'a>(alloc: Global, nodes: &[Node<'a>]) -> Result<Vec<&'a Expr>, Ops
 /// The place of a label among ascending ones.
 fn place_of(list: &[u32], label: u32) -> usize
     ensures within { result ≤ length list.now }
-    ensures placed { insert list.now result label ≡ placed label list.now }
+    ensures placed { insert list.now result label ≡ placed_ascending label list.now }
 {
     for at in 0..list.len() {
         if list[at] >= label {
@@ -165,7 +166,7 @@ fn place_of(list: &[u32], label: u32) -> usize
 
 /// Puts a label in its place among ascending ones.
 fn place(list: &mut Vec<u32>, label: u32) -> Result<(), OpsFault>
-    ensures placed { OnOk result (list.new.items ≡ placed label list.old.items) }
+    ensures placed { OnOk result (list.new.items ≡ placed_ascending label list.old.items) }
     ensures memory { IfErr result (λ fault. fault ≡ Memory) }
 {
     let at = place_of(list, label);
@@ -188,8 +189,10 @@ fn ascending(alloc: Global, labels: &[u32]) -> Result<Vec<u32>, OpsFault>
 /// The table of the names of these lines, and its names without bounds and those with bounds, each in its order.
 fn names(alloc: Global, lines: &[Shared<Line>]) -> Result<(Names, Vec<Name>, Vec<Name>), OpsFault>
     ensures table { IfOk result (λ names. IsNameTable names.0 (map line_of lines.now)) }
-    ensures scalars { IfOk result (λ names. names.1.items ≡ filter (λ name. not (is_array (map line_of lines.now) name)) (symbols (map line_of lines.now))) }
-    ensures arrays { IfOk result (λ names. names.2.items ≡ filter (is_array (map line_of lines.now)) (symbols (map line_of lines.now))) }
+    ensures scalars { IfOk result (λ names. names.1.items
+        ≡ filter (λ name. not (is_array (map line_of lines.now) name)) (symbols (map line_of lines.now))) }
+    ensures arrays { IfOk result
+        (λ names. names.2.items ≡ filter (is_array (map line_of lines.now)) (symbols (map line_of lines.now))) }
     ensures memory { IfErr result (λ fault. fault ≡ Memory) }
 {
     let names = match Names::of(alloc, lines) {
@@ -231,7 +234,7 @@ fn labels(alloc: Global, checked: &Checked) -> Result<Vec<u32>, OpsFault>
 impl<'a> Pools<'a> {
     /// What the operators draw from in a checked program.
     pub(crate) fn of(alloc: Global, checked: &'a Checked) -> Result<Pools<'a>, OpsFault>
-        ensures pools { IfOk result (λ pools. fields_of pools ≡ pools_of (map line_of checked.now.program)) }
+        ensures pools { IfOk result (λ pools. pool_fields pools ≡ pools_of (map line_of checked.now.program)) }
         ensures memory { IfErr result (λ fault. fault ≡ Memory) }
     {
         let lines = checked.program().lines();

@@ -4,7 +4,7 @@ ghost use Rattle.std.specs.Prelude.{◌≡◌, ◌∷◌, [], not, map, if◌the
 ghost use Rattle.f77_tree.specs.Statement.{same_statement, statement_of};
 ghost use Rattle.f77_nodes.specs.Node.{NodeOf, node_of};
 ghost use Rattle.f77_sites.specs.New.{new_of};
-ghost use Rattle.mothra_ops.specs.Pools.{PoolFields, fields_of};
+ghost use Rattle.mothra_ops.specs.Pools.{PoolFields, pool_fields};
 ghost use Rattle.mothra_ops.specs.Replacements as model;
 ghost use Rattle.mothra_ops.specs.declared.fault.OpsFault.TheVariants.{Memory};
 
@@ -22,7 +22,7 @@ use std::alloc::Global;
 
 /// Whether statements of this form are DOs.
 fn is_loop(form: Form) -> bool
-    ensures { result ≡ model.is_loop form }
+    ensures { result ≡ model.is_loop_form form }
 {
     matches!(form, Form::Loop)
 }
@@ -49,7 +49,8 @@ fn stands_in(op: Op, stmt: &Stmt) -> bool
 /// The new statement, where another one stands.
 fn exchanged(alloc: Global, new: Stmt, stmt: &Stmt) -> Result<Vec<New>, OpsFault>
     ensures list { IfOk result (λ list. map new_of list.items
-        ≡ (if not (same_statement (statement_of new) (statement_of stmt.now)) then NodeOf.Itself (statement_of new) ∷ [] else [])) }
+        ≡ (if not (same_statement (statement_of new) (statement_of stmt.now))
+        then NodeOf.Itself (statement_of new) ∷ [] else [])) }
     ensures memory { IfErr result (λ fault. fault ≡ Memory) }
 {
     if new == *stmt {
@@ -76,7 +77,8 @@ fn in_statement(alloc: Global, op: Op, stmt: &Stmt) -> Result<Vec<New>, OpsFault
 
 /// What the operator puts in the place of a label.
 fn in_label(alloc: Global, op: Op, pools: &Pools<'_>, label: u32) -> Result<Vec<New>, OpsFault>
-    ensures list { IfOk result (λ list. map new_of list.items ≡ model.replacements op (fields_of pools.now) (NodeOf.Labelled label)) }
+    ensures list { IfOk result
+        (λ list. map new_of list.items ≡ model.replacements op (pool_fields pools.now) (NodeOf.Labelled label)) }
     ensures memory { IfErr result (λ fault. fault ≡ Memory) }
 {
     match op {
@@ -90,7 +92,8 @@ fn in_label(alloc: Global, op: Op, pools: &Pools<'_>, label: u32) -> Result<Vec<
 
 /// What the operator puts in the place of a value of DATA.
 fn in_value(alloc: Global, op: Op, value: &Value) -> Result<Vec<New>, OpsFault>
-    ensures list { IfOk result (λ list. (pools : PoolFields) → map new_of list.items ≡ model.replacements op pools (NodeOf.Initial value.now)) }
+    ensures list { IfOk result (λ list. (pools : PoolFields)
+        → map new_of list.items ≡ model.replacements op pools (NodeOf.Initial value.now)) }
     ensures memory { IfErr result (λ fault. fault ≡ Memory) }
 {
     match op {
@@ -105,7 +108,8 @@ fn in_value(alloc: Global, op: Op, value: &Value) -> Result<Vec<New>, OpsFault>
 /// What the operator puts in the place of a node, in a statement where it has sites.
 #[tactic(auto, using(crate::proofs::InPlaces::of_declared))]
 fn at_node(alloc: Global, op: Op, pools: &Pools<'_>, node: Node<'_>) -> Result<Vec<New>, OpsFault>
-    ensures list { IfOk result (λ list. map new_of list.items ≡ model.replacements op (fields_of pools.now) (node_of node.entry)) }
+    ensures list { IfOk result
+        (λ list. map new_of list.items ≡ model.replacements op (pool_fields pools.now) (node_of node.entry)) }
     ensures memory { IfErr result (λ fault. fault ≡ Memory) }
 {
     match node {
@@ -131,7 +135,7 @@ pub(crate) fn gives(
     node: Node<'_>,
 ) -> Result<Vec<New>, OpsFault>
     ensures list { IfOk result (λ list. map new_of list.items
-        ≡ model.gives op (fields_of pools.now) (statement_of stmt.now) (node_of node.entry)) }
+        ≡ model.gives op (pool_fields pools.now) (statement_of stmt.now) (node_of node.entry)) }
     ensures memory { IfErr result (λ fault. fault ≡ Memory) }
 {
     if stands_in(op, stmt) {

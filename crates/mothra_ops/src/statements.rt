@@ -17,7 +17,7 @@ const MOST: i32 = 2_147_483_647;
 
 /// Whether a statement of this form does something that may be left out.
 pub(crate) fn acts(form: Form) -> bool
-    ensures { result ≡ model.acts form }
+    ensures { result ≡ model.is_replaceable_action form }
 {
     match form {
         Form::LogicalIf => true,

@@ -95,8 +95,8 @@ fn a_job_with_a_byte_replaced_has_its_answer(rt: HostRuntime) -> Result<(), Fail
 /// The end of a text in C, of a line, and of a text of JSON, its escape, and bytes that are no character.
 const BYTES: &[u8] = b"\0\n\"\\\x80\xff";
 
-// The number of the byte from 0, and what stands there. It is the same job where that was there before. A backslash takes
-// the next character of the text with it, and behind a backslash it stands for itself, as a quotation mark does.
+// The number of the byte from 0, and what stands there. It is the same job where that was there before. A backslash
+// takes the next character of the text with it, and behind a backslash it stands for itself, as a quotation mark does.
 const STILL_JOBS: &str = "
 1 34 => RETURNED 2 3 5
 4 92 => FAULT J3 source

@@ -1,7 +1,8 @@
 //! Tables of cases. A case that fails is printed.
 //!
 //! In a table of rows each line is a case: cells with ` | ` between, and the answer behind ` => `.
-//! In a table of programs the cases have an empty line between: the lines of the program, a line `=>`, and the lines of the answer.
+//! In a table of programs the cases have an empty line between: the
+//! lines of the program, a line `=>`, and the lines of the answer.
 
 use crate::answers::{assert_answer, assert_served};
 use crate::jobs::SUM;

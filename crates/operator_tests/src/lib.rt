@@ -1,5 +1,5 @@
-//! Tests of the public calls that list the mutants of a program and make them. A mutant is told by the numbers of its statement,
-//! position and rank and the text of the changed statement.
+//! Tests of the public calls that list the mutants of a program and make them. A mutant is told
+//! by the numbers of its statement, position and rank and the text of the changed statement.
 #![tactic(auto)]
 
 #[cfg(test)]

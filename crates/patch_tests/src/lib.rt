@@ -1,4 +1,5 @@
-//! Tests of the public calls that change a statement of a checked program. A row of a table is an input, ` => ` and what it gives.
+//! Tests of the public calls that change a statement of a checked
+//! program. A row of a table is an input, ` => ` and what it gives.
 #![tactic(auto)]
 
 #[cfg(test)]

@@ -1,5 +1,5 @@
-//! Each form of statement in the place of each other one: what tells of a change by the changed statement alone agrees with
-//! the check of the whole changed program.
+//! Each form of statement in the place of each other one: what tells of a change by
+//! the changed statement alone agrees with the check of the whole changed program.
 
 use f77_check::Checked;
 use f77_syntax::Stmt;

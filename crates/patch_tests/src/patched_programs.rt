@@ -1,5 +1,5 @@
-//! Programs with one statement changed. A row is a change, or two of which the first is legal, ` => ` and the verdict on
-//! the changed program.
+//! Programs with one statement changed. A row is a change, or two of which
+//! the first is legal, ` => ` and the verdict on the changed program.
 
 use f77_check::Checked;
 use f77_syntax::print;

@@ -175,7 +175,8 @@ fn begins_each_run_anew(rt: HostRuntime) -> Result<(), Fail> {
 }
 
 // A variable that has a value in some runs alone, and one that DATA gives its value.
-// DOs that are active at the end of a run. An inner one that were still active would make passes where the outer one makes none.
+// DOs that are active at the end of a run. An inner one that were
+// still active would make passes where the outer one makes none.
 const ANEW: &str = "
 SUBROUTINE S(K); IF (K.EQ.0) L=5; K=L; END
 1 within 9 is Undefined => true

@@ -44,8 +44,8 @@ SUBROUTINE S(M,K); INTEGER M(3); 10 M(2)=M(2)+1; K=0; IF (M(2).LT.200) GO TO 10;
 (1,2,3) 9 within 1000 => Returned (1,200,3,) 0
 ";
 
-/// In each turn of the jump the variables have the values of the turn before, one after another; the passes that the DO has to make are fewer by
-/// one.
+/// In each turn of the jump the variables have the values of the turn before,
+/// one after another; the passes that the DO has to make are fewer by one.
 #[test]
 fn runs_with_other_passes_do_not_come_back(rt: HostRuntime) -> Result<(), Fail> {
     assert_outcomes(&rt, OTHER_PASSES)

@@ -8,8 +8,8 @@ use sample_programs::{arguments, changed, checked, expect, held, holder, number_
 use std::process::Abort;
 use std::test::Fail;
 
-/// Whether the outcome is another one with the change, None where it does not stand alone: other statements would do something else too.
-/// The states of the program's own run hold so many values at most.
+/// Whether the outcome is another one with the change, None where it does not stand alone: other statements
+/// would do something else too. The states of the program's own run hold so many values at most.
 fn is_noticed(
     rt: &impl AllocGlobal,
     old: &Checked,

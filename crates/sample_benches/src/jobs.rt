@@ -7,8 +7,9 @@ use mothra_ops::Plan;
 use sample_programs::{ADD, checked, suite};
 use std::test::Fail;
 
-/// What a bench is made of: statements with `; ` between them, codes of operators with blanks between them (none: all), which of each
-/// list is kept, tests that each end with `;`, the limit on steps, and declared mutants with commas between them.
+/// What a bench is made of: statements with `; ` between them, codes of operators
+/// with blanks between them (none: all), which of each list is kept, tests that each
+/// end with `;`, the limit on steps, and declared mutants with commas between them.
 #[derive(Clone, Copy, Drop)]
 pub struct Job<'a> {
     pub statements: &'a str,

@@ -1,5 +1,5 @@
-//! What the tests of the crates of FORTRAN 77 share: the rows of their tables, programs from texts of statements, programs checked
-//! and changed, verdicts as texts, and the values of dummy arguments written as words.
+//! What the tests of the crates of FORTRAN 77 share: the rows of their tables, programs from texts of statements,
+//! programs checked and changed, verdicts as texts, and the values of dummy arguments written as words.
 #![tactic(auto)]
 
 mod patches;

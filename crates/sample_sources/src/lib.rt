@@ -1,5 +1,5 @@
-//! What all tests of the crates of FORTRAN 77 share: the rows of their tables, programs from texts of statements, and texts that are
-//! compared.
+//! What all tests of the crates of FORTRAN 77 share: the rows of their
+//! tables, programs from texts of statements, and texts that are compared.
 #![tactic(auto)]
 
 mod rows;

@@ -1,4 +1,5 @@
-//! Two workers over gates that invent tickets, drop them, hand them out in another order, end early, refuse offers, or give up.
+//! Two workers over gates that invent tickets, drop them, hand them
+//! out in another order, end early, refuse offers, or give up.
 
 use crate::gates::{assert_fault, assert_report, driven};
 use crate::tricks::{Trick, Tricky};

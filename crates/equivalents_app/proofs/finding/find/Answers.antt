@@ -2,7 +2,7 @@ use Rattle.std.proofs.Common.{ap, map, subst, sym}
 use Rattle.f77_program.specs.Program.{line_of}
 use Rattle.f77_check.specs.Checked.{CheckedFields}
 use Rattle.mothra_app.specs.declared.fault.Fault.TheVariants.{Ops}
-use Rattle.equivalents_app.specs.Room.{AreNamed}
+use Rattle.equivalents_app.specs.Room.{AreNamedMutants}
 use Rattle.equivalents_app.proofs.Findings.{failed_by, found, memory_refused, plan_refused, program_refused}
 use Rattle.equivalents_app.proofs.finding.find.Goals as goal
 
@@ -36,8 +36,8 @@ returns c =
     let steps = c.args.inquiry.now.steps in
     let suite = c.suite.result.now in
     let plan = c.in_ok-plan.plan in
-    let listed = subst (λ list. AreNamed plan suite steps list) (sym c.deref.ensures.value) c.in_ok-list.ensures.named in
+    let listed = subst (λ list. AreNamedMutants plan suite steps list) (sym c.deref.ensures.value) c.in_ok-list.ensures.named in
     found c.args.job.now c.args.inquiry.now _ c.source.ensures _ c.as_slice.ensures _ (map line_of c.in_ok-checked.checked.program) plan
     c.deref.result.now c.in_ok-checked.ensures.program (ap (λ (k : CheckedFields). map line_of k.program) c.in_ok-plan.ensures.program)
     c.in_ok-plan.ensures.every c.in_ok-plan.ensures.asked c.in_ok-plan.ensures.lists
-    (subst (λ tests. AreNamed plan tests steps c.deref.result.now) c.suite.ensures listed) c.in_ok-text_of.ensures.text
+    (subst (λ tests. AreNamedMutants plan tests steps c.deref.result.now) c.suite.ensures listed) c.in_ok-text_of.ensures.text

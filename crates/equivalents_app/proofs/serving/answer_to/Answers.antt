@@ -1,11 +1,11 @@
 use Rattle.std.proofs.Common.{string_bytes}
 use Rattle.mothra_job.specs.Job.{job_of}
-use Rattle.equivalents_app.specs.Serving.{IsAnswer}
+use Rattle.equivalents_app.specs.Serving.{IsInquiryAnswer}
 use Rattle.equivalents_app.proofs.Answered.{IfOk-both, fault_answered}
 use Rattle.equivalents_app.proofs.serving.answer_to.Goals as goal
 
 pub returns-in-Ok : goal.returns-in-Ok
-returns-in-Ok c = IsAnswer.report c.in-Ok.ensures
+returns-in-Ok c = IsInquiryAnswer.report c.in-Ok.ensures
 
 pub returns-in-Err : goal.returns-in-Err
 returns-in-Err c =

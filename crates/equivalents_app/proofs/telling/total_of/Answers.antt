@@ -1,5 +1,5 @@
 use Rattle.std.proofs.Common.{arith, ◌≡◌, ◌∙◌, ◌+◌, ℕ, true, false, length, sym, subst, add-zero}
-use Rattle.mothra_codes.specs.Op.{op_at}
+use Rattle.mothra_codes.specs.code.Op.{op_at}
 use Rattle.mothra_ops.specs.Plan.{asked, edits_of}
 use Rattle.mothra_app.specs.Listing.{asked_total}
 use Rattle.equivalents_app.proofs.Totals.{count_behind, counts_as_before, counts_more}

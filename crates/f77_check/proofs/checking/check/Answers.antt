@@ -1,9 +1,9 @@
 use Rattle.std.proofs.Common.{◌≡◌, None, map, ap, sym, subst, ◌∙◌}
 use Rattle.f77_program.specs.Program.{IsProgram, line_of}
 use Rattle.f77_check.specs.Checked.{shapes, IsChecked}
-use Rattle.f77_check.specs.CheckedView.{fields_of}
+use Rattle.f77_check.specs.CheckedView.{checked_fields}
 use Rattle.f77_check.specs.Ready.{CanResolve}
-use Rattle.f77_check.specs.Shapes.{shape_at}
+use Rattle.f77_check.specs.code.Shapes.{shape_at}
 use Rattle.f77_check.specs.declared.resolve.Resolver.{Resolver}
 use Rattle.f77_check.proofs.Arguments.{shapes_are}
 use Rattle.f77_check.proofs.CheckedParts.{own_tables_resolve, checked_of}
@@ -34,11 +34,11 @@ from_parts-requires c =
     ∙ (ap (map (shape_at c.in_ok-tables.tables.names)) c.arguments.ensures
     ∙ shapes_are c.in_ok-tables.tables.names p c.in_ok-tables.ensures.tables.names c.in_ok-tables.ensures.legal)) in
     let same = c.in_ok-clone.ensures.cases ∙ ap (map line_of) (sym c.lines-lines.ensures.lines) in
-    let both : IsChecked (fields_of c.in_ok-clone.field-0 c.in_ok-new.field-0.items c.in_ok-new-2.field-0 c.in_ok-statements.statements.items c.in_ok-new-3.field-0)
+    let both : IsChecked (checked_fields c.in_ok-clone.field-0 c.in_ok-new.field-0.items c.in_ok-new-2.field-0 c.in_ok-statements.statements.items c.in_ok-new-3.field-0)
     × CanResolve c.in_ok-new-2.field-0 (map line_of c.in_ok-clone.field-0) =
-    subst (λ (r : Resolver). IsChecked (fields_of c.in_ok-clone.field-0 c.in_ok-new.field-0.items r c.in_ok-statements.statements.items c.in_ok-new-3.field-0)
+    subst (λ (r : Resolver). IsChecked (checked_fields c.in_ok-clone.field-0 c.in_ok-new.field-0.items r c.in_ok-statements.statements.items c.in_ok-new-3.field-0)
     × CanResolve r (map line_of c.in_ok-clone.field-0)) (sym c.in_ok-new-2.ensures)
-    (subst (λ start. IsChecked (fields_of c.in_ok-clone.field-0 c.in_ok-new.field-0.items r c.in_ok-statements.statements.items start)
+    (subst (λ start. IsChecked (checked_fields c.in_ok-clone.field-0 c.in_ok-new.field-0.items r c.in_ok-statements.statements.items start)
     × CanResolve r (map line_of c.in_ok-clone.field-0)) (sym c.in_ok-new-3.ensures)
     (checked_of c.in_ok-clone.field-0 p c.in_ok-new.field-0.items r c.in_ok-statements.statements.items c.in_ok-start.start same can arguments
     c.in_ok-statements.ensures.resolved c.in_ok-start.ensures.start)) in

@@ -1,5 +1,5 @@
 use Rattle.std.proofs.Common.{ap, ◌∙◌, ◌++◌, ◌∷◌, []}
-use Rattle.f77_check.specs.Shapes.{shape_at}
+use Rattle.f77_check.specs.code.Shapes.{shape_at}
 use Rattle.f77_legal.proofs.Entries.{pushed}
 use Rattle.f77_check.proofs.shapes.shapes.Goals as goal
 

@@ -13,7 +13,8 @@ returns-then-from-offset-clause-runs c = λ turns.
     let o = simp to_z-of_z at c.offset-offset.ensures in
     let above : c.args.bound ≤ c.offset-offset.result = omega arith in
     element_fails c.args.first c.args.bound c.offset-offset.result c.args.next c.off_vector.result c.args.registers.now turns c.read-subscript.result
-    (both (calculated arithmetic.Subtract) (register c.args.registers.now c.args.left) (register c.args.registers.now c.args.right)) o above (λ b r f a e. c.off_vector.ensures b r f (simp to_z-of_z a) e)
+    (both (calculated arithmetic.Subtract) (register c.args.registers.now c.args.left) (register c.args.registers.now c.args.right)) o above
+    (λ b r f a e. c.off_vector.ensures b r f (simp to_z-of_z a) e)
     (register c.args.registers.now c.args.subscript) c.read-subscript.ensures
 
 pub returns-clause-runs : goal.returns-clause-runs
@@ -24,5 +25,8 @@ returns-clause-runs c = λ turns.
     let below : c.offset-offset.result < c.args.bound = omega arith in
     let small : c.args.bound < 4294967296 = omega arith in
     element_put c.args.first c.args.bound c.offset-offset.result c.args.next c.put.result c.args.registers.now c.put.new.registers turns c.read-subscript.result
-    (both (calculated arithmetic.Subtract) (register c.args.registers.now c.args.left) (register c.args.registers.now c.args.right)) o below small (register c.args.registers.now c.args.subscript) c.read-subscript.ensures
-    (c.put.ensures.runs (both (calculated arithmetic.Subtract) (register c.args.registers.now c.args.left) (register c.args.registers.now c.args.right)) turns (simp to_z-of_z c.difference_at-x.ensures))
+    (both (calculated arithmetic.Subtract) (register c.args.registers.now c.args.left) (register c.args.registers.now c.args.right)) o below small
+    (register c.args.registers.now c.args.subscript) c.read-subscript.ensures
+    (c.put.ensures.runs
+    (both (calculated arithmetic.Subtract) (register c.args.registers.now c.args.left) (register c.args.registers.now c.args.right)) turns
+    (simp to_z-of_z c.difference_at-x.ensures))

@@ -24,5 +24,6 @@ returns-clause-runs c = λ turns.
     let below : c.offset-offset.result < c.args.bound = omega arith in
     let small : c.args.bound < 4294967296 = omega arith in
     element_put c.args.first c.args.bound c.offset-offset.result c.args.next c.put.result c.args.registers.now c.put.new.registers turns c.read-subscript.result
-    (both (calculated arithmetic.Add) (register c.args.registers.now c.args.left) (register c.args.registers.now c.args.right)) o below small (register c.args.registers.now c.args.subscript) c.read-subscript.ensures
+    (both (calculated arithmetic.Add) (register c.args.registers.now c.args.left) (register c.args.registers.now c.args.right)) o below small
+    (register c.args.registers.now c.args.subscript) c.read-subscript.ensures
     (c.put.ensures.runs (both (calculated arithmetic.Add) (register c.args.registers.now c.args.left) (register c.args.registers.now c.args.right)) turns (simp to_z-of_z c.sum_at-x.ensures))

@@ -2,7 +2,7 @@ use Rattle.std.proofs.Common.{arith, ◌≡◌, ◌≤◌, ◌<◌, ◌∙◌, s
 use Rattle.std.specs.Prelude.{slice_get, Some, None}
 use Rattle.std.proofs.lemmas.Bool.{ltb-false}
 use Rattle.std.proofs.lemmas.Option.{slice_get_read, slice_get_past}
-use Rattle.f77_code.specs.Block.{after}
+use Rattle.f77_code.specs.Block.{code_after}
 use Rattle.f77_code.specs.Operation.{point}
 use Rattle.f77_code.proofs.Sequences.{made_more, rests, there_more}
 use Rattle.f77_code.proofs.blocks.block.Goals as goal
@@ -41,12 +41,12 @@ instructions-preserved c =
 pub returns-clause-after : goal.returns-clause-after
 returns-clause-after c =
     let whole : c.instructions.made ≡ c.args.steps = omega (arith, c.instructions.invariant.within, c.instructions-test.false) in
-    sym (ap (λ n. after c.args.code.now n (point c.args.start c.args.registers.now c.args.turns.now)) (sym whole) ∙ c.instructions.invariant.stands)
+    sym (ap (λ n. code_after c.args.code.now n (point c.args.start c.args.registers.now c.args.turns.now)) (sym whole) ∙ c.instructions.invariant.stands)
 
 pub returns-clause-stands : goal.returns-clause-stands
 returns-clause-stands c =
     let whole : c.instructions.made ≡ c.args.steps = omega (arith, c.instructions.invariant.within, c.instructions-test.false) in
-    sym (ap (λ n. after c.args.code.now n (point c.args.start c.args.registers.now c.args.turns.now)) (sym whole) ∙ c.instructions.invariant.stands)
+    sym (ap (λ n. code_after c.args.code.now n (point c.args.start c.args.registers.now c.args.turns.now)) (sym whole) ∙ c.instructions.invariant.stands)
 
 pub returns-clause-there : goal.returns-clause-there
 returns-clause-there c =

@@ -1,5 +1,5 @@
 use Rattle.std.proofs.Common.{◌≡◌, ◌<◌, ◌≤◌, ℕ, true, length}
-use Rattle.f77_code.specs.Block.{after}
+use Rattle.f77_code.specs.Block.{code_after}
 use Rattle.f77_code.specs.Operation.{point}
 use Rattle.f77_code.specs.Registers.{are_held}
 use Rattle.f77_code.proofs.blocks.block.Given as goal
@@ -7,7 +7,7 @@ use Rattle.f77_code.proofs.blocks.block.Given as goal
 abbrev pub invariant-instructions : goal.invariant-instructions
 invariant-instructions l = record {
   held : are_held l.registers ≡ true;
-  stands : after l.code l.made (point l.start l.fn.registers l.fn.turns) ≡ point l.place l.registers l.turns;
+  stands : code_after l.code l.made (point l.start l.fn.registers l.fn.turns) ≡ point l.place l.registers l.turns;
   within : l.made ≤ l.steps;
-  there : (k : ℕ) → k < l.made → (after l.code k (point l.start l.fn.registers l.fn.turns)).place < length l.code;
+  there : (k : ℕ) → k < l.made → (code_after l.code k (point l.start l.fn.registers l.fn.turns)).place < length l.code;
 }

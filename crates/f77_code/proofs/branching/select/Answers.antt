@@ -1,7 +1,7 @@
 use Rattle.std.proofs.Common.{rules, w64, FitsSigned}
 use Rattle.std.proofs.lemmas.Int.{to_z-of_z}
 use Rattle.std.specs.Prelude.{unwrap_or}
-use Rattle.f77_code.specs.Choice.{numbered}
+use Rattle.f77_code.specs.Choice.{item_chosen}
 use Rattle.f77_code.specs.Operation.{point}
 use Rattle.f77_values.proofs.Bounds.{at_least, not_least}
 use Rattle.f77_code.proofs.Points.{fails, goes}
@@ -12,7 +12,7 @@ returns-then-x-ge-UNDEFINED c = λ turns.
     let fx : FitsSigned w64 c.operand-x.result = search rules in
     fails c.failed.result c.args.registers.now turns c.operand-x.result (at_least c.operand-x.result fx c.if-x-ge-UNDEFINED.true)
     (λ f t. c.failed.ensures f (simp to_z-of_z t))
-    (λ z. point (unwrap_or (numbered c.args.places.now z) c.args.next) c.args.registers.now turns) _ c.operand-x.ensures
+    (λ z. point (unwrap_or (item_chosen c.args.places.now z) c.args.next) c.args.registers.now turns) _ c.operand-x.ensures
 
 pub returns : goal.returns
 returns c = λ turns.
@@ -20,4 +20,4 @@ returns c = λ turns.
     let e = simp to_z-of_z at c.numbered.ensures in
     rw e
     (goes c.args.registers.now turns c.operand-x.result (not_least c.operand-x.result fx c.if-x-ge-UNDEFINED.false)
-    (λ z. point (unwrap_or (numbered c.args.places.now z) c.args.next) c.args.registers.now turns) _ c.operand-x.ensures)
+    (λ z. point (unwrap_or (item_chosen c.args.places.now z) c.args.next) c.args.registers.now turns) _ c.operand-x.ensures)

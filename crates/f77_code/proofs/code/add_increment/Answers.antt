@@ -1,5 +1,6 @@
 use Rattle.std.proofs.Common.{◌+◌, sym, ap, subst}
-use Rattle.f77_code.specs.Compiled.{AreFollowed, IsIncrement}
+use Rattle.f77_code.specs.code.Compiled.{AreFollowed}
+use Rattle.f77_code.specs.Compiled.{IsIncrement}
 use Rattle.f77_code.specs.Moves.{is_loop}
 use Rattle.f77_code.proofs.Assembled.{followed_more, followed_still}
 use Rattle.f77_code.proofs.Instructed.{increment_stands, no_loop}

@@ -1,5 +1,6 @@
 use Rattle.std.proofs.Common.{◌+◌, ◌∙◌, sym, subst}
-use Rattle.f77_code.specs.Compiled.{AreExecuted, IsInstruction}
+use Rattle.f77_code.specs.code.Compiled.{AreExecuted}
+use Rattle.f77_code.specs.Compiled.{IsInstruction}
 use Rattle.f77_code.proofs.Assembled.{executed_more}
 use Rattle.f77_code.proofs.code.executed.Goals as goal
 

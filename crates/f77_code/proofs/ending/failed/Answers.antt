@@ -1,8 +1,8 @@
 use Rattle.std.proofs.Common.{arith, ◌≡◌, ◌+◌, pos}
 use Rattle.std.proofs.lemmas.Int.{ints}
-use Rattle.f77_values.specs.Told.{number_of}
+use Rattle.f77_values.specs.Told.{fault_number}
 use Rattle.f77_code.proofs.ending.failed.Goals as goal
 
 pub returns : goal.returns
 returns c = λ fault a.
-    let fx = c.ranges.x in let e : c.args.x ≡ pos (1099511627776 + number_of fault) = a.is in omega (arith, ints)
+    let fx = c.ranges.x in let e : c.args.x ≡ pos (1099511627776 + fault_number fault) = a.is in omega (arith, ints)

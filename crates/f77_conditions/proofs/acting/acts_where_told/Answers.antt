@@ -1,7 +1,7 @@
 use Rattle.std.proofs.Common.{subst}
 use Rattle.f77_actions.specs.declared.action.Action.{Branch}
 use Rattle.f77_equivalence.proofs.Moving.{ok_then}
-use Rattle.f77_conditions.specs.Same.{ActsWhereTold}
+use Rattle.f77_conditions.specs.code.Same.{ActsWhereTold}
 use Rattle.f77_conditions.proofs.Choosing.{guarded_alike, branches_alike}
 use Rattle.f77_conditions.proofs.acting.acts_where_told.Goals as goal
 

@@ -2,7 +2,7 @@ use Rattle.std.proofs.Common.{arith, ◌≡◌}
 use Rattle.f77_code.specs.declared.control.Place.TheVariants.{Execute}
 use Rattle.f77_facts.specs.declared.entries.Entry.{Entry}
 use Rattle.f77_equivalence.proofs.Lists.{one_more_got}
-use Rattle.f77_conditions.specs.Same.{ActsWhereTold}
+use Rattle.f77_conditions.specs.code.Same.{ActsWhereTold}
 use Rattle.f77_conditions.proofs.acting.all_act_where_told.Goals as goal
 
 pub loop-k-preserved : goal.loop-k-preserved

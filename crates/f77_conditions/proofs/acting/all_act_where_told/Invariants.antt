@@ -1,4 +1,4 @@
-use Rattle.f77_conditions.specs.Same.{AllActWhereTold}
+use Rattle.f77_conditions.specs.code.Same.{AllActWhereTold}
 use Rattle.f77_conditions.proofs.acting.all_act_where_told.Given as goal
 
 abbrev pub invariant-loop-k : goal.invariant-loop-k

@@ -3,7 +3,7 @@ use Rattle.f77_code.specs.declared.control.Place.TheVariants.{Execute}
 use Rattle.f77_code.specs.Moves.{Goes, state}
 use Rattle.f77_equivalence.proofs.Moving.{ok_then}
 use Rattle.f77_conditions.specs.Told.{AreTold}
-use Rattle.f77_conditions.specs.Edges.{ActsAlong}
+use Rattle.f77_conditions.specs.code.Edges.{ActsAlong}
 use Rattle.f77_conditions.proofs.Actions.{guarded, branched}
 use Rattle.f77_conditions.proofs.Going.{ok_both}
 use Rattle.f77_conditions.proofs.edges.+edges_of_action.Goals as goal

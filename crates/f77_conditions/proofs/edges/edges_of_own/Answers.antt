@@ -1,6 +1,6 @@
 use Rattle.std.proofs.Common.{false, true, sym, subst, ap}
 use Rattle.f77_conditions.specs.Told.{condition_of}
-use Rattle.f77_conditions.specs.Edges.{ActsAlong}
+use Rattle.f77_conditions.specs.code.Edges.{ActsAlong}
 use Rattle.f77_conditions.proofs.Actions.{own_told, guarded, branched}
 use Rattle.f77_conditions.proofs.Going.{ok_both}
 use Rattle.f77_conditions.proofs.edges.edges_of_own.Goals as goal

@@ -5,8 +5,8 @@ use Rattle.f77_check.specs.Patching.{IsInPlace}
 use Rattle.f77_tree.specs.Statement.{statement_of}
 use Rattle.f77_code.specs.declared.control.Place.TheVariants.{Execute}
 use Rattle.f77_equivalence.proofs.Moving.{ok_then}
-use Rattle.f77_conditions.specs.Same.{AllActWhereTold}
-use Rattle.f77_conditions.specs.Table.{row_at}
+use Rattle.f77_conditions.specs.code.Same.{AllActWhereTold}
+use Rattle.f77_conditions.specs.Table.{told_row}
 use Rattle.f77_conditions.proofs.Together.{told_there}
 use Rattle.f77_conditions.proofs.equivalent.is_equivalent_where_told.Goals as goal
 
@@ -29,7 +29,7 @@ returns c =
     c.checked.ensures.throughout c.table.ensures.throughout
     (c.statements-statements.ensures.statements ∙ ap (λ (checked : CheckedFields). checked.statements) program) c.statement_at-own.ensures
     (c.goes_on_alike.ensures.alike c.if-not-goes_on_alike.false)
-    (subst (λ table. row_at table (Execute i) ≡ Some told) c.table.ensures.table
+    (subst (λ table. told_row table (Execute i) ≡ Some told) c.table.ensures.table
     (sym c.told_at.ensures ∙ ap (option_map (λ told. told.now)) c.in-Some.is))
     (sym c.is_executed.ensures ∙ c.if-not-is_executed.false) (c.is_no_loop.ensures c.if-not-is_no_loop.false)
     (subst (λ list. AllActWhereTold statements list (length list) i told own.action other.action) c.entries-entries.ensures.entries (alike e)))

@@ -5,7 +5,7 @@ use Rattle.f77_actions.specs.declared.resolved.Resolved.{Resolved}
 use Rattle.f77_code.specs.Moves.{State}
 use Rattle.f77_equivalence.proofs.Lists.{one_more_got}
 use Rattle.f77_conditions.specs.declared.edges.Edge.{Edge}
-use Rattle.f77_conditions.specs.Table.{Tells}
+use Rattle.f77_conditions.specs.Table.{TellsOfState}
 use Rattle.f77_conditions.specs.Told.{AreTold}
 use Rattle.f77_conditions.proofs.table.allows.Goals as goal
 
@@ -13,7 +13,7 @@ pub loop-k-preserved : goal.loop-k-preserved
 loop-k-preserved c =
     one_more_got
     (λ (edge : Edge). (statements : List Resolved) (s : State) → Contains edge.places.items s.place → AreTold statements s.cells edge.told.items
-    → Tells statements c.args.table.now s)
+    → TellsOfState statements c.args.table.now s)
     c.args.edges.now c.loop-k.k c.edge_at.result.now c.edge_at.ensures (c.allows_edge.ensures c.if-not-allows_edge.false) c.loop-k.invariant
 
 pub returns : goal.returns

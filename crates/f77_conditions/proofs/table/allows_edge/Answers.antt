@@ -3,7 +3,7 @@ use Rattle.std.specs.Prelude.{slice_get}
 use Rattle.f77_actions.specs.declared.resolved.Resolved.{Resolved}
 use Rattle.f77_code.specs.Moves.{Cells}
 use Rattle.f77_equivalence.proofs.Lists.{one_more_got}
-use Rattle.f77_conditions.specs.Table.{row_at, IsRow}
+use Rattle.f77_conditions.specs.Table.{told_row, IsRow}
 use Rattle.f77_conditions.specs.Told.{AreTold}
 use Rattle.f77_conditions.proofs.Lists.{got_contained}
 use Rattle.f77_conditions.proofs.table.allows_edge.Goals as goal
@@ -13,7 +13,7 @@ loop-k-preserved c =
     let edge = c.args.edge.now in
     let table = c.args.table.now in
     one_more_got
-    (λ place. (statements : List Resolved) (cells : Cells) → AreTold statements cells edge.told.items → IsRow statements cells (row_at table place))
+    (λ place. (statements : List Resolved) (cells : Cells) → AreTold statements cells edge.told.items → IsRow statements cells (told_row table place))
     edge.places.items c.loop-k.k c.place_at.result
     (subst (λ list. slice_get list c.loop-k.k ≡ Some c.place_at.result) c.deref.ensures.value c.place_at.ensures)
     (λ statements cells is.

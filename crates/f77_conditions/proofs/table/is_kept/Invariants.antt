@@ -1,6 +1,6 @@
 use Rattle.std.proofs.Common.{◌<◌, ℕ}
 use Rattle.f77_code.specs.declared.control.Place.TheVariants.{Execute, Increment}
-use Rattle.f77_conditions.specs.Table.{KeepsTold}
+use Rattle.f77_conditions.specs.code.Table.{KeepsTold}
 use Rattle.f77_conditions.proofs.table.is_kept.Given as goal
 
 abbrev pub invariant-loop-i : goal.invariant-loop-i

@@ -1,6 +1,7 @@
 use Rattle.std.proofs.Common.{◌∙◌, sym, subst, ap}
 use Rattle.std.specs.Prelude.{option_map}
-use Rattle.f77_conditions.specs.Table.{IsRow, Allows}
+use Rattle.f77_conditions.specs.Table.{IsRow}
+use Rattle.f77_conditions.specs.code.Table.{Allows}
 use Rattle.f77_conditions.proofs.Keeping.{allowed_behind}
 use Rattle.f77_conditions.proofs.table.is_place_kept.Goals as goal
 

@@ -1,5 +1,5 @@
 use Rattle.f77_code.specs.Moves.{Cells}
-use Rattle.f77_conditions.specs.Reading.{KeepsOthers}
+use Rattle.f77_conditions.specs.code.Reading.{KeepsOthers}
 use Rattle.f77_conditions.specs.Told.{AreTold}
 use Rattle.f77_conditions.proofs.told.undisturbed.Given as goal
 

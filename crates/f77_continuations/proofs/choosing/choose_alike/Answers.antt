@@ -2,7 +2,7 @@ use Rattle.std.proofs.Common.{arith, ◌≡◌, length, sym, subst}
 use Rattle.f77_actions.specs.declared.action.Action.{ComputedGoto}
 use Rattle.f77_code.specs.Evaluation.{number_in}
 use Rattle.f77_equivalence.specs.Same.{Agrees}
-use Rattle.f77_continuations.specs.Exits.{exit_of}
+use Rattle.f77_continuations.specs.code.Exits.{exit_of}
 use Rattle.f77_continuations.proofs.Choices.{numbered_alike}
 use Rattle.f77_continuations.proofs.choosing.choose_alike.Goals as goal
 

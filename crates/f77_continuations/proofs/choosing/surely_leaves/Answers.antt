@@ -2,14 +2,14 @@ use Rattle.std.proofs.Common.{length, ap, ◌∙◌}
 use Rattle.std.specs.Prelude.{Ok}
 use Rattle.f77_values.specs.Value.{given}
 use Rattle.f77_code.specs.Choice.{by_sign}
-use Rattle.f77_code.specs.Moves.{chosen}
-use Rattle.f77_continuations.specs.Exits.{exit_numbered, exit_of}
+use Rattle.f77_code.specs.Moves.{jump_chosen}
+use Rattle.f77_continuations.specs.code.Exits.{exit_numbered, exit_of}
 use Rattle.f77_continuations.proofs.choosing.surely_leaves.Goals as goal
 
 pub returns-in-LogicalIf : goal.returns-in-LogicalIf
 returns-in-LogicalIf c e cells inside =
     let it = c.has_truth.ensures e cells inside in
-    (chosen it.0 0 1, ap (λ a. exit_of a cells) c.in-LogicalIf.is ∙ ap (λ v. given v (λ b. Ok (chosen b 0 1))) it.1)
+    (jump_chosen it.0 0 1, ap (λ a. exit_of a cells) c.in-LogicalIf.is ∙ ap (λ v. given v (λ b. Ok (jump_chosen b 0 1))) it.1)
 
 pub returns-in-ArithmeticIf : goal.returns-in-ArithmeticIf
 returns-in-ArithmeticIf c e cells inside =

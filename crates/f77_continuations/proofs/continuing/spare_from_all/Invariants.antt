@@ -1,4 +1,4 @@
-use Rattle.f77_continuations.specs.Continuing.{MeetAll}
+use Rattle.f77_continuations.specs.code.Continuing.{MeetAll}
 use Rattle.f77_continuations.proofs.continuing.spare_from_all.Given as goal
 
 abbrev pub invariant-loop-k : goal.invariant-loop-k

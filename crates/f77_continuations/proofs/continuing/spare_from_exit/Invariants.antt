@@ -1,4 +1,4 @@
-use Rattle.f77_continuations.specs.Continuing.{MeetEach}
+use Rattle.f77_continuations.specs.code.Continuing.{MeetEach}
 use Rattle.f77_continuations.proofs.continuing.spare_from_exit.Given as goal
 
 abbrev pub invariant-loop-l : goal.invariant-loop-l

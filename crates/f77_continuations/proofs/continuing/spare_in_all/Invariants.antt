@@ -1,4 +1,4 @@
-use Rattle.f77_continuations.specs.Continuing.{ContinuesInAll}
+use Rattle.f77_continuations.specs.code.Continuing.{ContinuesInAll}
 use Rattle.f77_continuations.proofs.continuing.spare_in_all.Given as goal
 
 abbrev pub invariant-loop-k : goal.invariant-loop-k

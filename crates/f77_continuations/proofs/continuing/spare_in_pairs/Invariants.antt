@@ -1,4 +1,4 @@
-use Rattle.f77_continuations.specs.Continuing.{MeetInPairs}
+use Rattle.f77_continuations.specs.code.Continuing.{MeetInPairs}
 use Rattle.f77_continuations.proofs.continuing.spare_in_pairs.Given as goal
 
 abbrev pub invariant-loop-k : goal.invariant-loop-k

@@ -1,6 +1,6 @@
 use Rattle.std.proofs.Common.{subst}
 use Rattle.f77_continuations.specs.declared.paths.Destination.TheVariants.{Statement}
-use Rattle.f77_continuations.specs.Paths.{StepsTo}
+use Rattle.f77_continuations.specs.code.Paths.{StepsTo}
 use Rattle.f77_continuations.proofs.Leading.{path_further}
 use Rattle.f77_continuations.proofs.paths.path_from.Goals as goal
 

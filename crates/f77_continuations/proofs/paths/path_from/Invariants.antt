@@ -1,5 +1,5 @@
 use Rattle.f77_continuations.specs.declared.paths.Destination.TheVariants.{Statement}
-use Rattle.f77_continuations.specs.Paths.{IsPath}
+use Rattle.f77_continuations.specs.code.Paths.{IsPath}
 use Rattle.f77_continuations.proofs.paths.path_from.Given as goal
 
 abbrev pub invariant-loop-steps : goal.invariant-loop-steps

@@ -1,5 +1,5 @@
 use Rattle.std.proofs.Common.{sym, subst}
-use Rattle.f77_differences.specs.Changing.{SurelySetsMarked}
+use Rattle.f77_differences.specs.code.Changing.{SurelySetsMarked}
 use Rattle.f77_differences.proofs.Changes.{number_surely_set, truth_surely_set, surely_set_if}
 use Rattle.f77_differences.proofs.changing.+surely_sets_marked.Goals as goal
 

@@ -1,5 +1,5 @@
 use Rattle.std.proofs.Common.{◌<◌, ℕ}
-use Rattle.f77_differences.specs.Dummies.{IsDummyUnmarked}
+use Rattle.f77_differences.specs.code.Dummies.{IsDummyUnmarked}
 use Rattle.f77_differences.proofs.dummies.are_dummies_unmarked.Given as goal
 
 abbrev pub invariant-loop-n : goal.invariant-loop-n

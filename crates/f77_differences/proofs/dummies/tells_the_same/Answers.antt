@@ -1,5 +1,5 @@
 use Rattle.std.proofs.Common.{ap, subst, ◌∙◌}
-use Rattle.f77_differences.specs.Dummies.{IsDummyUnmarked}
+use Rattle.f77_differences.specs.code.Dummies.{IsDummyUnmarked}
 use Rattle.f77_differences.proofs.dummies.tells_the_same.Goals as goal
 
 pub returns : goal.returns

@@ -1,5 +1,5 @@
 use Rattle.std.proofs.Common.{◌≡◌, ◌<◌, ◌≤◌, ℕ, true}
-use Rattle.f77_differences.specs.Marks.{is_marked}
+use Rattle.f77_differences.specs.code.Marks.{is_marked}
 use Rattle.f77_differences.proofs.marks.are_marked.Given as goal
 
 abbrev pub invariant-loop-slot : goal.invariant-loop-slot

@@ -1,6 +1,6 @@
 use Rattle.std.proofs.Common.{arith}
 use Rattle.f77_equivalence.proofs.Lists.{one_more_got}
-use Rattle.f77_differences.specs.Acting.{JumpsAlike}
+use Rattle.f77_differences.specs.code.Acting.{JumpsAlike}
 use Rattle.f77_differences.proofs.onward.all_jump.Goals as goal
 
 pub loop-k-preserved : goal.loop-k-preserved

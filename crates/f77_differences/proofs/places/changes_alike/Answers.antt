@@ -1,5 +1,5 @@
 use Rattle.std.proofs.Common.{subst}
-use Rattle.f77_differences.specs.Marks.{AgreeOutside}
+use Rattle.f77_differences.specs.code.Marks.{AgreeOutsideMarks}
 use Rattle.f77_differences.proofs.Changes.{changed_alike}
 use Rattle.f77_differences.proofs.Stepping.{executed}
 use Rattle.f77_differences.proofs.places.changes_alike.Goals as goal
@@ -13,4 +13,4 @@ returns c e statements changed own_is other_is =
     (c.are_marked_in.ensures c.if-not-are_marked_in.false) (c.goes_on.ensures c.if-not-goes_on.false)
     (c.goes_on_alike.ensures.alike c.if-not-goes_on_alike.false) (c.sets_marked.ensures c.if-not-sets_marked.false)
     (c.surely_sets_marked.ensures.sets e) statements changed c.args.i cells others turns inside
-    (subst (λ marks. AgreeOutside marks cells others) c.executing_at-marks.ensures agree))
+    (subst (λ marks. AgreeOutsideMarks marks cells others) c.executing_at-marks.ensures agree))

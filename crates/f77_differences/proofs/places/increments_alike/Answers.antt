@@ -1,6 +1,6 @@
 use Rattle.std.proofs.Common.{sym, subst}
 use Rattle.f77_equivalence.proofs.Moving.{ok_then}
-use Rattle.f77_differences.specs.Acting.{AdvancesAlike}
+use Rattle.f77_differences.specs.code.Acting.{AdvancesAlike}
 use Rattle.f77_differences.proofs.Stepping.{advanced}
 use Rattle.f77_differences.proofs.places.increments_alike.Goals as goal
 

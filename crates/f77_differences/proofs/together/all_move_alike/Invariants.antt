@@ -2,7 +2,7 @@ use Rattle.std.proofs.Common.{◌≡◌, List, Some}
 use Rattle.std.specs.Prelude.{slice_get}
 use Rattle.f77_actions.specs.declared.resolved.Resolved.{Resolved}
 use Rattle.f77_equivalence.specs.Alike.{AgreeBut, PassAlike}
-use Rattle.f77_differences.specs.Acting.{AllMoveAlike}
+use Rattle.f77_differences.specs.code.Acting.{AllMoveAlike}
 use Rattle.f77_differences.proofs.together.all_move_alike.Given as goal
 
 abbrev pub invariant-loop-k : goal.invariant-loop-k

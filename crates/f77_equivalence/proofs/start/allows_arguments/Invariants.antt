@@ -1,5 +1,5 @@
 use Rattle.std.proofs.Common.{◌<◌, ℕ}
-use Rattle.f77_equivalence.specs.StartSlots.{AllowsArgument}
+use Rattle.f77_equivalence.specs.code.StartSlots.{AllowsArgument}
 use Rattle.f77_equivalence.proofs.start.allows_arguments.Given as goal
 
 abbrev pub invariant-loop-n : goal.invariant-loop-n

@@ -1,8 +1,8 @@
 use Rattle.std.proofs.Common.{subst}
 use Rattle.f77_actions.specs.declared.action.Action.{Branch}
 use Rattle.f77_code.specs.declared.control.Place.TheVariants.{Execute}
-use Rattle.f77_facts.specs.Entries.{Adds, AreCovered}
-use Rattle.f77_facts.specs.Keeping.{ActsAnywhere}
+use Rattle.f77_facts.specs.Entries.{AddsEntries, AreCovered}
+use Rattle.f77_facts.specs.code.Keeping.{ActsAnywhere}
 use Rattle.f77_facts.proofs.Growing.{grows_on, goes_more}
 use Rattle.f77_facts.proofs.Kept.{ok_then, branch_acts}
 use Rattle.f77_facts.proofs.choosing.is_branch_kept.Goals as goal
@@ -17,7 +17,7 @@ returns c =
     let loops = c.args.loops.now in
     let goes = c.in_ok-goes_on.ensures in
     ok_then
-    {Q = λ done. Adds c.args.moves.now.items c.add_move.new.moves.items
+    {Q = λ done. AddsEntries c.args.moves.now.items c.add_move.new.moves.items
     (ActsAnywhere c.add_move.new.moves.items c.args.resolved.now (Branch c.args.condition.now c.args.otherwise) c.args.facts.now c.args.loops.now)}
     c.add_move.result c.add_move.ensures
     (λ done added. (

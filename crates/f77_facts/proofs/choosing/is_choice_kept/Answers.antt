@@ -1,5 +1,5 @@
 use Rattle.std.proofs.Common.{sym, subst}
-use Rattle.f77_facts.specs.Keeping.{ActsAnywhere}
+use Rattle.f77_facts.specs.code.Keeping.{ActsAnywhere}
 use Rattle.f77_facts.proofs.choosing.is_choice_kept.Goals as goal
 
 pub returns-in_ok-is_sign_kept-in-ArithmeticIf : goal.returns-in_ok-is_sign_kept-in-ArithmeticIf

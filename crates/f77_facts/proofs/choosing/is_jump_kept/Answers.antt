@@ -1,5 +1,5 @@
 use Rattle.std.proofs.Common.{sym, subst}
-use Rattle.f77_facts.specs.Keeping.{ActsAnywhere}
+use Rattle.f77_facts.specs.code.Keeping.{ActsAnywhere}
 use Rattle.f77_facts.proofs.choosing.is_jump_kept.Goals as goal
 
 pub returns-in_ok-is_selection_kept-in-ComputedGoto : goal.returns-in_ok-is_selection_kept-in-ComputedGoto

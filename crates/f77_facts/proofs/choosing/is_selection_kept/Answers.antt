@@ -1,7 +1,7 @@
 use Rattle.std.proofs.Common.{length, subst}
 use Rattle.f77_actions.specs.declared.action.Action.{ComputedGoto}
-use Rattle.f77_facts.specs.Entries.{Adds}
-use Rattle.f77_facts.specs.Keeping.{ActsAnywhere, JumpsEach}
+use Rattle.f77_facts.specs.Entries.{AddsEntries}
+use Rattle.f77_facts.specs.code.Keeping.{ActsAnywhere, JumpsEach}
 use Rattle.f77_facts.proofs.Growing.{grows_on, each_more}
 use Rattle.f77_facts.proofs.Kept.{ok_then, selection_acts}
 use Rattle.f77_facts.proofs.choosing.is_selection_kept.Goals as goal
@@ -16,7 +16,7 @@ returns c =
     let jumps = c.args.jumps.now in
     let each = c.in_ok-is_each_kept.ensures in
     ok_then
-    {Q = λ done. Adds c.args.moves.now.items c.goes_on_within.new.moves.items
+    {Q = λ done. AddsEntries c.args.moves.now.items c.goes_on_within.new.moves.items
     (ActsAnywhere c.goes_on_within.new.moves.items c.args.resolved.now (ComputedGoto c.args.value.now c.args.jumps.now) c.args.facts.now c.args.loops.now)}
     c.goes_on_within.result c.goes_on_within.ensures
     (λ done added. (

@@ -1,5 +1,5 @@
 use Rattle.std.proofs.Common.{◌∙◌, subst}
-use Rattle.f77_facts.specs.Keeping.{EndsInto}
+use Rattle.f77_facts.specs.code.Keeping.{EndsInto}
 use Rattle.f77_facts.proofs.Growing.{grows_on, ends_more}
 use Rattle.f77_facts.proofs.Kept.{passes_at}
 use Rattle.f77_facts.proofs.looping.are_passes_kept.Goals as goal

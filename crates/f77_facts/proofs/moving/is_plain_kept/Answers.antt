@@ -1,5 +1,5 @@
 use Rattle.std.proofs.Common.{sym, subst}
-use Rattle.f77_facts.specs.Keeping.{ActsAnywhere}
+use Rattle.f77_facts.specs.code.Keeping.{ActsAnywhere}
 use Rattle.f77_facts.proofs.moving.is_plain_kept.Goals as goal
 
 pub returns-in_ok-is_number_kept-in-AssignNumber : goal.returns-in_ok-is_number_kept-in-AssignNumber

@@ -1,6 +1,6 @@
 use Rattle.std.proofs.Common.{subst}
 use Rattle.std.specs.Prelude.{IfSome}
-use Rattle.f77_facts.specs.Entries.{Grows, Keeps}
+use Rattle.f77_facts.specs.Entries.{GrowsEntries, KeepsEntries}
 use Rattle.f77_facts.proofs.Growing.{keeps_more}
 use Rattle.f77_facts.proofs.moving.keeps.Goals as goal
 
@@ -10,6 +10,6 @@ returns-in-Some c e =
     let place = c.args.place in
     let facts = c.args.facts.now in
     let loops = c.args.loops.now in
-    keeps_more c.in-Some.moves.items c.args.entries.now (subst (λ list. Grows list c.args.entries.now) c.deref.ensures.value (c.are_covered.ensures e))
+    keeps_more c.in-Some.moves.items c.args.entries.now (subst (λ list. GrowsEntries list c.args.entries.now) c.deref.ensures.value (c.are_covered.ensures e))
     statements place facts loops
-    (subst (λ answer. IfSome answer (λ moves. Keeps statements moves.items place facts loops)) c.in-Some.is c.in_ok-moves.ensures)
+    (subst (λ answer. IfSome answer (λ moves. KeepsEntries statements moves.items place facts loops)) c.in-Some.is c.in_ok-moves.ensures)

@@ -1,7 +1,7 @@
 use Rattle.std.proofs.Common.{arith}
 use Rattle.std.proofs.lemmas.Int.{ints}
 use Rattle.std.proofs.Common.{subst, inl, inr}
-use Rattle.f77_values.specs.Number.{size}
+use Rattle.f77_values.specs.Number.{without_sign}
 use Rattle.f77_facts.specs.Known.{IsBetween}
 use Rattle.f77_facts.proofs.Inverses.{of_size, size_above}
 use Rattle.f77_facts.proofs.Refined.{ranged}
@@ -9,7 +9,7 @@ use Rattle.f77_facts.proofs.narrowing.either_signs.Goals as goal
 
 pub returns-then-from : goal.returns-then-from
 returns-then-from c z w g is s =
-    let same = ranged (size z) w is in
+    let same = ranged (without_sign z) w is in
     c.limited.ensures z g
     (elim (of_size z) [
       | inl it ↦ subst (λ v. IsBetween c.args.to.low v c.args.to.high) (omega (arith, ints, same, it.0)) s
@@ -18,7 +18,7 @@ returns-then-from c z w g is s =
 
 pub returns-then-from-2 : goal.returns-then-from-2
 returns-then-from-2 c z w g is s =
-    let same = ranged (size z) w is in
+    let same = ranged (without_sign z) w is in
     c.opposites.ensures z g
     (elim (of_size z) [
       | inl it ↦ absurd (omega (arith, ints, same, it.0, s.above, g.below, c.if-from-2.true))
@@ -27,5 +27,5 @@ returns-then-from-2 c z w g is s =
 
 pub returns : goal.returns
 returns c z w g is s =
-    let it = size_above z w c.args.to.high (ranged (size z) w is) s.below in
+    let it = size_above z w c.args.to.high (ranged (without_sign z) w is) s.below in
     c.no_larger.ensures z g it.0 it.1

@@ -1,4 +1,4 @@
-use Rattle.f77_facts.specs.Reaching.{found_in}
+use Rattle.f77_facts.specs.code.Reaching.{found_in}
 use Rattle.f77_facts.proofs.Subscripts.{number_found}
 use Rattle.f77_facts.proofs.reaching.known_in.Goals as goal
 

@@ -1,5 +1,5 @@
 use Rattle.std.proofs.Common.{subst, sym}
-use Rattle.f77_values.specs.Number.{in_range, negated, size}
+use Rattle.f77_values.specs.Number.{in_range, negated, without_sign}
 use Rattle.f77_values.specs.Value.{pushed}
 use Rattle.f77_code.specs.Evaluation.{calculated, number_in}
 use Rattle.f77_facts.specs.Known.{IsBetween}
@@ -21,7 +21,7 @@ limit-returns-in-Negated t c cells z inside is between =
 
 pub limit-returns-in-Absolute : goal.limit-returns-in-Absolute
 limit-returns-in-Absolute t c cells z inside is between =
-    operand_within c.args.facts.now c.limit-in-Absolute.new.facts c.in-Absolute.operand.value (λ v. in_range (size v)) c.known_of-in-Absolute.result
+    operand_within c.args.facts.now c.limit-in-Absolute.new.facts c.in-Absolute.operand.value (λ v. in_range (without_sign v)) c.known_of-in-Absolute.result
     c.either_signs-own.result c.args.to (rw c.deref-in-Absolute.ensures at c.known_of-in-Absolute.ensures)
     (rw c.deref-in-Absolute-2.ensures at c.limit-in-Absolute.ensures) c.either_signs-own.ensures cells z inside (rw c.in-Absolute.is at is) between
 

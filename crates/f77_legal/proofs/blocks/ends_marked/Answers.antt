@@ -3,7 +3,7 @@ use Rattle.std.specs.Prelude.{◌==◌}
 use Rattle.std.specs.Option.{option_map_or}
 use Rattle.std.proofs.lemmas.List.{take_all, take-append-le}
 use Rattle.std.proofs.lemmas.List.Folds.{list_any_more}
-use Rattle.f77_legal.specs.BlockTable.{is_end_among}
+use Rattle.f77_legal.specs.code.BlockTable.{is_end_among}
 use Rattle.f77_legal.proofs.FirstNumbers.{table_from_each}
 use Rattle.f77_legal.proofs.blocks.ends_marked.Goals as goal
 

@@ -1,5 +1,5 @@
 use Rattle.std.proofs.Common.{◌≡◌, ℕ, ◌<◌, length, take, get_or, false}
-use Rattle.f77_legal.specs.BlockTable.{is_end_among}
+use Rattle.f77_legal.specs.code.BlockTable.{is_end_among}
 use Rattle.f77_legal.proofs.blocks.ends_marked.Given as goal
 
 abbrev pub invariant-loop-end : goal.invariant-loop-end

@@ -3,7 +3,7 @@ use Rattle.std.specs.Prelude.{nat_lt}
 use Rattle.std.specs.Option.{option_map_or}
 use Rattle.std.proofs.lemmas.List.Folds.{list_any_more}
 use Rattle.f77_legal.specs.Blocks.{first_numbers}
-use Rattle.f77_legal.specs.BlockTable.{is_before_end}
+use Rattle.f77_legal.specs.code.BlockTable.{is_before_end}
 use Rattle.f77_legal.proofs.FirstNumbers.{table_more}
 use Rattle.f77_legal.proofs.blocks.insides.Goals as goal
 

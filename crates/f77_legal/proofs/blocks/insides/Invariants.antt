@@ -1,7 +1,7 @@
 use Rattle.std.proofs.Common.{◌≡◌, ℕ, map, take}
 use Rattle.std.specs.Prelude.{nat_lt}
 use Rattle.f77_legal.specs.Blocks.{first_numbers}
-use Rattle.f77_legal.specs.BlockTable.{is_before_end}
+use Rattle.f77_legal.specs.code.BlockTable.{is_before_end}
 use Rattle.f77_legal.proofs.blocks.insides.Given as goal
 
 abbrev pub invariant-loop-i : goal.invariant-loop-i

@@ -2,9 +2,10 @@ use Rattle.std.proofs.Common.{refl, sym, ap, ◌∙◌, subst, rules, tests}
 use Rattle.std.specs.List.{find}
 use Rattle.std.proofs.lemmas.Iterator.Consumers.{YieldsList-from_first}
 use Rattle.std.proofs.lemmas.Iterator.Search.{find_from_yields_List}
-use Rattle.f77_legal.specs.Holders.{holds, ancestors, IsFalling}
+use Rattle.f77_legal.specs.Holders.{holds}
+use Rattle.f77_legal.specs.code.Holders.{ancestors, IsFalling}
 use Rattle.std.proofs.lemmas.Iterator.Adapters.{option_map_id}
-use Rattle.f77_legal.specs.LoopTable.{ancestors_left}
+use Rattle.f77_legal.specs.code.LoopTable.{ancestors_left}
 use Rattle.f77_legal.proofs.Nesting.{parents_fall, innermost_from}
 use Rattle.f77_legal.proofs.holders.innermost.Goals as goal
 

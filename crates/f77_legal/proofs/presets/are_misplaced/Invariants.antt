@@ -1,6 +1,6 @@
 use Rattle.std.proofs.Common.{◌≡◌, ◌++◌, drop}
-use Rattle.f77_legal.specs.NameTable.{dummy_at}
-use Rattle.f77_legal.specs.Runs.{misplaces, names_held}
+use Rattle.f77_legal.specs.code.NameTable.{dummy_at}
+use Rattle.f77_legal.specs.code.Runs.{misplaces, names_held}
 use Rattle.f77_legal.proofs.presets.are_misplaced.Given as goal
 
 -- the other names decide, behind those that are noted

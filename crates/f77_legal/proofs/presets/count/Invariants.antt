@@ -1,5 +1,5 @@
 use Rattle.std.proofs.Common.{◌≡◌, ◌≤◌, ◌+◌, ◌*◌, length, drop}
-use Rattle.f77_legal.specs.Runs.{kinds_in}
+use Rattle.f77_legal.specs.code.Runs.{kinds_in}
 use Rattle.f77_legal.proofs.presets.count.Given as goal
 
 -- what is counted, with the other values

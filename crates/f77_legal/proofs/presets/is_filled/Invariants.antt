@@ -2,14 +2,14 @@ use Rattle.std.proofs.Common.{◌≡◌, ◌<◌, length, drop}
 use Rattle.std.specs.Cmp.Lexicographic.{pointwise}
 use Rattle.f77_tree.specs.Data.{data_group_of}
 use Rattle.f77_legal.specs.Kinds.{same_kind}
-use Rattle.f77_legal.specs.NameTable.{bounds_at, kind_at}
-use Rattle.f77_legal.specs.Runs.{fills, kinds_left, kinds_wanted}
+use Rattle.f77_legal.specs.NameTable.{array_bounds, kind_at}
+use Rattle.f77_legal.specs.code.Runs.{fills, kinds_left, kinds_wanted}
 use Rattle.f77_legal.proofs.presets.is_filled.Given as goal
 
 -- the other names decide
 abbrev pub invariant-loop-name : goal.invariant-loop-name
 invariant-loop-name l = record {
   few : length (kinds_left l.rest) < l.most;
-  filled : fills (bounds_at l.names) (kind_at l.names) (data_group_of l.group)
-      ≡ pointwise same_kind (kinds_wanted (bounds_at l.names) (kind_at l.names) (drop l.name-index l.group.names.items)) (kinds_left l.rest);
+  filled : fills (array_bounds l.names) (kind_at l.names) (data_group_of l.group)
+      ≡ pointwise same_kind (kinds_wanted (array_bounds l.names) (kind_at l.names) (drop l.name-index l.group.names.items)) (kinds_left l.rest);
 }

@@ -1,7 +1,7 @@
 use Rattle.std.proofs.Common.{rules, ◌≡◌, ◌||◌, ◌-◌, ◌∷◌, true, sym, ap, ◌∙◌}
 use Rattle.std.specs.Prelude.{◌==◌, None}
 use Rattle.f77_legal.specs.Kinds.{same_kind}
-use Rattle.f77_legal.specs.Runs.{kinds_in, behind}
+use Rattle.f77_legal.specs.code.Runs.{kinds_in, behind_kinds}
 use Rattle.f77_legal.proofs.Runs.{passed, at_end, within}
 use Rattle.f77_legal.proofs.presets.take_run.Goals as goal
 
@@ -21,7 +21,7 @@ loop-rest-preserved c =
     let v : r.values.now ≡ c.in_ok-value.value.now ∷ c.in_ok-value.values.now = c.in_ok-value.ensures.cases.0 in
     let k = c.constant_kind.ensures in
     let t = c.from.ensures in
-    rw (t, k) (sym (f ∙ ap (λ values. behind (c.loop-rest.wanted - r.times) c.args.kind (kinds_in values)) v) ∙ c.loop-rest.invariant)
+    rw (t, k) (sym (f ∙ ap (λ values. behind_kinds (c.loop-rest.wanted - r.times) c.args.kind (kinds_in values)) v) ∙ c.loop-rest.invariant)
 
 pub returns : goal.returns
 returns c =

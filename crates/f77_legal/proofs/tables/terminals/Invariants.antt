@@ -2,7 +2,7 @@ use Rattle.std.proofs.Common.{◌≡◌, List, take, map}
 use Rattle.f77_program.specs.Program.{LineFields}
 use Rattle.f77_tree.specs.Statement.{statement_of}
 use Rattle.f77_legal.specs.LabelTable.{IsLabelTable}
-use Rattle.f77_legal.specs.Tables.{terminal_of}
+use Rattle.f77_legal.specs.code.Tables.{terminal_of}
 use Rattle.f77_legal.proofs.tables.terminals.Given as goal
 
 abbrev pub invariant-loop-line : goal.invariant-loop-line

@@ -1,5 +1,5 @@
 use Rattle.std.proofs.Common.{ℤ, subst, ◌∙◌}
-use Rattle.f77_values.specs.Number.{in_range, negated, size}
+use Rattle.f77_values.specs.Number.{in_range, negated, without_sign}
 use Rattle.f77_code.specs.Evaluation.{number_in, calculated}
 use Rattle.f77_facts.proofs.Kept.{ok_then}
 use Rattle.f77_facts.proofs.Used.{used_for, both_used}
@@ -21,9 +21,9 @@ pub returns-in_ok-cases-in-Absolute : goal.returns-in_ok-cases-in-Absolute
 returns-in_ok-cases-in-Absolute t c =
     ok_then c.size_cases.result (rw c.deref-in-Absolute-2.ensures.value at c.size_cases.ensures)
     (λ cases claim cells z inside is.
-    let had = used_for (number_in cells c.in-Absolute.operand.value) (λ y. in_range (size y)) z (rw c.in-Absolute.is at is) in
+    let had = used_for (number_in cells c.in-Absolute.operand.value) (λ y. in_range (without_sign y)) z (rw c.in-Absolute.is at is) in
     let operand = rw c.deref-in-Absolute.ensures at c.in_ok-cases-in-Absolute.ensures in
-    subst (λ (y : ℤ). IsOneOf cells y cases.items) (in_range_is (size had.0) z had.2)
+    subst (λ (y : ℤ). IsOneOf cells y cases.items) (in_range_is (without_sign had.0) z had.2)
     (claim cells had.0 (operand cells had.0 inside had.1)))
 
 pub returns-in_ok-rights-in-Binary : goal.returns-in_ok-rights-in-Binary

@@ -49,5 +49,7 @@ returns-in-Some-clause-moved c =
     let below = incremented_within c.args.statements.now c.args.machine.now c.in-Increment.d c.in-Increment.is c.requires.moves in
     let active = turn_read c.args.machine.now.turns.items c.in-Increment.d c.index.result.now (omega arith) c.index.ensures ∙ c.in-Some.is in
     incremented_moves c.args.statements.now c.args.machine.now c.in-Increment.d c.index-statements-d.result c.in-Some.turn c.in-Increment.is c.index-statements-d.is active c.requires.moves
-    ∙ ap (λ a. Some (incremented c.args.statements.now c.in-Increment.d a c.in-Some.turn c.args.machine.now.cells.items c.args.machine.now.turns.items)) (sym (ap (λ r. r.action) c.deref.ensures) ∙ c.in-Loop.is)
+    ∙ ap
+    (λ a. Some (incremented c.args.statements.now c.in-Increment.d a c.in-Some.turn c.args.machine.now.cells.items c.args.machine.now.turns.items))
+    (sym (ap (λ r. r.action) c.deref.ensures) ∙ c.in-Loop.is)
     ∙ ap Some (sym (c.increment.ensures.moved c.in-Loop.first c.in-Loop.last c.in-Loop.step))

@@ -1,6 +1,6 @@
 use Rattle.std.proofs.Common.{length, refl, subst, sym}
 use Rattle.std.proofs.lemmas.Slice.Zip.{zip_end}
-use Rattle.f77_run.specs.Holding.{AreHeld}
+use Rattle.f77_run.specs.code.Holding.{AreHeld}
 use Rattle.f77_run.proofs.Pairs.{none_left}
 use Rattle.f77_run.proofs.holding.are_held.Goals as goal
 

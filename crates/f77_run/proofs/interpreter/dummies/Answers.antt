@@ -1,7 +1,8 @@
 use Rattle.std.proofs.Common.{◌≡◌, Some, map, ap, subst, ◌∙◌}
 use Rattle.std.specs.List.{zip}
 use Rattle.f77_run.specs.Interpreter.{AreFitting, values_in}
-use Rattle.f77_run.specs.Spans.{size_of, span}
+use Rattle.f77_run.specs.Spans.{size_of}
+use Rattle.f77_run.specs.code.Spans.{span}
 use Rattle.f77_run.proofs.Beginning.{dummies_within, dummies_hold, dummies_read, both_ok}
 use Rattle.f77_run.proofs.interpreter.dummies.Goals as goal
 

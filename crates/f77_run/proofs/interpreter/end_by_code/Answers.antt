@@ -3,7 +3,8 @@ use Rattle.f77_actions.specs.declared.resolved.Resolved.{Resolved}
 use Rattle.f77_legal.specs.Names.{kind_of, bounds_of}
 use Rattle.f77_check.specs.Slots.{slot_kinds}
 use Rattle.f77_code.specs.Program.{IsCode}
-use Rattle.f77_run.specs.Running.{Site, IsRunning}
+use Rattle.f77_run.specs.Running.{RunSite}
+use Rattle.f77_run.specs.code.Running.{IsRunning}
 use Rattle.f77_run.specs.Site.{site_of}
 use Rattle.f77_run.proofs.Answering.{slots_counted}
 use Rattle.f77_run.proofs.interpreter.end_by_code.Goals as goal
@@ -18,7 +19,7 @@ go-requires g c =
       (
         c.requires.1.1,
         (
-          kinds ∙ is.start.kinds ∙ ap (λ (at : Site). slot_kinds (kind_of at.program) (bounds_of at.program) at.names) (sym at),
+          kinds ∙ is.start.kinds ∙ ap (λ (at : RunSite). slot_kinds (kind_of at.program) (bounds_of at.program) at.names) (sym at),
           (
             subst (λ list. IsCode list c.in_ok-code.code) (sym c.statements-statements.ensures.statements) c.in_ok-code.ensures.code,
             (slots_counted checked is _ c.in_ok-code.ensures.slots ∙ sym (ap length kinds), c.new-earlier.ensures),

@@ -3,9 +3,10 @@ use Rattle.std.specs.Prelude.{IfNone, IfSome}
 use Rattle.f77_actions.specs.declared.resolved.Resolved.{Resolved}
 use Rattle.f77_values.specs.declared.finish.Finish.TheVariants.{StepLimit}
 use Rattle.f77_run.specs.Endless.{Reaches}
-use Rattle.f77_run.specs.Running.{Site, ComesToEnd, IsRunning, config_at, values_at}
+use Rattle.f77_run.specs.Running.{RunSite}
+use Rattle.f77_run.specs.code.Running.{ComesToEnd, IsRunning, config_at, values_at}
 use Rattle.f77_run.specs.Site.{site_of}
-use Rattle.f77_run.specs.Typed.{IsTyped}
+use Rattle.f77_run.specs.code.Typed.{IsTyped}
 use Rattle.f77_run.specs.declared.running.End.{End}
 use Rattle.f77_run.proofs.Beginning.{ends_typed}
 use Rattle.f77_run.proofs.Endless.{limit_met}
@@ -37,14 +38,14 @@ end_by_code-requires g c =
     = subst (λ (o : Option End). IfNone o (Reaches g.at.program c.min-few.result (config_at g.at c.args.machine.now) (config_at g.at c.walk.new.machine)))
     c.in-None.is c.walk.ensures.reaches in
     let there : Reaches (site_of checked given).program c.min-few.result (config_at g.at c.args.machine.now) (config_at g.at c.walk.new.machine)
-    = subst (λ (at : Site). Reaches at.program c.min-few.result (config_at g.at c.args.machine.now) (config_at g.at c.walk.new.machine)) at reaches in
+    = subst (λ (at : RunSite). Reaches at.program c.min-few.result (config_at g.at c.args.machine.now) (config_at g.at c.walk.new.machine)) at reaches in
     let typed = ends_typed checked is given c.requires.0.2 (config_at g.at c.args.machine.now) c.requires.0.3 c.min-few.result StepLimit
     (values_at g.at c.walk.new.machine.cells.items)
     (limit_met (site_of checked given).program c.min-few.result (config_at g.at c.args.machine.now) (config_at g.at c.walk.new.machine) there) in (
       (given, at),
       (
         subst (λ (list : List Resolved). IsRunning g.at list c.walk.new.machine) c.statements.ensures.statements runs,
-        subst (λ (s : Site). IsTyped s.program (values_at g.at c.walk.new.machine.cells.items)) (sym at) typed,
+        subst (λ (s : RunSite). IsTyped s.program (values_at g.at c.walk.new.machine.cells.items)) (sym at) typed,
       ),
     )
 

@@ -1,7 +1,7 @@
 use Rattle.std.proofs.Common.{arith, rules, ◌≡◌, ◌<◌, List, length, refl, sym, ap, subst, Some}
 use Rattle.std.specs.Prelude.{IfNone, IfSome, slice_get}
 use Rattle.std.proofs.lemmas.Option.{slice_get_read, slice_get_within}
-use Rattle.f77_run.specs.Parting.{Parting, DoAlikeBefore, site_in, start_in}
+use Rattle.f77_run.specs.code.Parting.{Parting, DoAlikeBefore, site_in, start_in}
 use Rattle.f77_run.specs.Visits.{AreVisits}
 use Rattle.f77_run.specs.declared.visits.Visit.{Visit}
 use Rattle.f77_run.proofs.Parted.{come_together, never_parts, visited_at, visited_within}

@@ -3,8 +3,8 @@ use Rattle.std.specs.Prelude.{MatchOption}
 use Rattle.f77_actions.specs.declared.resolved.Resolved.{Resolved}
 use Rattle.f77_code.specs.Program.{IsCode}
 use Rattle.f77_run.specs.Changed.{IsCodeOf}
-use Rattle.f77_run.specs.Parting.{IsParting, changed_site}
-use Rattle.f77_run.specs.Running.{IsRunning}
+use Rattle.f77_run.specs.code.Parting.{IsParting, changed_site}
+use Rattle.f77_run.specs.code.Running.{IsRunning}
 use Rattle.f77_run.proofs.parting.comes_by_code.Goals as goal
 
 pub finish-requires : goal.finish-requires

@@ -2,8 +2,8 @@ use Rattle.std.proofs.Common.{◌≡◌, List, arith, map, subst}
 use Rattle.f77_program.specs.Program.{line_of}
 use Rattle.f77_check.specs.Checked.{CheckedFields}
 use Rattle.f77_run.specs.Interpreter.{values_in}
-use Rattle.f77_run.specs.Parting.{site_in, start_in}
-use Rattle.f77_run.specs.Running.{IsRunning, config_at}
+use Rattle.f77_run.specs.code.Parting.{site_in, start_in}
+use Rattle.f77_run.specs.code.Running.{IsRunning, config_at}
 use Rattle.f77_run.specs.Site.{site_of}
 use Rattle.f77_run.specs.Start.{IsStart}
 use Rattle.f77_run.specs.declared.argument.Arg.{Arg}

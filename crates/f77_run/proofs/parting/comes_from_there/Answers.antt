@@ -6,9 +6,10 @@ use Rattle.f77_actions.specs.declared.resolved.Resolved.{Resolved}
 use Rattle.f77_check.specs.Checked.{CheckedFields}
 use Rattle.f77_run.specs.Endless.{Reaches}
 use Rattle.f77_run.specs.Interpreter.{Tells}
-use Rattle.f77_run.specs.Parting.{changed_site, start_in}
-use Rattle.f77_run.specs.Running.{ComesToEnd, IsRunning, config_at, values_at}
-use Rattle.f77_run.specs.Site.{HoldsDummies, held}
+use Rattle.f77_run.specs.code.Parting.{changed_site, start_in}
+use Rattle.f77_run.specs.code.Running.{ComesToEnd, IsRunning, config_at, values_at}
+use Rattle.f77_run.specs.code.Site.{HoldsDummies}
+use Rattle.f77_run.specs.Site.{held}
 use Rattle.f77_run.specs.declared.running.End.{End}
 use Rattle.f77_run.proofs.Endless.{joined}
 use Rattle.f77_run.proofs.Parted.{holds_dummies, told_there}

@@ -1,4 +1,4 @@
-use Rattle.f77_run.specs.Parting.{changed_site}
+use Rattle.f77_run.specs.code.Parting.{changed_site}
 use Rattle.f77_run.proofs.parting.finish.Given as goal
 
 abbrev pub ghost-go : goal.ghost-go

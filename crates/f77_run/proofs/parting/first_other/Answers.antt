@@ -2,7 +2,7 @@ use Rattle.std.proofs.Common.{arith, ◌≡◌, ◌∙◌, inl, inr, length, ref
 use Rattle.std.specs.Prelude.{slice_get}
 use Rattle.std.proofs.lemmas.Bool.{cases_lt}
 use Rattle.std.proofs.lemmas.Option.{same_Some, slice_get_read}
-use Rattle.f77_run.specs.Parting.{DoesAlikeIn}
+use Rattle.f77_run.specs.code.Parting.{DoesAlikeIn}
 use Rattle.f77_run.specs.declared.visits.Visit.{Visit}
 use Rattle.f77_run.proofs.Parted.{come_together, visited_at}
 use Rattle.f77_run.proofs.parting.first_other.Goals as goal

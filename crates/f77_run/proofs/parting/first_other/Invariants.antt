@@ -1,4 +1,4 @@
-use Rattle.f77_run.specs.Parting.{DoAlikeBefore}
+use Rattle.f77_run.specs.code.Parting.{DoAlikeBefore}
 use Rattle.f77_run.proofs.parting.first_other.Given as goal
 
 abbrev pub ghost-does_alike : goal.ghost-does_alike

@@ -2,7 +2,8 @@ use Rattle.std.proofs.Common.{◌≡◌, List, ◌++◌, Some, length, map, drop
 use Rattle.std.specs.List.{zip}
 use Rattle.f77_run.specs.declared.argument.Arg.{Arg}
 use Rattle.f77_run.specs.Interpreter.{AreFitting, values_in}
-use Rattle.f77_run.specs.Spans.{AllHold, AreWithin, size_of, span}
+use Rattle.f77_run.specs.code.Spans.{AllHold, AreWithin, span}
+use Rattle.f77_run.specs.Spans.{size_of}
 use Rattle.f77_run.proofs.passing.arguments.Given as goal
 
 -- the arguments so far, with the other ones

@@ -12,7 +12,8 @@ loop-first-preserved c =
     let i = length c.loop-first.yielded in
     let first = c.in-Some.first in
     let argument = c.in-Some.argument in
-    let turn = zip_turn dummies arguments c.loop-first.yielded _ c.loop-first.first-iterator c.next.new.self c.next.result (cc) (cc) c.loop-first.yielded_by (first, argument) c.in-Some.is c.next.ensures.steps in
+    let turn = zip_turn dummies arguments c.loop-first.yielded _ c.loop-first.first-iterator c.next.new.self c.next.result (cc) (cc)
+    c.loop-first.yielded_by (first, argument) c.in-Some.is c.next.ensures.steps in
     let step = pair_left dummies arguments i first.now argument.now turn.0 turn.1 (turn.2 first.now) (turn.3 argument.now) in
     let put = argument_put c.loop-first.cells.items c.fill.new.cells.items dummies arguments i first.now argument.now step c.fill.ensures c.loop-first.invariant.room in
     rw (length-append c.loop-first.yielded ((first, argument) ∷ [])) (record { room = put.0; filled = sym put.1 ∙ c.loop-first.invariant.filled })

@@ -1,8 +1,9 @@
 use Rattle.std.proofs.Common.{◌+◌, arith, ap, subst, sym, ◌∙◌}
 use Rattle.std.specs.Prelude.{Some, Ok}
-use Rattle.f77_run.specs.Machine.{move_of, placed, state_of}
-use Rattle.f77_run.specs.Reached.{number_of}
-use Rattle.f77_run.specs.Running.{config_at}
+use Rattle.f77_run.specs.code.Machine.{move_of, state_of}
+use Rattle.f77_run.specs.Machine.{placed_in_run}
+use Rattle.f77_run.specs.Reached.{statement_number}
+use Rattle.f77_run.specs.code.Running.{config_at}
 use Rattle.f77_run.specs.Visits.{AreVisited}
 use Rattle.f77_run.proofs.Following.{place_within}
 use Rattle.f77_run.proofs.Runs.{can_move, one_more, ends, meets, are_short, are_within}
@@ -32,7 +33,7 @@ returns-in-Ok-Returns-clause-visited g c =
     let within = place_within c.args.statements.now (state_of c.loop-made.machine) (can_move g.at c.args.statements.now c.loop-made.machine running) in
     let count = running.resolved.count in
     let long = c.loop-made.invariant.1.count in
-    let old = some_item c.loop-made.visits.list.items (number_of (placed c.loop-made.machine.place)) (omega (arith, within, count, long)) in
+    let old = some_item c.loop-made.visits.list.items (statement_number (placed_in_run c.loop-made.machine.place)) (omega (arith, within, count, long)) in
     let new = c.in_ok-note.ensures.noted old.0 old.1 in
     subst (AreVisited g.at (config_at g.at c.args.machine.now) c.args.steps) (sym new.2)
     (visited_end g.at c.args.statements.now c.args.machine.now c.loop-made.machine c.loop-made.made c.loop-made.invariant.0 c.loop-made.visits.list.items old.0 new.0 old.1 new.1
@@ -45,7 +46,7 @@ returns-in-Ok-Stops-clause-visited g c =
     let within = place_within c.args.statements.now (state_of c.loop-made.machine) (can_move g.at c.args.statements.now c.loop-made.machine running) in
     let count = running.resolved.count in
     let long = c.loop-made.invariant.1.count in
-    let old = some_item c.loop-made.visits.list.items (number_of (placed c.loop-made.machine.place)) (omega (arith, within, count, long)) in
+    let old = some_item c.loop-made.visits.list.items (statement_number (placed_in_run c.loop-made.machine.place)) (omega (arith, within, count, long)) in
     let new = c.in_ok-note.ensures.noted old.0 old.1 in
     subst (AreVisited g.at (config_at g.at c.args.machine.now) c.args.steps) (sym new.2)
     (visited_end g.at c.args.statements.now c.args.machine.now c.loop-made.machine c.loop-made.made c.loop-made.invariant.0 c.loop-made.visits.list.items old.0 new.0 old.1 new.1
@@ -58,7 +59,7 @@ returns-in-Err-clause-visited g c =
     let within = place_within c.args.statements.now (state_of c.loop-made.machine) (can_move g.at c.args.statements.now c.loop-made.machine running) in
     let count = running.resolved.count in
     let long = c.loop-made.invariant.1.count in
-    let old = some_item c.loop-made.visits.list.items (number_of (placed c.loop-made.machine.place)) (omega (arith, within, count, long)) in
+    let old = some_item c.loop-made.visits.list.items (statement_number (placed_in_run c.loop-made.machine.place)) (omega (arith, within, count, long)) in
     let new = c.in_ok-note.ensures.noted old.0 old.1 in
     subst (AreVisited g.at (config_at g.at c.args.machine.now) c.args.steps) (sym new.2)
     (visited_end g.at c.args.statements.now c.args.machine.now c.loop-made.machine c.loop-made.made c.loop-made.invariant.0 c.loop-made.visits.list.items old.0 new.0 old.1 new.1
@@ -71,7 +72,7 @@ loop-made-preserved g c =
     let within = place_within c.args.statements.now (state_of c.loop-made.machine) (can_move g.at c.args.statements.now c.loop-made.machine running) in
     let count = running.resolved.count in
     let long = c.loop-made.invariant.1.count in
-    let old = some_item c.loop-made.visits.list.items (number_of (placed c.loop-made.machine.place)) (omega (arith, within, count, long)) in
+    let old = some_item c.loop-made.visits.list.items (statement_number (placed_in_run c.loop-made.machine.place)) (omega (arith, within, count, long)) in
     let new = c.in_ok-note.ensures.noted old.0 old.1 in
     let moved = c.step.ensures.moved ∙ ap (λ r. Some (move_of r c.step.new.machine)) (c.in-Ok-Goes.is ∙ ap Ok c.in-Ok-Goes.field-0-is) in
     let below = c.loop-made-test.true in (

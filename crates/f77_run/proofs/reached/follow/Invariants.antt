@@ -1,5 +1,5 @@
 use Rattle.std.proofs.Common.{◌≤◌}
-use Rattle.f77_run.specs.Running.{config_at}
+use Rattle.f77_run.specs.code.Running.{config_at}
 use Rattle.f77_run.specs.Visits.{AreVisited}
 use Rattle.f77_run.proofs.Runs.{IsLeft}
 use Rattle.f77_run.proofs.reached.follow.Given as goal

@@ -1,6 +1,6 @@
 use Rattle.std.proofs.Common.{◌++◌, ◌∷◌, ◌∙◌, [], length, ap, length-append}
 use Rattle.std.proofs.lemmas.Slice.Zip.{zip_turn, zip_end}
-use Rattle.f77_run.specs.Registers.{counter_of, counters_of}
+use Rattle.f77_run.specs.code.Registers.{counter_of, counters_of}
 use Rattle.f77_run.proofs.Pairs.{pair_left}
 use Rattle.f77_run.proofs.Pushed.{joined_all, joined_more}
 use Rattle.f77_run.proofs.registers.load_counters.Goals as goal

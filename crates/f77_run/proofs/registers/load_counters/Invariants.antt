@@ -1,6 +1,6 @@
 use Rattle.std.proofs.Common.{◌≡◌, ◌++◌, length}
 use Rattle.std.specs.List.{flat_map}
-use Rattle.f77_run.specs.Registers.{counter_of, counters_of}
+use Rattle.f77_run.specs.code.Registers.{counter_of, counters_of}
 use Rattle.f77_run.proofs.Pushed.{pairs_left}
 use Rattle.f77_run.proofs.registers.load_counters.Given as goal
 

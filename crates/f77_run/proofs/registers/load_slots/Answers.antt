@@ -10,7 +10,7 @@ use Rattle.f77_tree.specs.declared.tree.Kind.TheVariants.{Integer}
 use Rattle.f77_values.specs.Told.{coded, is_fitting}
 use Rattle.f77_code.specs.Holds.{read_as}
 use Rattle.f77_code.specs.Registers.{are_held, is_held}
-use Rattle.f77_run.specs.Registers.{loaded}
+use Rattle.f77_run.specs.code.Registers.{loaded}
 use Rattle.f77_run.proofs.Overwritten.{mapped_at, overwritten_all, overwritten_more}
 use Rattle.f77_run.proofs.registers.load_slots.Goals as goal
 

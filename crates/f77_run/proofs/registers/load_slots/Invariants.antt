@@ -3,7 +3,7 @@ use Rattle.std.specs.List.{list_all, zip}
 use Rattle.f77_values.specs.Told.{is_fitting}
 use Rattle.f77_code.specs.Holds.{read_as}
 use Rattle.f77_code.specs.Registers.{are_held}
-use Rattle.f77_run.specs.Registers.{loaded}
+use Rattle.f77_run.specs.code.Registers.{loaded}
 use Rattle.f77_run.proofs.registers.load_slots.Given as goal
 
 -- what is loaded, before the other registers

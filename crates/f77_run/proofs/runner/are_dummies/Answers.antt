@@ -1,7 +1,7 @@
 use Rattle.std.proofs.Common.{◌≡◌, ap, subst, ◌∙◌}
 use Rattle.std.specs.Bool.{Decides}
 use Rattle.std.specs.List.{zip}
-use Rattle.f77_run.specs.Holding.{AreHeld}
+use Rattle.f77_run.specs.code.Holding.{AreHeld}
 use Rattle.f77_run.specs.Interpreter.{AreFitting}
 use Rattle.f77_run.proofs.Telling.{dummies_room, dummies_decided, dummies_misfit}
 use Rattle.f77_run.proofs.runner.are_dummies.Goals as goal

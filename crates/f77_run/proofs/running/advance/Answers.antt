@@ -1,6 +1,6 @@
 use Rattle.std.proofs.Common.{arith, ◌<◌, inl, inr, refl, subst, sym}
 use Rattle.f77_code.specs.Operation.{point}
-use Rattle.f77_run.specs.Snapshot.{kept}
+use Rattle.f77_run.specs.code.Snapshot.{kept_point}
 use Rattle.f77_run.proofs.Advancing.{IsKeptBefore, came_back, kept_on, stands_on}
 use Rattle.f77_run.proofs.running.advance.Goals as goal
 
@@ -32,7 +32,7 @@ pub returns-then-branch-clause-ends : goal.returns-then-branch-clause-ends
 returns-then-branch-clause-ends c =
     let begin = point c.args.start c.args.registers.now c.args.counters.now in
     let here = point c.looks.place c.looks.registers c.looks.counters in
-    let back = came_back c.args.code.now begin c.looks.made here (kept c.looks.earlier) c.looks.invariant.stands c.looks-test.true c.looks.invariant.kept
+    let back = came_back c.args.code.now begin c.looks.made here (kept_point c.looks.earlier) c.looks.invariant.stands c.looks-test.true c.looks.invariant.kept
     (c.in_ok-is_seen_back.ensures.back c.if-branch.true) in
     λ _. inr back
 
@@ -47,7 +47,7 @@ looks-preserved c =
       held = c.some_more-more.ensures.held;
       stands = stands_on c.args.code.now begin c.looks.made c.some_more-more.result.made here there c.looks.invariant.stands c.some_more-more.ensures.stands;
       within = omega (arith, c.some_more-more.ensures.made, c.min-most.ensures, c.looks.invariant.within);
-      kept = kept_on c.args.code.now begin c.looks.made c.some_more-more.result.made here (kept c.looks.earlier) (kept c.is_seen_back.new.self)
+      kept = kept_on c.args.code.now begin c.looks.made c.some_more-more.result.made here (kept_point c.looks.earlier) (kept_point c.is_seen_back.new.self)
           c.looks.invariant.stands made c.looks.invariant.kept c.in_ok-is_seen_back.ensures.kept;
     }
 

@@ -1,9 +1,9 @@
 use Rattle.std.proofs.Common.{◌≡◌, ◌≤◌, drop}
-use Rattle.f77_syntax.specs.Classification.{behind}
+use Rattle.f77_syntax.specs.Classification.{behind_character}
 use Rattle.f77_syntax.proofs.classification.behind.Given as goal
 
 abbrev pub invariant-loop-index : goal.invariant-loop-index
 invariant-loop-index l = record {
-  same : behind l.byte 0 l.text ≡ behind l.byte l.depth (drop l.index l.text);
+  same : behind_character l.byte 0 l.text ≡ behind_character l.byte l.depth (drop l.index l.text);
   few : l.depth ≤ l.index;
 }

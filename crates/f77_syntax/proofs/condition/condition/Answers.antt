@@ -19,7 +19,8 @@ returns-in_err-rest c =
     let p = err_from_is_err_and c.from_residual-in_err-rest.result c.from_residual-in_err-rest.ensures.1 in
     let q = c.in-Some.ensures.cases in
     let g = c.in_ok-condition.ensures.found in
-    rw (p.1, p.2) (condition_open c.args.text.now c.in-Some.inner.now c.in_ok-condition.rest.now g.0 _ (strip_same (codes "IF(") c.args.text.now q.0 ∙ ap Some (sym q.1)) g.1 g.2.1 c.in_err-rest.ensures)
+    rw (p.1, p.2) (condition_open c.args.text.now c.in-Some.inner.now c.in_ok-condition.rest.now g.0 _
+    (strip_same (codes "IF(") c.args.text.now q.0 ∙ ap Some (sym q.1)) g.1 g.2.1 c.in_err-rest.ensures)
 
 pub returns : goal.returns
 returns c =

@@ -28,7 +28,8 @@ returns-in_err-rest-clause-found c =
     let n = c.in_ok-names.ensures in
     let i = c.in_ok-inner.ensures in
     let v = c.in_ok-values.ensures in
-    rw (p.1, p.2) (group_fails_close c.args.text.now c.in_ok-names.behind.now c.in_ok-inner.inner.now c.in_ok-values.end.now n.0 v.0 _ n.1 n.2.1 (i.1 ∙ ap Some (sym i.2)) v.1 v.2.1 c.in_err-rest.ensures)
+    rw (p.1, p.2) (group_fails_close c.args.text.now c.in_ok-names.behind.now c.in_ok-inner.inner.now c.in_ok-values.end.now n.0 v.0 _ n.1 n.2.1
+    (i.1 ∙ ap Some (sym i.2)) v.1 v.2.1 c.in_err-rest.ensures)
 
 pub returns-clause-found : goal.returns-clause-found
 returns-clause-found c =
@@ -44,5 +45,6 @@ returns-clause-shorter c =
     let i = c.in_ok-inner.ensures in
     let v = c.in_ok-values.ensures in
     let r = c.in_ok-rest.ensures in
-    let x = group_whole c.args.text.now c.in_ok-names.behind.now c.in_ok-inner.inner.now c.in_ok-values.end.now c.in_ok-rest.rest.now r.0 _ _ n.0 v.0 n.1 n.2.1 (i.1 ∙ ap Some (sym i.2)) v.1 v.2.1 r.1 refl refl r.2 in
+    let x = group_whole c.args.text.now c.in_ok-names.behind.now c.in_ok-inner.inner.now c.in_ok-values.end.now c.in_ok-rest.rest.now r.0 _ _ n.0 v.0
+    n.1 n.2.1 (i.1 ∙ ap Some (sym i.2)) v.1 v.2.1 r.1 refl refl r.2 in
     group_shorter c.args.text.now c.in_ok-rest.rest.now x.0 x.1 x.2.1

@@ -1,7 +1,7 @@
 use Rattle.std.proofs.Common.{◌≡◌, true, false, sym, ◌∙◌, ap}
 use Rattle.std.specs.Str.Parse.{digits_value}
 use Rattle.f77_tree.specs.Grammar.{is_number}
-use Rattle.f77_syntax.specs.View.{clipped}
+use Rattle.f77_syntax.specs.code.View.{clipped}
 use Rattle.f77_syntax.proofs.DeclarationGives.{no_number, a_number}
 use Rattle.f77_syntax.proofs.declaration.bound.Goals as goal
 

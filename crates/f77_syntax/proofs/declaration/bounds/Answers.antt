@@ -1,7 +1,7 @@
 use Rattle.std.proofs.Common.{of_calls, ℕ, sym, ◌∙◌}
 use Rattle.std.proofs.lemmas.List.{map-id}
-use Rattle.f77_syntax.specs.View.{clipped}
-use Rattle.f77_syntax.specs.Declaration.{number_at, bounds_at}
+use Rattle.f77_syntax.specs.code.View.{clipped}
+use Rattle.f77_syntax.specs.code.Declaration.{bound_at, bounds_at}
 use Rattle.f77_syntax.proofs.JoinedItems.{gives_items, gives_as}
 use Rattle.f77_syntax.proofs.declaration.bounds.Goals as goal
 
@@ -12,4 +12,4 @@ pub returns : goal.returns
 unfolding bounds_at
 returns c =
     gives_as (λ x a is. (sym (map-id x.0.items) ∙ is.0, is.1)) c.joined.result (bounds_at c.args.text.now)
-    (gives_items itself clipped number_at _ (λ text r called. search of_calls) (λ text x called. search of_calls) c.joined.result c.args.text.now c.joined.ensures)
+    (gives_items itself clipped bound_at _ (λ text r called. search of_calls) (λ text x called. search of_calls) c.joined.result c.args.text.now c.joined.ensures)

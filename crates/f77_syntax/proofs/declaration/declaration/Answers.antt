@@ -2,7 +2,7 @@ use Rattle.std.proofs.Common.{◌≡◌, true, false, refl, sym, ◌∙◌, ap}
 use Rattle.std.proofs.lemmas.Result.{err_from_is_err_and}
 use Rattle.f77_tree.specs.Grammar.{is_name}
 use Rattle.f77_tree.specs.Name.{cut}
-use Rattle.f77_syntax.specs.Reading.{after}
+use Rattle.f77_syntax.specs.code.Reading.{tree_after}
 use Rattle.f77_syntax.proofs.DeclarationGives.{decl_none, decl_scalar, decl_fails_bounds, decl_fails_close, decl_array, decl_shorter}
 use Rattle.f77_syntax.proofs.declaration.declaration.Goals as goal
 
@@ -14,7 +14,7 @@ returns-then-not-is_name-clause-found c =
 pub returns-in_default-clause-found : goal.returns-in_default-clause-found
 returns-in_default-clause-found c =
     let n : is_name c.split_word.result.0.now ≡ true = cc in
-    decl_scalar c.args.text.now _ _ _ (ap is_name (sym c.split_word.ensures.front) ∙ n) (ap (after 40) (sym c.split_word.ensures.back) ∙ sym c.in_default.ensures)
+    decl_scalar c.args.text.now _ _ _ (ap is_name (sym c.split_word.ensures.front) ∙ n) (ap (tree_after 40) (sym c.split_word.ensures.back) ∙ sym c.in_default.ensures)
     (c.beginning-name.ensures ∙ ap cut c.split_word.ensures.front) c.new-bounds.ensures.items c.split_word.ensures.back
 
 pub returns-in_err-bounds-clause-found : goal.returns-in_err-bounds-clause-found
@@ -22,7 +22,7 @@ returns-in_err-bounds-clause-found c =
     let p = err_from_is_err_and c.from_residual.result c.from_residual.ensures.1 in
     let n : is_name c.split_word.result.0.now ≡ true = cc in
     rw (p.1, p.2) (decl_fails_bounds c.args.text.now c.in-Some.inner.now _ (ap is_name (sym c.split_word.ensures.front) ∙ n)
-    (ap (after 40) (sym c.split_word.ensures.back) ∙ sym c.in-Some.ensures) c.in_err-bounds.ensures)
+    (ap (tree_after 40) (sym c.split_word.ensures.back) ∙ sym c.in-Some.ensures) c.in_err-bounds.ensures)
 
 pub returns-in_err-rest-clause-found : goal.returns-in_err-rest-clause-found
 returns-in_err-rest-clause-found c =
@@ -30,7 +30,7 @@ returns-in_err-rest-clause-found c =
     let n : is_name c.split_word.result.0.now ≡ true = cc in
     let g = c.in_ok-bounds.ensures in
     rw (p.1, p.2) (decl_fails_close c.args.text.now c.in-Some.inner.now c.in_ok-bounds.behind.now g.0 _ (ap is_name (sym c.split_word.ensures.front) ∙ n)
-    (ap (after 40) (sym c.split_word.ensures.back) ∙ sym c.in-Some.ensures) g.1 g.2.1 c.in_err-rest.ensures)
+    (ap (tree_after 40) (sym c.split_word.ensures.back) ∙ sym c.in-Some.ensures) g.1 g.2.1 c.in_err-rest.ensures)
 
 pub returns-clause-found : goal.returns-clause-found
 returns-clause-found c =
@@ -38,7 +38,7 @@ returns-clause-found c =
     let g = c.in_ok-bounds.ensures in
     let h = c.in_ok-rest.ensures in
     decl_array c.args.text.now c.in-Some.inner.now c.in_ok-bounds.behind.now _ _ _ h.0 g.0 (ap is_name (sym c.split_word.ensures.front) ∙ n)
-    (ap (after 40) (sym c.split_word.ensures.back) ∙ sym c.in-Some.ensures) g.1 g.2.1 h.1 (c.beginning-name.ensures ∙ ap cut c.split_word.ensures.front) g.2.0 h.2
+    (ap (tree_after 40) (sym c.split_word.ensures.back) ∙ sym c.in-Some.ensures) g.1 g.2.1 h.1 (c.beginning-name.ensures ∙ ap cut c.split_word.ensures.front) g.2.0 h.2
 
 pub returns-clause-shorter : goal.returns-clause-shorter
 returns-clause-shorter c =
@@ -46,5 +46,5 @@ returns-clause-shorter c =
     let g = c.in_ok-bounds.ensures in
     let h = c.in_ok-rest.ensures in
     let x = decl_array c.args.text.now c.in-Some.inner.now c.in_ok-bounds.behind.now c.in_ok-rest.rest.now _ _ h.0 g.0 (ap is_name (sym c.split_word.ensures.front) ∙ n)
-    (ap (after 40) (sym c.split_word.ensures.back) ∙ sym c.in-Some.ensures) g.1 g.2.1 h.1 refl refl h.2 in
+    (ap (tree_after 40) (sym c.split_word.ensures.back) ∙ sym c.in-Some.ensures) g.1 g.2.1 h.1 refl refl h.2 in
     decl_shorter c.args.text.now c.in_ok-rest.rest.now x.0 x.1 x.2.1

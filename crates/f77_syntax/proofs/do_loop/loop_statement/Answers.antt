@@ -1,7 +1,7 @@
 use Rattle.std.proofs.Common.{sym, ◌∙◌, ap}
 use Rattle.std.specs.Prelude.{codes, Some}
 use Rattle.std.proofs.lemmas.Result.{err_from_is_err_and}
-use Rattle.f77_syntax.specs.StatementView.{IsStatement}
+use Rattle.f77_syntax.specs.code.StatementView.{IsStatement}
 use Rattle.f77_syntax.proofs.Steps.{strip_same, strip_other}
 use Rattle.f77_syntax.proofs.Gives.{gives_along}
 use Rattle.f77_syntax.proofs.BranchGives.{loop_none, loop_fails, loop_given}

@@ -17,7 +17,8 @@ pub returns-in_err-last : goal.returns-in_err-last
 returns-in_err-last c =
     let p = err_from_is_err_and c.from_residual-in_err-last.result c.from_residual-in_err-last.ensures.1 in
     let g = c.in_ok-first.ensures.found in
-    rw (p.1, p.2) (parameters_fail_last c.args.label c.args.variable.now c.args.text.now g.0 c.in_ok-first.behind.now c.in-Some.rest.now _ g.1 g.2.1 (sym c.in-Some.ensures) c.in_err-last.ensures.found)
+    rw (p.1, p.2) (parameters_fail_last c.args.label c.args.variable.now c.args.text.now g.0 c.in_ok-first.behind.now c.in-Some.rest.now _ g.1 g.2.1
+    (sym c.in-Some.ensures) c.in_err-last.ensures.found)
 
 pub returns-in_err-step : goal.returns-in_err-step
 returns-in_err-step c =

@@ -4,9 +4,11 @@ use Rattle.std.proofs.lemmas.Result.{err_from_is_err_and}
 use Rattle.std.proofs.lemmas.Bool.{le-leb}
 use Rattle.std.proofs.lemmas.Bool.Decides.{nat_tests}
 use Rattle.f77_tree.specs.Operator.{level, left_level}
-use Rattle.f77_syntax.specs.Reading.{reading, start_at}
+use Rattle.f77_syntax.specs.code.Reading.{reading, start_at}
 use Rattle.f77_syntax.proofs.Steps.{strip_same, strip_other}
-use Rattle.f77_syntax.proofs.Gives.{start_none, start_along, after_is, alone_at, last_at, expr_fails, start_shorter, climbing_starts, climb_fails, climbing_goes_on, ends_alone, ends_before, start_group, start_plus, start_minus, start_dot, start_word, group_whole, signed_whole, negated_whole, true_whole, false_whole, number_whole, scalar_whole, listed_whole, list_fails, list_goes_on, list_ends}
+use Rattle.f77_syntax.proofs.Gives.{start_none, start_along, after_is, alone_at, last_at, expr_fails, start_shorter, climbing_starts, climb_fails, climbing_goes_on}
+use Rattle.f77_syntax.proofs.Gives.{ends_alone, ends_before, start_group, start_plus, start_minus, start_dot, start_word, group_whole, signed_whole, negated_whole}
+use Rattle.f77_syntax.proofs.Gives.{true_whole, false_whole, number_whole, scalar_whole, listed_whole, list_fails, list_goes_on, list_ends}
 use Rattle.f77_syntax.proofs.expression.+parser.Goals as goal
 
 pub expression-returns-in_err-left-clause-found : goal.expression-returns-in_err-left-clause-found
@@ -31,7 +33,8 @@ pub expression-returns-in_err-right-clause-found : goal.expression-returns-in_er
 expression-returns-in_err-right-clause-found t c =
     let p = err_from_is_err_and c.from_residual-in_err-right.result c.from_residual-in_err-right.ensures.1 in
     let yes : (nat_le c.args.wanted (level c.in-Some.op) && nat_le (left_level c.in-Some.op) c.loop-op.own) ≡ true = cc in
-    rw (p.1, p.2) (climb_fails c.args.wanted c.loop-op.own c.loop-op.left c.in-Some.op c.loop-op.rest.now c.in-Some.behind.now c.args.text.now _ c.loop-op.invariant (sym c.in-Some.ensures.found) yes (rw c.right_level.ensures at c.in_err-right.ensures.found))
+    rw (p.1, p.2) (climb_fails c.args.wanted c.loop-op.own c.loop-op.left c.in-Some.op c.loop-op.rest.now c.in-Some.behind.now c.args.text.now _
+    c.loop-op.invariant (sym c.in-Some.ensures.found) yes (rw c.right_level.ensures at c.in_err-right.ensures.found))
 
 pub expression-loop-op-preserved : goal.expression-loop-op-preserved
 expression-loop-op-preserved t c =
@@ -40,7 +43,8 @@ expression-loop-op-preserved t c =
     let short = c.loop-op.invariant.short in
     let fall = c.in-Some.ensures.shorter in
     let fall_on = c.in_ok-right.ensures.shorter in
-    rw c.level-own.ensures (climbing_goes_on c.args.wanted c.loop-op.own c.loop-op.left c.in-Some.op c.loop-op.rest.now c.in-Some.behind.now c.args.text.now c.in_ok-right.after.now c.in_ok-right.right _ _ c.loop-op.invariant (sym c.in-Some.ensures.found) yes
+    rw c.level-own.ensures (climbing_goes_on c.args.wanted c.loop-op.own c.loop-op.left c.in-Some.op c.loop-op.rest.now c.in-Some.behind.now
+    c.args.text.now c.in_ok-right.after.now c.in_ok-right.right _ _ c.loop-op.invariant (sym c.in-Some.ensures.found) yes
     g.0 (rw c.right_level.ensures at g.1) g.2.0 g.2.1 c.in_ok-new.ensures.ok c.in_ok-new-2.ensures.ok (omega arith))
 
 pub group-returns : goal.group-returns
@@ -125,7 +129,9 @@ start-returns-in_default-first-clause-shorter t c = start_shorter c.args.wanted 
 pub operand-returns-in_default : goal.operand-returns-in_default
 operand-returns-in_default t c =
     rw (← c.split_word.ensures.front, ← c.split_word.ensures.back)
-    (scalar_whole c.split_word.result.0.now c.split_word.result.1.now _ (cc) (cc) (alone_at c.split_word.result.0.now c.split_word.result.1.now (sym c.in_default.ensures)) c.beginning-name.ensures c.new-subscripts.ensures.items)
+    (scalar_whole c.split_word.result.0.now c.split_word.result.1.now
+    _ (cc) (cc) (alone_at c.split_word.result.0.now c.split_word.result.1.now (sym c.in_default.ensures)) c.beginning-name.ensures
+    c.new-subscripts.ensures.items)
 
 pub operand-returns : goal.operand-returns
 operand-returns t c =
@@ -138,12 +144,15 @@ operand-returns t c =
 pub list-returns-in_default : goal.list-returns-in_default
 list-returns-in_default t c =
     let g = c.in_ok-item.ensures.found in
-    list_ends c.loop-items.items.items c.push.new.self.items c.in_ok-item.item c.loop-items.rest.now c.args.text.now c.in_ok-item.after.now g.0 c.loop-items.invariant g.1 g.2.0 g.2.1 c.in_ok-push.ensures.items (last_at g.0.0 c.in_ok-item.after.now (sym c.in_default.ensures))
+    list_ends c.loop-items.items.items c.push.new.self.items c.in_ok-item.item c.loop-items.rest.now c.args.text.now c.in_ok-item.after.now g.0
+    c.loop-items.invariant g.1 g.2.0 g.2.1 c.in_ok-push.ensures.items (last_at g.0.0 c.in_ok-item.after.now (sym c.in_default.ensures))
 
 pub list-loop-items-preserved : goal.list-loop-items-preserved
 list-loop-items-preserved t c =
     let g = c.in_ok-item.ensures.found in
-    list_goes_on c.loop-items.items.items c.push.new.self.items c.in_ok-item.item c.loop-items.rest.now c.args.text.now c.in_ok-item.after.now c.in-Some.next.now g.0 c.loop-items.invariant g.1 g.2.0 g.2.1 c.in_ok-push.ensures.items (after_is 44 c.in_ok-item.after.now c.in-Some.next.now (sym c.in-Some.ensures)) c.in_ok-item.ensures.shorter
+    list_goes_on c.loop-items.items.items c.push.new.self.items c.in_ok-item.item c.loop-items.rest.now
+    c.args.text.now c.in_ok-item.after.now c.in-Some.next.now g.0 c.loop-items.invariant g.1 g.2.0 g.2.1 c.in_ok-push.ensures.items
+    (after_is 44 c.in_ok-item.after.now c.in-Some.next.now (sym c.in-Some.ensures)) c.in_ok-item.ensures.shorter
 
 pub dotted-returns-in-Some : goal.dotted-returns-in-Some
 dotted-returns-in-Some t c =

@@ -2,7 +2,7 @@ use Rattle.std.proofs.Common.{sym, ap, ◌∙◌}
 use Rattle.std.proofs.lemmas.Result.{err_from_is_err_and}
 use Rattle.f77_tree.specs.Statement.{Statement}
 use Rattle.f77_tree.proofs.Views.{goto_view}
-use Rattle.f77_syntax.specs.StatementView.{IsStatement}
+use Rattle.f77_syntax.specs.code.StatementView.{IsStatement}
 use Rattle.f77_syntax.proofs.Gives.{gives_along}
 use Rattle.f77_syntax.proofs.GotoGives.{goto_open, goto_fails, goto_whole}
 use Rattle.f77_syntax.proofs.goto.goto.Goals as goal

@@ -1,7 +1,7 @@
 use Rattle.std.proofs.Common.{of_calls, ℕ, sym, ◌∙◌}
 use Rattle.std.proofs.lemmas.List.{map-id}
-use Rattle.f77_syntax.specs.Joined.{items_at}
-use Rattle.f77_syntax.specs.Label.{label_at}
+use Rattle.f77_syntax.specs.code.Joined.{items_at}
+use Rattle.f77_syntax.specs.code.Label.{label_at}
 use Rattle.f77_syntax.proofs.JoinedItems.{gives_items, gives_as}
 use Rattle.f77_syntax.proofs.goto.labels.Goals as goal
 

@@ -1,7 +1,7 @@
 use Rattle.std.proofs.Common.{◌≡◌, true, false, sym, ◌∙◌, ap, length}
 use Rattle.std.specs.Prelude.{◌==◌}
 use Rattle.std.proofs.lemmas.Result.{err_from_is_err_and}
-use Rattle.f77_syntax.specs.Reading.{reading}
+use Rattle.f77_syntax.specs.code.Reading.{reading}
 use Rattle.f77_syntax.proofs.GotoGives.{selector_fails, selector_more, selector_whole}
 use Rattle.f77_syntax.proofs.goto.selector.Goals as goal
 

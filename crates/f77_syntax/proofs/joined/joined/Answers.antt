@@ -1,6 +1,6 @@
 use Rattle.std.proofs.Common.{append_assoc, [], ◌∷◌, sym}
 use Rattle.std.proofs.lemmas.Result.{err_from_is_err_and}
-use Rattle.f77_syntax.specs.Joined.{Joins, Breaks}
+use Rattle.f77_syntax.specs.code.Joined.{JoinsItems, Breaks}
 use Rattle.f77_syntax.proofs.joined.joined.Goals as goal
 
 pub returns-in_err-value : goal.returns-in_err-value
@@ -15,11 +15,11 @@ returns-in_err-push g c =
 
 pub returns-in_default : goal.returns-in_default
 returns-in_default g c =
-    rw c.in_ok-push.ensures.items (c.loop-items.invariant.joins (c.in_ok-value.value ∷ []) c.in_ok-value.behind.now (Joins.last c.in_ok-value.ensures (sym c.in_default.ensures)))
+    rw c.in_ok-push.ensures.items (c.loop-items.invariant.joins (c.in_ok-value.value ∷ []) c.in_ok-value.behind.now (JoinsItems.last c.in_ok-value.ensures (sym c.in_default.ensures)))
 
 pub loop-items-preserved : goal.loop-items-preserved
 loop-items-preserved g c = record {
   joins = λ xs behind p. rw (c.in_ok-push.ensures.items, append_assoc)
-      (c.loop-items.invariant.joins (c.in_ok-value.value ∷ xs) behind (Joins.more c.in_ok-value.ensures (sym c.in-Some.ensures) p));
+      (c.loop-items.invariant.joins (c.in_ok-value.value ∷ xs) behind (JoinsItems.more c.in_ok-value.ensures (sym c.in-Some.ensures) p));
   breaks = λ e p. c.loop-items.invariant.breaks e (Breaks.later c.in_ok-value.ensures (sym c.in-Some.ensures) p);
 }

@@ -1,12 +1,12 @@
 use Rattle.std.proofs.Common.{length, ℕ, List, ◌++◌}
 use Rattle.f77_syntax.specs.declared.fault.ReadError.{ReadError}
-use Rattle.f77_syntax.specs.Joined.{Joins, Breaks}
+use Rattle.f77_syntax.specs.code.Joined.{JoinsItems, Breaks}
 use Rattle.f77_syntax.proofs.joined.joined.Given as goal
 
 -- what the rest is, says what the whole text is
 abbrev pub invariant-loop-items : goal.invariant-loop-items
 invariant-loop-items g l = record {
-  joins : (xs : List _) (behind : List ℕ) → Joins (goal.F-post g l.item) l.rest xs behind → Joins (goal.F-post g l.item) l.text (l.items.items ++ xs) behind;
+  joins : (xs : List _) (behind : List ℕ) → JoinsItems (goal.F-post g l.item) l.rest xs behind → JoinsItems (goal.F-post g l.item) l.text (l.items.items ++ xs) behind;
   breaks : (e : ReadError) → Breaks (goal.F-post g l.item) l.rest e → Breaks (goal.F-post g l.item) l.text e;
 }
 

@@ -1,6 +1,6 @@
 use Rattle.std.proofs.Common.{ap, ◌∙◌}
 use Rattle.f77_tree.specs.Statement.{statement_of}
-use Rattle.f77_syntax.specs.NameLengths.{has_short_words}
+use Rattle.f77_syntax.specs.code.NameLengths.{has_short_words}
 use Rattle.f77_syntax.proofs.StatementLengths.{names_told}
 use Rattle.f77_syntax.proofs.name_lengths.has_short_names.Goals as goal
 

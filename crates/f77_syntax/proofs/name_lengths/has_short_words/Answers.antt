@@ -1,7 +1,7 @@
 use Rattle.std.proofs.Common.{rules}
 use Rattle.std.proofs.lemmas.Iterator.Splits.{YieldsList-from_slice_split}
 use Rattle.std.proofs.lemmas.Iterator.Search.{all_from_yields_List}
-use Rattle.f77_syntax.specs.NameLengths.{is_between, is_short_word, has_short_words}
+use Rattle.f77_syntax.specs.code.NameLengths.{is_between, is_short_word, has_short_words}
 use Rattle.f77_syntax.proofs.name_lengths.has_short_words.Goals as goal
 
 pub returns : goal.returns

@@ -9,7 +9,7 @@ use Rattle.f77_tree.specs.declared.statement.Stmt.{Stmt, Subroutine, Declare, Di
 use Rattle.f77_tree.specs.declared.statement.Stmt.TheViews as boxed
 use Rattle.f77_tree.specs.declared.statement.Stmt.TheFolds.{fold_out-Stmt}
 use Rattle.f77_tree.specs.Statement.{stmt_step, statement_of, Statement}
-use Rattle.f77_syntax.specs.NameLengths.{keyword_of}
+use Rattle.f77_syntax.specs.code.NameLengths.{keyword_of}
 use Rattle.f77_syntax.proofs.name_lengths.keyword_of.Goals as goal
 
 no_keyword : (s : Stmt) → ((name : List ℕ) (arguments : Vec (List ℕ) Global) → s ≢ Subroutine name arguments)

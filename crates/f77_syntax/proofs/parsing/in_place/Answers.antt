@@ -12,7 +12,8 @@ returns-then-is_end c = inr (behind_end c.args.before c.args.card.now c.line.res
 pub returns-in_err-stmt : goal.returns-in_err-stmt
 returns-in_err-stmt c =
     let p = err_from_is_err_and c.from_residual.result c.from_residual.ensures.1 in
-    rw (p.1, p.2) (refused_first c.args.before c.args.card.now c.line-2.result c.text.result.now c.in_err-stmt.field-0.0 (c.is_end.ensures.no c.if-is_end.false) c.line-2.ensures c.text.ensures c.in_err-stmt.ensures)
+    rw (p.1, p.2) (refused_first c.args.before c.args.card.now c.line-2.result c.text.result.now c.in_err-stmt.field-0.0
+    (c.is_end.ensures.no c.if-is_end.false) c.line-2.ensures c.text.ensures c.in_err-stmt.ensures)
 
 pub returns-then-not-may_stand : goal.returns-then-not-may_stand
 returns-then-not-may_stand c =

@@ -1,12 +1,12 @@
 use Rattle.std.proofs.Common.{inr}
 use Rattle.std.proofs.lemmas.Result.{err_from_is_err_and}
-use Rattle.f77_syntax.specs.Parsing.{IsRefused}
+use Rattle.f77_syntax.specs.Parsing.{IsCardRefused}
 use Rattle.f77_tree.specs.Statement.{statement_of}
 use Rattle.f77_syntax.proofs.Admit.{Kept, bad_name, outside, all_well, not_spelled}
 use Rattle.f77_syntax.proofs.parsing.limited.Goals as goal
 
 pub returns-then-is_too_deep : goal.returns-then-is_too_deep
-returns-then-is_too_deep c = inr (IsRefused.parentheses c.requires (c.is_too_deep.ensures.deep c.if-is_too_deep.true))
+returns-then-is_too_deep c = inr (IsCardRefused.parentheses c.requires (c.is_too_deep.ensures.deep c.if-is_too_deep.true))
 
 pub returns-in_err-stmt : goal.returns-in_err-stmt
 returns-in_err-stmt c =

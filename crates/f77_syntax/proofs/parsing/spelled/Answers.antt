@@ -1,7 +1,7 @@
 use Rattle.std.proofs.Common.{inr, refl, sym, ◌∙◌, subst}
 use Rattle.std.proofs.lemmas.Option.{none-some}
-use Rattle.f77_syntax.specs.View.{Fails}
-use Rattle.f77_syntax.specs.Statement.{statement_at}
+use Rattle.f77_syntax.specs.code.View.{Fails}
+use Rattle.f77_syntax.specs.code.Statement.{statement_at}
 use Rattle.f77_syntax.proofs.StatementSound.{statement_is}
 use Rattle.f77_syntax.proofs.StatementComplete.{statement_read}
 use Rattle.f77_syntax.proofs.parsing.spelled.Goals as goal

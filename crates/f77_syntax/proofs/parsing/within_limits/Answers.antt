@@ -2,9 +2,9 @@ use Rattle.std.proofs.Common.{◌<◌, length, map, sym, ap, subst, ◌∙◌}
 use Rattle.std.specs.List.{list_all}
 use Rattle.std.proofs.lemmas.List.{length-map}
 use Rattle.std.proofs.lemmas.Result.{err_from_is_err_and}
-use Rattle.f77_nodes.specs.Limits.{is_small, most_nodes}
+use Rattle.f77_nodes.specs.Limits.{is_small_node, most_nodes}
 use Rattle.f77_nodes.specs.Node.{node_of}
-use Rattle.f77_syntax.specs.Parsing.{IsOutside}
+use Rattle.f77_syntax.specs.code.Parsing.{IsOutside}
 use Rattle.f77_syntax.proofs.parsing.within_limits.Goals as goal
 
 pub returns-in_err-list-clause-refused : goal.returns-in_err-list-clause-refused
@@ -14,9 +14,11 @@ returns-in_err-list-clause-refused c =
 
 pub returns-then-not-are_small-clause-refused : goal.returns-then-not-are_small-clause-refused
 returns-then-not-are_small-clause-refused c =
-    IsOutside.constant (ap (list_all is_small) (sym c.in_ok-list.ensures) ∙ ap (λ z. list_all is_small (map node_of z)) (sym c.deref.ensures.value) ∙ sym c.are_small.ensures ∙ c.if-not-are_small.true)
+    IsOutside.constant (ap (list_all is_small_node) (sym c.in_ok-list.ensures)
+    ∙ ap (λ z. list_all is_small_node (map node_of z)) (sym c.deref.ensures.value) ∙ sym c.are_small.ensures ∙ c.if-not-are_small.true)
 
 pub returns-then-count-gt-MOST_NODES-clause-refused : goal.returns-then-count-gt-MOST_NODES-clause-refused
 returns-then-count-gt-MOST_NODES-clause-refused c =
-    IsOutside.nodes (ap (list_all is_small) (sym c.in_ok-list.ensures) ∙ ap (λ z. list_all is_small (map node_of z)) (sym c.deref.ensures.value) ∙ sym c.are_small.ensures ∙ c.if-not-are_small.false)
+    IsOutside.nodes (ap (list_all is_small_node) (sym c.in_ok-list.ensures)
+    ∙ ap (λ z. list_all is_small_node (map node_of z)) (sym c.deref.ensures.value) ∙ sym c.are_small.ensures ∙ c.if-not-are_small.false)
     (subst (λ n. most_nodes < n) (ap length c.as_slice-count.ensures.value ∙ sym (length-map c.in_ok-list.list.items node_of) ∙ ap length c.in_ok-list.ensures) c.if-count-gt-MOST_NODES.true)

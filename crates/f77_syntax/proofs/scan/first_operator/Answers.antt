@@ -8,4 +8,6 @@ returns-in-Some c =
     rw p.1 (sym (found_at c.args.operators.now c.loop-op.op-index _ c.args.text.now c.as_bytes.result.now c.loop-op-test.true (c.as_bytes.ensures.value ∙ c.symbol.ensures) p.0) ∙ c.loop-op.invariant)
 
 pub loop-op-preserved : goal.loop-op-preserved
-loop-op-preserved c = missed_at c.args.operators.now c.loop-op.op-index _ c.args.text.now c.as_bytes.result.now c.loop-op-test.true (c.as_bytes.ensures.value ∙ c.symbol.ensures) c.in_default.ensures.cases ∙ c.loop-op.invariant
+loop-op-preserved c = missed_at c.args.operators.now c.loop-op.op-index _ c.args.text.now c.as_bytes.result.now c.loop-op-test.true
+    (c.as_bytes.ensures.value ∙ c.symbol.ensures) c.in_default.ensures.cases
+    ∙ c.loop-op.invariant

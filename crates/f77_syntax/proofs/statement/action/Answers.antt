@@ -1,5 +1,5 @@
 use Rattle.std.proofs.Common.{sym, ◌∙◌}
-use Rattle.f77_syntax.specs.StatementView.{IsStatement}
+use Rattle.f77_syntax.specs.code.StatementView.{IsStatement}
 use Rattle.f77_syntax.proofs.Gives.{gives_along}
 use Rattle.f77_syntax.proofs.BranchGives.{action_keyword}
 use Rattle.f77_syntax.proofs.statement.action.Goals as goal

@@ -1,7 +1,7 @@
 use Rattle.std.proofs.Common.{◌≡◌, true, false, sym, ◌∙◌, ap}
 use Rattle.std.specs.Prelude.{codes}
 use Rattle.std.specs.Str.{bytes_eq}
-use Rattle.f77_syntax.specs.Statement.{begins_digit}
+use Rattle.f77_syntax.specs.code.Statement.{begins_digit}
 use Rattle.f77_syntax.proofs.BranchGives.{branch_block, branch_logical}
 use Rattle.f77_syntax.proofs.statement.branch.Goals as goal
 

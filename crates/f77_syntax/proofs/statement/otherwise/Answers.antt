@@ -15,5 +15,6 @@ pub returns : goal.returns
 returns c =
     let some : (length c.args.text.now == 0) ≡ false = cc in
     let g = c.in_ok-condition.ensures in
-    let e : bytes_eq c.in_ok-condition.rest.now (codes "THEN") ≡ true = not_false (bytes_eq c.in_ok-condition.rest.now (codes "THEN")) (ap (λ z. not (bytes_eq c.in_ok-condition.rest.now z)) (sym c.as_slice.ensures) ∙ sym c.ne.ensures ∙ c.if-ne.false) in
+    let e : bytes_eq c.in_ok-condition.rest.now (codes "THEN") ≡ true = not_false (bytes_eq c.in_ok-condition.rest.now (codes "THEN"))
+    (ap (λ z. not (bytes_eq c.in_ok-condition.rest.now z)) (sym c.as_slice.ensures) ∙ sym c.ne.ensures ∙ c.if-ne.false) in
     else_whole c.args.text.now c.in_ok-condition.rest.now g.0 c.in_ok-condition.condition some g.1 g.2.0 g.2.1 e

@@ -1,6 +1,6 @@
 use Rattle.std.proofs.Common.{sym, ◌∙◌, ap}
 use Rattle.std.specs.Prelude.{codes, Some}
-use Rattle.f77_syntax.specs.StatementView.{IsStatement}
+use Rattle.f77_syntax.specs.code.StatementView.{IsStatement}
 use Rattle.f77_syntax.proofs.Steps.{strip_same, strip_other}
 use Rattle.f77_syntax.proofs.Gives.{gives_along}
 use Rattle.f77_syntax.proofs.BranchGives.{given, word_kept, simple_goto, simple_word}

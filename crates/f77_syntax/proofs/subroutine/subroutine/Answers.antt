@@ -39,13 +39,15 @@ pub returns-in_err-arguments : goal.returns-in_err-arguments
 returns-in_err-arguments c =
     let p = err_from_is_err_and c.from_residual.result c.from_residual.ensures.1 in
     let n : is_name c.split_word.result.0.now ≡ true = cc in
-    rw (p.1, p.2) (subroutine_fails c.args.text.now c.split_word.result.1.now c.in-Some.behind.now c.in-Some-without_close.inner.now _ (ap is_name (sym c.split_word.ensures.front) ∙ n) c.split_word.ensures.back
+    rw (p.1, p.2) (subroutine_fails c.args.text.now c.split_word.result.1.now c.in-Some.behind.now c.in-Some-without_close.inner.now _
+    (ap is_name (sym c.split_word.ensures.front) ∙ n) c.split_word.ensures.back
     (sym c.in-Some.ensures) (sym c.in-Some-without_close.ensures) c.in_err-arguments.ensures)
 
 pub returns : goal.returns
 returns c =
     let n : is_name c.split_word.result.0.now ≡ true = cc in
     let g = c.in_ok-arguments.ensures in
-    let w = subroutine_whole c.args.text.now c.split_word.result.1.now c.in-Some.behind.now c.in-Some-without_close.inner.now _ g.0 _ (ap is_name (sym c.split_word.ensures.front) ∙ n) c.split_word.ensures.back
+    let w = subroutine_whole c.args.text.now c.split_word.result.1.now c.in-Some.behind.now c.in-Some-without_close.inner.now _ g.0 _
+    (ap is_name (sym c.split_word.ensures.front) ∙ n) c.split_word.ensures.back
     (sym c.in-Some.ensures) (sym c.in-Some-without_close.ensures) g.1 g.2 (c.beginning-name.ensures ∙ ap cut c.split_word.ensures.front) in
     (w.0, w.1, subroutine_view c.beginning-name.result c.in_ok-arguments.arguments ∙ w.2)

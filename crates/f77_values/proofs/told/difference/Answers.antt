@@ -12,7 +12,8 @@ returns-then-y-ge-UNDEFINED c = λ r q a b.
     let fx = c.ranges.x in
     let fy = c.ranges.y in
     let u : FitsSigned w64 c.unfit.result = search rules in
-    simp to_z-of_z (faults.right_none _ c.unfit.result c.args.x c.args.y (bounds.at_least c.args.y c.ranges.y c.if-y-ge-UNDEFINED.true) r q a b (c.unfit.ensures r q (simp to_z-of_z a) (simp to_z-of_z b)))
+    simp to_z-of_z (faults.right_none _ c.unfit.result c.args.x c.args.y (bounds.at_least c.args.y c.ranges.y c.if-y-ge-UNDEFINED.true) r q a b
+    (c.unfit.ensures r q (simp to_z-of_z a) (simp to_z-of_z b)))
 
 pub returns-then-is_value : goal.returns-then-is_value
 returns-then-is_value c = λ r q a b.
@@ -31,4 +32,5 @@ returns-else-is_value c = λ r q a b.
     let s : FitsSigned w64 (c.args.x -ℤ c.args.y) = sums.difference_small c.args.x c.args.y c.requires.x c.requires.y in
     let u : FitsSigned w64 c.unfit-else-is_value.result = search rules in
     let e = simp to_z-of_z at c.is_value.ensures in
-    simp to_z-of_z (sums.difference_unfit c.unfit-else-is_value.result c.args.x c.args.y (sym e ∙ c.if-is_value.false) r q a b (c.unfit-else-is_value.ensures r q (simp to_z-of_z a) (simp to_z-of_z b)))
+    simp to_z-of_z (sums.difference_unfit c.unfit-else-is_value.result c.args.x c.args.y (sym e ∙ c.if-is_value.false) r q a b
+    (c.unfit-else-is_value.ensures r q (simp to_z-of_z a) (simp to_z-of_z b)))

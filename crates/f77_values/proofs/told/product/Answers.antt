@@ -12,14 +12,17 @@ returns-then-x-ge-UNDEFINED c = λ r q a b.
     let fx = c.ranges.x in
     let fy = c.ranges.y in
     let u : FitsSigned w64 c.unfit.result = search rules in
-    simp to_z-of_z (faults.left_none _ c.unfit.result c.args.x c.args.y (bounds.at_least c.args.x c.ranges.x c.if-x-ge-UNDEFINED.true) r q a b (c.unfit.ensures r q (simp to_z-of_z a) (simp to_z-of_z b)))
+    simp to_z-of_z (faults.left_none _ c.unfit.result c.args.x c.args.y (bounds.at_least c.args.x c.ranges.x c.if-x-ge-UNDEFINED.true) r q a b
+    (c.unfit.ensures r q (simp to_z-of_z a) (simp to_z-of_z b)))
 
 pub returns-then-y-ge-UNDEFINED : goal.returns-then-y-ge-UNDEFINED
 returns-then-y-ge-UNDEFINED c = λ r q a b.
     let fx = c.ranges.x in
     let fy = c.ranges.y in
     let u : FitsSigned w64 c.unfit-then-y-ge-UNDEFINED.result = search rules in
-    simp to_z-of_z (faults.right_none _ c.unfit-then-y-ge-UNDEFINED.result c.args.x c.args.y (bounds.at_least c.args.y c.ranges.y c.if-y-ge-UNDEFINED.true) r q a b (c.unfit-then-y-ge-UNDEFINED.ensures r q (simp to_z-of_z a) (simp to_z-of_z b)))
+    simp to_z-of_z
+    (faults.right_none _ c.unfit-then-y-ge-UNDEFINED.result c.args.x c.args.y (bounds.at_least c.args.y c.ranges.y c.if-y-ge-UNDEFINED.true) r q a
+    b (c.unfit-then-y-ge-UNDEFINED.ensures r q (simp to_z-of_z a) (simp to_z-of_z b)))
 
 pub returns-then-is_value : goal.returns-then-is_value
 returns-then-is_value c = λ r q a b.

@@ -1,5 +1,5 @@
 use Rattle.std.proofs.Common.{◌≡◌, ◌⊎◌, inl, inr, refl, subst, sym, Err, Ok}
-use Rattle.mothra_app.specs.Answer.{IsOutcome}
+use Rattle.mothra_app.specs.Answer.{IsRequestOutcome}
 use Rattle.mothra_app.specs.Fault.{MayFailBy}
 use Rattle.mothra_job.specs.Job.{JobRead, job_of}
 use Rattle.mothra_app.specs.declared.fault.Fault.TheVariants.{Job}
@@ -13,8 +13,8 @@ use Rattle.mothra_app.proofs.Sources.{told}
 use Rattle.mothra_app.proofs.answer.product_of.Goals as goal
 
 job_refused : (request : Request) (read answer : JobRead) (fault : JobFault) → answer ≡ Err fault → (answer ≡ read) ⊎ (answer ≡ Err Memory)
-    → IsOutcome request read (Err (Job fault)) ⊎ MayFailBy request (Job fault)
-job_refused request read answer fault gives (inl is) = inl (subst (λ r. IsOutcome request r (Err (Job fault))) is (subst (λ r. IsOutcome request r (Err (Job fault))) (sym gives) refl))
+    → IsRequestOutcome request read (Err (Job fault)) ⊎ MayFailBy request (Job fault)
+job_refused request read answer fault gives (inl is) = inl (subst (λ r. IsRequestOutcome request r (Err (Job fault))) is (subst (λ r. IsRequestOutcome request r (Err (Job fault))) (sym gives) refl))
 job_refused request read answer fault gives (inr is) =
     let memory : Memory ≡ fault = cc in
     inr (subst (λ f. MayFailBy request (Job f)) memory (job_in request))

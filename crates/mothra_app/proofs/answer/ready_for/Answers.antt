@@ -1,5 +1,5 @@
 use Rattle.std.proofs.Common.{string_bytes, subst}
-use Rattle.mothra_app.specs.Answer.{IsMade}
+use Rattle.mothra_app.specs.code.Answer.{IsMade}
 use Rattle.mothra_job.specs.Job.{job_of}
 use Rattle.mothra_app.proofs.Outcomes.{fault_told, text_told}
 use Rattle.mothra_app.proofs.answer.ready_for.Goals as goal

@@ -1,7 +1,8 @@
 use Rattle.std.proofs.Common.{arith, ◌≡◌, ◌∙◌, ◌+◌, ◌++◌, ℕ, true, false, length, ap, sym, subst, add-zero, append-nil, string_bytes}
-use Rattle.mothra_codes.specs.Op.{op_at}
+use Rattle.mothra_codes.specs.code.Op.{op_at}
 use Rattle.mothra_ops.specs.Plan.{asked, edits_of}
-use Rattle.mothra_app.specs.Listing.{asked_lines, asked_total, plan_lines}
+use Rattle.mothra_app.specs.code.Listing.{asked_lines, plan_lines}
+use Rattle.mothra_app.specs.Listing.{asked_total}
 use Rattle.mothra_app.proofs.ListedLines.{count_behind, counts_as_before, counts_more, lines_as_before, lines_more, operators_behind, part_more}
 use Rattle.mothra_app.proofs.listing.push_operators.Goals as goal
 use Rattle.mothra_app.proofs.listing.push_operators.Goals.{then-asked+in_ok-push_operator, else-asked}

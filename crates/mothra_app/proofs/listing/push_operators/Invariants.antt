@@ -1,5 +1,6 @@
 use Rattle.std.proofs.Common.{◌≡◌, ◌≤◌, ◌+◌, ◌*◌, ◌++◌, string_bytes}
-use Rattle.mothra_app.specs.Listing.{asked_lines, asked_total}
+use Rattle.mothra_app.specs.code.Listing.{asked_lines}
+use Rattle.mothra_app.specs.Listing.{asked_total}
 use Rattle.mothra_app.proofs.ListedLines.{count_behind, operators_behind}
 use Rattle.mothra_app.proofs.listing.push_operators.Given as goal
 

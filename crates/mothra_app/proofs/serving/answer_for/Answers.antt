@@ -1,6 +1,6 @@
 use Rattle.std.proofs.Common.{◌≡◌, ◌∙◌, false, map, refl, string_bytes, subst, sym, Result, Ok, Err}
 use Rattle.std.specs.Prelude.{IsErrAnd}
-use Rattle.mothra_app.specs.Serving.{IsReadyFor}
+use Rattle.mothra_app.specs.code.Serving.{IsReadyFor}
 use Rattle.mothra_app.specs.Status.{is_read_fault}
 use Rattle.mothra_app.specs.declared.answer.Answer.{Answer}
 use Rattle.mothra_app.specs.declared.status.AppFault.{AppFault}

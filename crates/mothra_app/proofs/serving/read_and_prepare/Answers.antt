@@ -1,5 +1,5 @@
 use Rattle.std.proofs.Common.{ℕ, List, subst}
-use Rattle.mothra_app.specs.Answer.{IsReady}
+use Rattle.mothra_app.specs.code.Answer.{IsReadyAnswer}
 use Rattle.mothra_job.specs.Job.{job_of}
 use Rattle.mothra_app.proofs.Answered.{ready_by}
 use Rattle.mothra_app.proofs.serving.read_and_prepare.Goals as goal
@@ -8,4 +8,4 @@ pub returns-clause-ready : goal.returns-clause-ready
 returns-clause-ready g c =
     let r = c.in_ok-ready_for.field-0 in
     ready_by _ _ c.in_ok-bytes.bytes.items c.args.request.now r c.in_ok-bytes.ensures.bytes
-    (subst (λ (bytes : List ℕ). IsReady c.args.request.now (job_of bytes) r) c.deref.ensures.value c.in_ok-ready_for.ensures)
+    (subst (λ (bytes : List ℕ). IsReadyAnswer c.args.request.now (job_of bytes) r) c.deref.ensures.value c.in_ok-ready_for.ensures)

@@ -1,5 +1,5 @@
 use Rattle.std.proofs.Common.{◌≡◌, true, false, take}
-use Rattle.mothra_bench.specs.Closing.{AreClosed}
+use Rattle.mothra_bench.specs.code.Closing.{AreClosed}
 use Rattle.mothra_bench.specs.Feeding.{OnlyGave}
 use Rattle.mothra_bench.proofs.closing.close_each.Given as goal
 

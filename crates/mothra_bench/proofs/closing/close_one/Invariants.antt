@@ -1,5 +1,5 @@
 use Rattle.std.proofs.Common.{◌≡◌, true}
-use Rattle.mothra_bench.specs.Closing.{LooksOnly}
+use Rattle.mothra_bench.specs.code.Closing.{LooksOnly}
 use Rattle.mothra_bench.specs.Feeding.{OnlyGave}
 use Rattle.mothra_bench.proofs.closing.close_one.Given as goal
 

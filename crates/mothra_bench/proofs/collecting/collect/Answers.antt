@@ -3,7 +3,7 @@ use Rattle.std.specs.Prelude.{AllPairs}
 use Rattle.mothra_codes.specs.declared.ticket.Ticket.{Ticket}
 use Rattle.mothra_codes.specs.Ticket.{Before}
 use Rattle.mothra_bench.specs.Collecting.{AreCollected, IsKnown, IsNoMatrix}
-use Rattle.mothra_bench.specs.Entries.{AreNoEntries}
+use Rattle.mothra_bench.specs.code.Entries.{AreNoEntries}
 use Rattle.mothra_bench.specs.Matrix.{tickets_of}
 use Rattle.mothra_bench.proofs.CollectMatrix.{collected, no_matrix}
 use Rattle.mothra_bench.proofs.CollectTickets.{tickets_ordered}

@@ -1,9 +1,10 @@
 use Rattle.std.proofs.Common.{◌≡◌, List, ◌++◌, take, refl, ap, sym, subst, IfOk, arith, ◌∙◌}
 use Rattle.mothra_codes.specs.Op.{all_ops, index}
 use Rattle.mothra_codes.specs.declared.op.Op.{Op}
-use Rattle.mothra_codes.specs.Ticket.{times}
+use Rattle.mothra_codes.specs.Ticket.{ticket_times}
 use Rattle.mothra_exchange.proofs.Counting.{times-append}
-use Rattle.mothra_bench.specs.Driving.{AreShared, IsDone, IsRun, back_ops, taken_by}
+use Rattle.mothra_bench.specs.code.Driving.{AreShared, IsDone}
+use Rattle.mothra_bench.specs.Driving.{IsThreadRun, back_ops, taken_by}
 use Rattle.mothra_bench.specs.Gathered.{row_list, tickets_in}
 use Rattle.mothra_bench.proofs.DriveEnds.{handed_once}
 use Rattle.mothra_bench.proofs.JoinedPasses.{all_complete}
@@ -17,7 +18,7 @@ returns-in-Ok-clause-records g c keeps op k =
     let was = subst (λ outcome. IfOk outcome (λ rows. (g.G.Gate.view c.run_scope-pass.result.0).taken ≡ old ++ tickets_in rows.items)) c.in-Ok.is
     (c.run_scope-pass.ensures.drives.records keeps) in
     let most = ends.taken k in
-    let same = ap (times (index op) k) was in
+    let same = ap (ticket_times (index op) k) was in
     let parts = times-append (index op) k old (tickets_in c.in-Ok.rows.items) in
     omega arith
 
@@ -39,9 +40,9 @@ returns-in-Ok-clause-order g c =
     let view = g.G.Gate.view c.run_scope-pass.result.0 in
     let old = g.G.Gate.view c.args.pass in
     let runs = c.run_scope-pass.ensures.drives.runs in
-    let is = subst (λ l. IsRun g.G.Gate.may_give_up g.G.Gate.keeps_records g.G.Gate.needs_parts c.args.bench.now l back_ops c.args.workers old.counts runs.run)
+    let is = subst (λ l. IsThreadRun g.G.Gate.may_give_up g.G.Gate.keeps_records g.G.Gate.needs_parts c.args.bench.now l back_ops c.args.workers old.counts runs.run)
     c.split_at.ensures.front
-    (subst (λ l. IsRun g.G.Gate.may_give_up g.G.Gate.keeps_records g.G.Gate.needs_parts c.args.bench.now c.split_at.result.0.now l c.args.workers old.counts runs.run)
+    (subst (λ l. IsThreadRun g.G.Gate.may_give_up g.G.Gate.keeps_records g.G.Gate.needs_parts c.args.bench.now c.split_at.result.0.now l c.args.workers old.counts runs.run)
     c.split_at.ensures.back runs.is) in
     record {
       run = runs.run;
@@ -57,9 +58,9 @@ returns-in-Err-clause-order g c =
     let view = g.G.Gate.view c.run_scope-pass.result.0 in
     let old = g.G.Gate.view c.args.pass in
     let runs = c.run_scope-pass.ensures.drives.runs in
-    let is = subst (λ l. IsRun g.G.Gate.may_give_up g.G.Gate.keeps_records g.G.Gate.needs_parts c.args.bench.now l back_ops c.args.workers old.counts runs.run)
+    let is = subst (λ l. IsThreadRun g.G.Gate.may_give_up g.G.Gate.keeps_records g.G.Gate.needs_parts c.args.bench.now l back_ops c.args.workers old.counts runs.run)
     c.split_at.ensures.front
-    (subst (λ l. IsRun g.G.Gate.may_give_up g.G.Gate.keeps_records g.G.Gate.needs_parts c.args.bench.now c.split_at.result.0.now l c.args.workers old.counts runs.run)
+    (subst (λ l. IsThreadRun g.G.Gate.may_give_up g.G.Gate.keeps_records g.G.Gate.needs_parts c.args.bench.now c.split_at.result.0.now l c.args.workers old.counts runs.run)
     c.split_at.ensures.back runs.is) in
     record {
       run = runs.run;

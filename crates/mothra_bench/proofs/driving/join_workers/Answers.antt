@@ -1,8 +1,9 @@
 use Rattle.std.proofs.Common.{rules, ◌≡◌, ◌⊎◌, ◌+◌, ◌++◌, [], ◌∷◌, None, length, ap, sym, ◌∙◌, subst, ⊎_elim, arith, inl, inr}
 use Rattle.std.proofs.lemmas.List.{length-append}
 use Rattle.std.specs.Vec.Iter.{into_iter_items}
-use Rattle.mothra_bench.specs.Driving.{AreJoined, IsShare, WorkerEnd}
-use Rattle.mothra_bench.specs.Gathered.{gathered_rows}
+use Rattle.mothra_bench.specs.code.Driving.{AreJoined}
+use Rattle.mothra_bench.specs.Driving.{IsShare, WorkerEnd}
+use Rattle.mothra_bench.specs.code.Gathered.{gathered_rows}
 use Rattle.mothra_bench.specs.Working.{AreOver}
 use Rattle.mothra_bench.proofs.DriveEnds.{any_none, gathered_outcome, joined_none, joined_on, memory_on, none_on, rows_none}
 use Rattle.mothra_bench.proofs.JoinedPasses.{keeps_on, keeps_self, new_same}

@@ -1,8 +1,10 @@
 use Rattle.std.proofs.Common.{◌≡◌, ◌⊎◌, ◌+◌, ◌++◌, List, true, None, All, IfSome, MatchOption, length}
 use Rattle.std.specs.Prelude.{IfNone}
 use Rattle.std.specs.Vec.Iter.{into_iter_items, into_iter_len}
-use Rattle.mothra_bench.specs.Driving.{AreJoined, IsNoDrive, IsShare, KeepsFed, WorkerEnd}
-use Rattle.mothra_bench.specs.Gathered.{AreVerdicts, gathered_rows, tickets_in}
+use Rattle.mothra_bench.specs.code.Driving.{AreJoined, KeepsFed}
+use Rattle.mothra_bench.specs.Driving.{IsNoDrive, IsShare, WorkerEnd}
+use Rattle.mothra_bench.specs.Gathered.{AreVerdicts, tickets_in}
+use Rattle.mothra_bench.specs.code.Gathered.{gathered_rows}
 use Rattle.mothra_bench.specs.Working.{AreOver}
 use Rattle.mothra_bench.specs.declared.fault.BenchFault.TheVariants as fault
 use Rattle.mothra_bench.proofs.driving.join_workers.Given as goal

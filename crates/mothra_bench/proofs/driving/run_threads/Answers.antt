@@ -1,6 +1,7 @@
 use Rattle.std.proofs.Common.{◌≡◌, ◌⊎◌, ◌++◌, [], true, None, length, ap, sym, ◌∙◌, subst, ⊎_elim, arith}
 use Rattle.std.proofs.lemmas.Result.{IfErr-weaker, IfOk-weaker}
-use Rattle.mothra_bench.specs.Driving.{AreStarted, Drives, IsDone, IsNoDrive, Run, all_rows, answer_of, feeder_outcome, taken_by}
+use Rattle.mothra_bench.specs.Driving.{AreStarted, IsNoDrive, Run, all_rows, answer_of, feeder_outcome, taken_by}
+use Rattle.mothra_bench.specs.code.Driving.{Drives, IsDone}
 use Rattle.mothra_bench.specs.Gathered.{AreVerdicts, row_list, tickets_in}
 use Rattle.mothra_bench.specs.Working.{AreOver}
 use Rattle.mothra_bench.proofs.DriveEnds.{all_first, answer_list, answer_same, err_answer, feeder_end, joins, ok_answer, own_told, same_worked, stalled_told, starts, where_none}
@@ -48,7 +49,9 @@ returns-clause-drives g c =
     let run : Run = record { own = own; first = front_end.0; second = back_end.0; workers = ends.0 } in
     let started : AreStarted count run own = joins count run c.start_or_close-other.new.fault own
     (starts count (length c.start_workers-workers.result.0.items) run c.start_workers-workers.result.1 c.start_or_close-one.new.fault c.start_or_close-other.new.fault
-    c.start_or_close-one.result c.start_or_close-other.result ends.1 (all_first _ _ c.start_workers-workers.result.1 c.start_workers-workers.ensures.all) c.start_workers-workers.ensures.which c.start_or_close-one.ensures.kept
+    c.start_or_close-one.result c.start_or_close-other.result
+    ends.1 (all_first _ _ c.start_workers-workers.result.1 c.start_workers-workers.ensures.all) c.start_workers-workers.ensures.which
+    c.start_or_close-one.ensures.kept
     c.start_or_close-one.ensures.thread c.start_or_close-other.ensures.kept c.start_or_close-other.ensures.thread front_end.3 back_end.3)
     c.join_workers-gathered.ensures.none c.join_workers-gathered.ensures.memory in
     let none_at_last = where_none (c.start_or_close-other.new.fault ≡ None) own c.join_workers-gathered.ensures.none in

@@ -1,6 +1,6 @@
 use Rattle.std.proofs.Common.{◌≡◌, [], ◌∷◌, length, ap, sym, subst, ◌∙◌, arith}
 use Rattle.std.proofs.lemmas.List.{length-append}
-use Rattle.mothra_bench.specs.Driving.{IsNew, IsShare}
+use Rattle.mothra_bench.specs.Driving.{IsNewPass, IsShare}
 use Rattle.mothra_bench.proofs.JoinedPasses.{split_new, split_on, split_once}
 use Rattle.mothra_bench.proofs.WorkerRows.{all_push}
 use Rattle.mothra_bench.proofs.driving.start_workers.Goals as goal
@@ -22,7 +22,7 @@ loop-preserved g c =
             told.1,
             record {
               part = λ parts. ap (λ p. (g.G.Gate.view p).part) told.2 ∙ (split.part parts).1;
-              fresh = λ keeps. subst (λ p. IsNew old.counts (g.G.Gate.view p)) (sym told.2)
+              fresh = λ keeps. subst (λ p. IsNewPass old.counts (g.G.Gate.view p)) (sym told.2)
                   (split_new old.counts between (g.G.Gate.view c.split-own.result) (inv.3 keeps).counts (split.records keeps).1);
             },
           ),

@@ -4,7 +4,7 @@ use Rattle.std.proofs.lemmas.List.Elements.{All-push}
 use Rattle.mothra_codes.specs.declared.op.Op.TheVariants.{Aar}
 use Rattle.mothra_codes.specs.Ticket.{ticket}
 use Rattle.mothra_codes.specs.declared.ticket.Ticket.{Ticket}
-use Rattle.mothra_bench.specs.Entries.{IsEntry}
+use Rattle.mothra_bench.specs.code.Entries.{IsEntry}
 use Rattle.mothra_bench.specs.declared.matrix.Entry.{Entry}
 use Rattle.mothra_bench.proofs.CollectLists.{any_default, taken_more}
 use Rattle.mothra_bench.proofs.CollectEntries.{absent_here, entry_of_first, left_here, left_more}

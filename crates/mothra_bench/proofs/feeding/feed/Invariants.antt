@@ -3,7 +3,8 @@ use Rattle.std.specs.Prelude.{slice_index}
 use Rattle.mothra_codes.specs.declared.op.Op.{Op}
 use Rattle.mothra_codes.specs.Op.{index}
 use Rattle.mothra_bench.specs.Closing.{count_of}
-use Rattle.mothra_bench.specs.Feeding.{AllShow, OnlyGave, stage_of}
+use Rattle.mothra_bench.specs.code.Feeding.{AllShow, stage_of}
+use Rattle.mothra_bench.specs.Feeding.{OnlyGave}
 use Rattle.mothra_bench.specs.declared.feeding.Stage.TheVariants as stage
 use Rattle.mothra_bench.proofs.feeding.feed.Given as goal
 

@@ -3,7 +3,7 @@ use Rattle.std.specs.Prelude.{slice_index}
 use Rattle.std.proofs.lemmas.List.{take_all}
 use Rattle.mothra_codes.specs.Op.{index}
 use Rattle.mothra_codes.specs.declared.op.Op.{Op}
-use Rattle.mothra_bench.specs.Feeding.{Shows, stage_of}
+use Rattle.mothra_bench.specs.code.Feeding.{ShowsStage, stage_of}
 use Rattle.mothra_bench.specs.declared.feeding.Stage.TheVariants as stage
 use Rattle.mothra_bench.proofs.FeederRounds.{all_closed_at, all_show_at, other_stage_at}
 use Rattle.mothra_bench.proofs.FeederSteps.{gave_on}
@@ -27,8 +27,8 @@ loop-op-preserved g c =
           let before = inv.5 keeps counts shows in
           let count = ap (λ (l : List ℕ). slice_index l (index op)) (inv.3 keeps).counts
           ∙ (counts op ∙ ap (λ (i : ℕ). slice_index c.args.counts.now i) (sym c.index-in-loop-op.ensures.value)) in
-          let here : Shows between op (get_or c.loop-op.stages c.index.result (stage.Offered 0)) =
-          subst (λ (i : ℕ). Shows between op (get_or c.loop-op.stages i (stage.Offered 0))) (sym c.index.ensures.value) (before op) in
+          let here : ShowsStage between op (get_or c.loop-op.stages c.index.result (stage.Offered 0)) =
+          subst (λ (i : ℕ). ShowsStage between op (get_or c.loop-op.stages i (stage.Offered 0))) (sym c.index.ensures.value) (before op) in
           all_show_at between new c.loop-op.stages op c.index-in-loop-op-2.result c.in-Some.stage at inv.4 (c.in-Some.ensures.others keeps)
           (c.in-Some.ensures.shows keeps count here) before,
       λ closed.

@@ -1,5 +1,5 @@
 use Rattle.std.proofs.Common.{subst, ⊎_elim}
-use Rattle.mothra_bench.specs.Feeding.{Shows}
+use Rattle.mothra_bench.specs.code.Feeding.{ShowsStage}
 use Rattle.mothra_bench.proofs.FeederSteps.{only_offered, shows_accepted, shows_ended, shows_waited}
 use Rattle.mothra_bench.proofs.feeding.offer.Goals as goal
 
@@ -7,7 +7,7 @@ pub returns-in-Accepted-clause-shows : goal.returns-in-Accepted-clause-shows
 returns-in-Accepted-clause-shows g c keeps before is next below h =
     let old = g.G.Gate.view c.args.pass.now in
     shows_accepted g.G.Gate.bound old (g.G.Gate.view c.offer.new.pass) c.args.ticket before next below
-    (subst (Shows old c.args.ticket.op) is h) (c.in-Accepted.ensures.records keeps)
+    (subst (ShowsStage old c.args.ticket.op) is h) (c.in-Accepted.ensures.records keeps)
 
 pub returns-in-Accepted-clause-others : goal.returns-in-Accepted-clause-others
 returns-in-Accepted-clause-others g c keeps =
@@ -28,7 +28,7 @@ pub returns-in-Closed-clause-shows : goal.returns-in-Closed-clause-shows
 returns-in-Closed-clause-shows g c keeps before is next below h =
     let old = g.G.Gate.view c.args.pass.now in
     shows_ended g.G.Gate.bound old (g.G.Gate.view c.offer.new.pass) c.args.ticket before c.offer.result c.in-Closed.is next below
-    (subst (Shows old c.args.ticket.op) is h) (c.offer.ensures.records keeps)
+    (subst (ShowsStage old c.args.ticket.op) is h) (c.offer.ensures.records keeps)
 
 pub returns-in-Closed-clause-others : goal.returns-in-Closed-clause-others
 returns-in-Closed-clause-others g c keeps =

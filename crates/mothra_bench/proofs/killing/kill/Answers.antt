@@ -41,7 +41,8 @@ comes_to-requires-clause-visits c =
     let read : slice_get c.tests.result.now c.args.test ≡ Some c.index-tests-test.result
     = slice_get_read c.tests.result.now (length c.tests.result.now) c.args.test c.index-tests-test.result refl (omega (arith, c.requires.within, tests)) c.index-tests-test.is in
     let at : slice_get bench.tests c.args.test ≡ Some c.index-tests-test.result = ap (λ tests. slice_get tests c.args.test) (sym c.tests.ensures.tests) ∙ read in
-    let there = paired (λ arguments visits. IsFollowed bench.plan.checked arguments bench.steps visits) bench.tests c.visits.result.now c.args.test c.index-tests-test.result c.visits.ensures.visits at in
+    let there = paired (λ arguments visits. IsFollowed bench.plan.checked arguments bench.steps visits) bench.tests c.visits.result.now c.args.test
+    c.index-tests-test.result c.visits.ensures.visits at in
     let found : slice_get c.visits.result.now c.args.test ≡ Some c.index-visits-test.result
     = slice_get_read c.visits.result.now (length c.visits.result.now) c.args.test c.index-visits-test.result refl (omega (arith, c.requires.within, long)) c.index-visits-test.is in
     let same : there.0 ≡ c.index-visits-test.result = same_Some _ _ (sym there.1 ∙ found) in

@@ -1,6 +1,6 @@
 use Rattle.std.proofs.Common.{rules, ◌≡◌, ◌++◌, true, false}
 use Rattle.std.specs.String.{string_bytes}
-use Rattle.mothra_codes.specs.Op.{op_at}
+use Rattle.mothra_codes.specs.code.Op.{op_at}
 use Rattle.mothra_ops.specs.Plan.{asked}
 use Rattle.mothra_bench.specs.Report.{operator_line}
 use Rattle.mothra_bench.proofs.ReportOperators.{with_line, without_line}

@@ -18,5 +18,6 @@ returns-clause-text c =
     let fourth : string_bytes c.push_score.new.text ≡ string_bytes c.push_counts.new.text ++ score_line (score_of (counts entries)) = search rules in
     let fifth : string_bytes c.push_entries.new.text ≡ string_bytes c.push_score.new.text ++ entry_lines plan entries = search rules in
     let sixth : string_bytes c.push_str.new.self ≡ string_bytes c.push_entries.new.text ++ line (codes "END") = search rules in
-    six_texts (heading c.args.bench.now) (operator_lines plan entries) (counts_line (codes "TOTAL") (counts entries)) (score_line (score_of (counts entries))) (entry_lines plan entries) (line (codes "END"))
+    six_texts (heading c.args.bench.now) (operator_lines plan entries) (counts_line (codes "TOTAL") (counts entries))
+    (score_line (score_of (counts entries))) (entry_lines plan entries) (line (codes "END"))
     first second third fourth fifth sixth

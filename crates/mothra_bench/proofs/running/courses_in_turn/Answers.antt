@@ -3,7 +3,7 @@ use Rattle.f77_program.specs.Program.{line_of}
 use Rattle.f77_check.specs.Checked.{CheckedFields}
 use Rattle.f77_run.specs.Interpreter.{IsOutcomeOf, refusal}
 use Rattle.f77_run.specs.Visits.{IsFollowed}
-use Rattle.mothra_bench.specs.Bench.{Ends}
+use Rattle.mothra_bench.specs.Bench.{EndsOn}
 use Rattle.mothra_bench.proofs.BenchTests.{course_more, courses_all, ends_all, first_not, test_fits}
 use Rattle.mothra_bench.proofs.running.courses_in_turn.Goals as goal
 
@@ -16,8 +16,8 @@ pub returns-in_default-clause-refused : goal.returns-in_default-clause-refused
 returns-in_default-clause-refused c =
     let program = map line_of c.args.original.now.program in
     let here = rw c.in_default.is at c.in_ok-course.ensures.fails in
-    let fails = subst (λ (checked : CheckedFields). Ends (map line_of checked.program) c.args.steps c.index-tests-index.result → ⊥) c.loop-index.invariant.0 here in
-    first_not (Ends program c.args.steps) c.args.tests.now c.loop-index.index c.index-tests-index.result c.loop-index-test.true c.index-tests-index.is
+    let fails = subst (λ (checked : CheckedFields). EndsOn (map line_of checked.program) c.args.steps c.index-tests-index.result → ⊥) c.loop-index.invariant.0 here in
+    first_not (EndsOn program c.args.steps) c.args.tests.now c.loop-index.index c.index-tests-index.result c.loop-index-test.true c.index-tests-index.is
     (ends_all program c.args.steps _ c.loop-index.outcomes.items c.loop-index.invariant.1.outcomes c.loop-index.invariant.1.end)
     fails
 

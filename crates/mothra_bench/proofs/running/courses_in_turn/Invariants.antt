@@ -1,5 +1,5 @@
 use Rattle.std.proofs.Common.{◌≡◌, take}
-use Rattle.mothra_bench.specs.Running.{AreCourses}
+use Rattle.mothra_bench.specs.code.Running.{AreCourses}
 use Rattle.mothra_bench.proofs.running.courses_in_turn.Given as goal
 
 abbrev pub invariant-loop-index : goal.invariant-loop-index

@@ -1,6 +1,7 @@
 use Rattle.std.proofs.Common.{◌≡◌, ◌+◌, ◌≤◌, ◌++◌, List, length, ap, sym, ◌∙◌, arith, rules}
 use Rattle.std.proofs.lemmas.List.{length-append}
-use Rattle.mothra_codes.specs.Op.{all_ops, op_at}
+use Rattle.mothra_codes.specs.Op.{all_ops}
+use Rattle.mothra_codes.specs.code.Op.{op_at}
 use Rattle.mothra_codes.specs.declared.op.Op.TheVariants.{Aar}
 use Rattle.mothra_ops.specs.Plan.{edits_of}
 use Rattle.mothra_codes.specs.declared.ticket.Ticket.{Ticket}

@@ -1,5 +1,5 @@
 use Rattle.std.proofs.Common.{◌≡◌, ◌<◌, ℕ, length, get_or}
-use Rattle.mothra_codes.specs.Op.{op_at}
+use Rattle.mothra_codes.specs.code.Op.{op_at}
 use Rattle.mothra_ops.specs.Plan.{IsPlan, edits_of}
 use Rattle.mothra_bench.proofs.tickets.counts.Given as goal
 

@@ -3,7 +3,7 @@ use Rattle.mothra_codes.specs.Op.{index}
 use Rattle.mothra_codes.specs.declared.op.Op.{Op}
 use Rattle.mothra_exchange.specs.Sharing.{IsOver}
 use Rattle.mothra_bench.specs.Bench.{BenchFields}
-use Rattle.mothra_bench.specs.Working.{Went}
+use Rattle.mothra_bench.specs.code.Working.{Went}
 use Rattle.mothra_bench.specs.declared.working.Turn.TheVariants as turn
 use Rattle.mothra_bench.proofs.working.take_round.Given as goal
 

@@ -1,7 +1,8 @@
 use Rattle.std.proofs.Common.{◌+◌, refl, subst, sym}
 use Rattle.std.specs.Prelude.{IfSome}
 use Rattle.mothra_codes.specs.Ticket.{ticket}
-use Rattle.mothra_equivalents.specs.Equivalents.{IsFront, IsMutantBy}
+use Rattle.mothra_equivalents.specs.code.Equivalents.{IsFront}
+use Rattle.mothra_equivalents.specs.Equivalents.{IsMutantBy}
 use Rattle.mothra_equivalents.proofs.Adding.{front_grows}
 use Rattle.mothra_equivalents.proofs.equivalents.add.Goals as goal
 

@@ -1,6 +1,6 @@
 use Rattle.std.proofs.Common.{◌≡◌, ◌+◌}
 use Rattle.mothra_codes.specs.Op.{index}
-use Rattle.mothra_equivalents.specs.Equivalents.{AreOf, IsFront}
+use Rattle.mothra_equivalents.specs.code.Equivalents.{AreOf, IsFront}
 use Rattle.mothra_equivalents.proofs.equivalents.add_operator.Given as goal
 
 abbrev pub invariant-loop-before : goal.invariant-loop-before

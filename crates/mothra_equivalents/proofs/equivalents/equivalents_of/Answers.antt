@@ -1,7 +1,8 @@
 use Rattle.std.proofs.Common.{◌≡◌, ◌∙◌, ◌+◌, ℕ, subst, sym}
-use Rattle.mothra_codes.specs.Op.{index, op_at}
+use Rattle.mothra_codes.specs.Op.{index}
+use Rattle.mothra_codes.specs.code.Op.{op_at}
 use Rattle.mothra_codes.proofs.Operators.{index-op_at}
-use Rattle.mothra_equivalents.specs.Equivalents.{AreOf}
+use Rattle.mothra_equivalents.specs.code.Equivalents.{AreOf}
 use Rattle.mothra_equivalents.proofs.equivalents.equivalents_of.Goals as goal
 
 pub loop-op-preserved : goal.loop-op-preserved

@@ -1,5 +1,5 @@
 use Rattle.std.proofs.Common.{◌≡◌}
-use Rattle.mothra_equivalents.specs.Equivalents.{AreOf}
+use Rattle.mothra_equivalents.specs.code.Equivalents.{AreOf}
 use Rattle.mothra_equivalents.proofs.equivalents.equivalents_of.Given as goal
 
 abbrev pub invariant-loop-op : goal.invariant-loop-op

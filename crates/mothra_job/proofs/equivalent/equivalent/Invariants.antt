@@ -1,7 +1,7 @@
 use Rattle.std.proofs.Common.{◌≡◌, ◌+◌, ◌++◌, drop, map}
 use Rattle.serde_json.specs.View.{view}
-use Rattle.mothra_job.specs.Equivalent.{entries_of, entry_faults}
-use Rattle.mothra_job.specs.FirstFault.{first_or}
+use Rattle.mothra_job.specs.Equivalent.{tickets_named, entry_faults}
+use Rattle.mothra_job.specs.FirstFault.{fault_or}
 use Rattle.mothra_job.proofs.equivalent.equivalent.Given as goal
 
 -- the mutants so far and what the other values are come to what all the values are
@@ -9,4 +9,4 @@ abbrev pub invariant-loop-index : goal.invariant-loop-index
 invariant-loop-index l =
     let rest = map view (drop l.index l.values) in
     let all = map view l.values in
-    first_or (entry_faults (l.index + 1) rest) (l.tickets.items ++ entries_of rest) ≡ first_or (entry_faults 1 all) (entries_of all)
+    fault_or (entry_faults (l.index + 1) rest) (l.tickets.items ++ tickets_named rest) ≡ fault_or (entry_faults 1 all) (tickets_named all)

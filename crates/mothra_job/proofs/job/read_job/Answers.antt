@@ -4,8 +4,8 @@ use Rattle.std.specs.Str.{is_utf8}
 use Rattle.std.proofs.lemmas.Str.{IsUtf8-from_is_utf8, is_utf8-from_IsUtf8}
 use Rattle.serde_json.specs.Data.{Data}
 use Rattle.serde_json.specs.Read.{read}
-use Rattle.mothra_job.specs.FirstFault.{first_or}
-use Rattle.mothra_job.specs.Job.{JobRead, faults, job_fields, job_of, json_of, value_faults}
+use Rattle.mothra_job.specs.FirstFault.{fault_or}
+use Rattle.mothra_job.specs.Job.{JobRead, job_faults, job_fields, job_of, json_of, value_faults}
 use Rattle.mothra_job.specs.declared.job.JobFault.TheVariants.{Memory, TooLarge}
 use Rattle.mothra_job.proofs.job.read_job.Goals as goal
 
@@ -20,12 +20,12 @@ no_text bytes refused = go (is_utf8 bytes) refl
     go false is = rw is refl
 
 small : (bytes : List ℕ) (value : Option Data) → length bytes ≤ 1048576 → json_of bytes ≡ value
-    → job_of bytes ≡ first_or (value_faults value) (job_fields value)
-unfolding job_of faults
-small bytes value few is = rw (le-ltb _ _ few) (ap (λ v. first_or (value_faults v) (job_fields v)) is)
+    → job_of bytes ≡ fault_or (value_faults value) (job_fields value)
+unfolding job_of job_faults
+small bytes value few is = rw (le-ltb _ _ few) (ap (λ v. fault_or (value_faults v) (job_fields v)) is)
 
 large : (bytes : List ℕ) → 1048576 < length bytes → job_of bytes ≡ Err TooLarge
-unfolding job_of faults
+unfolding job_of job_faults
 large bytes many = rw (lt-ltb _ _ many) refl
 
 pub returns-then-bytes-gt-MOST_BYTES-clause-job : goal.returns-then-bytes-gt-MOST_BYTES-clause-job

@@ -3,15 +3,15 @@ use Rattle.serde_json.specs.Data.{Data}
 use Rattle.serde_json.specs.Find.{as_array, get}
 use Rattle.serde_json.specs.View.{view, items_view}
 use Rattle.serde_json.specs.declared.value.Value.{Value}
-use Rattle.mothra_job.specs.Job.{listed, values_in}
+use Rattle.mothra_job.specs.Job.{data_listed, listed_values}
 use Rattle.mothra_job.proofs.Suites.{listed_items}
 use Rattle.mothra_job.proofs.job.values_at.Goals as goal
 
 found : (slice items : List Value) (list : Option Data) (value : Data) → slice ≡ items → Some value ≡ list → Some (items_view items) ≡ as_array value
-    → Some (map view slice) ≡ values_in list
+    → Some (map view slice) ≡ listed_values list
 found slice items list value same at is =
-    subst (λ o. Some (map view slice) ≡ values_in o) at
-    (ap (λ vs. Some (map view vs)) same ∙ ap Some (sym (listed_items (map view items))) ∙ ap (option_map listed) is)
+    subst (λ o. Some (map view slice) ≡ listed_values o) at
+    (ap (λ vs. Some (map view vs)) same ∙ ap Some (sym (listed_items (map view items))) ∙ ap (option_map data_listed) is)
 
 pub returns-in_ok-as_array-in-Some : goal.returns-in_ok-as_array-in-Some
 returns-in_ok-as_array-in-Some c =

@@ -2,8 +2,8 @@ use Rattle.std.proofs.Common.{◌≡◌, ◌⊎◌, ◌∙◌, ◌++◌, inl, in
 use Rattle.serde_json.specs.Data.{Data}
 use Rattle.serde_json.specs.View.{view}
 use Rattle.f77_run.specs.declared.argument.Arg.{Arg}
-use Rattle.mothra_job.specs.Equivalent.{entries_of, entry_faults}
-use Rattle.mothra_job.specs.FirstFault.{first_or}
+use Rattle.mothra_job.specs.Equivalent.{tickets_named, entry_faults}
+use Rattle.mothra_job.specs.FirstFault.{fault_or}
 use Rattle.mothra_job.specs.Job.{JobFields, JobRead, job_with, list_faults}
 use Rattle.mothra_job.specs.Suite.{suite_faults, tests_of}
 use Rattle.mothra_job.specs.declared.job.JobFault.{JobFault}
@@ -14,22 +14,22 @@ abbrev Tests : Type 0
 Tests = Result (List (List Arg)) JobFault
 
 -- no fault, and this value
-without_fault : (fs : List JobFault) (x y : List (List Arg)) → Ok y ≡ first_or fs x → (fs ≡ []) × (x ≡ y)
+without_fault : (fs : List JobFault) (x y : List (List Arg)) → Ok y ≡ fault_or fs x → (fs ≡ []) × (x ≡ y)
 without_fault [] x y e = let same : x ≡ y = cc in (refl, same)
 without_fault (f ∷ fs) x y e = cc
 
 -- the first of some faults is the first of more
-first_of_more : (fs more : List JobFault) (f : JobFault) (x : List (List Arg)) (z : JobFields) → Err f ≡ first_or fs x
-    → Err f ≡ first_or (fs ++ more) z
+first_of_more : (fs more : List JobFault) (f : JobFault) (x : List (List Arg)) (z : JobFields) → Err f ≡ fault_or fs x
+    → Err f ≡ fault_or (fs ++ more) z
 first_of_more [] more f x z e = cc
 first_of_more (g ∷ gs) more f x z e = let same : f ≡ g = cc in ap Err same
 
 module _ (source : List ℕ) (tests declared : List Data) (r : Tests) (answer : JobRead) where
   abbrev IsAnswer : Type 0
-  IsAnswer = (answer ≡ first_or (list_faults tests declared) (job_with (Some source) (Some tests) (Some declared))) ⊎ (answer ≡ Err Memory)
+  IsAnswer = (answer ≡ fault_or (list_faults tests declared) (job_with (Some source) (Some tests) (Some declared))) ⊎ (answer ≡ Err Memory)
 
-  of_tests : (suite : List (List Arg)) → r ≡ Ok suite → (r ≡ first_or (suite_faults tests) (tests_of tests)) ⊎ (r ≡ Err Memory)
-      → (answer ≡ first_or (entry_faults 1 declared) (record { source = source; suite = suite; equivalent = entries_of declared })) ⊎ (answer ≡ Err Memory)
+  of_tests : (suite : List (List Arg)) → r ≡ Ok suite → (r ≡ fault_or (suite_faults tests) (tests_of tests)) ⊎ (r ≡ Err Memory)
+      → (answer ≡ fault_or (entry_faults 1 declared) (record { source = source; suite = suite; equivalent = tickets_named declared })) ⊎ (answer ≡ Err Memory)
       → IsAnswer
   of_tests suite is (inr memory) told = let none : Ok suite ≡ Err Memory = sym is ∙ memory in cc
   of_tests suite is (inl good) (inr memory) = inr memory
@@ -37,10 +37,10 @@ module _ (source : List ℕ) (tests declared : List Data) (r : Tests) (answer : 
       let parts = without_fault (suite_faults tests) (tests_of tests) suite (sym is ∙ good) in
       inl
       (same
-      ∙ ap₂ (λ fs s. first_or (fs ++ entry_faults 1 declared) (record { source = source; suite = s; equivalent = entries_of declared }))
+      ∙ ap₂ (λ fs s. fault_or (fs ++ entry_faults 1 declared) (record { source = source; suite = s; equivalent = tickets_named declared }))
       (sym parts.0) (sym parts.1))
 
-  of_fault : (fault : JobFault) → r ≡ Err fault → answer ≡ Err fault → (r ≡ first_or (suite_faults tests) (tests_of tests)) ⊎ (r ≡ Err Memory)
+  of_fault : (fault : JobFault) → r ≡ Err fault → answer ≡ Err fault → (r ≡ fault_or (suite_faults tests) (tests_of tests)) ⊎ (r ≡ Err Memory)
       → IsAnswer
   of_fault fault is gives (inl bad) = inl (gives ∙ first_of_more (suite_faults tests) (entry_faults 1 declared) fault (tests_of tests) _ (sym is ∙ bad))
   of_fault fault is gives (inr memory) = let same : fault ≡ Memory = cc in inr (gives ∙ ap Err same)

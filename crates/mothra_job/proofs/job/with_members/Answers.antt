@@ -4,7 +4,7 @@ use Rattle.std.specs.Map.{keys_of}
 use Rattle.serde_json.specs.Data.{Data}
 use Rattle.serde_json.specs.View.{view, members_view}
 use Rattle.serde_json.specs.declared.value.Value.{Value}
-use Rattle.mothra_job.specs.FirstFault.{first_or}
+use Rattle.mothra_job.specs.FirstFault.{fault_or}
 use Rattle.mothra_job.specs.Job.{JobFields, JobRead, is_known, job_with, list_faults, member_faults, unknown_keys}
 use Rattle.mothra_job.specs.declared.job.JobFault.{JobFault}
 use Rattle.mothra_job.specs.declared.job.JobFault.TheVariants.{Memory, Key}
@@ -22,22 +22,22 @@ told None rest = rest
 told (Some key) rest = Err (Key key)
 
 first_step : (rest : List JobFault) (job : JobFields) (e : String Global × Value) (es : Entries) (b : Bool) → is_known (string_bytes e.0) ≡ b
-    → first_or (map Key (unknown_keys (members_view es)) ++ rest) job ≡ told (unknown_in es) (first_or rest job)
-    → first_or (map Key (unknown_keys (members_view (e ∷ es))) ++ rest) job ≡ told (unknown_in (e ∷ es)) (first_or rest job)
+    → fault_or (map Key (unknown_keys (members_view es)) ++ rest) job ≡ told (unknown_in es) (fault_or rest job)
+    → fault_or (map Key (unknown_keys (members_view (e ∷ es))) ++ rest) job ≡ told (unknown_in (e ∷ es)) (fault_or rest job)
 first_step rest job e es true is later = rw is later
 first_step rest job e es false is later = rw is refl
 
 -- the code looks in the keys, and the definition in the members
 by_keys : (rest : List JobFault) (job : JobFields) (es : Entries)
-    → first_or (map Key (unknown_keys (members_view es)) ++ rest) job ≡ told (unknown_in es) (first_or rest job)
+    → fault_or (map Key (unknown_keys (members_view es)) ++ rest) job ≡ told (unknown_in es) (fault_or rest job)
 by_keys rest job [] = refl
 by_keys rest job (e ∷ es) = first_step rest job e es (is_known (string_bytes e.0)) refl (by_keys rest job es)
 
 -- what comes of a source, a suite and entries that are there
 met : (source : Option (List ℕ)) (suite entries : Option (List Data)) (es : Entries) (text : List ℕ) (tests declared : List Data)
     → source ≡ Some text → suite ≡ Some tests → entries ≡ Some declared
-    → first_or (member_faults source suite entries (unknown_keys (members_view es))) (job_with source suite entries)
-    ≡ told (unknown_in es) (first_or (list_faults tests declared) (job_with (Some text) (Some tests) (Some declared)))
+    → fault_or (member_faults source suite entries (unknown_keys (members_view es))) (job_with source suite entries)
+    ≡ told (unknown_in es) (fault_or (list_faults tests declared) (job_with (Some text) (Some tests) (Some declared)))
 met source suite entries es text tests declared is are too =
     rw (is, are, too) (by_keys (list_faults tests declared) (job_with (Some text) (Some tests) (Some declared)) es)
 
@@ -55,7 +55,7 @@ returns-in-Some-unknown_key c =
     let unknown : unknown_in es ≡ Some c.as_str.result.now = ap (option_map string_bytes) (sym c.in-Some-unknown_key.ensures) ∙ ap Some (sym c.as_str.ensures.value) in
     let tests = map view c.in-Some-suite.values.now in
     let declared = map view c.in-Some-entries.entries.now in
-    let rest : JobRead = first_or (list_faults tests declared) (job_with (Some c.in-Some.source.now) (Some tests) (Some declared)) in
+    let rest : JobRead = fault_or (list_faults tests declared) (job_with (Some c.in-Some.source.now) (Some tests) (Some declared)) in
     of_key _ c.as_str.result.now _ _ refl c.key_fault-in-Some-unknown_key.ensures
     (met _ _ _ es c.in-Some.source.now tests declared text values entries ∙ ap (λ o. told o rest) unknown)
 
@@ -68,6 +68,6 @@ returns-in-None c =
     let none : unknown_in es ≡ None = ap (option_map string_bytes) (sym c.in-None.ensures) in
     let tests = map view c.in-Some-suite.values.now in
     let declared = map view c.in-Some-entries.entries.now in
-    let rest : JobRead = first_or (list_faults tests declared) (job_with (Some c.in-Some.source.now) (Some tests) (Some declared)) in
+    let rest : JobRead = fault_or (list_faults tests declared) (job_with (Some c.in-Some.source.now) (Some tests) (Some declared)) in
     let same = met _ _ _ es c.in-Some.source.now tests declared text values entries ∙ ap (λ o. told o rest) none in
     subst (λ (r : JobRead). (c.with_lists.result ≡ r) ⊎ (c.with_lists.result ≡ Err Memory)) (sym same) c.with_lists.ensures

@@ -2,11 +2,11 @@ use Rattle.std.proofs.Common.{◌≡◌, ◌∙◌, ◌==◌, refl, sym, ℤ, le
 use Rattle.serde_json.specs.View.{items_view}
 use Rattle.serde_json.specs.declared.value.Value.{Value}
 use Rattle.f77_run.specs.declared.argument.Arg.TheVariants.{Ints}
-use Rattle.mothra_job.specs.Suite.{each, elements, integer}
+use Rattle.mothra_job.specs.Suite.{each, array_of_items, integer}
 use Rattle.mothra_job.proofs.suite.elements.Goals as goal
 
 all_numbers : (values : List Value) (zs : List ℤ) → (length values == 0) ≡ false → each integer (items_view values) ≡ Some zs
-    → Some (Ints zs) ≡ elements (items_view values)
+    → Some (Ints zs) ≡ array_of_items (items_view values)
 all_numbers [] zs some are = absurd (true≢false some)
 all_numbers (value ∷ values) zs some are = rw are refl
 

@@ -3,7 +3,8 @@ use Rattle.std.specs.Prelude.{option_map}
 use Rattle.f77_program.specs.Program.{line_of}
 use Rattle.f77_program.specs.Patching.{Fits, patched}
 use Rattle.f77_tree.specs.Statement.{statement_of}
-use Rattle.mothra_ops.specs.Edits.{IsMadeBy, IsMember, IsMutant}
+use Rattle.mothra_ops.specs.code.Edits.{IsMadeBy}
+use Rattle.mothra_ops.specs.Edits.{IsMember, IsMutant}
 use Rattle.mothra_ops.proofs.MakesMutant.{illegal}
 use Rattle.mothra_ops.proofs.editing.apply.Goals as goal
 

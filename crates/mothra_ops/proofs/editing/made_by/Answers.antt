@@ -4,7 +4,7 @@ use Rattle.std.proofs.lemmas.Result.{IfOk-weaker}
 use Rattle.f77_check.specs.Checked.{CheckedFields}
 use Rattle.f77_program.specs.Program.{LineFields, line_of}
 use Rattle.f77_tree.specs.Statement.{statement_of}
-use Rattle.mothra_ops.specs.Edits.{IsMadeBy}
+use Rattle.mothra_ops.specs.code.Edits.{IsMadeBy}
 use Rattle.mothra_ops.specs.Original.{lines_of}
 use Rattle.mothra_ops.proofs.editing.made_by.Goals as goal
 

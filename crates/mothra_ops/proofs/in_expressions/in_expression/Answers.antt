@@ -2,7 +2,7 @@ use Rattle.std.proofs.Common.{map, ap, ◌∙◌}
 use Rattle.std.proofs.lemmas.Result.{IfOk-weaker}
 use Rattle.f77_nodes.specs.Node.{NodeOf}
 use Rattle.f77_tree.specs.View.{tree_of}
-use Rattle.mothra_ops.specs.Pools.{fields_of}
+use Rattle.mothra_ops.specs.Pools.{pool_fields}
 use Rattle.mothra_ops.proofs.InPlaces.{part_in_place}
 use Rattle.mothra_ops.proofs.in_expressions.in_expression.Goals as goal
 
@@ -41,5 +41,7 @@ returns-in-Uoi-clause-list c = rw c.in-Uoi.is (IfOk-weaker c.unaries.result _ _ 
 
 pub returns-in_default-clause-list : goal.returns-in_default-clause-list
 returns-in_default-clause-list c =
-    let other = part_in_place c.args.op (fields_of c.args.pools.now) (tree_of c.args.expr.now) c.in_default.not-Abs c.in_default.not-Acr c.in_default.not-Aor c.in_default.not-Car c.in_default.not-Crp c.in_default.not-Csr c.in_default.not-Lcr c.in_default.not-Ror c.in_default.not-Scr c.in_default.not-Src c.in_default.not-Uoi in
+    let other = part_in_place c.args.op (pool_fields c.args.pools.now) (tree_of c.args.expr.now) c.in_default.not-Abs c.in_default.not-Acr
+    c.in_default.not-Aor c.in_default.not-Car c.in_default.not-Crp c.in_default.not-Csr c.in_default.not-Lcr c.in_default.not-Ror
+    c.in_default.not-Scr c.in_default.not-Src c.in_default.not-Uoi in
     IfOk-weaker c.in_place_of.result _ _ (λ list is. ap (map NodeOf.Part) is ∙ other) c.in_place_of.ensures.list

@@ -1,26 +1,27 @@
 use Rattle.std.proofs.Common.{map, ap, ◌∙◌}
 use Rattle.std.proofs.lemmas.Result.{IfOk-weaker}
-use Rattle.f77_tree.specs.View.{trees, place_of}
-use Rattle.mothra_ops.specs.Pools.{fields_of, reference_of}
+use Rattle.f77_tree.specs.View.{trees, reference_fields}
+use Rattle.mothra_ops.specs.Pools.{pool_fields, reference_of}
 use Rattle.mothra_ops.specs.Replacements.{is_scalar}
 use Rattle.mothra_ops.proofs.InPlaces.{drawn_at, scalar_at, nothing_in_scalar}
 use Rattle.mothra_ops.proofs.in_places.in_scalar.Goals as goal
 
 pub returns-in-Asr-clause-list : goal.returns-in-Asr-clause-list
 returns-in-Asr-clause-list c =
-    let pools = fields_of c.args.pools.now in
-    let place = place_of c.args.own.now in
-    rw c.in-Asr.is (IfOk-weaker c.other_references.result _ _ (λ list is. is ∙ drawn_at is_scalar pools.kinds pools.references (reference_of c.args.own.now) (scalar_at place.0 (trees place.1) c.requires))
+    let pools = pool_fields c.args.pools.now in
+    let place = reference_fields c.args.own.now in
+    rw c.in-Asr.is (IfOk-weaker c.other_references.result _ _
+    (λ list is. is ∙ drawn_at is_scalar pools.kinds pools.references (reference_of c.args.own.now) (scalar_at place.0 (trees place.1) c.requires))
     c.other_references.ensures.list)
 
 pub returns-in-Svr-clause-list : goal.returns-in-Svr-clause-list
 returns-in-Svr-clause-list c =
-    let pools = fields_of c.args.pools.now in
-    let place = place_of c.args.own.now in
+    let pools = pool_fields c.args.pools.now in
+    let place = reference_fields c.args.own.now in
     rw c.in-Svr.is (IfOk-weaker c.other_scalars.result _ _ (λ list is. is ∙ drawn_at is_scalar pools.kinds pools.scalars (reference_of c.args.own.now) (scalar_at place.0 (trees place.1) c.requires))
     c.other_scalars.ensures.list)
 
 pub returns-in_default-clause-list : goal.returns-in_default-clause-list
 returns-in_default-clause-list c =
-    let place = place_of c.args.own.now in
-    ap (map reference_of) c.new.ensures.items ∙ nothing_in_scalar c.args.op (fields_of c.args.pools.now) place.0 (trees place.1) c.requires c.in_default.not-Asr c.in_default.not-Svr
+    let place = reference_fields c.args.own.now in
+    ap (map reference_of) c.new.ensures.items ∙ nothing_in_scalar c.args.op (pool_fields c.args.pools.now) place.0 (trees place.1) c.requires c.in_default.not-Asr c.in_default.not-Svr

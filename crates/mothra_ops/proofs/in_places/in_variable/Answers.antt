@@ -1,14 +1,14 @@
 use Rattle.std.proofs.Common.{ap, ◌∙◌}
 use Rattle.std.proofs.lemmas.Result.{IfOk-weaker}
 use Rattle.f77_tree.specs.Tree.{Tree}
-use Rattle.mothra_ops.specs.Pools.{fields_of}
+use Rattle.mothra_ops.specs.Pools.{pool_fields}
 use Rattle.mothra_ops.specs.Replacements.{others}
 use Rattle.mothra_ops.proofs.InPlaces.{of_variable}
 use Rattle.mothra_ops.proofs.in_places.in_variable.Goals as goal
 
 pub returns-in_ok-list-in-Svr-clause-list : goal.returns-in_ok-list-in-Svr-clause-list
 returns-in_ok-list-in-Svr-clause-list c =
-    let pools = fields_of c.args.pools.now in
+    let pools = pool_fields c.args.pools.now in
     let put = of_variable pools c.args.name.now c.in_ok-list-in-Svr.list.items
     (c.in_ok-list-in-Svr.ensures.list ∙ ap (λ (t : Tree). others pools.kinds pools.scalars t) c.scalar.ensures) in
     rw c.in-Svr.is (IfOk-weaker c.in_variables.result _ _ (λ made is. is ∙ put) c.in_variables.ensures.made)

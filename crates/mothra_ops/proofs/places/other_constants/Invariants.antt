@@ -3,13 +3,13 @@ use Rattle.std.specs.Prelude.{◌&&◌}
 use Rattle.f77_tree.specs.Comparing.{same_tree}
 use Rattle.f77_tree.specs.View.{tree_of}
 use Rattle.f77_legal.specs.Kinds.{same_kind}
-use Rattle.mothra_ops.specs.Pools.{fields_of}
+use Rattle.mothra_ops.specs.Pools.{pool_fields}
 use Rattle.mothra_ops.specs.Replacements as model
 use Rattle.mothra_ops.proofs.places.other_constants.Given as goal
 
 abbrev pub invariant-loop-constant : goal.invariant-loop-constant
 invariant-loop-constant l =
     map tree_of l.list.items
-    ≡ map (λ e. tree_of e.now) (filter (λ x. same_kind (model.kind_in (fields_of l.pools).kinds (tree_of x.now)) (model.kind_in (fields_of l.pools).kinds (tree_of l.own))
+    ≡ map (λ e. tree_of e.now) (filter (λ x. same_kind (model.kind_of_expression (pool_fields l.pools).kinds (tree_of x.now)) (model.kind_of_expression (pool_fields l.pools).kinds (tree_of l.own))
     && not (same_tree (tree_of x.now) (tree_of l.own)))
     (take l.constant-index l.pools.constants.items))

@@ -1,8 +1,8 @@
 use Rattle.std.proofs.Common.{List, sym, ◌∙◌, ap, subst, get_or, length, ◌<◌}
 use Rattle.f77_legal.specs.Names.{Symbol}
 use Rattle.f77_tree.specs.Tree.{Tree}
-use Rattle.f77_tree.specs.View.{trees, place_of}
-use Rattle.mothra_ops.specs.Pools.{fields_of, reference_of}
+use Rattle.f77_tree.specs.View.{trees, reference_fields}
+use Rattle.mothra_ops.specs.Pools.{pool_fields, reference_of}
 use Rattle.mothra_ops.specs.Replacements as model
 use Rattle.f77_tree.proofs.Views.{ref_view}
 use Rattle.mothra_ops.proofs.Filters.{pushed, skipped}
@@ -11,10 +11,17 @@ use Rattle.mothra_ops.proofs.places.with_subscripts.Goals as goal
 
 pub loop-name-preserved : goal.loop-name-preserved
 loop-name-preserved c =
-    let p = model.is_comparable (fields_of c.args.pools.now) (place_of c.args.own.now).0 in
-    let f = λ (other : Symbol). Tree.Reference other (trees (place_of c.args.own.now).1) in
-    let named = ap (λ (place : Symbol × List Tree). model.is_comparable (fields_of c.args.pools.now) place.0 c.name-item.result) (ref_view c.args.own.now) in
+    let p = model.is_comparable (pool_fields c.args.pools.now) (reference_fields c.args.own.now).0 in
+    let f = λ (other : Symbol). Tree.Reference other (trees (reference_fields c.args.own.now).1) in
+    let named = ap (λ (place : Symbol × List Tree). model.is_comparable (pool_fields c.args.pools.now) place.0 c.name-item.result) (ref_view c.args.own.now) in
     elim c.if-is_comparable.branch [
-      | then-is_comparable+in_ok-renamed+in_ok-push w ↦ rw w.list-is (pushed p f reference_of c.args.pools.now.arrays.items c.loop-name.name-index _ c.loop-name.list.items (c.name-item.is ∙ ap (λ xs. get_or xs c.loop-name.name-index c.name-item.result) c.deref-name-items.ensures.value) (subst (λ xs. c.loop-name.name-index < length xs) c.deref-name-items.ensures.value c.loop-name-test.true) (named ∙ (sym c.is_comparable.ensures ∙ w.if-is_comparable.true)) (w.in_ok-renamed.ensures.made) c.loop-name.invariant w.in_ok-push.ensures.items)
-      | else-is_comparable w ↦ rw w.list-is (skipped p f reference_of c.args.pools.now.arrays.items c.loop-name.name-index _ c.loop-name.list.items (c.name-item.is ∙ ap (λ xs. get_or xs c.loop-name.name-index c.name-item.result) c.deref-name-items.ensures.value) (subst (λ xs. c.loop-name.name-index < length xs) c.deref-name-items.ensures.value c.loop-name-test.true) (named ∙ (sym c.is_comparable.ensures ∙ w.if-is_comparable.false)) c.loop-name.invariant)
+      | then-is_comparable+in_ok-renamed+in_ok-push w ↦ rw w.list-is (pushed p f reference_of c.args.pools.now.arrays.items c.loop-name.name-index _
+          c.loop-name.list.items (c.name-item.is ∙ ap (λ xs. get_or xs c.loop-name.name-index c.name-item.result) c.deref-name-items.ensures.value)
+          (subst (λ xs. c.loop-name.name-index < length xs) c.deref-name-items.ensures.value c.loop-name-test.true)
+          (named ∙ (sym c.is_comparable.ensures ∙ w.if-is_comparable.true)) (w.in_ok-renamed.ensures.made) c.loop-name.invariant
+          w.in_ok-push.ensures.items)
+      | else-is_comparable w ↦ rw w.list-is (skipped p f reference_of c.args.pools.now.arrays.items c.loop-name.name-index _
+          c.loop-name.list.items (c.name-item.is ∙ ap (λ xs. get_or xs c.loop-name.name-index c.name-item.result) c.deref-name-items.ensures.value)
+          (subst (λ xs. c.loop-name.name-index < length xs) c.deref-name-items.ensures.value c.loop-name-test.true)
+          (named ∙ (sym c.is_comparable.ensures ∙ w.if-is_comparable.false)) c.loop-name.invariant)
     ]

@@ -6,7 +6,8 @@ use Rattle.f77_program.specs.Program.{line_of}
 use Rattle.f77_check.specs.Checked.{CheckedFields}
 use Rattle.mothra_ops.specs.Edits.{IsCountedList, IsNoList}
 use Rattle.mothra_ops.specs.Original.{IsOriginal, lines_of}
-use Rattle.mothra_codes.specs.Op.{index, op_at}
+use Rattle.mothra_codes.specs.Op.{index}
+use Rattle.mothra_codes.specs.code.Op.{op_at}
 use Rattle.mothra_ops.specs.Plan.{IsNoPlan}
 use Rattle.mothra_codes.specs.declared.op.Op.{Op}
 use Rattle.mothra_ops.specs.declared.edit.Edit.{Edit}
@@ -32,7 +33,8 @@ no_list original checked op every fault is same none =
     subst (λ (x : CheckedFields). IsNoList op (map line_of x.program) every fault) same (none is)
 
 pub loop-op-init : goal.loop-op-init
-loop-op-init c = subst (HasLists c.args.ops.now (map line_of c.args.checked.now.program) c.args.every 0) (sym c.new-lists.ensures.items) (no_lists c.args.ops.now (map line_of c.args.checked.now.program) c.args.every)
+loop-op-init c = subst (HasLists c.args.ops.now (map line_of c.args.checked.now.program) c.args.every 0) (sym c.new-lists.ensures.items)
+    (no_lists c.args.ops.now (map line_of c.args.checked.now.program) c.args.every)
 
 pub returns-in_err-listing-clause-refused : goal.returns-in_err-listing-clause-refused
 returns-in_err-listing-clause-refused c =

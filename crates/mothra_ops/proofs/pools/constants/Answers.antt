@@ -17,15 +17,18 @@ loop-node-preserved c =
     let g = λ (known : Bor Expr). tree_of known.now in
     elim c.match-constant.branch [
       | in-Some+then-not-contains+in_ok-push w ↦ rw w.list-is (
-          listed_new same_tree tree_equiv model.constant node_of g c.args.nodes.now c.loop-node.node-index c.node-item.result c.loop-node.list.items c.node-item.is c.loop-node-test.true c.loop-node.invariant
+          listed_new same_tree tree_equiv model.constant node_of g c.args.nodes.now c.loop-node.node-index c.node-item.result c.loop-node.list.items
+          c.node-item.is c.loop-node-test.true c.loop-node.invariant
           w.in-Some.constant (sym c.constant.ensures ∙ ap (option_map g) w.in-Some.is)
           (ap (list_any (λ known. same_tree (g known) (g w.in-Some.constant))) (sym w.deref.ensures.value) ∙ (sym w.contains.ensures.value ∙ w.if-not-contains.true)) w.in_ok-push.ensures.items)
       | in_default w ↦ elim w.in_default.branch [
         | in_default-via-in-None-1 u ↦ let none : c.constant.result ≡ None = search rules in rw w.list-is (
-            passed_over same_tree tree_equiv model.constant node_of g c.args.nodes.now c.loop-node.node-index c.node-item.result c.loop-node.list.items c.node-item.is c.loop-node-test.true c.loop-node.invariant
+            passed_over same_tree tree_equiv model.constant node_of g c.args.nodes.now c.loop-node.node-index c.node-item.result
+            c.loop-node.list.items c.node-item.is c.loop-node-test.true c.loop-node.invariant
             (sym c.constant.ensures ∙ ap (option_map g) none))
         | in_default-via-in-Some+else-not-contains u ↦ rw w.list-is (
-            known_before same_tree tree_equiv model.constant node_of g c.args.nodes.now c.loop-node.node-index c.node-item.result c.loop-node.list.items c.node-item.is c.loop-node-test.true c.loop-node.invariant
+            known_before same_tree tree_equiv model.constant node_of g c.args.nodes.now c.loop-node.node-index c.node-item.result
+            c.loop-node.list.items c.node-item.is c.loop-node-test.true c.loop-node.invariant
             u.in-Some.constant (sym c.constant.ensures ∙ ap (option_map g) u.in-Some.is)
             (ap (list_any (λ known. same_tree (g known) (g u.in-Some.constant))) (sym u.deref.ensures.value) ∙ (sym u.contains.ensures.value ∙ u.if-not-contains.false)))
       ]

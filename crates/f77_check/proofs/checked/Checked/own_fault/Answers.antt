@@ -16,6 +16,6 @@ returns c =
     let read = c.index-lines-i.is ∙ ap (λ lines. get_or lines c.args.i c.index-lines-i.result) same in
     let line = line_read c.args.self.now.program c.args.i c.index-lines-i.result c.requires.line c.requires.at read in
     c.own_fault.ensures (subst (λ lines. Serve c.deref.result.now.tables (map line_of lines)) (sym same) serve)
-    ∙ ap (λ lines. patches.own_fault (map line_of lines) c.args.i c.deref-2.result.now.line s) same
-    ∙ ap (λ n. patches.own_fault p c.args.i n s) (ap (λ l. l.line) c.deref-2.ensures ∙ ap (λ l. l.line) line)
+    ∙ ap (λ lines. patches.own_statement_fault (map line_of lines) c.args.i c.deref-2.result.now.line s) same
+    ∙ ap (λ n. patches.own_statement_fault p c.args.i n s) (ap (λ l. l.line) c.deref-2.ensures ∙ ap (λ l. l.line) line)
     ∙ sym (alone_fault c.args.self.now.names p c.args.i s c.requires c.program.ensures.checked.legal c.program.ensures.checked.names)

@@ -2,7 +2,7 @@ use Rattle.std.proofs.Common.{map, sym, subst, ap, ◌∙◌}
 use Rattle.indexmap.specs.IndexMap.{keys}
 use Rattle.f77_program.specs.Program.{line_of}
 use Rattle.f77_check.specs.Checked.{IsChecked}
-use Rattle.f77_check.specs.CheckedView.{fields_of}
+use Rattle.f77_check.specs.CheckedView.{checked_fields}
 use Rattle.f77_check.specs.Ready.{CanResolve}
 use Rattle.f77_check.specs.Resolved.{AreResolved}
 use Rattle.f77_check.proofs.Changes.{changed_parts}
@@ -23,6 +23,6 @@ from_parts-requires c =
     statements (subst (λ lines. AreResolved (map line_of lines) self.names statements) c.lines.ensures.lines c.in_ok-statements.ensures.statements)
     start (c.in_ok-clone-3.ensures.cases ∙ c.shared_start.ensures) in
     record {
-      checked = subst (λ program. IsChecked (fields_of program arguments r statements start)) (sym c.program.view_is) both.0;
+      checked = subst (λ program. IsChecked (checked_fields program arguments r statements start)) (sym c.program.view_is) both.0;
       tables = subst (λ program. CanResolve r (map line_of program)) (sym c.program.view_is) both.1;
     }

@@ -5,10 +5,10 @@ use Rattle.std.proofs.lemmas.Option.{slice_get_read}
 use Rattle.indexmap.specs.IndexMap.{keys}
 use Rattle.f77_program.specs.Program.{LineFields, line_of}
 use Rattle.f77_tree.specs.Statement.{statement_of}
-use Rattle.f77_legal.specs.Blocks.{behind}
-use Rattle.f77_legal.specs.Labels.{statement_at}
-use Rattle.f77_legal.specs.Patches.{StandsAlone}
-use Rattle.f77_check.specs.Patching.{IsChangedAlone}
+use Rattle.f77_legal.specs.Blocks.{statement_behind}
+use Rattle.f77_legal.specs.Labels.{nth_statement}
+use Rattle.f77_legal.specs.code.Patches.{StandsAlone}
+use Rattle.f77_check.specs.code.Patching.{IsChangedAlone}
 use Rattle.f77_check.specs.Ready.{CanResolve}
 use Rattle.f77_check.specs.Resolved.{IsResolved}
 use Rattle.f77_check.specs.declared.resolve.Resolver.{Resolver}
@@ -37,11 +37,11 @@ resolved_as-requires g c =
     let below = subst (λ n. i < n) (ap length (sym c.statements.ensures.statements)) within in
     let told : slice_get self.statements i ≡ Some own
     = ap (λ list. slice_get list i) (sym c.statements.ensures.statements) ∙ slice_get_read list (length list) i own refl below c.index-statements-i.is in
-    let at : statement_at p i ≡ Some alone.line.stmt = ap (option_map (λ (line : LineFields). line.stmt)) alone.at in
-    let next : behind p i ≡ Some own.next = (c.statements.ensures.checked.statements.each i alone.line.stmt own at told).next in (
-      subst (λ q. statement_at q i ≡ Some s) (sym same) (changed_here self.names p i s alone),
+    let at : nth_statement p i ≡ Some alone.line.stmt = ap (option_map (λ (line : LineFields). line.stmt)) alone.at in
+    let next : statement_behind p i ≡ Some own.next = (c.statements.ensures.checked.statements.each i alone.line.stmt own at told).next in (
+      subst (λ q. nth_statement q i ≡ Some s) (sym same) (changed_here self.names p i s alone),
       (
-        subst (λ q. behind q i ≡ Some c.deref.result.now.next) (sym same)
+        subst (λ q. statement_behind q i ≡ Some c.deref.result.now.next) (sym same)
             (changed_behind self.names p i s alone c.deref.result.now.next (next ∙ ap (λ (r : Resolved). Some r.next) (sym c.deref.ensures))),
         subst (λ (r : Resolver). CanResolve r g.program) (sym c.deref-2.ensures)
             (changed_can r p g.program i c.resolver.ensures.tables change c.requires.1.1.0),

@@ -2,7 +2,8 @@ use Rattle.std.proofs.Common.{◌≡◌, ◌-◌, true, map, sym, ap, refl, subs
 use Rattle.f77_program.specs.Program.{LineFields, line_of}
 use Rattle.f77_tree.specs.Statement.{statement_of}
 use Rattle.f77_legal.specs.Frames.{framed}
-use Rattle.f77_legal.specs.Patches.{NamesAmong, names_pass}
+use Rattle.f77_legal.specs.code.Patches.{NamesAmong}
+use Rattle.f77_legal.specs.Patches.{names_pass}
 use Rattle.f77_legal.specs.NameTable.{has_name}
 use Rattle.std.specs.Prelude.{option_map}
 use Rattle.f77_check.proofs.Changes.{line_read, among_framed}

@@ -2,7 +2,7 @@ use Rattle.std.proofs.Common.{◌<◌, arith, ap, length, map, refl, set, sym, s
 use Rattle.std.proofs.lemmas.List.{length-map}
 use Rattle.indexmap.specs.IndexMap.{keys}
 use Rattle.f77_program.specs.Program.{line_of}
-use Rattle.f77_check.specs.Patching.{IsChangedAlone}
+use Rattle.f77_check.specs.code.Patching.{IsChangedAlone}
 use Rattle.f77_check.specs.Ready.{CanResolve}
 use Rattle.f77_check.specs.Resolved.{IsResolved, AreResolved}
 use Rattle.f77_check.proofs.Changes.{changed_can, changed_within, changed_statements, same_items, statement_within}

@@ -1,8 +1,8 @@
 use Rattle.std.proofs.Common.{rules, arith, refl, sym, ap, ◌∙◌, ◌≡◌, ◌<◌, ◌≤◌, ◌+◌, ◌-◌, suc, length}
 use Rattle.std.proofs.lemmas.Grind.{common_steps}
-use Rattle.f77_check.specs.Boxed.{HoldsNumber}
+use Rattle.f77_check.specs.code.Boxed.{HoldsNumber}
 use Rattle.f77_legal.specs.Dimensions.{takes}
-use Rattle.f77_legal.specs.NameTable.{bounds_at}
+use Rattle.f77_legal.specs.NameTable.{array_bounds}
 use Rattle.indexmap.specs.IndexMap.{keys}
 use Rattle.f77_check.proofs.Deepest.{most_at}
 use Rattle.f77_check.proofs.Items.{only_one, only_two, one_item, two_items, some_items, items_ready, item_ready}
@@ -23,7 +23,7 @@ modulus-returns-clause-number t c =
 
 pub number-returns-in-Number-clause-number : goal.number-returns-in-Number-clause-number
 number-returns-in-Number-clause-number t c =
-    constant_number _ _ _ _ _ c.in-Number.is (c.constant.ensures (bounds_at c.args.self.now.tables.names) (keys c.args.self.now.tables.names.facts))
+    constant_number _ _ _ _ _ c.in-Number.is (c.constant.ensures (array_bounds c.args.self.now.tables.names) (keys c.args.self.now.tables.names.facts))
 
 pub number-returns-in_ok-boxed-in-Binary-2-clause-number : goal.number-returns-in_ok-boxed-in-Binary-2-clause-number
 number-returns-in_ok-boxed-in-Binary-2-clause-number t c =

@@ -1,7 +1,7 @@
 use Rattle.std.proofs.Common.{◌≡◌, ◌++◌, [], ◌∷◌, replicate, arith, sym, ap, ◌∙◌, append_assoc}
 use Rattle.std.proofs.lemmas.List.{replicate_more}
 use Rattle.indexmap.specs.IndexMap.{keys}
-use Rattle.f77_legal.specs.NameTable.{bounds_at}
+use Rattle.f77_legal.specs.NameTable.{array_bounds}
 use Rattle.f77_legal.specs.Presets.{product}
 use Rattle.f77_check.proofs.Cells.{slots_within}
 use Rattle.f77_check.proofs.DataNames.{kept_among}
@@ -21,7 +21,7 @@ pub returns-clause-kinds : goal.returns-clause-kinds
 returns-clause-kinds c =
     let names = c.args.self.now.tables.names in
     let name = c.args.name.now in
-    let within = slots_within (bounds_at names) (keys names.facts) name (sym (kept_among names name) ∙ c.requires.kept) in
+    let within = slots_within (array_bounds names) (keys names.facts) name (sym (kept_among names name) ∙ c.requires.kept) in
     let size = ap product c.bounds.ensures in
-    let all : c.loop-slot._slot ≡ product (bounds_at names name) = omega (arith, within, size, c.requires.slots.few) in
+    let all : c.loop-slot._slot ≡ product (array_bounds names name) = omega (arith, within, size, c.requires.slots.few) in
     c.loop-slot.invariant ∙ (λ i. c.args.kinds.now.items ++ replicate (all i) (c.kind-kind.ensures i))

@@ -2,7 +2,7 @@ use Rattle.std.proofs.Common.{◌≡◌, ◌+◌, ◌≤◌, ◌++◌, [], ◌�
 use Rattle.std.specs.Option.{option_map_or}
 use Rattle.indexmap.specs.IndexMap.{keys}
 use Rattle.f77_legal.specs.Blocks.{first_numbers}
-use Rattle.f77_legal.specs.NameTable.{bounds_at}
+use Rattle.f77_legal.specs.NameTable.{array_bounds}
 use Rattle.f77_legal.specs.Presets.{product}
 use Rattle.f77_check.specs.Slots.{slot_count}
 use Rattle.f77_check.proofs.Cells.{slots_end}
@@ -12,7 +12,7 @@ use Rattle.f77_check.proofs.resolve.Resolver.add_slots.Goals as goal
 
 pub overflow_add-first : goal.overflow_add-first
 overflow_add-first c =
-    let bounds = bounds_at c.args.self.now.tables.names in
+    let bounds = array_bounds c.args.self.now.tables.names in
     let among = sym (kept_among c.args.self.now.tables.names c.args.name.now) ∙ c.requires.kept in
     let within : c.first-first.result + product (bounds c.args.name.now) ≤ slot_count bounds (keys c.args.self.now.tables.names.facts) =
     slots_end bounds (keys c.args.self.now.tables.names.facts) c.args.name.now c.first-first.result among c.first-first.ensures in
@@ -28,7 +28,7 @@ loop-k-preserved c =
 
 pub returns-clause-slots : goal.returns-clause-slots
 returns-clause-slots c =
-    let bounds = bounds_at c.args.self.now.tables.names in
+    let bounds = array_bounds c.args.self.now.tables.names in
     let among = sym (kept_among c.args.self.now.tables.names c.args.name.now) ∙ c.requires.kept in
     let within : c.first-first.result + product (bounds c.args.name.now) ≤ slot_count bounds (keys c.args.self.now.tables.names.facts) =
     slots_end bounds (keys c.args.self.now.tables.names.facts) c.args.name.now c.first-first.result among c.first-first.ensures in

@@ -4,7 +4,7 @@ use Rattle.indexmap.specs.IndexMap.{keys}
 use Rattle.f77_program.specs.Program.{line_of}
 use Rattle.f77_tree.specs.Statement.{Statement}
 use Rattle.f77_check.specs.Resolved.{IsResolved}
-use Rattle.f77_legal.specs.Labels.{statement_at}
+use Rattle.f77_legal.specs.Labels.{nth_statement}
 use Rattle.f77_check.proofs.Sites.{AreFirst, one_more}
 use Rattle.f77_check.proofs.resolve.Resolver.all.Goals as goal
 
@@ -15,5 +15,5 @@ loop-i-preserved c =
     let i = c.loop-i.i in
     subst (AreFirst program names (i + 1)) (sym c.in_ok-push.ensures.items)
     (one_more program names i c.loop-i.list.items _ c.loop-i.invariant
-    (subst (λ resolved. (s : Statement) → statement_at program i ≡ Some s → IsResolved program names i s resolved) (sym c.in_ok-new.ensures)
+    (subst (λ resolved. (s : Statement) → nth_statement program i ≡ Some s → IsResolved program names i s resolved) (sym c.in_ok-new.ensures)
     c.in_ok-resolved.ensures.resolved))

@@ -1,9 +1,9 @@
 use Rattle.std.proofs.Common.{◌≡◌, List, ℕ, map, ap, sym, subst, ◌∙◌}
 use Rattle.f77_tree.specs.Tree.{Tree}
-use Rattle.f77_tree.specs.View.{place_of, tree_of, trees}
+use Rattle.f77_tree.specs.View.{reference_fields, tree_of, trees}
 use Rattle.f77_tree.specs.declared.tree.Expr.{Expr}
 use Rattle.f77_tree.proofs.Views.{ref_view}
-use Rattle.f77_check.specs.Lookup.{IsReadyTree}
+use Rattle.f77_check.specs.code.Lookup.{IsReadyTree}
 use Rattle.f77_check.proofs.Readiness.{target_ready}
 use Rattle.f77_check.proofs.resolve.Resolver.assignment.Goals as goal
 
@@ -11,6 +11,6 @@ pub element-requires : goal.element-requires
 element-requires c =
     let target = c.args.target.now in
     let named : List Expr → List ℕ × List Tree = λ subscripts. (target.name, map tree_of subscripts) in
-    let place : place_of target ≡ named c.deref.result.now = ref_view target ∙ ap named (sym c.deref.ensures.value) in
-    let ready = target_ready _ (place_of target).0 (trees (place_of target).1) _ c.requires in
+    let place : reference_fields target ≡ named c.deref.result.now = ref_view target ∙ ap named (sym c.deref.ensures.value) in
+    let ready = target_ready _ (reference_fields target).0 (trees (reference_fields target).1) _ c.requires in
     (ready.0, subst (λ (at : List ℕ × List Tree). IsReadyTree c.args.self.now ready.0 (Tree.Reference at.0 (trees at.1))) place ready.1)

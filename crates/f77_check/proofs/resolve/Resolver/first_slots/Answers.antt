@@ -2,13 +2,13 @@ use Rattle.std.proofs.Common.{◌∷◌, ◌++◌, [], ℕ, Option, map, get_or,
 use Rattle.std.proofs.lemmas.List.{map_more, map-append}
 use Rattle.indexmap.specs.IndexMap.{keys}
 use Rattle.f77_legal.specs.Names.{Symbol}
-use Rattle.f77_legal.specs.NameTable.{bounds_at}
+use Rattle.f77_legal.specs.NameTable.{array_bounds}
 use Rattle.f77_check.specs.Slots.{first_slot}
 use Rattle.f77_check.proofs.resolve.Resolver.first_slots.Goals as goal
 
 pub loop-name-preserved : goal.loop-name-preserved
 loop-name-preserved c =
-    let slot : Symbol → Option ℕ = first_slot (bounds_at c.args.self.now.tables.names) (keys c.args.self.now.tables.names.facts) in
+    let slot : Symbol → Option ℕ = first_slot (array_bounds c.args.self.now.tables.names) (keys c.args.self.now.tables.names.facts) in
     let i = c.loop-name.name-index in
     let name = c.name-item.result in
     let slots = c.loop-name.slots.items in

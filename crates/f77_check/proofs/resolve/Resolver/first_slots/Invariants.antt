@@ -1,8 +1,8 @@
 use Rattle.std.proofs.Common.{◌≡◌, map, take, Some}
 use Rattle.indexmap.specs.IndexMap.{keys}
-use Rattle.f77_legal.specs.NameTable.{bounds_at}
+use Rattle.f77_legal.specs.NameTable.{array_bounds}
 use Rattle.f77_check.specs.Slots.{first_slot}
 use Rattle.f77_check.proofs.resolve.Resolver.first_slots.Given as goal
 
 abbrev pub invariant-loop-name : goal.invariant-loop-name
-invariant-loop-name l = map (first_slot (bounds_at l.self.tables.names) (keys l.self.tables.names.facts)) (take l.name-index l.list) ≡ map (λ slot. Some slot) l.slots.items
+invariant-loop-name l = map (first_slot (array_bounds l.self.tables.names) (keys l.self.tables.names.facts)) (take l.name-index l.list) ≡ map (λ slot. Some slot) l.slots.items

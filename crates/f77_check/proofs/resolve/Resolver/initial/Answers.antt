@@ -4,8 +4,8 @@ use Rattle.std.proofs.lemmas.List.{take_all}
 use Rattle.indexmap.specs.IndexMap.{keys}
 use Rattle.f77_program.specs.Program.{line_of}
 use Rattle.f77_tree.specs.Statement.{statement_of}
-use Rattle.f77_check.specs.Initial.{give_groups, groups_kept}
-use Rattle.f77_legal.specs.NameTable.{bounds_at}
+use Rattle.f77_check.specs.code.Initial.{give_groups, groups_kept}
+use Rattle.f77_legal.specs.NameTable.{array_bounds}
 use Rattle.f77_legal.specs.Presets.{groups_of}
 use Rattle.f77_check.proofs.DataNames.{has_slots}
 use Rattle.f77_check.proofs.Presetting.{preset_by, none_preset, line_kept, line_given}
@@ -30,7 +30,8 @@ loop-line-preserved c =
     whole
     ∙ line_given r c.args.lines.now c.requires c.loop-line.line-index c.line-item.result c.loop-line-test.true c.line-item.is c.loop-line.held.items c.give_groups.new.held c.loop-line.invariant
     (c.in_ok-give_groups.ensures.given
-    ∙ (λ i. give_groups (bounds_at r.tables.names) (keys r.tables.names.facts) (c.deref_mut.ensures.value i) ((c.groups.ensures ∙ ap (λ line. groups_of (statement_of line.stmt)) c.deref.ensures) i)))
+    ∙ (λ i. give_groups (array_bounds r.tables.names) (keys r.tables.names.facts) (c.deref_mut.ensures.value i)
+    ((c.groups.ensures ∙ ap (λ line. groups_of (statement_of line.stmt)) c.deref.ensures) i)))
 
 pub returns-clause-initial : goal.returns-clause-initial
 returns-clause-initial c =

@@ -2,9 +2,9 @@ use Rattle.std.proofs.Common.{map, sym, ap, ◌∙◌}
 use Rattle.std.specs.List.{list_all}
 use Rattle.indexmap.specs.IndexMap.{keys}
 use Rattle.f77_program.specs.Program.{line_of}
-use Rattle.f77_check.specs.Kept.{is_kept}
+use Rattle.f77_check.specs.code.Kept.{is_kept}
 use Rattle.f77_check.specs.Slots.{first_slot, slot_kinds}
-use Rattle.f77_check.specs.Start.{is_executable}
+use Rattle.f77_check.specs.Start.{is_executable_statement}
 use Rattle.f77_check.proofs.DataNames.{has_slots, dummies_kept}
 use Rattle.f77_check.proofs.FirstExecutable.{first_executable}
 use Rattle.f77_legal.proofs.Positions.{position-map}
@@ -13,7 +13,7 @@ use Rattle.f77_check.proofs.resolve.Resolver.start.Goals as goal
 pub unreachable-requires : goal.unreachable-requires
 unreachable-requires c =
     let some = first_executable (map line_of c.args.lines.now) c.requires.formed in
-    let none = sym c.in_default.is ∙ (c.entry.ensures ∙ (sym (position-map (λ line. is_executable line.stmt) line_of c.args.lines.now) ∙ some.1)) in
+    let none = sym c.in_default.is ∙ (c.entry.ensures ∙ (sym (position-map (λ line. is_executable_statement line.stmt) line_of c.args.lines.now) ∙ some.1)) in
     absurd (cc (none))
 
 pub first_slots-requires-clause-slots : goal.first_slots-requires-clause-slots
@@ -32,7 +32,7 @@ returns-clause-start c =
     let names = c.args.self.now.tables.names in
     let bounds = c.requires.tables.bounds in
     record {
-      entry = position-map (λ line. is_executable line.stmt) line_of c.args.lines.now ∙ (sym c.entry.ensures ∙ c.in-Some.is);
+      entry = position-map (λ line. is_executable_statement line.stmt) line_of c.args.lines.now ∙ (sym c.entry.ensures ∙ c.in-Some.is);
       dummies = (λ i. map (first_slot (sym bounds i) (keys names.facts)) (sym c.arguments.ensures i)) ∙ c.in_ok-dummies.ensures.slots;
       initial = c.in_ok-initial.ensures.initial;
       kinds = c.in_ok-kinds.ensures.kinds ∙ (λ i. slot_kinds (c.requires.tables.kinds i) (bounds i) (keys names.facts));

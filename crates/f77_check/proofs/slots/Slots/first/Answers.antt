@@ -1,7 +1,7 @@
 use Rattle.std.proofs.Common.{rules, ◌<◌, length, sym}
 use Rattle.indexmap.specs.IndexMap.{keys}
 use Rattle.std.specs.Str.{bytes_eq}
-use Rattle.f77_legal.specs.NameTable.{bounds_at}
+use Rattle.f77_legal.specs.NameTable.{array_bounds}
 use Rattle.f77_check.proofs.SlotCounts.{start_read, start_within}
 use Rattle.f77_check.proofs.slots.Slots.first.Goals as goal
 
@@ -9,10 +9,10 @@ pub index-requires : goal.index-requires
 index-requires c =
     let names = keys c.args.names.now.facts in
     let first = c.args.self.now.first.items in
-    let below : c.in-Some.n < length first = start_within (bounds_at c.args.names.now) names first (bytes_eq c.args.name.now) c.in-Some.n c.requires.table.first (sym c.in-Some.ensures.index) in
+    let below : c.in-Some.n < length first = start_within (array_bounds c.args.names.now) names first (bytes_eq c.args.name.now) c.in-Some.n c.requires.table.first (sym c.in-Some.ensures.index) in
     search rules
 
 pub returns : goal.returns
 returns c =
-    start_read (bounds_at c.args.names.now) (keys c.args.names.now.facts) c.args.self.now.first.items (bytes_eq c.args.name.now) c.in-Some.n c.index.result.now
+    start_read (array_bounds c.args.names.now) (keys c.args.names.now.facts) c.args.self.now.first.items (bytes_eq c.args.name.now) c.in-Some.n c.index.result.now
     c.requires.table.first (sym c.in-Some.ensures.index) c.index.ensures

@@ -1,8 +1,8 @@
 use Rattle.indexmap.specs.IndexMap.{keys}
-use Rattle.f77_legal.specs.NameTable.{bounds_at}
+use Rattle.f77_legal.specs.NameTable.{array_bounds}
 use Rattle.f77_check.proofs.SlotCounts.{IsCounted}
 use Rattle.f77_check.proofs.slots.Slots.of.Given as goal
 
 abbrev pub invariant-loop-name : goal.invariant-loop-name
 invariant-loop-name l =
-    IsCounted (bounds_at l.names) (keys l.names.facts) l.first.items l.count l.name-iterator
+    IsCounted (array_bounds l.names) (keys l.names.facts) l.first.items l.count l.name-iterator

@@ -1,6 +1,7 @@
 use Rattle.std.proofs.Common.{◌∙◌, ◌+◌, Some, length, sym, ap, subst, set}
 use Rattle.std.proofs.lemmas.List.{length-set}
-use Rattle.f77_code.specs.Compiled.{IsInstruction, IsIncrementExchanged}
+use Rattle.f77_code.specs.Compiled.{IsInstruction}
+use Rattle.f77_code.specs.code.Compiled.{IsIncrementExchanged}
 use Rattle.f77_code.specs.Places.{ArePlaces}
 use Rattle.f77_code.proofs.Exchanged.{one_frame, count_same, places_same, changed_code}
 use Rattle.f77_code.proofs.Instructed.{copy_grows}

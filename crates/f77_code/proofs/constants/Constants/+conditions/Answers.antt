@@ -1,5 +1,5 @@
 use Rattle.std.proofs.lemmas.Result.{IfOk-weaker}
-use Rattle.f77_code.specs.Compile.{IsTestTerm, IsRelationOf}
+use Rattle.f77_code.specs.code.Compile.{IsTestTerm, IsRelationOf}
 use Rattle.f77_code.proofs.Tests.{related_test}
 use Rattle.f77_code.proofs.constants.Constants.+conditions.Goals as goal
 

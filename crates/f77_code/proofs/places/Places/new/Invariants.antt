@@ -1,11 +1,11 @@
 use Rattle.std.proofs.Common.{◌≡◌, ℕ, ◌+◌, length}
 use Rattle.std.specs.Prelude.{Some, slice_get}
-use Rattle.f77_code.specs.Holds.{rank}
+use Rattle.f77_code.specs.Holds.{do_rank}
 use Rattle.f77_code.proofs.places.Places.new.Given as goal
 
 abbrev pub invariant-loop-i : goal.invariant-loop-i
 invariant-loop-i l = record {
-  place : l.place ≡ length l.statements + rank l.statements l.i;
+  place : l.place ≡ length l.statements + do_rank l.statements l.i;
   count : length l.increments.items ≡ l.i;
-  each : (d k : ℕ) → slice_get l.increments.items d ≡ Some k → k ≡ length l.statements + rank l.statements d;
+  each : (d k : ℕ) → slice_get l.increments.items d ≡ Some k → k ≡ length l.statements + do_rank l.statements d;
 }

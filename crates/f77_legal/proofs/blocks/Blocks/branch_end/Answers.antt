@@ -9,5 +9,6 @@ returns-clause-value c p table = c.end_in.ensures ∙ (ap (λ xs. get_or xs c.ar
 
 pub returns-clause-holds : goal.returns-clause-holds
 returns-clause-holds c p k table =
-    ap (λ end. nat_lt c.args.i k && option_map_or (nat_lt k) end false) (c.end_in.ensures ∙ (ap (λ xs. get_or xs c.args.i None) c.deref.ensures.value ∙ branch_end_held c.args.self.now p c.args.i table))
+    ap (λ end. nat_lt c.args.i k && option_map_or (nat_lt k) end false)
+    (c.end_in.ensures ∙ (ap (λ xs. get_or xs c.args.i None) c.deref.ensures.value ∙ branch_end_held c.args.self.now p c.args.i table))
     ∙ branch_holds_at p c.args.i k

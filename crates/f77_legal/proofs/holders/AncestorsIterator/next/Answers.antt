@@ -1,6 +1,6 @@
 use Rattle.std.proofs.Common.{◌∷◌, length, ap, sym, ◌∙◌, rules}
-use Rattle.f77_legal.specs.Holders.{ancestors}
-use Rattle.f77_legal.specs.LoopTable.{ancestors_left}
+use Rattle.f77_legal.specs.code.Holders.{ancestors}
+use Rattle.f77_legal.specs.code.LoopTable.{ancestors_left}
 use Rattle.f77_legal.proofs.Walks.{one_step}
 use Rattle.f77_legal.proofs.holders.AncestorsIterator.next.Goals as goal
 

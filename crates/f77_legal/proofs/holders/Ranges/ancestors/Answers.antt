@@ -1,6 +1,7 @@
 use Rattle.std.proofs.Common.{ap, sym, ◌∙◌, subst, length}
-use Rattle.f77_legal.specs.Holders.{entry, ancestors, IsFalling}
-use Rattle.f77_legal.specs.LoopTable.{ancestors_left}
+use Rattle.f77_legal.specs.Holders.{end_or_parent}
+use Rattle.f77_legal.specs.code.Holders.{ancestors, IsFalling}
+use Rattle.f77_legal.specs.code.LoopTable.{ancestors_left}
 use Rattle.f77_legal.proofs.Nesting.{parents_fall}
 use Rattle.f77_legal.proofs.holders.Ranges.ancestors.Goals as goal
 
@@ -13,4 +14,5 @@ pub returns : goal.returns
 unfolding ancestors_left
 returns c =
     let ranges = c.args.self.now in
-    ap (λ parents. ancestors parents c.parent.result) c.deref.ensures.value ∙ ap (ancestors ranges.parents.items) (c.parent.ensures ∙ ap (λ parents. entry parents c.args.k) c.deref-2.ensures.value)
+    ap (λ parents. ancestors parents c.parent.result) c.deref.ensures.value
+    ∙ ap (ancestors ranges.parents.items) (c.parent.ensures ∙ ap (λ parents. end_or_parent parents c.args.k) c.deref-2.ensures.value)

@@ -1,9 +1,9 @@
 use Rattle.std.proofs.Common.{rules, tests}
 use Rattle.std.specs.Prelude.{◌&&◌, not}
-use Rattle.f77_legal.specs.LoopTable as table
+use Rattle.f77_legal.specs.code.LoopTable as table
 use Rattle.std.proofs.lemmas.Iterator.Consumers.{YieldsList-from_first}
 use Rattle.std.proofs.lemmas.Iterator.Search.{any_from_yields_List}
-use Rattle.f77_legal.specs.LoopTable.{ancestors_left}
+use Rattle.f77_legal.specs.code.LoopTable.{ancestors_left}
 use Rattle.f77_legal.proofs.holders.Ranges.enters.Goals as goal
 
 pub returns : goal.returns

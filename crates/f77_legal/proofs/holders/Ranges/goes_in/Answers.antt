@@ -1,6 +1,6 @@
 use Rattle.std.proofs.Common.{sym, ap, ◌∙◌}
 use Rattle.std.specs.Prelude.{◌||◌}
-use Rattle.f77_legal.specs.LoopTable.{crosses}
+use Rattle.f77_legal.specs.code.LoopTable.{crosses}
 use Rattle.f77_legal.proofs.LoopTables.{goes_is}
 use Rattle.f77_legal.proofs.holders.Ranges.goes_in.Goals as goal
 

@@ -3,7 +3,7 @@ use Rattle.std.specs.Prelude.{◌&&◌, not}
 use Rattle.f77_legal.specs.Holders.{in_branch}
 use Rattle.std.proofs.lemmas.Iterator.Consumers.{YieldsList-from_first}
 use Rattle.std.proofs.lemmas.Iterator.Search.{any_from_yields_List}
-use Rattle.f77_legal.specs.LoopTable.{ancestors_left}
+use Rattle.f77_legal.specs.code.LoopTable.{ancestors_left}
 use Rattle.f77_legal.proofs.holders.Ranges.leaves_branch.Goals as goal
 
 pub returns : goal.returns

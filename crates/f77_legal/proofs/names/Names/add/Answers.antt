@@ -1,5 +1,6 @@
 use Rattle.std.proofs.Common.{ap, ◌∙◌, map}
-use Rattle.f77_legal.specs.NameTable.{entry_of, with_fact, mention_of}
+use Rattle.f77_legal.specs.NameTable.{entry_of}
+use Rattle.f77_legal.specs.code.NameTable.{with_fact, mention_of}
 use Rattle.f77_legal.proofs.Noting.{said_new}
 use Rattle.f77_legal.proofs.names.Names.add.Goals as goal
 

@@ -1,7 +1,8 @@
 use Rattle.std.proofs.Common.{rules, tests}
 use Rattle.std.proofs.lemmas.Iterator.Consumers.{YieldsList-from_rest}
 use Rattle.std.proofs.lemmas.Iterator.Search.{find_from_yields_List}
-use Rattle.f77_legal.specs.NameTable.{entry_of, tells_real}
+use Rattle.f77_legal.specs.NameTable.{entry_of}
+use Rattle.f77_legal.specs.code.NameTable.{tells_real}
 use Rattle.f77_legal.proofs.names.Names.find_real.Goals as goal
 
 pub returns : goal.returns

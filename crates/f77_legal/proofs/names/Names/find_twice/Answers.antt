@@ -2,7 +2,8 @@ use Rattle.std.proofs.Common.{rules, tests}
 use Rattle.std.specs.Prelude.{option_map}
 use Rattle.std.proofs.lemmas.Iterator.Consumers.{YieldsList-from_rest}
 use Rattle.std.proofs.lemmas.Iterator.Search.{find_from_yields_List}
-use Rattle.f77_legal.specs.NameTable.{entry_of, tells_twice}
+use Rattle.f77_legal.specs.NameTable.{entry_of}
+use Rattle.f77_legal.specs.code.NameTable.{tells_twice}
 use Rattle.f77_legal.proofs.names.Names.find_twice.Goals as goal
 
 pub returns : goal.returns

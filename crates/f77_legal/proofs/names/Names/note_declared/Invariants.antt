@@ -2,8 +2,9 @@ use Rattle.std.proofs.Common.{◌≡◌, take}
 use Rattle.std.specs.Prelude.{map}
 use Rattle.f77_nodes.specs.Node.{NodeOf}
 use Rattle.f77_tree.specs.Declaration.{decl_of}
-use Rattle.f77_legal.specs.NameTable.{entries_of, with_nodes}
+use Rattle.f77_legal.specs.NameTable.{table_entries}
+use Rattle.f77_legal.specs.code.NameTable.{with_nodes}
 use Rattle.f77_legal.proofs.names.Names.note_declared.Given as goal
 
 abbrev pub invariant-loop-item : goal.invariant-loop-item
-invariant-loop-item l = entries_of l.self ≡ with_nodes (entries_of l.fn.self) (map NodeOf.Declared (map decl_of (take l.item-index l.items)))
+invariant-loop-item l = table_entries l.self ≡ with_nodes (table_entries l.fn.self) (map NodeOf.Declared (map decl_of (take l.item-index l.items)))

@@ -1,8 +1,9 @@
 use Rattle.std.proofs.Common.{◌≡◌, take}
 use Rattle.std.specs.Prelude.{map}
 use Rattle.f77_legal.specs.Names.{Mention}
-use Rattle.f77_legal.specs.NameTable.{entries_of, with_mentions}
+use Rattle.f77_legal.specs.NameTable.{table_entries}
+use Rattle.f77_legal.specs.code.NameTable.{with_mentions}
 use Rattle.f77_legal.proofs.names.Names.note_dummies.Given as goal
 
 abbrev pub invariant-loop-name : goal.invariant-loop-name
-invariant-loop-name l = entries_of l.self ≡ with_mentions (entries_of l.fn.self) (map Mention.Dummy (take l.name-index l.names))
+invariant-loop-name l = table_entries l.self ≡ with_mentions (table_entries l.fn.self) (map Mention.Dummy (take l.name-index l.names))

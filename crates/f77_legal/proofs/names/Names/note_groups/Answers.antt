@@ -1,7 +1,8 @@
 use Rattle.std.proofs.Common.{ap, sym, ◌∙◌}
 use Rattle.f77_tree.specs.Data.{data_group_of}
 use Rattle.f77_nodes.specs.Node.{group_nodes}
-use Rattle.f77_legal.specs.NameTable.{entries_of, with_nodes}
+use Rattle.f77_legal.specs.NameTable.{table_entries}
+use Rattle.f77_legal.specs.code.NameTable.{with_nodes}
 use Rattle.f77_legal.proofs.Listing.{groups_more}
 use Rattle.f77_legal.proofs.names.Names.note_groups.Goals as goal
 
@@ -9,4 +10,4 @@ pub loop-group-preserved : goal.loop-group-preserved
 loop-group-preserved c =
     c.in_ok-note_group.ensures.noted
     ∙ ap (λ z. with_nodes z (group_nodes (data_group_of c.group-item.result))) c.loop-group.invariant
-    ∙ sym (groups_more (entries_of c.args.self.now) c.args.groups.now c.loop-group.group-index c.group-item.result c.loop-group-test.true c.group-item.is)
+    ∙ sym (groups_more (table_entries c.args.self.now) c.args.groups.now c.loop-group.group-index c.group-item.result c.loop-group-test.true c.group-item.is)

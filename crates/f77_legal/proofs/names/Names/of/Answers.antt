@@ -2,7 +2,7 @@ use Rattle.std.proofs.Common.{arith, ◌≡◌, take, ap, sym, ◌∙◌}
 use Rattle.std.proofs.lemmas.Grind.{common_steps}
 use Rattle.f77_tree.specs.Statement.{statement_of}
 use Rattle.f77_legal.specs.Names.{mentions_of}
-use Rattle.f77_legal.specs.NameTable.{with_mentions}
+use Rattle.f77_legal.specs.code.NameTable.{with_mentions}
 use Rattle.f77_legal.proofs.NameTables.{noted, noted_all, noted_more}
 use Rattle.f77_legal.proofs.names.Names.of.Goals as goal
 

@@ -1,7 +1,7 @@
 use Rattle.std.proofs.Common.{◌≡◌, take}
-use Rattle.f77_legal.specs.NameTable.{entries_of}
+use Rattle.f77_legal.specs.NameTable.{table_entries}
 use Rattle.f77_legal.proofs.NameTables.{noted}
 use Rattle.f77_legal.proofs.names.Names.of.Given as goal
 
 abbrev pub invariant-loop-line : goal.invariant-loop-line
-invariant-loop-line l = entries_of l.names ≡ noted (take l.line-index l.lines)
+invariant-loop-line l = table_entries l.names ≡ noted (take l.line-index l.lines)

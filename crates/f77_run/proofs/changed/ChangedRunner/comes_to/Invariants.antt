@@ -1,4 +1,4 @@
-use Rattle.f77_run.specs.Parting.{parting_of}
+use Rattle.f77_run.specs.code.Parting.{parting_of}
 use Rattle.f77_run.proofs.changed.ChangedRunner.comes_to.Given as goal
 
 abbrev pub ghost-comes_alike : goal.ghost-comes_alike

@@ -8,7 +8,7 @@ use Rattle.std.proofs.lemmas.Slice.Zip.{length-zip}
 use Rattle.f77_values.specs.Told.{coded}
 use Rattle.f77_code.specs.Holds.{read_as}
 use Rattle.f77_code.specs.Registers.{are_held, is_held}
-use Rattle.f77_run.specs.Registers.{counters_of, loaded, values_fit}
+use Rattle.f77_run.specs.code.Registers.{counters_of, loaded, values_fit}
 use Rattle.f77_run.proofs.registers.Registers.load.Goals as goal
 
 pub load_constants-requires : goal.load_constants-requires

@@ -1,5 +1,5 @@
 use Rattle.std.proofs.Common.{refl}
-use Rattle.f77_run.specs.Visits.{Notes}
+use Rattle.f77_run.specs.code.Visits.{Notes}
 use Rattle.f77_run.proofs.visits.Visited.note.Goals as goal
 
 pub returns-then-self-clause-noted : goal.returns-then-self-clause-noted

@@ -1,8 +1,8 @@
 use Rattle.std.proofs.Common.{◌∙◌, ap, subst}
 use Rattle.std.specs.Prelude.{slice_get, slice_set}
 use Rattle.std.proofs.lemmas.Option.{get_or_from_slice_get}
-use Rattle.f77_run.specs.Machine.{state_of}
-use Rattle.f77_run.specs.Visits.{Notes}
+use Rattle.f77_run.specs.code.Machine.{state_of}
+use Rattle.f77_run.specs.code.Visits.{Notes}
 use Rattle.f77_run.specs.declared.visits.Visited.{Visited}
 use Rattle.f77_run.proofs.Visiting.{on_success}
 use Rattle.f77_run.proofs.visits.Visits.note.Goals as goal

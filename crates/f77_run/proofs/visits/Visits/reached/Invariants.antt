@@ -1,5 +1,5 @@
 use Rattle.std.proofs.Common.{◌≡◌, map, take}
-use Rattle.f77_run.specs.Visits.{is_visited}
+use Rattle.f77_run.specs.code.Visits.{is_visited}
 use Rattle.f77_run.proofs.visits.Visits.reached.Given as goal
 
 abbrev pub invariant-loop-visited : goal.invariant-loop-visited

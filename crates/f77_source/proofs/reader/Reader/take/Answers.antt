@@ -5,7 +5,7 @@ use Rattle.f77_source.specs.declared.line.LineKind.{LineKind}
 use Rattle.f77_source.specs.declared.line.LineKind.TheVariants.{Comment, Initial, Continuation}
 use Rattle.f77_source.specs.declared.fault.FormFault.TheVariants.{Memory, TooLarge, NotAscii, Tab, BadLabel, LooseContinuation, TooManyContinuations}
 use Rattle.f77_source.specs.Line.{kind, own_fault, fits_label_field, is_label_character, label_field}
-use Rattle.f77_source.specs.Reader.{taken, taken_by_kind, Progress, Steps}
+use Rattle.f77_source.specs.code.Reader.{taken, taken_by_kind, Progress, Steps}
 use Rattle.f77_source.proofs.Faults.{sound, label_characters}
 use Rattle.f77_source.proofs.reader.Reader.take.Goals as goal
 

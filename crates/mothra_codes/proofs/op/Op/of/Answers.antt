@@ -14,5 +14,6 @@ use Rattle.mothra_codes.proofs.op.Op.of.Goals as goal
 pub returns-clause-known : goal.returns-clause-known
 returns-clause-known c op e =
     let found : option_map (λ (x : Op). x) c.find.result ≡ find (λ x. bytes_eq (code_of x) c.args.text.now) all_ops =
-    find_from_yields_List (λ x. bytes_eq (code_of x) c.args.text.now) _ _ c.find.result c.find.ensures.ran (YieldsList-from_copied (YieldsList-from_slice all_ops cc)) (λ x b q k. search (rules, tests)) in
+    find_from_yields_List (λ x. bytes_eq (code_of x) c.args.text.now) _ _ c.find.result c.find.ensures.ran
+    (YieldsList-from_copied (YieldsList-from_slice all_ops cc)) (λ x b q k. search (rules, tests)) in
     sym (option_map_id c.find.result) ∙ found ∙ ap (λ text. find (λ x. bytes_eq (code_of x) text) all_ops) e ∙ op_found op

@@ -1,7 +1,7 @@
 use Rattle.std.proofs.Common.{◌≡◌, ◌+◌, ◌<◌, length, ap, subst, rules, arith, ◌∙◌}
 use Rattle.mothra_exchange.specs.declared.view.View.{View}
-use Rattle.mothra_exchange.specs.View.{settled_view}
-use Rattle.mothra_exchange.specs.Rule.{Agrees}
+use Rattle.mothra_exchange.specs.code.View.{settled_view}
+use Rattle.mothra_exchange.specs.code.Rule.{AgreesWithViews}
 use Rattle.mothra_exchange.proofs.Halves.{joins, settles, length-joined}
 use Rattle.mothra_exchange.proofs.Overs.{merges_well}
 use Rattle.mothra_exchange.proofs.table.TableExchange.merge_pass.Goals as goal
@@ -17,7 +17,7 @@ load-requires g c =
 
 pub returns-clause-agree : goal.returns-clause-agree
 returns-clause-agree g c = merges_well g.row.C c.args.pass.now.seat.me.0 c.args.other.seat.me.0 c.args.pass.now.looks_at_each c.args.other.looks_at_each
-    (subst (λ (v : View). Agrees g.row.C v) (ap (λ m. m.0) c.join_seat.ensures.2) c.load.ensures.2.0)
+    (subst (λ (v : View). AgreesWithViews g.row.C v) (ap (λ m. m.0) c.join_seat.ensures.2) c.load.ensures.2.0)
 
 pub invariant_of-pass : goal.invariant_of-pass
 invariant_of-pass g c =

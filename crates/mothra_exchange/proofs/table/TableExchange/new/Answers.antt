@@ -1,5 +1,5 @@
 use Rattle.std.proofs.Common.{rules}
-use Rattle.mothra_exchange.specs.Rule.{IsSound}
+use Rattle.mothra_exchange.specs.Rule.{IsSoundExchange}
 use Rattle.mothra_exchange.proofs.Ends.{begins}
 use Rattle.mothra_exchange.proofs.Showing.{shows_one_log}
 use Rattle.mothra_exchange.proofs.Standings.{are_in_order}
@@ -13,5 +13,5 @@ returns-in-Ok-clause-in_order g c = λ s h. are_in_order _ _ s.words s.views h
 
 pub returns-in-Ok-clause-log : goal.returns-in-Ok-clause-log
 returns-in-Ok-clause-log g c = λ pos s h.
-    let sound : IsSound g.row.C c.args.counts s.words s.views = search rules in
+    let sound : IsSoundExchange g.row.C c.args.counts s.words s.views = search rules in
     shows_one_log _ _ s.words s.views sound pos

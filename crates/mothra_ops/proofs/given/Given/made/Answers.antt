@@ -6,7 +6,7 @@ use Rattle.f77_program.specs.Program.{line_at}
 use Rattle.f77_program.specs.declared.program.Line.{Line}
 use Rattle.f77_sites.specs.New.{new_of}
 use Rattle.mothra_ops.specs.Edits.{numbered}
-use Rattle.mothra_ops.specs.Pools.{fields_of}
+use Rattle.mothra_ops.specs.Pools.{pool_fields}
 use Rattle.mothra_ops.proofs.GivenMakes.{given_for, given_made, ungiven_unmade}
 use Rattle.mothra_ops.proofs.Made.{item_numbered, past}
 use Rattle.mothra_ops.proofs.given.Given.made.Goals.{then-edit-eq0-via-then-edit-eq0, then-edit-eq0-via-else-edit-eq0+then-edit-len}
@@ -21,7 +21,7 @@ returns-then-edit-eq0-clause-made c =
       | then-edit-eq0-via-then-edit-eq0 w ↦ inl w.if-edit-eq0.true
       | then-edit-eq0-via-else-edit-eq0+then-edit-len w ↦ inr (omega (arith, length-map given.news.items new_of, w.len.ensures, w.if-edit-len.true))
     ] in
-    sym (ungiven_unmade (fields_of original.pools) original.checked.now.program edit
+    sym (ungiven_unmade (pool_fields original.pools) original.checked.now.program edit
     (ap (λ (ns : List NodeOf). numbered ns edit.rank) (sym (given_for original given edit c.requires.given c.requires.edit)) ∙ past (map new_of given.news.items) edit.rank over))
 
 pub returns-clause-made : goal.returns-clause-made
@@ -36,5 +36,6 @@ returns-clause-made c =
     let high : edit.rank ≤ length given.news.items = omega (arith, c.len.ensures, c.if-edit-len.false) in
     let new = c.index-new.result.now in
     ap Some c.in_ok-put.ensures.made
-    ∙ sym (given_made (fields_of original.pools) original.checked.now.program edit line at (new_of new)
-    (ap (λ (ns : List NodeOf). numbered ns edit.rank) (sym (given_for original given edit c.requires.given c.requires.edit)) ∙ item_numbered given.news.items edit.rank new low high c.index-new.ensures))
+    ∙ sym (given_made (pool_fields original.pools) original.checked.now.program edit line at (new_of new)
+    (ap (λ (ns : List NodeOf). numbered ns edit.rank) (sym (given_for original given edit c.requires.given c.requires.edit))
+    ∙ item_numbered given.news.items edit.rank new low high c.index-new.ensures))

@@ -10,7 +10,7 @@ use Rattle.f77_tree.specs.Statement.{statement_of}
 use Rattle.f77_nodes.specs.declared.node.Node.{Node}
 use Rattle.f77_program.specs.declared.program.Line.{Line}
 use Rattle.f77_sites.specs.New.{new_of}
-use Rattle.mothra_ops.specs.Pools.{fields_of}
+use Rattle.mothra_ops.specs.Pools.{pool_fields}
 use Rattle.mothra_ops.proofs.GivenMakes.{given_nowhere, given_there}
 use Rattle.mothra_ops.proofs.original.Original.given.Goals as goal
 
@@ -27,7 +27,7 @@ returns-in-Some-get-clause-list c =
     ∙ slice_get-map node_of c.deref.result.now edit.position
     ∙ ap (option_map node_of) (slice_get_read c.deref.result.now _ edit.position node refl c.in-Some-get.ensures.lookup.3.0 c.in-Some-get.ensures.lookup.1) in
     IfOk-weaker c.gives.result _ _
-    (λ list is. is ∙ sym (given_there (fields_of c.args.self.now.pools) lines edit line at (node_of node) node_at)) c.gives.ensures.list
+    (λ list is. is ∙ sym (given_there (pool_fields c.args.self.now.pools) lines edit line at (node_of node) node_at)) c.gives.ensures.list
 
 pub returns-clause-list : goal.returns-clause-list
 returns-clause-list c =
@@ -40,4 +40,4 @@ returns-clause-list c =
     sym (ap length c.in_ok-nodes.ensures) ∙ length-map c.in_ok-nodes.nodes.items node_of ∙ ap length (sym c.deref.ensures.value) in
     let outside : length c.deref.result.now ≤ edit.position = ltb-false edit.position (length c.deref.result.now) (sym c.in-None.ensures.lookup.0) in
     ap (map new_of) c.new-in-None.ensures.items
-    ∙ sym (given_nowhere (fields_of c.args.self.now.pools) lines edit line at (slice_get_past (nodes_of (statement_of line.stmt)) edit.position (omega (arith, long, outside))))
+    ∙ sym (given_nowhere (pool_fields c.args.self.now.pools) lines edit line at (slice_get_past (nodes_of (statement_of line.stmt)) edit.position (omega (arith, long, outside))))

@@ -1,6 +1,7 @@
 use Rattle.std.proofs.Common.{◌≡◌, ◌+◌}
-use Rattle.mothra_ops.specs.Listing.{HasCome}
-use Rattle.mothra_ops.specs.Original.{IsOriginal, IsSiteOf, lines_of}
+use Rattle.mothra_ops.specs.code.Listing.{HasCome}
+use Rattle.mothra_ops.specs.Original.{IsOriginal, lines_of}
+use Rattle.mothra_ops.specs.code.Original.{IsSiteOf}
 use Rattle.mothra_ops.proofs.original.Original.list_site.Given as goal
 
 abbrev pub invariant-loop-k : goal.invariant-loop-k

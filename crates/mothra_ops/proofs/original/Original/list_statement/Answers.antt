@@ -15,7 +15,11 @@ returns-in_err-list_site-clause-refused c = let p = err_from_is_err_and c.from_r
     no_list_of c.args.listing.now.op old.op (lines_of c.args.self.now) c.args.listing.now.every old.every c.in_err-list_site.field-0.0 c.loop-position.invariant.same_op
     c.loop-position.invariant.same_every
     (c.in_err-list_site.ensures.refused own
-    (record { statement_at = has; node_at = node_listed c.in_ok-nodes.nodes.items (statement_of c.args.stmt.now) c.loop-position.position c.index.result.now c.in_ok-nodes.ensures low c.index.ensures })
+    (record {
+      statement_at = has;
+      node_at = node_listed c.in_ok-nodes.nodes.items (statement_of c.args.stmt.now) c.loop-position.position
+          c.index.result.now c.in_ok-nodes.ensures low c.index.ensures;
+    })
     (c.loop-position.invariant.come own has come)))
 
 pub loop-position-preserved : goal.loop-position-preserved
@@ -25,7 +29,11 @@ loop-position-preserved c =
       same_op = c.in_ok-list_site.ensures.same_op ∙ c.loop-position.invariant.same_op;
       same_every = c.in_ok-list_site.ensures.same_every ∙ c.loop-position.invariant.same_every;
       come = λ own has come. c.in_ok-list_site.ensures.come own
-          (record { statement_at = has; node_at = node_listed c.in_ok-nodes.nodes.items (statement_of c.args.stmt.now) c.loop-position.position c.index.result.now c.in_ok-nodes.ensures low c.index.ensures })
+          (record {
+            statement_at = has;
+            node_at = node_listed c.in_ok-nodes.nodes.items (statement_of c.args.stmt.now) c.loop-position.position
+                c.index.result.now c.in_ok-nodes.ensures low c.index.ensures;
+          })
           (c.loop-position.invariant.come own has come);
     }
 

@@ -4,7 +4,8 @@ use Rattle.std.proofs.lemmas.Result.{err_from_is_err_and}
 use Rattle.f77_program.specs.Program.{line_of}
 use Rattle.f77_tree.specs.Statement.{statement_of}
 use Rattle.f77_program.specs.declared.program.Line.{Line}
-use Rattle.mothra_ops.specs.Original.{Has, lines_of}
+use Rattle.mothra_ops.specs.code.Original.{HasStatement}
+use Rattle.mothra_ops.specs.Original.{lines_of}
 use Rattle.mothra_ops.proofs.Comings.{come_at_start, come_to_end, counted_of, no_list_of}
 use Rattle.mothra_ops.proofs.Made.{line_has}
 use Rattle.mothra_ops.proofs.original.Original.listing.Goals as goal
@@ -19,9 +20,9 @@ loop-i-init c = record {
 pub returns-in_err-list_statement-clause-refused : goal.returns-in_err-list_statement-clause-refused
 returns-in_err-list_statement-clause-refused c =
     let p = err_from_is_err_and c.from_residual.result c.from_residual.ensures.1 in
-    let has : Has (lines_of c.args.self.now) (c.loop-i.i + 1) (statement_of c.deref.result.now.stmt) =
-    subst (λ (ls : List Line). Has (map line_of ls) (c.loop-i.i + 1) (statement_of c.deref.result.now.stmt)) (c.lines-lines.ensures.lines ∙ c.program.ensures.program)
-    (subst (λ (l : Line). Has (map line_of c.lines-lines.result.now) (c.loop-i.i + 1) (statement_of l.stmt)) (sym c.deref.ensures)
+    let has : HasStatement (lines_of c.args.self.now) (c.loop-i.i + 1) (statement_of c.deref.result.now.stmt) =
+    subst (λ (ls : List Line). HasStatement (map line_of ls) (c.loop-i.i + 1) (statement_of c.deref.result.now.stmt)) (c.lines-lines.ensures.lines ∙ c.program.ensures.program)
+    (subst (λ (l : Line). HasStatement (map line_of c.lines-lines.result.now) (c.loop-i.i + 1) (statement_of l.stmt)) (sym c.deref.ensures)
     (line_has c.lines-lines.result.now c.loop-i.i c.index-lines-i.result c.loop-i-test.true c.index-lines-i.is)) in
     rw (p.1, p.2) (λ own.
     no_list_of c.args.op c.loop-i.listing.op (lines_of c.args.self.now) c.args.every c.loop-i.listing.every c.in_err-list_statement.field-0.0 c.loop-i.invariant.op c.loop-i.invariant.every
@@ -29,9 +30,9 @@ returns-in_err-list_statement-clause-refused c =
 
 pub loop-i-preserved : goal.loop-i-preserved
 loop-i-preserved c =
-    let has : Has (lines_of c.args.self.now) (c.loop-i.i + 1) (statement_of c.deref.result.now.stmt) =
-    subst (λ (ls : List Line). Has (map line_of ls) (c.loop-i.i + 1) (statement_of c.deref.result.now.stmt)) (c.lines-lines.ensures.lines ∙ c.program.ensures.program)
-    (subst (λ (l : Line). Has (map line_of c.lines-lines.result.now) (c.loop-i.i + 1) (statement_of l.stmt)) (sym c.deref.ensures)
+    let has : HasStatement (lines_of c.args.self.now) (c.loop-i.i + 1) (statement_of c.deref.result.now.stmt) =
+    subst (λ (ls : List Line). HasStatement (map line_of ls) (c.loop-i.i + 1) (statement_of c.deref.result.now.stmt)) (c.lines-lines.ensures.lines ∙ c.program.ensures.program)
+    (subst (λ (l : Line). HasStatement (map line_of c.lines-lines.result.now) (c.loop-i.i + 1) (statement_of l.stmt)) (sym c.deref.ensures)
     (line_has c.lines-lines.result.now c.loop-i.i c.index-lines-i.result c.loop-i-test.true c.index-lines-i.is)) in
     record {
       op = c.in_ok-list_statement.ensures.same_op ∙ c.loop-i.invariant.op;

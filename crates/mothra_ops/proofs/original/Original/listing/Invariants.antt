@@ -1,5 +1,5 @@
 use Rattle.std.proofs.Common.{◌≡◌, ◌+◌}
-use Rattle.mothra_ops.specs.Listing.{HasCome}
+use Rattle.mothra_ops.specs.code.Listing.{HasCome}
 use Rattle.mothra_ops.specs.Original.{IsOriginal, lines_of}
 use Rattle.mothra_ops.proofs.original.Original.listing.Given as goal
 

@@ -2,7 +2,7 @@ use Rattle.std.proofs.Common.{rules, tests, ◌≡◌, subst, Bor}
 use Rattle.std.specs.Option.{option_map}
 use Rattle.std.proofs.lemmas.Iterator.{YieldsList-from_slice}
 use Rattle.std.proofs.lemmas.Iterator.Search.{find_from_yields_List}
-use Rattle.mothra_ops.specs.Plan.{PlanFields, list_fields, list_of}
+use Rattle.mothra_ops.specs.Plan.{PlanFields, list_fields, list_of_operator}
 use Rattle.mothra_ops.specs.declared.listing.Listing.{Listing}
 use Rattle.mothra_ops.proofs.Plans.{fields_found, is_of}
 use Rattle.mothra_ops.proofs.plan.Plan.list.Goals as goal
@@ -10,5 +10,5 @@ use Rattle.mothra_ops.proofs.plan.Plan.list.Goals as goal
 pub returns-clause-list : goal.returns-clause-list
 returns-clause-list c =
     let found = find_from_yields_List (is_of c.args.op) _ _ c.find.result c.find.ensures.ran (YieldsList-from_slice c.self.inside.lists.items cc) (λ x b q k. search (rules, tests)) in
-    subst (λ (plan : PlanFields). option_map (λ (list : Bor Listing). list_fields list.now) c.find.result ≡ list_of plan c.args.op) c.self.view_is
+    subst (λ (plan : PlanFields). option_map (λ (list : Bor Listing). list_fields list.now) c.find.result ≡ list_of_operator plan c.args.op) c.self.view_is
     (fields_found c.args.op c.self.inside.lists.items c.find.result found)

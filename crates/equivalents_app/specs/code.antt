@@ -1,0 +1,3 @@
+pub mod Words
+pub mod Room
+pub mod Serving

@@ -1,0 +1,17 @@
+-- When a changed program is told from a checked one by the changed statement alone.
+-- Private functions and proofs alone cite what stands here.
+use Rattle.std.specs.Prelude.{◌≡◌, ℕ, List}
+use Rattle.f77_program.specs.Program.{LineFields}
+use Rattle.f77_program.specs.Patching.{replaced}
+use Rattle.f77_tree.specs.Statement.{Statement}
+use Rattle.f77_legal.specs.Legal.{IsLegal}
+use Rattle.f77_legal.specs.Names.{Symbol}
+use Rattle.f77_legal.specs.code.Patches.{StandsAlone}
+
+-- the other program is legal, and this one but for the statement i, which stands alone
+pub record IsChangedAlone (names : List Symbol) (program : List LineFields) (i : ℕ)
+    (other : List LineFields) : Type 0 where
+  pub statement : Statement
+  pub alone : StandsAlone names program i statement
+  pub changed : other ≡ replaced program i statement
+  pub legal : IsLegal other

@@ -1,0 +1,6 @@
+pub mod Compile
+pub mod Compiled
+pub mod Compiling
+pub mod Constants
+pub mod Moves
+pub mod Registers

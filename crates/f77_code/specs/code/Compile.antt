@@ -1,0 +1,62 @@
+-- Terms that stand for expressions in each plan that begins with a table of constants, and terms made of terms.
+use Rattle.std.specs.Prelude.{◌≡◌, ℕ}
+use Rattle.f77_tree.specs.declared.tree.Kind.{Kind}
+use Rattle.f77_actions.specs.declared.expression.Arithmetic.{Arithmetic}
+use Rattle.f77_actions.specs.declared.expression.Arithmetic.TheVariants as arithmetic
+use Rattle.f77_actions.specs.declared.expression.Relation.{Relation}
+use Rattle.f77_actions.specs.declared.expression.Element as slots
+use Rattle.f77_actions.specs.declared.expression.Number.{Number}
+use Rattle.f77_actions.specs.declared.expression.Condition.{Condition}
+use Rattle.f77_code.specs.declared.constants.Constants.{Constants}
+use Rattle.f77_code.specs.declared.term.Pair.{Pair}
+use Rattle.f77_code.specs.declared.term.Term.{Term, Register, Element, ElementAtSum, ElementAtDifference}
+use Rattle.f77_code.specs.declared.term.Term.{Sum, Difference, Product, Compared, Vector'}
+use Rattle.f77_code.specs.declared.term.Term.{Add', Subtract', Multiply', Calculated', Related'}
+use Rattle.f77_code.specs.Constants.{BeginsPlan}
+use Rattle.f77_code.specs.Holds.{Plan}
+use Rattle.f77_code.specs.Standing.{ReadsElement, IsTerm, IsTest}
+use Rattle.f77_code.specs.Typing.{HasSlots, HasNumbers, HasTruths}
+
+-- a variable or an array element, of either kind
+pub record IsReadTerm (table : Constants) (e : slots.Element) (term : Term) : Type 0 where
+  pub reads : (plan : Plan) (kind : Kind) → BeginsPlan plan table → HasSlots plan kind e → ReadsElement plan kind e term
+
+-- an INTEGER expression
+pub record IsNumberTerm (table : Constants) (x : Number) (term : Term) : Type 0 where
+  pub stands : (plan : Plan) → BeginsPlan plan table → HasNumbers plan x → IsTerm plan x term
+
+-- a LOGICAL expression
+pub record IsTestTerm (table : Constants) (x : Condition) (term : Term) : Type 0 where
+  pub tests : (plan : Plan) → BeginsPlan plan table → HasTruths plan x → IsTest plan x term
+
+-- two INTEGER expressions
+pub record ArePair (table : Constants) (x y : Number) (pair : Pair) : Type 0 where
+  pub left : IsNumberTerm table x pair.left
+  pub right : IsNumberTerm table y pair.right
+
+-- an element of an array of one dimension, by this subscript
+abbrev pub IsVectorOf : ℕ → ℕ → Term → Term → Type 0
+IsVectorOf first bound x (Element start count subscript) = (start ≡ first) × (count ≡ bound) × (x ≡ Register subscript)
+IsVectorOf first bound x (ElementAtSum start count left right) =
+    (start ≡ first) × (count ≡ bound) × (x ≡ Sum left right)
+IsVectorOf first bound x (ElementAtDifference start count left right) =
+    (start ≡ first) × (count ≡ bound) × (x ≡ Difference left right)
+IsVectorOf first bound x (Vector' start count q subscript) = (start ≡ first) × (count ≡ bound) × (x ≡ subscript)
+IsVectorOf first bound x _ = ⊥
+
+-- an operation on these two numbers
+abbrev pub IsCalculationOf : Arithmetic → Term → Term → Term → Type 0
+IsCalculationOf op x y (Sum left right) = (op ≡ arithmetic.Add) × (x ≡ Register left) × (y ≡ Register right)
+IsCalculationOf op x y (Difference left right) = (op ≡ arithmetic.Subtract) × (x ≡ Register left) × (y ≡ Register right)
+IsCalculationOf op x y (Product left right) = (op ≡ arithmetic.Multiply) × (x ≡ Register left) × (y ≡ Register right)
+IsCalculationOf op x y (Add' p left right) = (op ≡ arithmetic.Add) × (x ≡ left) × (y ≡ right)
+IsCalculationOf op x y (Subtract' p left right) = (op ≡ arithmetic.Subtract) × (x ≡ left) × (y ≡ right)
+IsCalculationOf op x y (Multiply' p left right) = (op ≡ arithmetic.Multiply) × (x ≡ left) × (y ≡ right)
+IsCalculationOf op x y (Calculated' operation p left right) = (op ≡ operation) × (x ≡ left) × (y ≡ right)
+IsCalculationOf op x y _ = ⊥
+
+-- a relation of these two numbers
+abbrev pub IsRelationOf : Relation → Term → Term → Term → Type 0
+IsRelationOf op x y (Compared relation left right) = (op ≡ relation) × (x ≡ Register left) × (y ≡ Register right)
+IsRelationOf op x y (Related' relation p left right) = (op ≡ relation) × (x ≡ left) × (y ≡ right)
+IsRelationOf op x y _ = ⊥

@@ -1,0 +1,59 @@
+-- Instructions and code that stand for statements in each plan that begins with a table of constants.
+-- Private functions and proofs alone cite what stands here.
+use Rattle.std.specs.Prelude.{◌≡◌, ◌≢◌, ◌<◌, ◌+◌, ℕ, true, List, length, Some, slice_get}
+use Rattle.f77_actions.specs.declared.expression.Number.{Number}
+use Rattle.f77_actions.specs.declared.resolved.Resolved.{Resolved}
+use Rattle.f77_code.specs.declared.constants.Constants.{Constants}
+use Rattle.f77_code.specs.declared.instruction.Instruction.{Instruction}
+use Rattle.f77_code.specs.declared.instruction.Operation.{Operation, Next}
+use Rattle.f77_code.specs.declared.instruction.Parameters.{Parameters}
+use Rattle.f77_code.specs.Instructions.{IsLeftDone}
+use Rattle.f77_code.specs.code.Compile.{IsNumberTerm}
+use Rattle.f77_code.specs.Holds.{Plan, do_rank, is_loop_at}
+use Rattle.f77_code.specs.Typing.{HasAction}
+use Rattle.f77_code.specs.Compiled.{IsInstruction, IsIncrement}
+
+-- terms for the parameters of a DO
+pub record HaveParameters (table : Constants) (from to by : Number) (parameters : Parameters) : Type 0 where
+  pub first : IsNumberTerm table from parameters.first
+  pub last : IsNumberTerm table to parameters.last
+  pub step : IsNumberTerm table by parameters.step
+
+-- an operation that increments the DO d of this variable
+abbrev pub Advances : List Resolved → ℕ → ℕ → Operation → Type 0
+Advances statements d variable (Next slot counter body) =
+    (slot ≡ variable) × (counter ≡ do_rank statements d) × (body ≡ d + 1)
+Advances statements d variable _ = ⊥
+
+-- an instruction that does so, where the DO ends at the statement t
+pub record IsNext (statements : List Resolved) (d variable t : ℕ) (instruction : Instruction) : Type 0 where
+  pub advances : Advances statements d variable instruction.operation
+  pub left : IsLeftDone statements d t instruction.next
+
+-- the first so many statements have their instructions
+pub record AreExecuted (table : Constants) (statements : List Resolved) (n : ℕ) (list : List Instruction) : Type 0 where
+  pub count : length list ≡ n
+  pub each : (i : ℕ) (instruction : Instruction)
+      → slice_get list i ≡ Some instruction → IsInstruction table statements i instruction
+
+-- behind the instructions of all statements stand the incrementations of the DOs among the first so many
+pub record AreFollowed (table : Constants) (statements : List Resolved) (n : ℕ) (list : List Instruction) : Type 0 where
+  pub count : length list ≡ length statements + do_rank statements n
+  pub executed : (i : ℕ) (instruction : Instruction)
+      → i < length statements → slice_get list i ≡ Some instruction → IsInstruction table statements i instruction
+  pub incremented : (d : ℕ) (instruction : Instruction) → d < n → is_loop_at statements d ≡ true
+      → slice_get list (length statements + do_rank statements d) ≡ Some instruction
+      → IsIncrement statements d instruction
+
+-- the slots that statements name are there, and of their kinds
+abbrev pub HaveActions : Plan → List Resolved → Type 0
+HaveActions plan statements = (i : ℕ) (r : Resolved) → slice_get statements i ≡ Some r → HasAction plan r.action
+
+-- the incrementation of the statement i is exchanged in the code, where it is a DO
+pub record IsIncrementExchanged (statements : List Resolved) (i : ℕ) (before after : List Instruction) : Type 0 where
+  pub count : length after ≡ length before
+  pub next : is_loop_at statements i ≡ true
+      → (x : Instruction) → slice_get after (length statements + do_rank statements i) ≡ Some x
+      → IsIncrement statements i x
+  pub others : (j : ℕ) → (is_loop_at statements i ≡ true → j ≢ length statements + do_rank statements i)
+      → slice_get after j ≡ slice_get before j

@@ -1,0 +1,10 @@
+-- The constants that code names, in the registers behind those of slots.
+-- Private functions and proofs alone cite what stands here.
+use Rattle.std.specs.Prelude.{◌≡◌, ◌+◌, ℕ, ℤ, Some, slice_get}
+use Rattle.f77_code.specs.declared.constants.Constants.{Constants}
+
+-- the register r is that of a constant
+pub record HasRegister (table : Constants) (r : ℕ) (z : ℤ) : Type 0 where
+  pub place : ℕ
+  pub behind : r ≡ table.slots + place
+  pub value : slice_get table.values.items place ≡ Some z

@@ -1,0 +1,4 @@
+pub mod Reading
+pub mod Edges
+pub mod Table
+pub mod Same

@@ -1,0 +1,4 @@
+pub mod Paths
+pub mod Exits
+pub mod Choosing
+pub mod Continuing

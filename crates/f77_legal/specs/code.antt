@@ -1,0 +1,10 @@
+pub mod NameTable
+pub mod LabelTable
+pub mod BlockTable
+pub mod Holders
+pub mod LoopTable
+pub mod Runs
+pub mod Tables
+pub mod Legal
+pub mod Frames
+pub mod Patches

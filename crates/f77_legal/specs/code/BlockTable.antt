@@ -1,0 +1,46 @@
+-- What a table of blocks is of a program.
+-- Private functions and proofs alone cite what stands here.
+use Rattle.std.specs.Prelude.{◌+◌, ◌-◌, ◌&&◌, ◌||◌, ◌==◌, if◌then◌else◌}
+use Rattle.std.specs.Prelude.{ℕ, Bool, false, not, nat_lt, is_some, List, slice_index_or, Option, None}
+use Rattle.std.specs.List.{find, list_any}
+use Rattle.std.specs.Option.{option_map_or}
+use Rattle.f77_program.specs.Program.{LineFields}
+use Rattle.f77_tree.specs.Statement.{Statement}
+use Rattle.f77_legal.specs.Blocks.{is_block_if, is_end_if, is_else, is_alternative, statement_numbers, has_at, is_level}
+use Rattle.f77_legal.specs.Blocks.{branch_end}
+use Rattle.f77_legal.specs.declared.blocks.Blocks.{Blocks}
+use Rattle.f77_legal.specs.declared.blocks.Extent.{Extent}
+use Rattle.f77_legal.specs.declared.blocks.Extent.TheVariants.{Block, Branch}
+
+-- the statement ends a whole block, or a branch of one
+abbrev pub stops : Extent → Statement → Bool
+stops Block statement = is_end_if statement
+stops Branch statement = is_end_if statement || is_alternative statement
+
+-- where the block or the branch ends that i begins
+abbrev pub end_of : List LineFields → Extent → ℕ → Option ℕ
+end_of program extent i =
+    find (λ j. has_at (stops extent) program j && is_level program i j) (statement_numbers program)
+
+-- how many blocks are open behind the statement, where so many are before it
+abbrev pub depth_behind : Statement → ℕ → ℕ
+depth_behind statement depth =
+    if is_block_if statement then depth + 1 else (if is_end_if statement then depth - 1 else depth)
+
+abbrev pub else_end_at : List LineFields → ℕ → Option ℕ
+else_end_at program i = if has_at is_else program i then branch_end program i else None
+
+-- one of the ends is k, or stands behind k
+abbrev pub is_end_among : List (Option ℕ) → ℕ → Bool
+is_end_among ends k = list_any (λ end. option_map_or (λ place. place == k) end false) ends
+
+abbrev pub is_before_end : List (Option ℕ) → ℕ → Bool
+is_before_end ends k = list_any (λ end. option_map_or (nat_lt k) end false) ends
+
+-- the statement i is out of its place, as the table tells
+abbrev pub is_misplaced : Blocks → Statement → ℕ → Bool
+is_misplaced table statement i =
+    if is_block_if statement then not (is_some (slice_index_or table.ends.items i None))
+    else (if is_end_if statement then not (slice_index_or table.closing.items i false)
+    else (is_alternative statement
+    && (not (slice_index_or table.inside.items i false) || slice_index_or table.after_else.items i false)))

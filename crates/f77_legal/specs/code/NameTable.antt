@@ -1,0 +1,103 @@
+-- The table of names: each name once, in order of first appearance, with what the program says of it.
+-- Private functions and proofs alone cite what stands here.
+use Rattle.std.specs.Prelude.{ℕ, ◌&&◌, ◌||◌, Bool, true, false, not, List, [], ◌∷◌}
+use Rattle.std.specs.Prelude.{map, fold, filter_map, if◌then◌else◌, Option, is_some}
+use Rattle.std.specs.Option.{option_map_or}
+use Rattle.std.specs.Str.{bytes_eq}
+use Rattle.indexmap.specs.IndexMap.{get}
+use Rattle.f77_tree.specs.Intrinsic.{function_named}
+use Rattle.f77_nodes.specs.Node.{NodeOf, node_name}
+use Rattle.f77_tree.specs.declared.tree.Kind.{Kind}
+use Rattle.f77_tree.specs.declared.tree.Kind.TheVariants.{Integer}
+use Rattle.f77_legal.specs.declared.names.Names.{Names}
+use Rattle.f77_legal.specs.declared.names.Times.{Times}
+use Rattle.f77_legal.specs.declared.names.Times.TheVariants.{Never, Once, More}
+use Rattle.f77_legal.specs.declared.mentions.Said.{Said}
+use Rattle.f77_legal.specs.declared.mentions.Said.TheVariants as said
+use Rattle.f77_legal.specs.Names.{Symbol, Mention, name_in}
+use Rattle.f77_legal.specs.Names.{some_items, is_integer_name}
+use Rattle.f77_legal.specs.Presets.{product}
+use Rattle.f77_legal.specs.NameTable.{FactsFields, Entries}
+
+-- One more mention: what it adds to the facts of its name.
+abbrev pub once_more : Times → Times
+once_more Never = Once
+once_more Once = More
+once_more More = More
+
+abbrev pub first_said : {X : Type 0} → Times → X → X → X
+first_said Never new old = new
+first_said Once new old = old
+first_said More new old = old
+
+abbrev pub with_kind : FactsFields → Kind → FactsFields
+with_kind facts kind = record facts { typed = once_more facts.typed; kind = first_said facts.typed kind facts.kind }
+
+abbrev pub with_shape : FactsFields → List ℕ → FactsFields
+with_shape facts bounds = record facts {
+  dimensioned = once_more facts.dimensioned;
+  bounds = first_said
+      facts.dimensioned bounds facts.bounds;
+}
+
+abbrev pub facts_with_bounds : FactsFields → List ℕ → FactsFields
+facts_with_bounds facts [] = facts
+facts_with_bounds facts (bound ∷ bounds) = with_shape facts (bound ∷ bounds)
+
+abbrev pub with_fact : FactsFields → Mention → FactsFields
+with_fact facts (Mention.Dummy name) = record facts { dummy = once_more facts.dummy }
+with_fact facts (Mention.Typed kind declaration) = facts_with_bounds (with_kind facts kind) declaration.bounds
+with_fact facts (Mention.Dimensioned declaration) = facts_with_bounds facts declaration.bounds
+with_fact facts (Mention.Plain name) = facts
+
+abbrev pub no_facts : FactsFields
+no_facts = record { dummy = Never; typed = Never; kind = Integer; dimensioned = Never; bounds = [] }
+
+-- a name that is there keeps its place, and a new one goes last
+abbrev pub with_mention : Entries → Mention → Entries
+with_mention [] mention = (name_in mention, with_fact no_facts mention) ∷ []
+with_mention (entry ∷ entries) mention =
+    if bytes_eq (name_in mention) entry.0
+    then (entry.0, with_fact entry.1 mention) ∷ entries else entry ∷ with_mention entries mention
+
+abbrev pub with_mentions : Entries → List Mention → Entries
+with_mentions = fold with_mention
+
+-- with the names that the nodes bear, each as a plain mention
+abbrev pub with_nodes : Entries → List NodeOf → Entries
+with_nodes entries nodes = with_mentions entries (map Mention.Plain (filter_map node_name nodes))
+
+-- the mention of a name of which this is said
+abbrev pub mention_of : Symbol → Said → Mention
+mention_of name said.Dummy = Mention.Dummy name
+mention_of name (said.Typed kind bounds) = Mention.Typed kind (record { name = name; bounds = bounds.now })
+mention_of name (said.Dimensioned bounds) = Mention.Dimensioned (record { name = name; bounds = bounds.now })
+mention_of name said.Plain = Mention.Plain name
+
+-- What the entries tell: a name that is REAL by its first letter, one that
+-- is declared twice where the unit has this name, the elements of an array.
+abbrev pub is_never : Times → Bool
+is_never Never = true
+is_never Once = false
+is_never More = false
+
+abbrev pub is_more : Times → Bool
+is_more Never = false
+is_more Once = false
+is_more More = true
+
+abbrev pub dummy_at : Names → Symbol → Bool
+dummy_at names name = option_map_or (λ facts. not (is_never facts.dummy)) (get bytes_eq names.facts name) false
+
+abbrev pub tells_real : Symbol × FactsFields → Bool
+tells_real entry = is_never entry.1.typed && not (is_integer_name entry.0)
+
+abbrev pub tells_twice : Option Symbol → Symbol × FactsFields → Bool
+tells_twice unit entry =
+    is_more entry.1.typed
+    || (is_more entry.1.dimensioned
+    || (is_more entry.1.dummy
+    || (option_map_or (bytes_eq entry.0) unit false || is_some (function_named entry.0))))
+
+abbrev pub array_size : FactsFields → ℕ
+array_size facts = if is_some (some_items facts.bounds) then product facts.bounds else 0

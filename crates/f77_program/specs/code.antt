@@ -1,0 +1,4 @@
+pub mod Declaration
+pub mod Data
+pub mod Formed
+pub mod Printing

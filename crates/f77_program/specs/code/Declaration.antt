@@ -1,0 +1,14 @@
+-- Declared names with their bounds (ANSI X3.9-1978, 8.1 and
+-- 8.4): whether some text spells them, and their canonical text.
+-- Private functions and proofs alone cite what stands here.
+use Rattle.std.specs.Prelude.{List, Bool}
+use Rattle.f77_tree.specs.Grammar.{is_name}
+use Rattle.f77_tree.specs.code.Joined.{some_all}
+use Rattle.f77_tree.specs.Tree.{DeclFields}
+
+-- Whether some text spells them.
+abbrev pub is_decl : DeclFields → Bool
+is_decl d = is_name d.name
+
+abbrev pub declaration_formed : List DeclFields → Bool
+declaration_formed ds = some_all is_decl ds

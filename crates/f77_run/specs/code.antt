@@ -1,0 +1,11 @@
+pub mod Machine
+pub mod Effect
+pub mod Typed
+pub mod Spans
+pub mod Holding
+pub mod Running
+pub mod Site
+pub mod Snapshot
+pub mod Visits
+pub mod Parting
+pub mod Registers

@@ -1,0 +1,46 @@
+-- What stands in the registers of the code of a program for a state of its slots, and in the counters for its DOs.
+use Rattle.std.specs.Prelude.{◌∷◌, if◌then◌else◌, Bool, not, List, [], length, map, Option}
+use Rattle.std.specs.Prelude.{Some, None, unwrap_or, slice_get, ℤ, pos, Result, Ok, Err}
+use Rattle.std.specs.List.{flat_map, list_all, zip}
+use Rattle.f77_tree.specs.declared.tree.Kind.{Kind}
+use Rattle.f77_tree.specs.declared.tree.Kind.TheVariants.{Integer, Logical}
+use Rattle.f77_actions.specs.declared.resolved.Resolved.{Resolved}
+use Rattle.f77_values.specs.declared.finish.Fault.{Fault}
+use Rattle.f77_values.specs.declared.value.Value.{Value}
+use Rattle.f77_values.specs.declared.value.Value.TheVariants as held
+use Rattle.f77_values.specs.Number.{is_same}
+use Rattle.f77_values.specs.Told.{coded, is_fitting}
+use Rattle.f77_code.specs.declared.constants.Constants.{Constants}
+use Rattle.f77_code.specs.declared.control.Turn.{Turn}
+use Rattle.f77_code.specs.Holds.{Plan, read_as}
+use Rattle.f77_code.specs.Moves.{Cells, TurnList, is_loop}
+use Rattle.f77_code.specs.Registers.{told_by_register}
+
+-- slots of these kinds, and behind them the constants of a table
+abbrev pub plan_of : List Kind → Constants → Plan
+plan_of kinds table =
+    record { slots = length kinds; kind = λ k. unwrap_or (slice_get kinds k) Integer; constants = table.values.items }
+
+-- the registers of the slots: what is read from each, by its kind
+abbrev pub loaded : List Kind → Cells → List ℤ
+loaded kinds cells = map (λ pair. coded (read_as pair.0 pair.1)) (zip kinds cells)
+
+-- what is read from each slot is in the range of INTEGER, where it is a value
+abbrev pub values_fit : List Kind → Cells → Bool
+values_fit kinds cells = list_all (λ pair. is_fitting (read_as pair.0 pair.1)) (zip kinds cells)
+
+-- what a slot of this kind holds, by what its register tells
+abbrev pub shown_as : Kind → Result ℤ Fault → Option Value
+shown_as Integer (Ok z) = Some (held.Number z)
+shown_as Logical (Ok z) = Some (held.Truth (not (is_same z (pos 0))))
+shown_as kind (Err fault) = None
+
+abbrev pub shown_cells : List Kind → List ℤ → Cells
+shown_cells kinds registers = map (λ pair. shown_as pair.0 (told_by_register pair.1)) (zip kinds registers)
+
+-- the counters: what each DO has left, in order, and nothing where it is not active
+abbrev pub counter_of : Resolved → Option Turn → List Turn
+counter_of r turn = if is_loop r.action then unwrap_or turn (record { passes = 0; step = pos 0 }) ∷ [] else []
+
+abbrev pub counters_of : List Resolved → TurnList → List Turn
+counters_of statements turns = flat_map (λ pair. counter_of pair.0 pair.1) (zip statements turns)

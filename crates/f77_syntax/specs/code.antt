@@ -1,0 +1,16 @@
+pub mod Reading
+pub mod View
+pub mod Joined
+pub mod Names
+pub mod Declaration
+pub mod Data
+pub mod StatementView
+pub mod Assignment
+pub mod Label
+pub mod Goto
+pub mod Condition
+pub mod Subroutine
+pub mod DoLoop
+pub mod Statement
+pub mod NameLengths
+pub mod Parsing

@@ -1,0 +1,15 @@
+-- Reading what is in the parentheses of an IF, and the labels of an arithmetic IF.
+use Rattle.std.specs.Prelude.{ℕ, List, Option, Some, codes}
+use Rattle.f77_tree.specs.Tree.{Tree}
+use Rattle.f77_tree.specs.Statement.{Statement}
+use Rattle.f77_syntax.specs.Reading.{◌>>=◌, strip}
+use Rattle.f77_syntax.specs.code.Reading.{close_at, reading}
+use Rattle.f77_syntax.specs.code.Label.{labels_at}
+
+-- what stands behind the condition of an arithmetic IF
+unfoldable pub arithmetic_at : Tree → List ℕ → Option Statement
+arithmetic_at t s = labels_at s >>= λ l. Some (Statement.ArithIf t l.0 l.1 l.2)
+
+-- `IF(`, an expression, `)`, and what follows
+unfoldable pub condition_at : List ℕ → Option (Tree × List ℕ)
+condition_at s = strip (codes "IF(") s >>= λ r. reading.expr 1 r >>= λ x. close_at x.1 >>= λ z. Some (x.0, z)

@@ -1,0 +1,29 @@
+-- Reading a DO statement.
+use Rattle.std.specs.Prelude.{ℕ, ◌==◌, List, [], ◌∷◌, Option, Some, None, if◌then◌else◌, codes}
+use Rattle.f77_tree.specs.Grammar.{is_name, word, past_word}
+use Rattle.f77_tree.specs.Tree.{Tree}
+use Rattle.f77_tree.specs.Statement.{Statement}
+use Rattle.f77_syntax.specs.Reading.{◌>>=◌, strip}
+use Rattle.f77_syntax.specs.code.Reading.{tree_after, past_comma, reading}
+use Rattle.f77_syntax.specs.code.Assignment.{value_ended}
+use Rattle.f77_syntax.specs.code.Label.{label_at}
+
+-- the label and the DO variable of a DO, and what follows the equals sign
+unfoldable pub control_at : List ℕ → Option (ℕ × List ℕ × List ℕ)
+control_at s =
+    label_at s >>= λ x. if is_name (word (past_comma x.1))
+    then (tree_after 61 (past_word (past_comma x.1)) >>= λ r. Some (x.0, word (past_comma x.1), r))
+    else None
+
+-- the third parameter of a DO, or nothing
+abbrev pub step_at : List ℕ → Option (Option Tree)
+step_at [] = Some None
+step_at (c ∷ s) = if c == 44 then (reading.expr 1 s >>= λ x. value_ended (Some x.0) x.1) else None
+
+unfoldable pub parameters_at : ℕ → List ℕ → List ℕ → Option Statement
+parameters_at label name s =
+    reading.expr 1 s >>= λ a. tree_after 44 a.1
+    >>= λ r. reading.expr 1 r >>= λ b. step_at b.1 >>= λ c. Some (Statement.Loop label name a.0 b.0 c)
+
+unfoldable pub loop_at : List ℕ → Option Statement
+loop_at s = strip (codes "DO") s >>= λ r. control_at r >>= λ x. parameters_at x.0 x.1 x.2

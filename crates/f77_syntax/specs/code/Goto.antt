@@ -1,0 +1,24 @@
+-- Reading a GO TO, unconditional or computed (ANSI X3.9-1978, 11.1 and 11.2).
+use Rattle.std.specs.Prelude.{ℕ, List, Option, Some, None}
+use Rattle.f77_tree.specs.Statement.{Statement}
+use Rattle.f77_syntax.specs.Reading.{◌>>=◌}
+use Rattle.f77_syntax.specs.code.Reading.{tree_after, close_at, past_comma, reading}
+use Rattle.f77_syntax.specs.code.Assignment.{value_ended}
+use Rattle.f77_syntax.specs.code.Joined.{items_at}
+use Rattle.f77_syntax.specs.code.Label.{label_at, last_label}
+
+-- the expression behind the labels, and the comma before it, which may be left out
+unfoldable pub selector_at : List ℕ → List ℕ → Option Statement
+selector_at labels s = reading.expr 1 (past_comma s) >>= λ x. value_ended (Statement.ComputedGoto labels x.0) x.1
+
+-- what stands behind `GOTO(`
+unfoldable pub computed_at : List ℕ → Option Statement
+computed_at s = items_at label_at s >>= λ x. close_at x.1 >>= λ r. selector_at x.0 r
+
+-- what stands behind `GOTO`: an open parenthesis and the rest of a computed one, or else a label alone
+abbrev pub goto_by : List ℕ → Option (List ℕ) → Option Statement
+goto_by s (Some r) = computed_at r
+goto_by s None = last_label s >>= λ l. Some (Statement.Goto l)
+
+unfoldable pub goto_at : List ℕ → Option Statement
+goto_at s = goto_by s (tree_after 40 s)

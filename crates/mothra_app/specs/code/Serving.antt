@@ -1,0 +1,31 @@
+-- What is served: a status and a text, by the words and all the bytes of the reader.
+-- Private functions and proofs alone cite what stands here.
+use Rattle.std.specs.Prelude.{◌≡◌, ℕ, List, Option, string_bytes}
+use Rattle.clap.specs.Words.{Text}
+use Rattle.mothra_app.specs.code.Answer.{IsReadyAnswer}
+use Rattle.mothra_app.specs.declared.answer.Ready.{Ready}
+use Rattle.mothra_app.specs.declared.answer.Ready.TheVariants as ready
+use Rattle.mothra_cli.specs.Input.{limit, AreAll, IsRead}
+use Rattle.mothra_job.specs.Job.{job_of}
+use Rattle.mothra_cli.specs.declared.request.Request.{Request}
+use Rattle.mothra_app.specs.declared.status.Status.{Status}
+use Rattle.mothra_app.specs.Serving.{AsksFor, IsAnswered}
+
+-- an answer of this status, which takes no threads
+abbrev pub IsTelling : Status → Ready → Type 0
+IsTelling status (ready.Answer reply) = reply.status ≡ status
+IsTelling status (ready.Bench bench workers) = ⊥
+
+-- what is ready answers the request, where the reader had these bytes left
+pub record IsReadyBy (request : Request) (left : Option (List ℕ)) (ready : Ready) : Type 0 where
+  pub bytes : List ℕ
+  pub all : AreAll left bytes
+  pub is : IsReadyAnswer request (job_of bytes) ready
+
+-- what is ready answers the words, where the reader had the bytes
+-- `left` and now has `now`: an answer, or the bench of `run`
+abbrev pub IsReadyFor : List Text → Option (List ℕ) → Option (List ℕ) → Ready → Type 0
+IsReadyFor words left now (ready.Answer reply) = IsAnswered words left now reply.status (string_bytes reply.text)
+IsReadyFor words left now (ready.Bench bench workers) =
+    (request : Request)
+    × AsksFor words request × IsReadyBy request left (ready.Bench bench workers) × IsRead limit left now

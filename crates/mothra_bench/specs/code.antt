@@ -1,0 +1,9 @@
+pub mod Closing
+pub mod Running
+pub mod Equivalents
+pub mod RowMap
+pub mod Entries
+pub mod Gathered
+pub mod Working
+pub mod Feeding
+pub mod Driving

@@ -1,0 +1,25 @@
+-- What a feeder does with its pass, and what it answers.
+-- Private functions and proofs alone cite what stands here.
+use Rattle.std.specs.Prelude.{◌≡◌, ◌⊎◌, ℕ, ◌<◌, ◌≤◌, true, List}
+use Rattle.std.specs.Prelude.{slice_index_or}
+use Rattle.mothra_codes.specs.declared.op.Op.{Op}
+use Rattle.mothra_codes.specs.Op.{index}
+use Rattle.mothra_exchange.specs.declared.view.View.{View}
+use Rattle.mothra_bench.specs.Closing.{count_of, seen_of}
+use Rattle.mothra_bench.specs.declared.feeding.Stage.{Stage}
+use Rattle.mothra_bench.specs.declared.feeding.Stage.TheVariants as stage
+use Rattle.mothra_bench.specs.Feeding.{HasOffered, NeverClosed, IsFed}
+
+-- what a feeder's stage says of its pass
+abbrev pub ShowsStage : View → Op → Stage → Type 0
+ShowsStage view op (stage.Offered last) =
+    HasOffered view op last × NeverClosed view op × (last ≤ count_of view op) × (last ≤ (seen_of view op).offered)
+ShowsStage view op stage.Ended = (last : ℕ) × HasOffered view op last × NeverClosed view op
+    × ((last < (seen_of view op).offered) ⊎ ((seen_of view op).closed ≡ true))
+ShowsStage view op stage.Closed = IsFed view op
+
+abbrev pub stage_of : List Stage → Op → Stage
+stage_of stages op = slice_index_or stages (index op) (stage.Offered 0)
+
+abbrev pub AllShow : View → List Stage → Type 0
+AllShow view stages = (op : Op) → ShowsStage view op (stage_of stages op)

@@ -1,0 +1,38 @@
+-- What a worker does with its pass, and what it answers.
+-- Private functions and proofs alone cite what stands here.
+use Rattle.std.specs.Prelude.{◌≡◌, Bool, true, List, ◌++◌, All}
+use Rattle.std.specs.Prelude.{Option, None, IfSome, IfNone, MatchOption}
+use Rattle.mothra_codes.specs.declared.ticket.Ticket.{Ticket}
+use Rattle.mothra_exchange.specs.declared.view.View.{View}
+use Rattle.mothra_ops.specs.Plan.{PlanFields}
+use Rattle.mothra_bench.specs.Bench.{BenchFields}
+use Rattle.mothra_bench.specs.Gathered.{AreVerdicts}
+use Rattle.mothra_bench.specs.Verdict.{HasMutant}
+use Rattle.mothra_bench.specs.declared.fault.BenchFault.{BenchFault}
+use Rattle.mothra_bench.specs.declared.gathered.Gathered.{Gathered}
+use Rattle.mothra_bench.specs.declared.verdict.Row.{Row}
+use Rattle.mothra_bench.specs.Working.{OnlyTook, TookRows, IsNoWork, NamesFirst}
+
+-- the tickets that the pass took: without a fault the plan has them all, and the first fault names the first that it
+-- does not have
+pub record Takes (plan : PlanFields) (old new : View) (before after : Option BenchFault) : Type 0 where
+  pub tickets : List Ticket
+  pub taken : new.taken ≡ old.taken ++ tickets
+  pub known : IfNone after (All (HasMutant plan) tickets)
+  pub first : IfSome after (λ fault. IfNone before (NamesFirst plan tickets fault))
+
+-- some rows were added, each with its verdict, and where records are kept the pass took their tickets
+pub record AddsRows (bench : BenchFields) (keeps : Bool) (old new : View) (rows more : List Row) : Type 0 where
+  pub extra : List Row
+  pub added : more ≡ rows ++ extra
+  pub verdicts : AreVerdicts bench extra
+  pub took : keeps ≡ true → TookRows old new extra
+
+-- a worker went on, and its pass and what it has gathered with it; the first fault stays
+pub record Went (bench : BenchFields) (may keeps : Bool) (old new : View) (before after : Gathered) : Type 0 where
+  pub fault : IfSome after.fault
+      (λ fault. MatchOption before.fault (IsNoWork may keeps bench.plan old.counts fault) (λ first. fault ≡ first))
+  pub rows : IfNone after.fault
+      ((before.fault ≡ None) × AddsRows bench keeps old new before.rows.items after.rows.items)
+  pub pass : keeps ≡ true → OnlyTook old new
+  pub takes : keeps ≡ true → Takes bench.plan old new before.fault after.fault

@@ -1,0 +1,16 @@
+-- What the words of the command line ask for.
+-- Private functions and proofs alone cite what stands here.
+use Rattle.std.specs.Prelude.{◌≡◌, Option, Some, None, Result, Ok, Err}
+use Rattle.clap.specs.Words.{kind_of}
+use Rattle.clap.specs.declared.error.kind.ErrorKind.TheVariants as kind
+use Rattle.mothra_cli.specs.declared.request.Request.{Request}
+use Rattle.mothra_cli.specs.declared.request.WordsFault.{WordsFault}
+use Rattle.mothra_cli.specs.declared.request.WordsFault.TheVariants as fault
+use Rattle.mothra_cli.specs.Request.{Meaning, refused, bad_operators, request}
+
+-- the request that is meant, or why there is none, or memory that ran out
+abbrev pub ReadsRequest : Meaning → Result (Option Request) WordsFault → Type 0
+ReadsRequest meaning (Ok (Some r)) = meaning ≡ request r
+ReadsRequest meaning (Ok None) = meaning ≡ refused
+ReadsRequest meaning (Err fault.BadOperatorList) = meaning ≡ bad_operators
+ReadsRequest meaning (Err (fault.Refused error)) = kind_of error ≡ kind.OutOfMemory

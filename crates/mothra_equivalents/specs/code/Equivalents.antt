@@ -1,0 +1,32 @@
+-- The mutants of a plan that no test can kill.
+-- Private functions and proofs alone cite what stands here.
+use Rattle.std.specs.Prelude.{◌<◌, ℕ, List, All}
+use Rattle.f77_program.specs.Program.{LineFields}
+use Rattle.f77_equivalence.specs.Equivalent.{IsEquivalent}
+use Rattle.f77_continuations.specs.Within.{IsEquivalentWithin}
+use Rattle.mothra_codes.specs.Op.{index}
+use Rattle.mothra_codes.specs.declared.op.Op.{Op}
+use Rattle.mothra_codes.specs.Ticket.{Before, ticket}
+use Rattle.mothra_ops.specs.Plan.{PlanFields}
+use Rattle.mothra_equivalents.specs.declared.equivalents.Equivalent.{Equivalent}
+use Rattle.mothra_equivalents.specs.declared.why.Why.{Why}
+use Rattle.mothra_equivalents.specs.declared.why.Why.TheVariants as why
+use Rattle.mothra_equivalents.specs.Equivalents.{AreEquivalents}
+
+-- what a rule says of a program and the one that a mutant makes of it
+abbrev pub IsEquivalentBy : Why → List LineFields → List LineFields → Type 0
+IsEquivalentBy why.Same p q = IsEquivalent p q
+IsEquivalentBy why.Unread p q = IsEquivalent p q
+IsEquivalentBy why.Continues p q = IsEquivalent p q
+IsEquivalentBy (why.Spare spare) p q = IsEquivalentWithin spare p q
+IsEquivalentBy why.Unreached p q = IsEquivalent p q
+
+-- these are such mutants, and each is before this one of the operator
+pub record IsFront (plan : PlanFields) (op : Op) (number : ℕ) (list : List Equivalent) : Type 0 where
+  pub are : AreEquivalents plan list
+  pub before : All (λ equivalent. Before equivalent.ticket (ticket op number)) list
+
+-- these are such mutants, of the operators before the one of this place in their order
+pub record AreOf (plan : PlanFields) (place : ℕ) (list : List Equivalent) : Type 0 where
+  pub are : AreEquivalents plan list
+  pub before : All (λ equivalent. index equivalent.ticket.op < place) list

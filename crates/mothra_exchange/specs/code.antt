@@ -1,0 +1,4 @@
+pub mod Calls
+pub mod Exchange
+pub mod Rule
+pub mod View

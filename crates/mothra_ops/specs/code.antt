@@ -1,0 +1,5 @@
+pub mod Edits
+pub mod Original
+pub mod Given
+pub mod Listing
+pub mod InPlaces
