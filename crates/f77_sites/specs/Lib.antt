@@ -1,3 +1,3 @@
 pub mod Sites
-pub mod New
+pub mod Replacement
 pub mod code

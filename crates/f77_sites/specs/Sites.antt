@@ -13,9 +13,12 @@ Site X = NodeOf × (NodeOf → X)
 abbrev pub node_at : {X : Type 0} → Site X → NodeOf
 node_at site = site.0
 
+abbrev pub whole_with : {X : Type 0} → Site X → NodeOf → X
+whole_with site = site.1
+
 -- a site of a part as one of the whole
 abbrev pub site_within : {X Y : Type 0} → (X → Y) → Site X → Site Y
-site_within f site = (site.0, λ node. f (site.1 node))
+site_within f site = (node_at site, λ node. f (whole_with site node))
 
 -- a node in the place of one: it has to be of the same sort, else nothing changes
 abbrev pub part_or : Tree → NodeOf → Tree
@@ -158,7 +161,7 @@ sites s = statement_then s (sites_behind s)
 -- the whole with a node in the place of the one at a site, the whole itself where there is no site
 abbrev pub put_node : {X : Type 0} → Option (Site X) → NodeOf → X → X
 put_node None node x = x
-put_node (Some site) node x = site.1 node
+put_node (Some site) node x = whole_with site node
 
 -- the statement with another node at this position
 abbrev pub changed : Statement → ℕ → NodeOf → Statement

@@ -6,7 +6,7 @@ mod changing_data;
 mod changing_expression;
 mod changing_node;
 pub mod law;
-mod new;
+mod replacement;
 
 pub use changing::with_node;
-pub use new::New;
+pub use replacement::Replacement;

@@ -18,7 +18,7 @@ use Rattle.mothra_ops.specs.declared.edit.Edit.{Edit}
 use Rattle.mothra_ops.specs.declared.given.Given.{Given}
 use Rattle.mothra_ops.specs.declared.original.Original.{Original}
 use Rattle.mothra_codes.specs.declared.op.Op.{Op}
-use Rattle.f77_sites.specs.New.{new_of}
+use Rattle.f77_sites.specs.Replacement.{replacement_of}
 use Rattle.mothra_ops.proofs.Made.{no_node, no_new, the_new}
 use Rattle.mothra_ops.proofs.MakesMutant.{line_numbered}
 use Rattle.mothra_ops.proofs.Numbered.{nothing_numbered}
@@ -81,7 +81,7 @@ module _ (pools : PoolFields) (lines : List Line) (edit : Edit) where
 
 -- what is kept is given for the edit
 pub given_for : (original : Original) (given : Given) (edit : Edit) → IsGiven original given → IsFor given edit
-    → map new_of given.news.items ≡ given_at (pool_fields original.pools) (lines_of original) edit.op edit.statement edit.position
+    → map replacement_of given.replacements.items ≡ given_at (pool_fields original.pools) (lines_of original) edit.op edit.statement edit.position
 given_for original given edit is own =
     is ∙ ap (λ (op : Op). given_at (pool_fields original.pools) (lines_of original) op given.statement given.position) own.op
     ∙ ap (λ (n : ℕ). given_at (pool_fields original.pools) (lines_of original) edit.op n given.position) own.statement

@@ -4,6 +4,7 @@ mod OrderedLists
 mod Thinning
 mod LongLists
 mod Elements
+mod Ascending
 pub mod PoolLists
 pub mod PoolLines
 mod InPlaces

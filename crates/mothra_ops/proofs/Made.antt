@@ -9,9 +9,9 @@ use Rattle.f77_program.specs.Program.{LineFields, line_of, line_at}
 use Rattle.f77_tree.specs.Statement.{statement_of, Statement}
 use Rattle.f77_nodes.specs.declared.node.Node.{Node}
 use Rattle.f77_program.specs.declared.program.Line.{Line}
-use Rattle.f77_sites.specs.New.{new_of}
+use Rattle.f77_sites.specs.Replacement.{replacement_of}
 use Rattle.f77_sites.specs.Sites.{Site, changed, sites}
-use Rattle.f77_sites.specs.declared.new.New.{New}
+use Rattle.f77_sites.specs.declared.replacement.Replacement.{Replacement}
 use Rattle.mothra_ops.specs.Edits.{made, numbered}
 use Rattle.mothra_ops.specs.code.Original.{HasStatement}
 use Rattle.mothra_ops.specs.Pools.{PoolFields}
@@ -28,16 +28,19 @@ past xs (suc k) (inl e) = absurd (omega (arith, e))
 past xs (suc k) (inr h) = slice_get_past xs k (omega (arith, h))
 
 -- the number of an item, from 1
-pub item_numbered : (news : List New) (r : ℕ) (new : New) → 1 ≤ r → r ≤ length news → new ≡ get_or news (r - 1) new → numbered (map new_of news) r ≡ Some (new_of new)
-item_numbered news zero new low high is = absurd (omega (arith, low))
-item_numbered news (suc k) new low high is =
+pub item_numbered : (replacements : List Replacement) (r : ℕ) (new : Replacement) → 1 ≤ r
+    → r ≤ length replacements → new ≡ get_or replacements (r - 1) new → numbered (map replacement_of replacements) r ≡ Some (replacement_of new)
+item_numbered replacements zero new low high is = absurd (omega (arith, low))
+item_numbered replacements (suc k) new low high is =
     let e : suc k - 1 ≡ k = omega arith in
-    slice_get-map new_of news k ∙ ap (option_map new_of) (slice_get_read news (length news) k new refl (omega (arith, high)) (is ∙ ap (λ (j : ℕ). get_or news j new) e))
+    slice_get-map replacement_of replacements k ∙ ap (option_map replacement_of) (slice_get_read replacements (length replacements) k new refl
+    (omega (arith, high)) (is ∙ ap (λ (j : ℕ). get_or replacements j new) e))
 
-pub next_numbered : (news : List New) (k : ℕ) (new : New) → k < length news → new ≡ get_or news k new → numbered (map new_of news) (k + 1) ≡ Some (new_of new)
-next_numbered news k new low is =
+pub next_numbered : (replacements : List Replacement) (k : ℕ) (new : Replacement)
+    → k < length replacements → new ≡ get_or replacements k new → numbered (map replacement_of replacements) (k + 1) ≡ Some (replacement_of new)
+next_numbered replacements k new low is =
     let e : k ≡ k + 1 - 1 = omega arith in
-    item_numbered news (k + 1) new (omega arith) (omega (arith, low)) (is ∙ ap (λ (j : ℕ). get_or news j new) e)
+    item_numbered replacements (k + 1) new (omega arith) (omega (arith, low)) (is ∙ ap (λ (j : ℕ). get_or replacements j new) e)
 
 -- the same of nodes and of lines
 pub node_listed : (nodes : List Node) (s : Statement) (k : ℕ) (node : Node) → map node_of nodes ≡ nodes_of s → k < length nodes → node ≡ get_or nodes k node
@@ -52,16 +55,16 @@ line_has lines k line low is =
     ∙ ap (option_map (λ (l : LineFields). l.stmt)) (slice_get-map line_of lines k ∙ ap (option_map line_of) (slice_get_read lines (length lines) k line refl low is))
 
 -- what an operator gives, of other words for it and for the pools
-module _ (op other : Op) (pools wanted : PoolFields) (s : Statement) (node : NodeOf) (news : List New) (same : other ≡ op) (drawn : pools ≡ wanted)
-    (given : map new_of news ≡ gives op pools s node) where
-  pub the_given : gives other wanted s node ≡ map new_of news
+module _ (op other : Op) (pools wanted : PoolFields) (s : Statement) (node : NodeOf) (replacements : List Replacement) (same : other ≡ op) (drawn : pools ≡ wanted)
+    (given : map replacement_of replacements ≡ gives op pools s node) where
+  pub the_given : gives other wanted s node ≡ map replacement_of replacements
   the_given = ap (λ (o : Op). gives o wanted s node) same ∙ ap (λ (p : PoolFields). gives op p s node) (sym drawn) ∙ sym given
 
-  pub given_next : (k : ℕ) (new : New) → k < length news → new ≡ get_or news k new → numbered (gives other wanted s node) (k + 1) ≡ Some (new_of new)
-  given_next k new low is = ap (λ (ns : List NodeOf). numbered ns (k + 1)) the_given ∙ next_numbered news k new low is
+  pub given_next : (k : ℕ) (new : Replacement) → k < length replacements → new ≡ get_or replacements k new → numbered (gives other wanted s node) (k + 1) ≡ Some (replacement_of new)
+  given_next k new low is = ap (λ (ns : List NodeOf). numbered ns (k + 1)) the_given ∙ next_numbered replacements k new low is
 
-  pub given_many : length (gives other wanted s node) ≡ length news
-  given_many = ap length the_given ∙ length-map news new_of
+  pub given_many : length (gives other wanted s node) ≡ length replacements
+  given_many = ap length the_given ∙ length-map replacements replacement_of
 
 -- where the statement has no node, and where the operator puts nothing of the rank
 module _ (pools : PoolFields) (lines : List Line) (edit : Edit) (line : Line) (at : line_at lines edit.statement ≡ Some line) where

@@ -1,4 +1,4 @@
--- The pools of a program: labels in their places, and what a table of names tells.
+-- The pools of a program: what a table of names tells.
 use Rattle.std.proofs.Common.{◌≡◌, ◌<◌, ◌≤◌, ◌∷◌, [], ℕ, List, true, false, not, length, map, filter, get_or, nat_lt, refl, sym, ap, ◌∙◌, suc, zero, arith}
 use Rattle.std.specs.Prelude.{is_some}
 use Rattle.std.specs.List.{insert, filter_map}
@@ -17,22 +17,7 @@ use Rattle.f77_legal.specs.NameTable.{FactsFields, IsNameTable, facts_fields, fa
 use Rattle.f77_legal.specs.declared.names.Names.{Names}
 use Rattle.f77_legal.proofs.Lookups.{same_kinds, same_bounds}
 use Rattle.f77_legal.proofs.NameTables.{rows}
-use Rattle.mothra_ops.specs.Pools.{PoolFields, pools_of, placed_ascending, ascending, each_once, scalar, array_reference, constant, executable_nodes}
-
-pub placed_at : (ns : List ℕ) (n i : ℕ) → i < length ns → ((k : ℕ) → k < i → get_or ns k 0 < n) → n ≤ get_or ns i 0 → insert ns i n ≡ placed_ascending n ns
-placed_at [] n i lt below above = absurd (omega (arith, lt))
-placed_at (m ∷ ms) n zero lt below above = let e : nat_lt m n ≡ false = grind (arith, nat_tests) in rw e refl
-placed_at (m ∷ ms) n (suc i) lt below above =
-    let low = below 0 (omega arith) in
-    let e : nat_lt m n ≡ true = grind (arith, nat_tests) in
-    rw e (ap (λ z. m ∷ z) (placed_at ms n i (omega (arith, lt)) (λ k less. below (suc k) (omega (arith, less))) above))
-
-pub placed_last : (ns : List ℕ) (n : ℕ) → ((k : ℕ) → k < length ns → get_or ns k 0 < n) → insert ns (length ns) n ≡ placed_ascending n ns
-placed_last [] n below = refl
-placed_last (m ∷ ms) n below =
-    let low = below 0 (omega arith) in
-    let e : nat_lt m n ≡ true = grind (arith, nat_tests) in
-    rw e (ap (λ z. m ∷ z) (placed_last ms n (λ k less. below (suc k) (omega (arith, less)))))
+use Rattle.mothra_ops.specs.Pools.{PoolFields, pools_of, ascending, each_once, scalar, array_reference, constant, executable_nodes}
 
 keys_rows : (f : Symbol → FactsFields) (names : List Symbol) → keys_of (rows f names) ≡ names
 keys_rows f [] = refl

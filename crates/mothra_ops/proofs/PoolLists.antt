@@ -1,4 +1,4 @@
--- Lists of what comes first, and of ascending numbers, as loops make them.
+-- Lists of what comes first, as loops make them.
 use Rattle.std.proofs.Common.{◌≡◌, ◌<◌, ◌+◌, ◌∷◌, ◌++◌, [], ℕ, List, Bool, true, false, not, Option, Some, None, length, take, get_or, refl, sym, ap, ◌∙◌, if◌then◌else◌}
 use Rattle.std.specs.Prelude.{map, filter}
 use Rattle.std.specs.Cmp.{IsEquivalence}

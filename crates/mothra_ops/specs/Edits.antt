@@ -10,7 +10,8 @@ use Rattle.f77_legal.specs.Labels.{nth_statement}
 use Rattle.f77_legal.specs.Legal.{IsLegal}
 use Rattle.mothra_ops.specs.Pools.{PoolFields, pools_of}
 use Rattle.mothra_ops.specs.Replacements.{gives}
-use Rattle.f77_sites.specs.Sites.{sites}
+use Rattle.f77_nodes.specs.Node.{NodeOf}
+use Rattle.f77_sites.specs.Sites.{Site, sites, node_at, whole_with}
 use Rattle.mothra_ops.specs.declared.edit.Edit.{Edit}
 use Rattle.mothra_ops.specs.declared.fault.OpsFault.{OpsFault}
 use Rattle.mothra_ops.specs.declared.fault.OpsFault.TheVariants.{Memory, NotASite, TooMany}
@@ -21,16 +22,25 @@ abbrev pub numbered : {X : Type 0} → List X → ℕ → Option X
 numbered xs zero = None
 numbered xs (suc k) = slice_get xs k
 
--- the statement that an edit makes: at its position the replacement
--- of its rank, of those that its operator gives the node there
+-- what an edit puts in the place of the node at a site: of
+-- those that its operator gives that node the one of its rank
+abbrev pub replacement_of_rank :
+    PoolFields → Edit → Statement → Site Statement → Option NodeOf
+replacement_of_rank pools edit statement site =
+    numbered (gives edit.op pools statement (node_at site)) edit.rank
+
+-- what it makes of a statement: the replacement stands at the site of its position
+abbrev pub edited : PoolFields → Edit → Statement → Option Statement
+edited pools edit statement =
+    option_and_then
+    (λ site. option_and_then (λ node. Some (whole_with site node))
+    (replacement_of_rank pools edit statement site))
+    (slice_get (sites statement) edit.position)
+
+-- what it makes of the program's statement with its number
 abbrev pub made : PoolFields → List LineFields → Edit → Option Statement
 made pools program edit =
-    option_and_then
-    (λ line. option_and_then
-    (λ site. option_and_then (λ node. Some (site.1 node))
-    (numbered (gives edit.op pools line.stmt site.0) edit.rank))
-    (slice_get (sites line.stmt) edit.position))
-    (numbered program edit.statement)
+    option_and_then (λ line. edited pools edit line.stmt) (numbered program edit.statement)
 
 -- The program with this statement in the place of the one
 -- with this number is a mutant: it is legal, and another one.

@@ -3,7 +3,7 @@ use Rattle.std.specs.Prelude.{◌≡◌, ℕ, List, [], map, slice_get}
 use Rattle.std.specs.Option.{option_map_or}
 use Rattle.f77_nodes.specs.Node.{NodeOf, nodes_of}
 use Rattle.f77_program.specs.Program.{LineFields}
-use Rattle.f77_sites.specs.New.{new_of}
+use Rattle.f77_sites.specs.Replacement.{replacement_of}
 use Rattle.mothra_ops.specs.Edits.{numbered}
 use Rattle.mothra_ops.specs.Original.{lines_of}
 use Rattle.mothra_ops.specs.Pools.{PoolFields, pool_fields}
@@ -22,6 +22,6 @@ given_at pools program op statement position =
 -- it is what its operator gives its node in this program
 abbrev pub IsGiven : Original → Given → Type 0
 IsGiven original given =
-    map new_of given.news.items
+    map replacement_of given.replacements.items
     ≡ given_at (pool_fields original.pools) (lines_of original) given.op
     given.statement given.position

@@ -1,8 +1,8 @@
 -- What the operators draw from: the scalars and arrays of a
 -- program, its array references, its constants and its labels.
-use Rattle.std.specs.Prelude.{ℕ, Bool, true, false, not, nat_lt, List, [], ◌∷◌}
-use Rattle.std.specs.Prelude.{filter, map, fold, Option, Some, None, if◌then◌else◌}
-use Rattle.std.specs.List.{flat_map, filter_map}
+use Rattle.std.specs.Prelude.{ℕ, ◌+◌, Bool, true, false, not, nat_eq, nat_le, List, [], ◌∷◌}
+use Rattle.std.specs.Prelude.{filter, map, Option, Some, None, if◌then◌else◌}
+use Rattle.std.specs.List.{flat_map, filter_map, list_any, range_with_len}
 use Rattle.f77_tree.specs.declared.form.Form.{Form}
 use Rattle.f77_tree.specs.Statement.{form_of, Statement}
 use Rattle.f77_tree.specs.Comparing.{same_tree}
@@ -23,13 +23,14 @@ abbrev pub each_once : {X : Type 0} → (X → X → Bool) → List X → List X
 each_once same [] = []
 each_once same (x ∷ xs) = x ∷ filter (λ y. not (same x y)) (each_once same xs)
 
--- a number in its place among ascending ones
-abbrev pub placed_ascending : ℕ → List ℕ → List ℕ
-placed_ascending n [] = n ∷ []
-placed_ascending n (m ∷ ms) = if nat_lt m n then m ∷ placed_ascending n ms else n ∷ (m ∷ ms)
+-- the largest of these numbers
+abbrev pub largest_of : List ℕ → ℕ
+largest_of [] = 0
+largest_of (n ∷ ns) = if nat_le n (largest_of ns) then largest_of ns else n
 
+-- these numbers ascending, each once: of all up to the largest those that are among them
 abbrev pub ascending : List ℕ → List ℕ
-ascending = fold (λ ns n. placed_ascending n ns) []
+ascending ns = filter (λ n. list_any (nat_eq n) ns) (range_with_len 0 (largest_of ns + 1))
 
 abbrev pub executes : Form → Bool
 executes Form.Subroutine = false

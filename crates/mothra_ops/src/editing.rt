@@ -4,7 +4,7 @@ ghost use Rattle.std.specs.Prelude.{◌≡◌, ◌↔◌, ◌<◌, ◌≤◌, �
 ghost use Rattle.f77_program.specs.Program.{line_of};
 ghost use Rattle.f77_program.specs.Patching.{patched};
 ghost use Rattle.f77_tree.specs.Statement.{statement_of};
-ghost use Rattle.f77_sites.specs.New.{new_of};
+ghost use Rattle.f77_sites.specs.Replacement.{replacement_of};
 ghost use Rattle.f77_sites.specs.Sites.{changed};
 ghost use Rattle.mothra_ops.specs.Edits.{IsCountedList, IsList, IsMember, IsMutant, IsNoList};
 ghost use Rattle.mothra_ops.specs.code.Edits.{IsMadeBy};
@@ -21,18 +21,23 @@ use crate::replacing::gives;
 use crate::site::Site;
 use f77_check::Checked;
 use f77_nodes::nodes;
-use f77_sites::New;
+use f77_sites::Replacement;
 use f77_tree::Stmt;
 use mothra_codes::Op;
 use std::alloc::Global;
 
 impl Original<'_> {
     /// Whether a mutant comes of putting the node at the site.
-    fn makes_mutant(&self, alloc: Global, site: Site<'_>, new: &New) -> Result<bool, OpsFault>
+    fn makes_mutant(
+        &self,
+        alloc: Global,
+        site: Site<'_>,
+        new: &Replacement,
+    ) -> Result<bool, OpsFault>
         requires { site.position + 1 < 2 ^ 64 }
         ensures decided { IfOk result (λ yes. IsTrue yes
             ↔ IsMutant (lines_of self.now) site.entry.number
-            (changed (statement_of site.entry.stmt.now) site.entry.position (new_of new.now))) }
+            (changed (statement_of site.entry.stmt.now) site.entry.position (replacement_of new.now))) }
         ensures memory { IfErr result (λ fault. fault ≡ Memory) }
     {
         let made = put(alloc, site.stmt, site.position, new)?;
@@ -57,9 +62,9 @@ impl Original<'_> {
             → HasCome listing.old (lines_of self.now) site.entry.number site.entry.position 0
             → IsNoList listing.old.op (lines_of self.now) listing.old.every fault) }
     {
-        let news = gives(alloc, listing.op, &self.pools, site.stmt, site.node)?;
-        for k in 0..news.len() {
-            if self.makes_mutant(alloc, site, &news[k])? {
+        let replacements = gives(alloc, listing.op, &self.pools, site.stmt, site.node)?;
+        for k in 0..replacements.len() {
+            if self.makes_mutant(alloc, site, &replacements[k])? {
                 listing.add(Edit {
                     op: listing.op,
                     statement: site.number,

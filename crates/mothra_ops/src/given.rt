@@ -5,7 +5,7 @@ ghost use Rattle.std.specs.Prelude.{◌<◌, ◌+◌, ◌^◌, length};
 use crate::edit::Edit;
 use crate::fault::OpsFault;
 use crate::original::{Original, put};
-use f77_sites::New;
+use f77_sites::Replacement;
 use f77_tree::Stmt;
 use mothra_codes::Op;
 use std::alloc::Global;
@@ -19,8 +19,8 @@ pub(crate) struct Given {
     /// The position of the node in the statement, from 0.
     position: usize,
     /// In the order of the ranks.
-    news: Vec<New>,
-    ghost counted: { 0 < length news.items → position + 1 < 2 ^ 64 },
+    replacements: Vec<Replacement>,
+    ghost counted: { 0 < length replacements.items → position + 1 < 2 ^ 64 },
 }
 
 impl Given {
@@ -42,7 +42,7 @@ impl Given {
             op: Op::Aar,
             statement: 0,
             position: 0,
-            news: Vec::new(alloc),
+            replacements: Vec::new(alloc),
         }
     }
 
@@ -52,12 +52,12 @@ impl Given {
         ensures edit { IfOk result (λ given. IsFor given edit.now) }
         ensures memory { IfErr result (λ fault. fault ≡ Memory) }
     {
-        let news = original.given(alloc, edit)?;
+        let replacements = original.given(alloc, edit)?;
         Ok(Given {
             op: edit.op,
             statement: edit.statement,
             position: edit.position,
-            news,
+            replacements,
         })
     }
 
@@ -98,13 +98,13 @@ impl Given {
             ≡ made (pool_fields original.now.pools) (lines_of original.now) edit.now) }
         ensures memory { IfErr result (λ fault. fault ≡ Memory) }
     {
-        if edit.rank == 0 || edit.rank > self.news.len() {
+        if edit.rank == 0 || edit.rank > self.replacements.len() {
             return Ok(None);
         }
         let Some(line) = original.checked.program().line(edit.statement) else {
             return Ok(None);
         };
-        let new = &self.news[edit.rank - 1];
+        let new = &self.replacements[edit.rank - 1];
         Ok(Some(put(alloc, &line.stmt, edit.position, new)?))
     }
 }

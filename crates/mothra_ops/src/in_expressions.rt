@@ -15,9 +15,9 @@ use crate::expressions::{
 };
 use crate::fault::OpsFault;
 use crate::in_places::in_place_of;
-use crate::news::expressions;
 use crate::places::{is_element, other_constants, references_of_kind, scalars_of_kind};
 use crate::pools::Pools;
+use crate::replacements::expressions;
 use f77_tree::{Expr, Kind};
 use mothra_codes::Op;
 use std::alloc::Global;

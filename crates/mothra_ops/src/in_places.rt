@@ -3,17 +3,17 @@
 ghost use Rattle.std.specs.Prelude.{◌≡◌, true, false, map, IfOk, IfErr};
 ghost use Rattle.f77_nodes.specs.Node.{NodeOf};
 ghost use Rattle.f77_tree.specs.View.{trees, tree_of, reference_fields};
-ghost use Rattle.f77_sites.specs.New.{new_of};
+ghost use Rattle.f77_sites.specs.Replacement.{replacement_of};
 ghost use Rattle.mothra_ops.specs.Pools.{pool_fields, reference_of};
 ghost use Rattle.mothra_ops.specs.Replacements as model;
 ghost use Rattle.mothra_ops.specs.Replacements.{in_place};
 ghost use Rattle.mothra_ops.specs.declared.fault.OpsFault.TheVariants.{Memory};
 
 use crate::fault::OpsFault;
-use crate::news::{expressions, in_targets, in_variables};
 use crate::places::{is_element, other_references, other_scalars, scalar, with_subscripts};
 use crate::pools::Pools;
-use f77_sites::New;
+use crate::replacements::{expressions, in_targets, in_variables};
+use f77_sites::Replacement;
 use f77_tree::{Expr, Name, Ref};
 use mothra_codes::Op;
 use std::alloc::Global;
@@ -85,8 +85,8 @@ pub(crate) fn in_target(
     op: Op,
     pools: &Pools<'_>,
     own: &Ref,
-) -> Result<Vec<New>, OpsFault>
-    ensures list { IfOk result (λ list. map new_of list.items
+) -> Result<Vec<Replacement>, OpsFault>
+    ensures list { IfOk result (λ list. map replacement_of list.items
         ≡ model.replacements op (pool_fields pools.now)
         (NodeOf.Target (reference_fields own.now).0 (trees (reference_fields own.now).1))) }
     ensures memory { IfErr result (λ fault. fault ≡ Memory) }
@@ -102,9 +102,10 @@ pub(crate) fn in_variable(
     op: Op,
     pools: &Pools<'_>,
     name: &Name,
-) -> Result<Vec<New>, OpsFault>
+) -> Result<Vec<Replacement>, OpsFault>
     ensures list { IfOk result
-        (λ list. map new_of list.items ≡ model.replacements op (pool_fields pools.now) (NodeOf.Named name.now)) }
+        (λ list. map replacement_of list.items
+        ≡ model.replacements op (pool_fields pools.now) (NodeOf.Named name.now)) }
     ensures memory { IfErr result (λ fault. fault ≡ Memory) }
 {
     match op {

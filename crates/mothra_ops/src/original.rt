@@ -2,7 +2,7 @@
 
 ghost use Rattle.std.specs.Prelude.{◌≡◌, ◌↔◌, ◌<◌, ◌+◌, ◌^◌, length, map, option_map, IfOk, IfErr, IsTrue};
 ghost use Rattle.f77_tree.specs.Statement.{statement_of};
-ghost use Rattle.f77_sites.specs.New.{new_of};
+ghost use Rattle.f77_sites.specs.Replacement.{replacement_of};
 ghost use Rattle.f77_sites.specs.Sites.{changed};
 ghost use Rattle.mothra_ops.specs.code.Edits.{IsMadeBy};
 ghost use Rattle.mothra_ops.specs.Edits.{IsMutant};
@@ -18,14 +18,20 @@ use crate::pools::Pools;
 use crate::replacing::gives;
 use f77_check::{CheckFault, Checked};
 use f77_nodes::nodes;
-use f77_sites::{New, with_node};
+use f77_sites::{Replacement, with_node};
 use f77_tree::Stmt;
 use std::alloc::Global;
 
 /// The statement with the new node at this position.
-pub(crate) fn put(alloc: Global, stmt: &Stmt, position: usize, new: &New) -> Result<Stmt, OpsFault>
+pub(crate) fn put(
+    alloc: Global,
+    stmt: &Stmt,
+    position: usize,
+    new: &Replacement,
+) -> Result<Stmt, OpsFault>
     requires { position + 1 < 2 ^ 64 }
-    ensures made { IfOk result (λ made. statement_of made ≡ changed (statement_of stmt.now) position (new_of new.now)) }
+    ensures made { IfOk result
+        (λ made. statement_of made ≡ changed (statement_of stmt.now) position (replacement_of new.now)) }
     ensures memory { IfErr result (λ fault. fault ≡ Memory) }
 {
     Ok(with_node(alloc, stmt, position, new.as_node())?)
@@ -69,8 +75,8 @@ impl<'a> Original<'a> {
 
     /// What the operator of the edit puts in the place of the node of the
     /// edit, in the order of the ranks; nothing where there is no such node.
-    pub(crate) fn given(&self, alloc: Global, edit: &Edit) -> Result<Vec<New>, OpsFault>
-        ensures list { IfOk result (λ list. map new_of list.items
+    pub(crate) fn given(&self, alloc: Global, edit: &Edit) -> Result<Vec<Replacement>, OpsFault>
+        ensures list { IfOk result (λ list. map replacement_of list.items
             ≡ given_at (pool_fields self.now.pools) (lines_of self.now) edit.now.op edit.now.statement
             edit.now.position) }
         ensures counted { IfOk result (λ list. 0 < length list.items → edit.now.position + 1 < 2 ^ 64) }

@@ -1,7 +1,7 @@
 //! What the operators draw from.
 
-ghost use Rattle.std.specs.Prelude.{◌≡◌, ◌≤◌, not, is_some, map, filter, length, IfOk, IfErr, OnOk, option_map};
-ghost use Rattle.std.specs.List.{filter_map, insert};
+ghost use Rattle.std.specs.Prelude.{◌≡◌, not, is_some, map, filter, IfOk, IfErr, option_map};
+ghost use Rattle.std.specs.List.{filter_map};
 ghost use Rattle.indexmap.specs.IndexMap.{keys};
 ghost use Rattle.f77_tree.specs.Comparing.{same_tree};
 ghost use Rattle.f77_nodes.specs.Node.{node_of};
@@ -13,7 +13,7 @@ ghost use Rattle.f77_legal.specs.Legal.{is_array};
 ghost use Rattle.f77_legal.specs.Names.{some_items, symbols};
 ghost use Rattle.f77_legal.specs.NameTable.{IsNameTable, array_bounds};
 ghost use Rattle.mothra_ops.specs.Pools as model;
-ghost use Rattle.mothra_ops.specs.Pools.{each_once, placed_ascending, ascending, array_reference};
+ghost use Rattle.mothra_ops.specs.Pools.{each_once, ascending, array_reference};
 ghost use Rattle.mothra_ops.specs.Pools.{constant, pools_of, pool_fields, reference_of};
 ghost use Rattle.mothra_ops.specs.declared.fault.OpsFault.TheVariants.{Memory};
 
@@ -151,39 +151,12 @@ fn constants<'a>(alloc: Global, nodes: &[Node<'a>]) -> Result<Vec<&'a Expr>, Ops
     Ok(list)
 }
 
-/// The place of a label among ascending ones.
-fn place_of(list: &[u32], label: u32) -> usize
-    ensures within { result ≤ length list.now }
-    ensures placed { insert list.now result label ≡ placed_ascending label list.now }
+/// Sorts labels, and keeps each once.
+fn sort(labels: &mut Vec<u32>)
+    ensures { labels.new.items ≡ ascending labels.old.items }
 {
-    for at in 0..list.len() {
-        if list[at] >= label {
-            return at;
-        }
-    }
-    list.len()
-}
-
-/// Puts a label in its place among ascending ones.
-fn place(list: &mut Vec<u32>, label: u32) -> Result<(), OpsFault>
-    ensures placed { OnOk result (list.new.items ≡ placed_ascending label list.old.items) }
-    ensures memory { IfErr result (λ fault. fault ≡ Memory) }
-{
-    let at = place_of(list, label);
-    list.insert(at, label)?;
-    Ok(())
-}
-
-/// The labels, ascending.
-fn ascending(alloc: Global, labels: &[u32]) -> Result<Vec<u32>, OpsFault>
-    ensures labels { IfOk result (λ list. list.items ≡ ascending labels.now) }
-    ensures memory { IfErr result (λ fault. fault ≡ Memory) }
-{
-    let mut list = Vec::new(alloc);
-    for label in labels {
-        place(&mut list, *label)?;
-    }
-    Ok(list)
+    labels.sort_unstable();
+    labels.dedup();
 }
 
 /// The table of the names of these lines, and its names without bounds and those with bounds, each in its order.
@@ -221,12 +194,15 @@ fn references_and_constants<'a>(
 }
 
 /// The labels that stand on statements, ascending.
-fn labels(alloc: Global, checked: &Checked) -> Result<Vec<u32>, OpsFault>
+fn labels(checked: &Checked) -> Result<Vec<u32>, OpsFault>
     ensures labels { IfOk result (λ list. list.items ≡ ascending (labelled.labels (map line_of checked.now.program))) }
     ensures memory { IfErr result (λ fault. fault ≡ Memory) }
 {
     match checked.labels() {
-        Ok(labels) => ascending(alloc, &labels),
+        Ok(mut labels) => {
+            sort(&mut labels);
+            Ok(labels)
+        }
         Err(fault) => Err(memory_fault(fault)),
     }
 }
@@ -238,7 +214,7 @@ impl<'a> Pools<'a> {
         ensures memory { IfErr result (λ fault. fault ≡ Memory) }
     {
         let lines = checked.program().lines();
-        let labels = labels(alloc, checked)?;
+        let labels = labels(checked)?;
         let (references, constants) = references_and_constants(alloc, lines)?;
         let (names, scalars, arrays) = names(alloc, lines)?;
         Ok(Pools {

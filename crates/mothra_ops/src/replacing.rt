@@ -3,7 +3,7 @@
 ghost use Rattle.std.specs.Prelude.{◌≡◌, ◌∷◌, [], not, map, if◌then◌else◌, IfOk, IfErr};
 ghost use Rattle.f77_tree.specs.Statement.{same_statement, statement_of};
 ghost use Rattle.f77_nodes.specs.Node.{NodeOf, node_of};
-ghost use Rattle.f77_sites.specs.New.{new_of};
+ghost use Rattle.f77_sites.specs.Replacement.{replacement_of};
 ghost use Rattle.mothra_ops.specs.Pools.{PoolFields, pool_fields};
 ghost use Rattle.mothra_ops.specs.Replacements as model;
 ghost use Rattle.mothra_ops.specs.declared.fault.OpsFault.TheVariants.{Memory};
@@ -11,11 +11,11 @@ ghost use Rattle.mothra_ops.specs.declared.fault.OpsFault.TheVariants.{Memory};
 use crate::fault::OpsFault;
 use crate::in_expressions::in_expression;
 use crate::in_places::{in_target, in_variable};
-use crate::news::{in_labels, in_parts, in_values};
 use crate::pools::{Pools, is_executable};
+use crate::replacements::{in_labels, in_parts, in_values};
 use crate::statements::{acts, acts_or_continues, next_constants, other_labels};
 use f77_nodes::Node;
-use f77_sites::New;
+use f77_sites::Replacement;
 use f77_tree::{Form, Stmt, Value};
 use mothra_codes::Op;
 use std::alloc::Global;
@@ -47,8 +47,8 @@ fn stands_in(op: Op, stmt: &Stmt) -> bool
 }
 
 /// The new statement, where another one stands.
-fn exchanged(alloc: Global, new: Stmt, stmt: &Stmt) -> Result<Vec<New>, OpsFault>
-    ensures list { IfOk result (λ list. map new_of list.items
+fn exchanged(alloc: Global, new: Stmt, stmt: &Stmt) -> Result<Vec<Replacement>, OpsFault>
+    ensures list { IfOk result (λ list. map replacement_of list.items
         ≡ (if not (same_statement (statement_of new) (statement_of stmt.now))
         then NodeOf.Itself (statement_of new) ∷ [] else [])) }
     ensures memory { IfErr result (λ fault. fault ≡ Memory) }
@@ -56,13 +56,13 @@ fn exchanged(alloc: Global, new: Stmt, stmt: &Stmt) -> Result<Vec<New>, OpsFault
     if new == *stmt {
         Ok(Vec::new(alloc))
     } else {
-        Ok(vec![in alloc; New::Statement(new)]?)
+        Ok(vec![in alloc; Replacement::Statement(new)]?)
     }
 }
 
 /// What the operator puts in the place of a statement.
-fn in_statement(alloc: Global, op: Op, stmt: &Stmt) -> Result<Vec<New>, OpsFault>
-    ensures list { IfOk result (λ list. (pools : PoolFields) → map new_of list.items
+fn in_statement(alloc: Global, op: Op, stmt: &Stmt) -> Result<Vec<Replacement>, OpsFault>
+    ensures list { IfOk result (λ list. (pools : PoolFields) → map replacement_of list.items
         ≡ model.replacements op pools (NodeOf.Itself (statement_of stmt.now))) }
     ensures memory { IfErr result (λ fault. fault ≡ Memory) }
 {
@@ -76,9 +76,15 @@ fn in_statement(alloc: Global, op: Op, stmt: &Stmt) -> Result<Vec<New>, OpsFault
 }
 
 /// What the operator puts in the place of a label.
-fn in_label(alloc: Global, op: Op, pools: &Pools<'_>, label: u32) -> Result<Vec<New>, OpsFault>
+fn in_label(
+    alloc: Global,
+    op: Op,
+    pools: &Pools<'_>,
+    label: u32,
+) -> Result<Vec<Replacement>, OpsFault>
     ensures list { IfOk result
-        (λ list. map new_of list.items ≡ model.replacements op (pool_fields pools.now) (NodeOf.Labelled label)) }
+        (λ list. map replacement_of list.items
+        ≡ model.replacements op (pool_fields pools.now) (NodeOf.Labelled label)) }
     ensures memory { IfErr result (λ fault. fault ≡ Memory) }
 {
     match op {
@@ -91,9 +97,9 @@ fn in_label(alloc: Global, op: Op, pools: &Pools<'_>, label: u32) -> Result<Vec<
 }
 
 /// What the operator puts in the place of a value of DATA.
-fn in_value(alloc: Global, op: Op, value: &Value) -> Result<Vec<New>, OpsFault>
+fn in_value(alloc: Global, op: Op, value: &Value) -> Result<Vec<Replacement>, OpsFault>
     ensures list { IfOk result (λ list. (pools : PoolFields)
-        → map new_of list.items ≡ model.replacements op pools (NodeOf.Initial value.now)) }
+        → map replacement_of list.items ≡ model.replacements op pools (NodeOf.Initial value.now)) }
     ensures memory { IfErr result (λ fault. fault ≡ Memory) }
 {
     match op {
@@ -107,9 +113,14 @@ fn in_value(alloc: Global, op: Op, value: &Value) -> Result<Vec<New>, OpsFault>
 
 /// What the operator puts in the place of a node, in a statement where it has sites.
 #[tactic(auto, using(crate::proofs::InPlaces::of_declared))]
-fn at_node(alloc: Global, op: Op, pools: &Pools<'_>, node: Node<'_>) -> Result<Vec<New>, OpsFault>
+fn at_node(
+    alloc: Global,
+    op: Op,
+    pools: &Pools<'_>,
+    node: Node<'_>,
+) -> Result<Vec<Replacement>, OpsFault>
     ensures list { IfOk result
-        (λ list. map new_of list.items ≡ model.replacements op (pool_fields pools.now) (node_of node.entry)) }
+        (λ list. map replacement_of list.items ≡ model.replacements op (pool_fields pools.now) (node_of node.entry)) }
     ensures memory { IfErr result (λ fault. fault ≡ Memory) }
 {
     match node {
@@ -133,8 +144,8 @@ pub(crate) fn gives(
     pools: &Pools<'_>,
     stmt: &Stmt,
     node: Node<'_>,
-) -> Result<Vec<New>, OpsFault>
-    ensures list { IfOk result (λ list. map new_of list.items
+) -> Result<Vec<Replacement>, OpsFault>
+    ensures list { IfOk result (λ list. map replacement_of list.items
         ≡ model.gives op (pool_fields pools.now) (statement_of stmt.now) (node_of node.entry)) }
     ensures memory { IfErr result (λ fault. fault ≡ Memory) }
 {

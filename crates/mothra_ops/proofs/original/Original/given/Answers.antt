@@ -9,7 +9,7 @@ use Rattle.f77_program.specs.Program.{line_at}
 use Rattle.f77_tree.specs.Statement.{statement_of}
 use Rattle.f77_nodes.specs.declared.node.Node.{Node}
 use Rattle.f77_program.specs.declared.program.Line.{Line}
-use Rattle.f77_sites.specs.New.{new_of}
+use Rattle.f77_sites.specs.Replacement.{replacement_of}
 use Rattle.mothra_ops.specs.Pools.{pool_fields}
 use Rattle.mothra_ops.proofs.GivenMakes.{given_nowhere, given_there}
 use Rattle.mothra_ops.proofs.original.Original.given.Goals as goal
@@ -39,5 +39,5 @@ returns-clause-list c =
     let long : length (nodes_of (statement_of line.stmt)) ≡ length c.deref.result.now =
     sym (ap length c.in_ok-nodes.ensures) ∙ length-map c.in_ok-nodes.nodes.items node_of ∙ ap length (sym c.deref.ensures.value) in
     let outside : length c.deref.result.now ≤ edit.position = ltb-false edit.position (length c.deref.result.now) (sym c.in-None.ensures.lookup.0) in
-    ap (map new_of) c.new-in-None.ensures.items
+    ap (map replacement_of) c.new-in-None.ensures.items
     ∙ sym (given_nowhere (pool_fields c.args.self.now.pools) lines edit line at (slice_get_past (nodes_of (statement_of line.stmt)) edit.position (omega (arith, long, outside))))

@@ -3,7 +3,7 @@ use Rattle.std.specs.Prelude.{◌⊎◌}
 use Rattle.std.proofs.lemmas.Result.{err_from_is_err_and}
 use Rattle.f77_nodes.specs.Node.{node_of}
 use Rattle.f77_tree.specs.Statement.{statement_of}
-use Rattle.f77_sites.specs.New.{new_of}
+use Rattle.f77_sites.specs.Replacement.{replacement_of}
 use Rattle.mothra_ops.specs.Edits.{IsTooLong}
 use Rattle.mothra_ops.specs.Original.{lines_of}
 use Rattle.mothra_ops.specs.Pools.{pool_fields, pools_of}
@@ -29,14 +29,15 @@ returns-in_err-add-clause-refused c = let p = err_from_is_err_and c.from_residua
     let node = node_of site.node in
     let new = c.index.result.now in
     let old = c.loop-k.listing in
-    let low : c.loop-k.k < length c.in_ok-news.news.items = omega (arith, c.len-k-end.ensures, c.loop-k-test.true) in
-    let at = given_next c.args.listing.now.op old.op (pool_fields c.args.self.now.pools) (pools_of program) s node c.in_ok-news.news.items c.loop-k.invariant.same_op own c.in_ok-news.ensures.list
+    let low : c.loop-k.k < length c.in_ok-replacements.replacements.items = omega (arith, c.len-k-end.ensures, c.loop-k-test.true) in
+    let at = given_next c.args.listing.now.op old.op (pool_fields c.args.self.now.pools) (pools_of program) s node
+    c.in_ok-replacements.replacements.items c.loop-k.invariant.same_op own c.in_ok-replacements.ensures.list
     c.loop-k.k new low c.index.ensures in
     let why : (c.in_err-add.field-0.0 ≡ Memory) ⊎ ((c.in_err-add.field-0.0 ≡ TooMany old.op) × IsTooLong old.op program old.every) = elim c.in_err-add.ensures.refused [
       | inl e ↦ inl e
       | inr (e, over) ↦ inr (
         e,
-        come_too_long program site.number site.position (c.loop-k.k + 1) s node (new_of new) here old at (c.in_ok-makes_mutant.ensures.decided.0 c.if-branch.true) over
+        come_too_long program site.number site.position (c.loop-k.k + 1) s node (replacement_of new) here old at (c.in_ok-makes_mutant.ensures.decided.0 c.if-branch.true) over
             (c.loop-k.invariant.come own here come),
       )
     ] in
@@ -51,21 +52,24 @@ loop-k-preserved c =
     let node = node_of site.node in
     let new = c.index.result.now in
     let old = c.loop-k.listing in
-    let low : c.loop-k.k < length c.in_ok-news.news.items = omega (arith, c.len-k-end.ensures, c.loop-k-test.true) in
+    let low : c.loop-k.k < length c.in_ok-replacements.replacements.items = omega (arith, c.len-k-end.ensures, c.loop-k-test.true) in
     elim c.if-branch.branch [
       | then-branch+in_ok-add w ↦ rw w.listing-is (record {
         same_op = w.in_ok-add.ensures.same_op ∙ c.loop-k.invariant.same_op;
         same_every = w.in_ok-add.ensures.same_every ∙ c.loop-k.invariant.same_every;
-        come = λ own here come. come_kept program site.number site.position (c.loop-k.k + 1) s node (new_of new) here old w.add.new.self w.in_ok-add.ensures.same_op w.in_ok-add.ensures.same_limits
-            (given_next c.args.listing.now.op old.op (pool_fields c.args.self.now.pools) (pools_of program) s node c.in_ok-news.news.items c.loop-k.invariant.same_op own c.in_ok-news.ensures.list
+        come = λ own here come. come_kept program site.number site.position (c.loop-k.k + 1) s node (replacement_of new) here old w.add.new.self
+            w.in_ok-add.ensures.same_op w.in_ok-add.ensures.same_limits
+            (given_next c.args.listing.now.op old.op (pool_fields c.args.self.now.pools) (pools_of program) s node
+            c.in_ok-replacements.replacements.items c.loop-k.invariant.same_op own c.in_ok-replacements.ensures.list
             c.loop-k.k new low c.index.ensures)
             (c.in_ok-makes_mutant.ensures.decided.0 w.if-branch.true) w.in_ok-add.ensures.added (c.loop-k.invariant.come own here come);
       })
       | else-branch w ↦ rw w.listing-is (record {
         same_op = c.loop-k.invariant.same_op;
         same_every = c.loop-k.invariant.same_every;
-        come = λ own here come. come_passed program site.number site.position (c.loop-k.k + 1) s node (new_of new) here old
-            (given_next c.args.listing.now.op old.op (pool_fields c.args.self.now.pools) (pools_of program) s node c.in_ok-news.news.items c.loop-k.invariant.same_op own c.in_ok-news.ensures.list
+        come = λ own here come. come_passed program site.number site.position (c.loop-k.k + 1) s node (replacement_of new) here old
+            (given_next c.args.listing.now.op old.op (pool_fields c.args.self.now.pools) (pools_of program) s node
+            c.in_ok-replacements.replacements.items c.loop-k.invariant.same_op own c.in_ok-replacements.ensures.list
             c.loop-k.k new low c.index.ensures)
             (λ mutant. true≢false (sym (c.in_ok-makes_mutant.ensures.decided.1 mutant) ∙ w.if-branch.false)) (c.loop-k.invariant.come own here come);
       })
@@ -78,6 +82,7 @@ returns-clause-come c = λ own here come.
     let s = statement_of site.stmt.now in
     let node = node_of site.node in
     let old = c.loop-k.listing in
-    let many = given_many c.args.listing.now.op old.op (pool_fields c.args.self.now.pools) (pools_of program) s node c.in_ok-news.news.items c.loop-k.invariant.same_op own c.in_ok-news.ensures.list in
+    let many = given_many c.args.listing.now.op old.op (pool_fields c.args.self.now.pools) (pools_of program) s node
+    c.in_ok-replacements.replacements.items c.loop-k.invariant.same_op own c.in_ok-replacements.ensures.list in
     let past : length (gives old.op (pools_of program) s node) < c.loop-k.k + 1 = omega (arith, many, c.len-k-end.ensures, c.loop-k-test.false) in
     node_done old program site.number site.position (c.loop-k.k + 1) s node here past (c.loop-k.invariant.come own here come)

@@ -2,14 +2,14 @@
 
 ghost use Rattle.std.specs.Prelude.{◌≡◌};
 ghost use Rattle.f77_nodes.specs.Node.{node_of};
-ghost use Rattle.f77_sites.specs.New.{new_of};
+ghost use Rattle.f77_sites.specs.Replacement.{replacement_of};
 
 use f77_nodes::Node;
 use f77_tree::{Expr, Name, Ref, Stmt, Value};
 
 /// A node that may take the place of one of a statement.
 #[derive(Drop)]
-pub enum New {
+pub enum Replacement {
     /// A statement, in the place of the whole or of the one inside a logical IF.
     Statement(Stmt),
     /// What an assignment assigns to.
@@ -24,18 +24,18 @@ pub enum New {
     Value(Value),
 }
 
-impl New {
+impl Replacement {
     /// It, as a node. It takes no memory.
     pub fn as_node(&self) -> Node<'_>
-        ensures { node_of result ≡ new_of self.now }
+        ensures { node_of result ≡ replacement_of self.now }
     {
         match self {
-            New::Statement(stmt) => Node::Statement(stmt),
-            New::Target(target) => Node::Target(target),
-            New::Expression(expr) => Node::Expression(expr),
-            New::Name(name) => Node::Name(name),
-            New::Label(label) => Node::Label(*label),
-            New::Value(value) => Node::Value(value),
+            Replacement::Statement(stmt) => Node::Statement(stmt),
+            Replacement::Target(target) => Node::Target(target),
+            Replacement::Expression(expr) => Node::Expression(expr),
+            Replacement::Name(name) => Node::Name(name),
+            Replacement::Label(label) => Node::Label(*label),
+            Replacement::Value(value) => Node::Value(value),
         }
     }
 }

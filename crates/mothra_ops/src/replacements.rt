@@ -3,13 +3,13 @@
 ghost use Rattle.std.specs.Prelude.{◌≡◌, map, IfOk, IfErr};
 ghost use Rattle.f77_nodes.specs.Node.{NodeOf};
 ghost use Rattle.f77_tree.specs.View.{tree_of};
-ghost use Rattle.f77_sites.specs.New.{new_of};
+ghost use Rattle.f77_sites.specs.Replacement.{replacement_of};
 ghost use Rattle.mothra_ops.specs.code.InPlaces.{target_node, variable_node};
 ghost use Rattle.mothra_ops.specs.Pools.{reference_of};
 ghost use Rattle.mothra_ops.specs.declared.fault.OpsFault.TheVariants.{Memory};
 
 use crate::fault::OpsFault;
-use f77_sites::New;
+use f77_sites::Replacement;
 use f77_tree::{Constant, Expr, Ref, Value};
 use std::alloc::Global;
 
@@ -26,47 +26,47 @@ pub(crate) fn expressions(alloc: Global, list: Vec<Ref>) -> Result<Vec<Expr>, Op
     Ok(made)
 }
 
-pub(crate) fn in_parts(alloc: Global, list: Vec<Expr>) -> Result<Vec<New>, OpsFault>
-    ensures made { IfOk result (λ made. map new_of made.items ≡ map NodeOf.Part (map tree_of list.items)) }
+pub(crate) fn in_parts(alloc: Global, list: Vec<Expr>) -> Result<Vec<Replacement>, OpsFault>
+    ensures made { IfOk result (λ made. map replacement_of made.items ≡ map NodeOf.Part (map tree_of list.items)) }
     ensures memory { IfErr result (λ fault. fault ≡ Memory) }
 {
     let mut made = Vec::with_capacity(alloc, list.len())?;
     for expr in list {
-        made.push(New::Expression(expr))?;
+        made.push(Replacement::Expression(expr))?;
     }
     Ok(made)
 }
 
-pub(crate) fn in_targets(alloc: Global, list: Vec<Ref>) -> Result<Vec<New>, OpsFault>
-    ensures made { IfOk result (λ made. map new_of made.items ≡ map target_node list.items) }
+pub(crate) fn in_targets(alloc: Global, list: Vec<Ref>) -> Result<Vec<Replacement>, OpsFault>
+    ensures made { IfOk result (λ made. map replacement_of made.items ≡ map target_node list.items) }
     ensures memory { IfErr result (λ fault. fault ≡ Memory) }
 {
     let mut made = Vec::with_capacity(alloc, list.len())?;
     for reference in list {
-        made.push(New::Target(reference))?;
+        made.push(Replacement::Target(reference))?;
     }
     Ok(made)
 }
 
 #[tactic(auto, using(crate::proofs::Elements::as_variable))]
-pub(crate) fn in_variables(alloc: Global, list: Vec<Ref>) -> Result<Vec<New>, OpsFault>
-    ensures made { IfOk result (λ made. map new_of made.items ≡ map variable_node list.items) }
+pub(crate) fn in_variables(alloc: Global, list: Vec<Ref>) -> Result<Vec<Replacement>, OpsFault>
+    ensures made { IfOk result (λ made. map replacement_of made.items ≡ map variable_node list.items) }
     ensures memory { IfErr result (λ fault. fault ≡ Memory) }
 {
     let mut made = Vec::with_capacity(alloc, list.len())?;
     for reference in list {
-        made.push(New::Name(reference.name))?;
+        made.push(Replacement::Name(reference.name))?;
     }
     Ok(made)
 }
 
-pub(crate) fn in_labels(alloc: Global, list: Vec<u32>) -> Result<Vec<New>, OpsFault>
-    ensures made { IfOk result (λ made. map new_of made.items ≡ map NodeOf.Labelled list.items) }
+pub(crate) fn in_labels(alloc: Global, list: Vec<u32>) -> Result<Vec<Replacement>, OpsFault>
+    ensures made { IfOk result (λ made. map replacement_of made.items ≡ map NodeOf.Labelled list.items) }
     ensures memory { IfErr result (λ fault. fault ≡ Memory) }
 {
     let mut made = Vec::with_capacity(alloc, list.len())?;
     for label in list {
-        made.push(New::Label(label))?;
+        made.push(Replacement::Label(label))?;
     }
     Ok(made)
 }
@@ -76,14 +76,14 @@ pub(crate) fn in_values(
     alloc: Global,
     times: u32,
     list: Vec<Constant>,
-) -> Result<Vec<New>, OpsFault>
-    ensures made { IfOk result (λ made. map new_of made.items
+) -> Result<Vec<Replacement>, OpsFault>
+    ensures made { IfOk result (λ made. map replacement_of made.items
         ≡ map (λ constant. NodeOf.Initial (record { times = times; constant = constant })) list.items) }
     ensures memory { IfErr result (λ fault. fault ≡ Memory) }
 {
     let mut made = Vec::with_capacity(alloc, list.len())?;
     for constant in list {
-        made.push(New::Value(Value { times, constant }))?;
+        made.push(Replacement::Value(Value { times, constant }))?;
     }
     Ok(made)
 }

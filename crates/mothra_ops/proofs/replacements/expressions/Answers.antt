@@ -3,7 +3,7 @@ use Rattle.std.proofs.lemmas.List.{map-append}
 use Rattle.f77_tree.specs.View.{tree_of}
 use Rattle.mothra_ops.specs.Pools.{reference_of}
 use Rattle.mothra_ops.proofs.Elements.{as_expression}
-use Rattle.mothra_ops.proofs.news.expressions.Goals as goal
+use Rattle.mothra_ops.proofs.replacements.expressions.Goals as goal
 
 pub loop-reference-preserved : goal.loop-reference-preserved
 loop-reference-preserved c =

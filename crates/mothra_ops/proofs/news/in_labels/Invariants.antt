@@ -1,7 +1,0 @@
-use Rattle.std.proofs.Common.{◌≡◌, map}
-use Rattle.f77_nodes.specs.Node.{NodeOf}
-use Rattle.f77_sites.specs.New.{new_of}
-use Rattle.mothra_ops.proofs.news.in_labels.Given as goal
-
-abbrev pub invariant-loop-label : goal.invariant-loop-label
-invariant-loop-label l = map new_of l.made.items ≡ map NodeOf.Labelled l.yielded

@@ -1,7 +1,0 @@
-use Rattle.std.proofs.Common.{◌≡◌, map}
-use Rattle.f77_nodes.specs.Node.{NodeOf}
-use Rattle.f77_sites.specs.New.{new_of}
-use Rattle.mothra_ops.proofs.news.in_values.Given as goal
-
-abbrev pub invariant-loop-constant : goal.invariant-loop-constant
-invariant-loop-constant l = map new_of l.made.items ≡ map (λ constant. NodeOf.Initial (record { times = l.times; constant = constant })) l.yielded

@@ -1,7 +1,0 @@
-use Rattle.std.proofs.Common.{◌≡◌, map}
-use Rattle.f77_sites.specs.New.{new_of}
-use Rattle.mothra_ops.specs.code.InPlaces.{variable_node}
-use Rattle.mothra_ops.proofs.news.in_variables.Given as goal
-
-abbrev pub invariant-loop-reference : goal.invariant-loop-reference
-invariant-loop-reference l = map new_of l.made.items ≡ map variable_node l.yielded
