@@ -5,12 +5,13 @@ use Rattle.std.proofs.lemmas.Option.{same_Some, slice_get_within}
 use Rattle.std.proofs.lemmas.List.{length-set}
 use Rattle.std.proofs.Math.ListN.{set}
 use Rattle.f77_actions.specs.declared.action.Action.{Action, Branch, Loop}
+use Rattle.f77_actions.specs.declared.expression.Number.{Number}
 use Rattle.f77_actions.specs.declared.resolved.Resolved.{Resolved}
 use Rattle.f77_code.specs.declared.constants.Constants.{Constants}
 use Rattle.f77_code.specs.declared.instruction.Instruction.{Instruction}
-use Rattle.f77_code.specs.declared.instruction.Operation.{Operation, Do, Next}
+use Rattle.f77_code.specs.declared.instruction.Operation.{Operation, Do, Count, Next}
 use Rattle.f77_code.specs.declared.places.Places.{Places}
-use Rattle.f77_code.specs.Instructions.{onward, round, IsLeftDone, Tests, StandsForStatement, StandsForIncrement}
+use Rattle.f77_code.specs.Instructions.{Beginning, BeginsDo, onward, round, IsLeftDone, Tests, StandsForStatement, StandsForIncrement}
 use Rattle.f77_code.specs.Compiled.{IsInstruction, IsIncrement, AreCompiled, HasOneFrame, IsExchanged}
 use Rattle.f77_code.specs.code.Compiled.{IsIncrementExchanged}
 use Rattle.f77_code.specs.Constants.{GrowsPlan}
@@ -84,12 +85,23 @@ module _ (before after : List Resolved) (same : HaveOneFrame before after) where
       let frame = same.each t w.0 end w.1 at in
       h w.0 w.1 ∙ sym (onward_same (round d w.0.ends.items) w.0.next) ∙ (λ i. onward after (round d (sym frame.ends i)) (sym frame.next i))
 
+  begins_same : (plan : Plan) (i slot : ℕ) (x y z : Number) (end next : ℕ) (begun : Beginning) → BeginsDo plan before i slot x y z end next begun
+      → BeginsDo plan after i slot x y z end next begun
+  begins_same plan i slot x y z end next begun h = record {
+    variable = h.variable;
+    slot = h.slot;
+    counter = h.counter ∙ sym (rank_same i);
+    body = h.body;
+    parameters = h.parameters;
+    left = left_same i end next h.left;
+  }
+
   stands_same : (plan : Plan) (i : ℕ) (r : Resolved) (act : Action) (operation : Operation) (next : ℕ) → StandsForStatement plan before i r act operation next
       → StandsForStatement plan after i r act operation next
   stands_same plan i r (Branch x otherwise) operation next h =
       (subst (λ n. Tests plan x n operation) (sym (onward_same r.ends.items r.next)) h.0, h.1)
-  stands_same plan i r (Loop slot x y z end) (Do variable counter body parameters) next h =
-      (h.0, h.1, h.2 ∙ sym (rank_same i), h.3, h.4, left_same i end next h.5)
+  stands_same plan i r (Loop slot x y z end) (Do variable counter body parameters) next h = begins_same plan i slot x y z end next _ h
+  stands_same plan i r (Loop slot x y z end) (Count variable counter body first last step) next h = begins_same plan i slot x y z end next _ h
   stands_same plan i r (Loop slot x y z end) _ next h = absurd h
   stands_same plan i r _ operation next h = (h.0, h.1 ∙ sym (onward_same r.ends.items r.next))
 

@@ -1,7 +1,6 @@
 -- Instructions stand for statements when their operations do.
 use Rattle.std.proofs.Common.{◌≡◌, ℕ, ◌+◌, true, false, List, refl, sym, ap, ◌∙◌, subst}
-use Rattle.std.specs.Prelude.{Box, Some, slice_get}
-use Rattle.std.specs.declared.alloc.Global.{Global}
+use Rattle.std.specs.Prelude.{Some, slice_get}
 use Rattle.std.proofs.lemmas.Option.{same_Some}
 use Rattle.f77_actions.specs.declared.action.Action.{Action, Branch, Loop}
 use Rattle.f77_actions.specs.declared.expression.Condition.{Condition}
@@ -9,10 +8,9 @@ use Rattle.f77_actions.specs.declared.expression.Number.{Number}
 use Rattle.f77_actions.specs.declared.resolved.Resolved.{Resolved}
 use Rattle.f77_code.specs.declared.constants.Constants.{Constants}
 use Rattle.f77_code.specs.declared.instruction.Instruction.{Instruction}
-use Rattle.f77_code.specs.declared.instruction.Operation.{Operation, Do, Next}
-use Rattle.f77_code.specs.declared.instruction.Parameters.{Parameters}
+use Rattle.f77_code.specs.declared.instruction.Operation.{Operation, Next}
 use Rattle.f77_code.specs.declared.term.Term.{Term}
-use Rattle.f77_code.specs.Instructions.{onward, IsLeftDone, IsOperation, StandsForStatement, StandsForIncrement}
+use Rattle.f77_code.specs.Instructions.{Beginning, beginning, onward, IsLeftDone, IsOperation, StandsForStatement, StandsForIncrement}
 use Rattle.f77_code.specs.code.Compile.{IsTestTerm}
 use Rattle.f77_code.specs.Compiled.{is_ready, IsInstruction, IsIncrement}
 use Rattle.f77_code.specs.code.Compiled.{HaveParameters, Advances, IsNext}
@@ -46,22 +44,22 @@ branch_stands t statements i r x otherwise there next term operation at is on ot
     subst (λ act. HasAction plan act → StandsForStatement plan statements i r act operation next) (sym is)
     (λ has. (term_tests plan x term (onward statements r.ends.items r.next) operation (subst (λ n. IsTesting n term operation) on tests) (h.tests plan b has), other)))
 
-pub do_stands : (t : Constants) (statements : List Resolved) (i : ℕ) (r : Resolved) (slot : ℕ) (x y z : Number) (end variable counter body next : ℕ)
-    (parameters : Box Parameters Global) → slice_get statements i ≡ Some r → r.action ≡ Loop slot x y z end → variable ≡ slot
-    → counter ≡ do_rank statements i → body ≡ i + 1 → HaveParameters t x y z parameters.value → IsLeftDone statements i end next
-    → IsInstruction t statements i (record { operation = Do variable counter body parameters; next = next })
-do_stands t statements i r slot x y z end variable counter body next parameters at is same ranked first h left =
-    instructed t statements i r (Do variable counter body parameters) next at
+pub do_stands : (t : Constants) (statements : List Resolved) (i : ℕ) (r : Resolved) (slot : ℕ) (x y z : Number) (end next : ℕ) (begun : Beginning)
+    (operation : Operation) → slice_get statements i ≡ Some r → r.action ≡ Loop slot x y z end → beginning operation ≡ Some begun → begun.variable ≡ slot
+    → begun.counter ≡ do_rank statements i → begun.body ≡ i + 1 → HaveParameters t x y z begun.parameters → IsLeftDone statements i end next
+    → IsInstruction t statements i (record { operation = operation; next = next })
+do_stands t statements i r slot x y z end next begun operation at is begins same ranked first h left =
+    instructed t statements i r operation next at
     (λ plan b.
-    subst (λ act. HasAction plan act → StandsForStatement plan statements i r act (Do variable counter body parameters) next) (sym is)
-    (λ has. (
-      same,
-      has.0,
-      ranked,
-      first,
-      record { first = h.first.stands plan b has.1; last = h.last.stands plan b has.2; step = h.step.stands plan b has.3 },
-      left,
-    )))
+    subst (λ act. HasAction plan act → StandsForStatement plan statements i r act operation next) (sym is)
+    (λ has. rw begins (record {
+      variable = same;
+      slot = has.0;
+      counter = ranked;
+      body = first;
+      parameters = record { first = h.first.stands plan b has.1; last = h.last.stands plan b has.2; step = h.step.stands plan b has.3 };
+      left = left;
+    })))
 
 -- any other action
 plain_stands : (plan : Plan) (statements : List Resolved) (i : ℕ) (r : Resolved) (operation : Operation) (next : ℕ) → next ≡ onward statements r.ends.items r.next

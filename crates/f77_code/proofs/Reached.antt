@@ -1,5 +1,5 @@
 -- The registers and the counters that code names are there.
-use Rattle.std.proofs.Common.{◌≡◌, ◌<◌, ◌≤◌, ◌⊎◌, inl, inr, ℕ, ℤ, zero, suc, ◌+◌, ◌*◌, ◌-◌, Bool, true, false, List, [], ◌∷◌, length, take, refl, sym, ap, ◌∙◌, subst, arith}
+use Rattle.std.proofs.Common.{◌&&◌, ◌≡◌, ◌<◌, ◌≤◌, ◌⊎◌, inl, inr, ℕ, ℤ, zero, suc, ◌+◌, ◌*◌, ◌-◌, Bool, true, false, List, [], ◌∷◌, length, take, refl, sym, ap, ◌∙◌, subst, arith}
 use Rattle.std.specs.Prelude.{Option, Some, None, MatchOption, not, nat_lt, slice_get}
 use Rattle.std.specs.List.{list_all}
 use Rattle.std.proofs.lemmas.Bool.{and_from, and_parts, lt-ltb, ltb-false, le-ltb}
@@ -17,7 +17,7 @@ use Rattle.f77_actions.specs.declared.action.Action as action
 use Rattle.f77_actions.specs.declared.expression.Relation.{Relation}
 use Rattle.f77_actions.specs.declared.resolved.Resolved.{Resolved}
 use Rattle.f77_code.specs.declared.instruction.Instruction.{Instruction}
-use Rattle.f77_code.specs.declared.instruction.Operation.{Operation, Set, SetElement, SetMatrix, IfTrue, IfRelated, Do, Next, Sign, Select, When'}
+use Rattle.f77_code.specs.declared.instruction.Operation.{Operation, Set, SetElement, SetMatrix, IfTrue, IfRelated, Do, Count, Next, Sign, Select, When'}
 use Rattle.f77_code.specs.declared.instruction.Operation.{Continue, Goto, Return, Stop, Trap, Move, Add, Subtract, Multiply, Load}
 use Rattle.f77_code.specs.declared.instruction.Operation.{Store, StoreSum, StoreDifference}
 use Rattle.f77_code.specs.declared.instruction.Operation.{IfLess, IfLessOrEqual, IfEqual, IfNotEqual, IfGreaterOrEqual, IfGreater}
@@ -25,7 +25,8 @@ use Rattle.f77_code.specs.declared.term.Term.{Term, Register, Element, ElementAt
 use Rattle.f77_code.specs.declared.term.Term.{Sum, Difference, Product, Compared, TooLarge, Vector', Matrix'}
 use Rattle.f77_code.specs.declared.term.Term.{Add', Subtract', Multiply', Calculated', Negated', Absolute', ZeroPush', Related', Connected', Not'}
 use Rattle.f77_code.specs.Block.{code_within}
-use Rattle.f77_code.specs.Instructions.{Giving, Storing, Comparing, giving, storing, comparing, StandsForAssignment, Tests, IsOperation, StandsForStatement, StandsForIncrement, AreCode, onward}
+use Rattle.f77_code.specs.Instructions.{Beginning, BeginsDo, registers_for, Giving, Storing, Comparing, giving, storing, comparing}
+use Rattle.f77_code.specs.Instructions.{StandsForAssignment, Tests, IsOperation, StandsForStatement, StandsForIncrement, AreCode, onward}
 use Rattle.f77_code.specs.Compiled.{is_ready, are_ready}
 use Rattle.f77_code.specs.Compiling.{can_compile}
 use Rattle.f77_code.specs.Evaluation.{element_within, number_within, condition_within}
@@ -252,21 +253,32 @@ module _ (plan : Plan) (n : ℕ) (room : n ≡ plan.slots + length plan.constant
   operation_there loops action.Trap Trap h w = refl
   operation_there loops _ _ h w = absurd h
 
+  begins_there : (statements : List Resolved) (i slot : ℕ) (x y z : Number) (end next : ℕ) (begun : Beginning)
+      → BeginsDo plan statements i slot x y z end next begun → is_ready plan.slots (length statements) (action.Loop slot x y z end) ≡ true
+      → do_rank statements i < loop_count statements
+      → (nat_lt begun.variable n && (nat_lt begun.counter (loop_count statements)
+      && (term_within n begun.parameters.first && (term_within n begun.parameters.last && term_within n begun.parameters.step)))) ≡ true
+  begins_there statements i slot x y z end next begun h w below =
+      let rest = (and_parts _ _ w).1 in
+      let first = and_parts _ _ rest in
+      let second = and_parts _ _ first.1 in
+      let third = and_parts _ _ second.1 in
+      let terms = h.parameters in
+      and_from _ _ (slot_there begun.variable slot h.variable h.slot.0)
+      (and_from _ _ (lt-ltb begun.counter (loop_count statements) (omega (arith, below, h.counter)))
+      (and_from _ _ (number_there x begun.parameters.first terms.first first.0)
+      (and_from _ _ (number_there y begun.parameters.last terms.last second.0) (number_there z begun.parameters.step terms.step third.0))))
+
   stands_there : (statements : List Resolved) (i : ℕ) (r : Resolved) (act : Action) (operation : Operation) (next : ℕ)
       → StandsForStatement plan statements i r act operation next → is_ready plan.slots (length statements) act ≡ true
       → (is_loop act ≡ true → do_rank statements i < loop_count statements) → operation_within n (loop_count statements) operation ≡ true
   stands_there statements i r (action.Branch x otherwise) operation next h w counted =
       tests_there (loop_count statements) x (onward statements r.ends.items r.next) operation h.0 (and_parts _ _ w).0
   stands_there statements i r (action.Loop slot x y z end) (Do variable counter body parameters) next h w counted =
-      let rest = (and_parts _ _ w).1 in
-      let first = and_parts _ _ rest in
-      let second = and_parts _ _ first.1 in
-      let third = and_parts _ _ second.1 in
-      let below = counted refl in
-      and_from _ _ (slot_there variable slot h.0 h.1.0)
-      (and_from _ _ (lt-ltb counter (loop_count statements) (omega (arith, below, h.2)))
-      (and_from _ _ (number_there x parameters.value.first h.4.first first.0)
-      (and_from _ _ (number_there y parameters.value.last h.4.last second.0) (number_there z parameters.value.step h.4.step third.0))))
+      begins_there statements i slot x y z end next (record { variable = variable; counter = counter; body = body; parameters = parameters.value }) h w (counted refl)
+  stands_there statements i r (action.Loop slot x y z end) (Count variable counter body first last step) next h w counted =
+      begins_there statements i slot x y z end next
+      (record { variable = variable; counter = counter; body = body; parameters = registers_for first last step }) h w (counted refl)
   stands_there statements i r (action.Loop slot x y z end) _ next h w counted = absurd h
   stands_there statements i r act operation next h w counted = operation_there (loop_count statements) act operation h.0 w
 

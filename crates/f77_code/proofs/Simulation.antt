@@ -4,14 +4,15 @@ use Rattle.std.specs.Prelude.{slice_get, option_map, if◌then◌else◌}
 use Rattle.std.specs.Option.{option_and_then, option_map_or}
 use Rattle.std.proofs.lemmas.Option.{slice_get_within}
 use Rattle.f77_actions.specs.declared.action.Action.{Action, Branch, Loop}
+use Rattle.f77_actions.specs.declared.expression.Number.{Number}
 use Rattle.f77_actions.specs.declared.resolved.Resolved.{Resolved}
 use Rattle.f77_code.specs.declared.control.Place.{Place}
 use Rattle.f77_code.specs.declared.control.Place.TheVariants.{Execute, Increment}
 use Rattle.f77_code.specs.declared.control.Turn.{Turn}
 use Rattle.f77_code.specs.declared.instruction.Instruction.{Instruction}
-use Rattle.f77_code.specs.declared.instruction.Operation.{Operation, Do, Next}
+use Rattle.f77_code.specs.declared.instruction.Operation.{Operation, Do, Count, Next}
 use Rattle.f77_code.specs.Block.{one}
-use Rattle.f77_code.specs.Instructions.{place_at, onward, StandsForStatement, StandsForIncrement, AreCode}
+use Rattle.f77_code.specs.Instructions.{Beginning, BeginsDo, registers_for, place_at, onward, StandsForStatement, StandsForIncrement, AreCode}
 use Rattle.f77_code.specs.Evaluation.{number_in}
 use Rattle.f77_code.specs.Holds.{Plan, HoldsRegisters, HoldsCounters, do_rank, is_loop_at}
 use Rattle.f77_code.specs.Moves as moves
@@ -34,6 +35,42 @@ there_is (x ∷ xs) (suc k) below = there_is xs k (omega arith)
 
 module _ (plan : Plan) (statements : List Resolved) (registers : List ℤ) (counters : List Turn) (cells : Cells) (turns : TurnList)
     (holds : HoldsRegisters plan registers cells) (counts : HoldsCounters statements counters turns) where
+  -- a DO that begins
+  begins : (i : ℕ) (r : Resolved) (slot : ℕ) (first last step : Number) (t next : ℕ) (begun : Beginning) → is_loop_at statements i ≡ true
+      → MayLeave statements i (Loop slot first last step t) turns → BeginsDo plan statements i slot first last step t next begun
+      → IsMove plan statements
+      (code.begun_with begun.variable begun.counter begun.body next (term_value registers begun.parameters.first) (term_value registers begun.parameters.last)
+      (term_value registers begun.parameters.step) registers counters) (acted statements i r (Loop slot first last step t) cells turns)
+  begins i r slot first last step t next begun loop may h =
+      let terms = begun.parameters in
+      let stand = h.parameters in
+      subst (λ p. IsMove plan statements p (acted statements i r (Loop slot first last step t) cells turns)) (sym named)
+      (used_alike plan statements registers counters cells holds (term_value registers terms.first) (number_in cells first)
+      (same_term plan registers cells holds first terms.first stand.first)
+      (λ a. code.used_in_code (term_value registers terms.last) registers counters
+      (λ b. code.used_in_code (term_value registers terms.step) registers counters
+      (λ c. code.begun_in_code slot (do_rank statements i) (i + 1) next a b c registers counters)))
+      (λ a. moves.used (number_in cells last) cells
+      (λ b. moves.used (number_in cells step) cells (λ c. moves.begun statements i slot t a b c cells turns)))
+      (λ a is. used_alike plan statements registers counters cells holds (term_value registers terms.last) (number_in cells last)
+      (same_term plan registers cells holds last terms.last stand.last)
+      (λ b. code.used_in_code (term_value registers terms.step) registers counters
+      (λ c. code.begun_in_code slot (do_rank statements i) (i + 1) next a b c registers counters))
+      (λ b. moves.used (number_in cells step) cells (λ c. moves.begun statements i slot t a b c cells turns))
+      (λ b has. used_alike plan statements registers counters cells holds (term_value registers terms.step) (number_in cells step)
+      (same_term plan registers cells holds step terms.step stand.step)
+      (λ c. code.begun_in_code slot (do_rank statements i) (i + 1) next a b c registers counters)
+      (λ c. moves.begun statements i slot t a b c cells turns)
+      (λ c to. begun_alike plan statements counters turns counts i t next loop h.left may registers cells holds slot h.slot a b c
+      (fits_of (term_value registers terms.first) a (term_fits registers holds.held terms.first) is)))))
+    where
+      named : code.begun_with begun.variable begun.counter begun.body next (term_value registers begun.parameters.first)
+          (term_value registers begun.parameters.last) (term_value registers begun.parameters.step) registers counters
+          ≡ code.begun_with slot (do_rank statements i) (i + 1) next (term_value registers begun.parameters.first)
+          (term_value registers begun.parameters.last) (term_value registers begun.parameters.step) registers counters
+      named = λ j. code.begun_with (h.variable j) (h.counter j) (h.body j) next (term_value registers begun.parameters.first)
+          (term_value registers begun.parameters.last) (term_value registers begun.parameters.step) registers counters
+
   -- a statement that is executed
   performs : (i : ℕ) (r : Resolved) (act : Action) (o : Operation) (next : ℕ) → is_loop_at statements i ≡ is_loop act → is_executed act ≡ true
       → are_active turns r.ends.items ≡ true → MayLeave statements i act turns → StandsForStatement plan statements i r act o next
@@ -44,28 +81,9 @@ module _ (plan : Plan) (statements : List Resolved) (registers : List ℤ) (coun
       (go_on_alike plan statements counters turns counts r (onward statements r.ends.items r.next) all refl registers cells holds)
       (record { place = h.1; holds = holds; counts = counts }) h.0
   performs i r (Loop slot first last step t) (Do variable counter body parameters) next loop e all may h =
-      subst (λ p. IsMove plan statements p (acted statements i r (Loop slot first last step t) cells turns)) (sym named)
-      (used_alike plan statements registers counters cells holds (term_value registers parameters.value.first) (number_in cells first)
-      (same_term plan registers cells holds first parameters.value.first h.4.first)
-      (λ a. code.used_in_code (term_value registers parameters.value.last) registers counters
-      (λ b. code.used_in_code (term_value registers parameters.value.step) registers counters
-      (λ c. code.begun_in_code slot (do_rank statements i) (i + 1) next a b c registers counters)))
-      (λ a. moves.used (number_in cells last) cells
-      (λ b. moves.used (number_in cells step) cells (λ c. moves.begun statements i slot t a b c cells turns)))
-      (λ a is. used_alike plan statements registers counters cells holds (term_value registers parameters.value.last) (number_in cells last)
-      (same_term plan registers cells holds last parameters.value.last h.4.last)
-      (λ b. code.used_in_code (term_value registers parameters.value.step) registers counters
-      (λ c. code.begun_in_code slot (do_rank statements i) (i + 1) next a b c registers counters))
-      (λ b. moves.used (number_in cells step) cells (λ c. moves.begun statements i slot t a b c cells turns))
-      (λ b has. used_alike plan statements registers counters cells holds (term_value registers parameters.value.step) (number_in cells step)
-      (same_term plan registers cells holds step parameters.value.step h.4.step)
-      (λ c. code.begun_in_code slot (do_rank statements i) (i + 1) next a b c registers counters)
-      (λ c. moves.begun statements i slot t a b c cells turns)
-      (λ c to. begun_alike plan statements counters turns counts i t next loop h.5 may registers cells holds slot h.1 a b c
-      (fits_of (term_value registers parameters.value.first) a (term_fits registers holds.held parameters.value.first) is)))))
-    where
-      named : ran (Do variable counter body parameters) next registers counters ≡ ran (Do slot (do_rank statements i) (i + 1) parameters) next registers counters
-      named = λ j. ran (Do (h.0 j) (h.2 j) (h.3 j) parameters) next registers counters
+      begins i r slot first last step t next (record { variable = variable; counter = counter; body = body; parameters = parameters.value }) loop may h
+  performs i r (Loop slot first last step t) (Count variable counter body x y z) next loop e all may h =
+      begins i r slot first last step t next (record { variable = variable; counter = counter; body = body; parameters = registers_for x y z }) loop may h
   performs i r (Loop slot first last step t) _ next loop e all may h = absurd h
   performs i r act o next loop e all may h = performed plan statements registers counters cells holds next turns counts r all h.1 i act o e h.0
 

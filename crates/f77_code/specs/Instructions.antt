@@ -17,7 +17,7 @@ use Rattle.f77_code.specs.declared.control.Place.{Place}
 use Rattle.f77_code.specs.declared.control.Place.TheVariants.{Execute, Increment}
 use Rattle.f77_code.specs.declared.instruction.Instruction.{Instruction}
 use Rattle.f77_code.specs.declared.instruction.Operation.{Operation, Set, SetElement, SetMatrix, IfTrue, IfRelated}
-use Rattle.f77_code.specs.declared.instruction.Operation.{Do, Next, Sign, Select, When', Continue, Goto, Return}
+use Rattle.f77_code.specs.declared.instruction.Operation.{Do, Count, Next, Sign, Select, When', Continue, Goto, Return}
 use Rattle.f77_code.specs.declared.instruction.Operation.{Stop, Trap, Move, Add, Subtract, Multiply, Load, Store}
 use Rattle.f77_code.specs.declared.instruction.Operation.{StoreSum, StoreDifference, IfLess, IfLessOrEqual}
 use Rattle.f77_code.specs.declared.instruction.Operation.{IfEqual, IfNotEqual, IfGreaterOrEqual, IfGreater}
@@ -90,6 +90,28 @@ storing (StoreDifference first bound subscript left right) =
       term = term.Difference left right;
     })
 storing _ = None
+
+-- an operation that begins a DO
+pub record Beginning : Type 0 where
+  pub variable : ℕ
+  pub counter : ℕ
+  pub body : ℕ
+  pub parameters : Parameters
+
+abbrev pub registers_for : ℕ → ℕ → ℕ → Parameters
+registers_for first last step =
+    record { first = term.Register first; last = term.Register last; step = term.Register step }
+
+abbrev pub beginning : Operation → Option Beginning
+beginning (Do variable counter body parameters) = Some
+    (record { variable = variable; counter = counter; body = body; parameters = parameters.value })
+beginning (Count variable counter body first last step) = Some (record {
+  variable = variable;
+  counter = counter;
+  body = body;
+  parameters = registers_for first last step;
+})
+beginning _ = None
 
 -- an operation that goes to a place where a relation holds
 pub record Comparing : Type 0 where
@@ -178,20 +200,24 @@ pub record AreParameters (plan : Plan) (from to by : Number)
   pub last : IsTerm plan to parameters.last
   pub step : IsTerm plan by parameters.step
 
+-- it begins the DO i, whose variable has the slot k, whose parameters are these, and which ends
+-- at the statement t; and control goes on there when the passes are made
+pub record BeginsDo (plan : Plan) (statements : List Resolved) (i k : ℕ) (from to by : Number)
+    (t next : ℕ) (begun : Beginning) : Type 0 where
+  pub variable : begun.variable ≡ k
+  pub slot : IsSlot plan Integer k
+  pub counter : begun.counter ≡ do_rank statements i
+  pub body : begun.body ≡ i + 1
+  pub parameters : AreParameters plan from to by begun.parameters
+  pub left : IsLeftDone statements i t next
+
 -- which operation stands for the statement i, and where control goes on from it
 abbrev pub StandsForStatement : Plan
     → List Resolved → ℕ → Resolved → Action → Operation → ℕ → Type 0
 StandsForStatement plan statements i r (Branch x otherwise) operation next =
     Tests plan x (onward statements r.ends.items r.next) operation × (next ≡ otherwise)
-StandsForStatement plan statements i r (Loop slot first last step t)
-    (Do variable counter body parameters) next =
-    (variable ≡ slot)
-    × IsSlot plan Integer slot
-    × (counter ≡ do_rank statements i)
-    × (body ≡ i + 1)
-    × AreParameters plan first last step parameters.value
-    × IsLeftDone statements i t next
-StandsForStatement plan statements i r (Loop slot first last step t) _ next = ⊥
+StandsForStatement plan statements i r (Loop slot first last step t) operation next =
+    MatchOption (beginning operation) ⊥ (BeginsDo plan statements i slot first last step t next)
 StandsForStatement plan statements i r act operation next =
     IsOperation plan act operation × (next ≡ onward statements r.ends.items r.next)
 

@@ -12,7 +12,7 @@ use Rattle.f77_values.specs.declared.finish.Finish.{Finish}
 use Rattle.f77_values.specs.declared.finish.Finish.TheVariants.{Returned, Stopped, Failed, StepLimit}
 use Rattle.f77_code.specs.declared.control.Turn.{Turn}
 use Rattle.f77_code.specs.declared.instruction.Operation.{Operation, Set, SetElement, SetMatrix, IfTrue, IfRelated}
-use Rattle.f77_code.specs.declared.instruction.Operation.{Do, Next, Sign, Select, When', Continue, Goto, Return}
+use Rattle.f77_code.specs.declared.instruction.Operation.{Do, Count, Next, Sign, Select, When', Continue, Goto, Return}
 use Rattle.f77_code.specs.declared.instruction.Operation.{Stop, Trap, Move, Add, Subtract, Multiply, Load, Store}
 use Rattle.f77_code.specs.declared.instruction.Operation.{StoreSum, StoreDifference, IfLess, IfLessOrEqual}
 use Rattle.f77_code.specs.declared.instruction.Operation.{IfEqual, IfNotEqual, IfGreaterOrEqual, IfGreater}
@@ -78,6 +78,15 @@ begun_in_code variable counter body next first last (negsuc m) registers turns =
     passed counter body next (trip_count first last (negsuc m)) (negsuc m)
     (slice_set registers variable first) turns
 
+-- a DO begins, of whose parameters this is told
+abbrev pub begun_with : ℕ → ℕ → ℕ → ℕ → Result ℤ Fault → Result ℤ Fault → Result ℤ Fault
+    → List ℤ → List Turn → Point
+begun_with variable counter body next first last step registers turns =
+    used_in_code first registers turns
+    (λ a. used_in_code last registers turns
+    (λ b. used_in_code step registers turns
+    (λ c. begun_in_code variable counter body next a b c registers turns)))
+
 -- one pass less: a number of 64 bits, which no active DO has at 0
 abbrev pub one_less : ℕ → ℕ
 one_less zero = 18446744073709551615
@@ -113,10 +122,12 @@ ran (IfRelated relation there pair) next registers turns =
     branch (both (related_number relation) (term_value registers pair.value.left)
     (term_value registers pair.value.right)) there next registers turns
 ran (Do variable counter body parameters) next registers turns =
-    used_in_code (term_value registers parameters.value.first) registers turns
-    (λ a. used_in_code (term_value registers parameters.value.last) registers turns
-    (λ b. used_in_code (term_value registers parameters.value.step) registers turns
-    (λ c. begun_in_code variable counter body next a b c registers turns)))
+    begun_with variable counter body next (term_value registers parameters.value.first)
+    (term_value registers parameters.value.last) (term_value registers parameters.value.step)
+    registers turns
+ran (Count variable counter body first last step) next registers turns =
+    begun_with variable counter body next (register registers first) (register registers last)
+    (register registers step) registers turns
 ran (Next variable counter body) next registers turns =
     option_map_or (λ turn. incremented_in_code variable counter body next turn registers turns)
     (slice_get turns counter) (point next registers turns)
@@ -196,6 +207,9 @@ operation_within n loops (Do variable counter body parameters) =
     && (nat_lt counter loops
     && (term_within n parameters.value.first
     && (term_within n parameters.value.last && term_within n parameters.value.step)))
+operation_within n loops (Count variable counter body first last step) =
+    nat_lt variable n
+    && (nat_lt counter loops && (nat_lt first n && (nat_lt last n && nat_lt step n)))
 operation_within n loops (Next variable counter body) = nat_lt variable n && nat_lt counter loops
 operation_within n loops (Sign negative middle positive term) = term_within n term.value
 operation_within n loops (Select term places) = term_within n term.value

@@ -228,6 +228,23 @@ pub(crate) fn operand(term: &Term, registers: &[i64]) -> i64
     }
 }
 
+/// The same of a condition, without a call where it compares two registers.
+#[inline(always)]
+pub(crate) fn condition(term: &Term, registers: &[i64]) -> i64
+    requires held { are_held registers.now ≡ true }
+    requires within { term_within (length registers.now) term.now ≡ true }
+    ensures { TellsResult result (term_value registers.now term.now) }
+{
+    match term {
+        Term::Compared {
+            relation,
+            left,
+            right,
+        } => compared_at(registers, *relation, *left, *right),
+        _ => evaluated(term, registers),
+    }
+}
+
 #[cycle(values)]
 #[inline(never)]
 fn vector_of(registers: &[i64], first: u32, bound: u32, subscript: &Term) -> i64

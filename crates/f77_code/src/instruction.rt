@@ -44,6 +44,15 @@ pub enum Operation {
         body: u32,
         parameters: Box<Parameters>,
     },
+    /// `Do`, where the parameters are registers.
+    Count {
+        variable: u32,
+        counter: u32,
+        body: u32,
+        first: u32,
+        last: u32,
+        step: u32,
+    },
     /// A DO is incremented: control goes to `body` where it has a pass to make (11.10.7).
     Next {
         variable: u32,

@@ -4,6 +4,7 @@ ghost use Rattle.std.specs.Prelude.{◌≡◌, ◌<◌, ◌≤◌, ◌+◌, leng
 ghost use Rattle.f77_code.specs.Compiled.{is_ready, IsInstruction};
 ghost use Rattle.f77_code.specs.code.Compiled.{HaveParameters, IsNext};
 ghost use Rattle.f77_code.specs.Constants.{GrowsPlan};
+ghost use Rattle.f77_code.specs.Instructions.{beginning};
 ghost use Rattle.f77_code.specs.Evaluation.{number_within};
 ghost use Rattle.f77_code.specs.Places.{ArePlaces, has_places, have_places};
 
@@ -13,6 +14,7 @@ use crate::constants::Constants;
 use crate::fault::CodeFault;
 use crate::instruction::{Instruction, Operation, Parameters};
 use crate::places::Places;
+use crate::term::Term;
 use f77_actions::{Action, Number, Resolved};
 use f77_tree::Shared;
 use std::alloc::Global;
@@ -42,6 +44,37 @@ pub(crate) fn increment(
     }
 }
 
+/// A DO begins, in a form without a box where its parameters are registers.
+fn begun(
+    alloc: Global,
+    variable: u32,
+    counter: u32,
+    body: u32,
+    parameters: Parameters,
+) -> Result<Operation, CodeFault>
+    ensures { IfOk result (λ operation. beginning operation ≡ Some
+        (record { variable = variable; counter = counter; body = body; parameters = parameters })) }
+{
+    match (&parameters.first, &parameters.last, &parameters.step) {
+        (Term::Register(first), Term::Register(last), Term::Register(step)) => {
+            Ok(Operation::Count {
+                variable,
+                counter,
+                body,
+                first: *first,
+                last: *last,
+                step: *step,
+            })
+        }
+        _ => Ok(Operation::Do {
+            variable,
+            counter,
+            body,
+            parameters: Box::new(alloc, parameters)?,
+        }),
+    }
+}
+
 impl Constants {
     /// The parameters of a DO (11.10.3).
     fn parameters(
@@ -50,18 +83,18 @@ impl Constants {
         first: &Number,
         last: &Number,
         step: &Number,
-    ) -> Result<Box<Parameters>, CodeFault>
+    ) -> Result<Parameters, CodeFault>
         requires first { number_within self.old.slots first.now ≡ true }
         requires last { number_within self.old.slots last.now ≡ true }
         requires step { number_within self.old.slots step.now ≡ true }
         ensures stand { IfOk result
-            (λ parameters. HaveParameters self.new first.now last.now step.now parameters.value) }
+            (λ parameters. HaveParameters self.new first.now last.now step.now parameters) }
         ensures grown { IfOk result (λ parameters. GrowsPlan self.old self.new) }
     {
         let first = self.number(alloc, first)?;
         let last = self.number(alloc, last)?;
         let step = self.number(alloc, step)?;
-        Ok(Box::new(alloc, Parameters { first, last, step })?)
+        Ok(Parameters { first, last, step })
     }
 
     /// The instruction of the statement `i`.
@@ -105,12 +138,7 @@ impl Constants {
                 let variable = register_of(*variable, self.slots());
                 let parameters = self.parameters(alloc, first, last, step)?;
                 Ok(Instruction {
-                    operation: Operation::Do {
-                        variable,
-                        counter: places.counter(i),
-                        body: i as u32 + 1,
-                        parameters,
-                    },
+                    operation: begun(alloc, variable, places.counter(i), i as u32 + 1, parameters)?,
                     next: places.left(statements, i, *terminal),
                 })
             }

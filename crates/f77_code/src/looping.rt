@@ -5,8 +5,8 @@ ghost use Rattle.f77_values.specs.declared.finish.Fault.{Fault};
 ghost use Rattle.f77_code.specs.declared.control.Turn.{Turn};
 ghost use Rattle.f77_code.specs.declared.instruction.Operation as operation;
 ghost use Rattle.f77_code.specs.Operation as meaning;
-ghost use Rattle.f77_code.specs.Operation.{point, ran, used_in_code};
-ghost use Rattle.f77_code.specs.Registers.{are_held};
+ghost use Rattle.f77_code.specs.Operation.{point, ran};
+ghost use Rattle.f77_code.specs.Registers.{are_held, register};
 ghost use Rattle.f77_code.specs.Term.{term_value, term_within};
 ghost use Rattle.f77_values.specs.Number as exact;
 ghost use Rattle.f77_values.specs.Told.{TellsResult, IsValueOrFault, HasValue};
@@ -64,8 +64,50 @@ fn passes_within(first: i64, last: i64, step: i64) -> u64
     trip_count(from, to, by)
 }
 
-#[inline(never)]
+/// A DO begins, of whose parameters this is told.
+#[inline(always)]
 #[tactic(auto, using(crate::proofs::Points::zero_told, crate::proofs::Points::least_from))]
+fn begun(
+    variable: u32,
+    counter: u32,
+    body: u32,
+    first: i64,
+    last: i64,
+    step: i64,
+    next: u32,
+    registers: &mut [i64],
+    turns: &mut [Turn],
+) -> usize
+    requires held { are_held registers.old ≡ true }
+    requires variable { variable < length registers.old }
+    requires counter { counter < length turns.old }
+    requires first { IsValueOrFault first }
+    requires last { IsValueOrFault last }
+    requires step { IsValueOrFault step }
+    ensures runs { (a b c : Result ℤ Fault) → TellsResult first a → TellsResult last b → TellsResult step c
+        → point result registers.new turns.new
+        ≡ meaning.begun_with variable counter body next a b c registers.old turns.old }
+    ensures held { are_held registers.new ≡ true }
+{
+    if UNDEFINED <= first {
+        return failed(first);
+    }
+    if UNDEFINED <= last {
+        return failed(last);
+    }
+    if UNDEFINED <= step {
+        return failed(step);
+    }
+    if step == 0 {
+        return failed(ZERO_STEP);
+    }
+    write(registers, variable as usize, first);
+    let passes = passes_within(first, last, step);
+    let by = value(step);
+    pass(counter, body, next, passes, by, turns)
+}
+
+#[inline(never)]
 pub(crate) fn begin(
     variable: u32,
     counter: u32,
@@ -81,32 +123,49 @@ pub(crate) fn begin(
     requires first { term_within (length registers.old) parameters.now.first ≡ true }
     requires last { term_within (length registers.old) parameters.now.last ≡ true }
     requires step { term_within (length registers.old) parameters.now.step ≡ true }
-    ensures runs { let before = registers.old in let counters = turns.old in point result registers.new turns.new
-        ≡ used_in_code (term_value before parameters.now.first) before counters
-        (λ a. used_in_code (term_value before parameters.now.last) before counters
-        (λ b. used_in_code (term_value before parameters.now.step) before counters
-        (λ c. meaning.begun_in_code variable counter body next a b c before counters))) }
+    ensures runs { let before = registers.old in point result registers.new turns.new
+        ≡ meaning.begun_with variable counter body next (term_value before parameters.now.first)
+        (term_value before parameters.now.last) (term_value before parameters.now.step) before turns.old }
     ensures held { are_held registers.new ≡ true }
 {
     let first = operand(&parameters.first, registers);
-    if UNDEFINED <= first {
-        return failed(first);
-    }
     let last = operand(&parameters.last, registers);
-    if UNDEFINED <= last {
-        return failed(last);
-    }
     let step = operand(&parameters.step, registers);
-    if UNDEFINED <= step {
-        return failed(step);
-    }
-    if step == 0 {
-        return failed(ZERO_STEP);
-    }
-    write(registers, variable as usize, first);
-    let passes = passes_within(first, last, step);
-    let by = value(step);
-    pass(counter, body, next, passes, by, turns)
+    begun(
+        variable, counter, body, first, last, step, next, registers, turns,
+    )
+}
+
+/// The same, where the parameters are registers.
+#[inline(always)]
+pub(crate) fn count(
+    variable: u32,
+    counter: u32,
+    body: u32,
+    first: u32,
+    last: u32,
+    step: u32,
+    next: u32,
+    registers: &mut [i64],
+    turns: &mut [Turn],
+) -> usize
+    requires held { are_held registers.old ≡ true }
+    requires variable { variable < length registers.old }
+    requires counter { counter < length turns.old }
+    requires first { first < length registers.old }
+    requires last { last < length registers.old }
+    requires step { step < length registers.old }
+    ensures runs { let before = registers.old in point result registers.new turns.new
+        ≡ meaning.begun_with variable counter body next (register before first) (register before last)
+        (register before step) before turns.old }
+    ensures held { are_held registers.new ≡ true }
+{
+    let first = read(registers, first);
+    let last = read(registers, last);
+    let step = read(registers, step);
+    begun(
+        variable, counter, body, first, last, step, next, registers, turns,
+    )
 }
 
 /// One pass less. No active DO has 0 left.

@@ -14,9 +14,9 @@ use crate::assignment::{
 use crate::branching::{compare, if_related, if_true, select, sign};
 use crate::control::Turn;
 use crate::ending::{RETURNED, STOPPED, TRAPPED, failed};
-use crate::evaluate::operand;
+use crate::evaluate::condition;
 use crate::instruction::Operation;
-use crate::looping::{begin, increment};
+use crate::looping::{begin, count, increment};
 use crate::term::Term;
 use f77_actions::Relation;
 use f77_values::told::UNDEFINED;
@@ -61,6 +61,16 @@ pub(crate) fn perform(
             parameters,
         } => begin(
             *variable, *counter, *body, parameters, next, registers, turns,
+        ),
+        Operation::Count {
+            variable,
+            counter,
+            body,
+            first,
+            last,
+            step,
+        } => count(
+            *variable, *counter, *body, *first, *last, *step, next, registers, turns,
         ),
         Operation::Next {
             variable,
@@ -180,7 +190,7 @@ fn when(
         (λ z. if is_same z (pos 0) then point next before counters else meaning.ran inner.now next before counters) }
     ensures held { are_held registers.new ≡ true }
 {
-    let x = operand(term, registers);
+    let x = condition(term, registers);
     if UNDEFINED <= x {
         return failed(x);
     }

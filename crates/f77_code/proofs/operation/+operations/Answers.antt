@@ -33,29 +33,29 @@ when-perform_inner-requires t c = (omega (arith, c.decreases), (c.requires.held,
 
 pub when-returns-then-x-ge-UNDEFINED-clause-runs : goal.when-returns-then-x-ge-UNDEFINED-clause-runs
 when-returns-then-x-ge-UNDEFINED-clause-runs t c =
-    let fx : FitsSigned w64 c.operand-x.result = search rules in
-    fails c.failed.result c.args.registers.now c.args.turns.now c.operand-x.result (at_least c.operand-x.result fx c.if-x-ge-UNDEFINED.true) (λ f t. c.failed.ensures f (simp to_z-of_z t))
+    let fx : FitsSigned w64 c.condition-x.result = search rules in
+    fails c.failed.result c.args.registers.now c.args.turns.now c.condition-x.result (at_least c.condition-x.result fx c.if-x-ge-UNDEFINED.true) (λ f t. c.failed.ensures f (simp to_z-of_z t))
     (λ z. if is_same z (pos 0) then point c.args.next c.args.registers.now c.args.turns.now
     else ran c.args.inner.now c.args.next c.args.registers.now c.args.turns.now) (term_value c.args.registers.now c.args.term.now)
-    c.operand-x.ensures
+    c.condition-x.ensures
 
 pub when-returns-then-x-eq0-clause-runs : goal.when-returns-then-x-eq0-clause-runs
 when-returns-then-x-eq0-clause-runs t c =
-    let fx : FitsSigned w64 c.operand-x.result = search rules in
+    let fx : FitsSigned w64 c.condition-x.result = search rules in
     zero_next (point c.args.next c.args.registers.now c.args.turns.now) (ran c.args.inner.now c.args.next c.args.registers.now c.args.turns.now)
-    c.operand-x.result (bits_zero c.operand-x.result fx c.if-x-eq0.true)
-    ∙ goes c.args.registers.now c.args.turns.now c.operand-x.result (not_least c.operand-x.result fx c.if-x-ge-UNDEFINED.false)
+    c.condition-x.result (bits_zero c.condition-x.result fx c.if-x-eq0.true)
+    ∙ goes c.args.registers.now c.args.turns.now c.condition-x.result (not_least c.condition-x.result fx c.if-x-ge-UNDEFINED.false)
     (λ z. if is_same z (pos 0) then point c.args.next c.args.registers.now c.args.turns.now
     else ran c.args.inner.now c.args.next c.args.registers.now c.args.turns.now) (term_value c.args.registers.now c.args.term.now)
-    c.operand-x.ensures
+    c.condition-x.ensures
 
 pub when-returns-clause-runs : goal.when-returns-clause-runs
 when-returns-clause-runs t c =
-    let fx : FitsSigned w64 c.operand-x.result = search rules in
+    let fx : FitsSigned w64 c.condition-x.result = search rules in
     c.perform_inner.ensures.runs
     ∙ some_inner (point c.args.next c.args.registers.now c.args.turns.now) (ran c.args.inner.now c.args.next c.args.registers.now c.args.turns.now)
-    c.operand-x.result (λ e. c.if-x-eq0.false (zero_bits c.operand-x.result e))
-    ∙ goes c.args.registers.now c.args.turns.now c.operand-x.result (not_least c.operand-x.result fx c.if-x-ge-UNDEFINED.false)
+    c.condition-x.result (λ e. c.if-x-eq0.false (zero_bits c.condition-x.result e))
+    ∙ goes c.args.registers.now c.args.turns.now c.condition-x.result (not_least c.condition-x.result fx c.if-x-ge-UNDEFINED.false)
     (λ z. if is_same z (pos 0) then point c.args.next c.args.registers.now c.args.turns.now
     else ran c.args.inner.now c.args.next c.args.registers.now c.args.turns.now) (term_value c.args.registers.now c.args.term.now)
-    c.operand-x.ensures
+    c.condition-x.ensures
