@@ -1,6 +1,6 @@
 //! The text that names mutants of a plan.
 
-ghost use Rattle.std.specs.Prelude.{◌≡◌, ◌++◌, IfErr, IfOk, OnOk, [], codes, flat_map, string_bytes};
+ghost use Rattle.std.specs.Prelude.{◌≡◌, ◌++◌, IfErr, IfOk, OnOk, [], flat_map, string_bytes};
 ghost use Rattle.f77_tree.specs.Joined.{separated};
 ghost use Rattle.mothra_app.specs.Listing.{asked_total};
 ghost use Rattle.mothra_ops.specs.Mutants.{mutant_fields, original_number};

@@ -6,7 +6,6 @@ ghost use Rattle.indexmap.specs.IndexMap.{keys};
 ghost use Rattle.f77_program.specs.Program.{line_of};
 ghost use Rattle.f77_tree.specs.contracts.tree.Expr as expr;
 ghost use Rattle.f77_tree.specs.contracts.statement.Stmt as stmt;
-ghost use Rattle.f77_program.specs.contracts.program.Line as line;
 ghost use Rattle.f77_actions.specs.contracts.action.Action as action;
 ghost use Rattle.f77_actions.specs.contracts.expression.Condition as condition;
 ghost use Rattle.f77_actions.specs.contracts.expression.Element as element;

@@ -16,9 +16,9 @@ use Rattle.f77_code.specs.Instructions.{IsLeftDone}
 use Rattle.f77_code.specs.Evaluation.{held_in}
 use Rattle.f77_code.specs.Holds.{Plan, HoldsRegisters, HoldsCounters, IsSlot, do_rank, is_loop_at, read_as}
 use Rattle.f77_code.specs.Moves as moves
-use Rattle.f77_code.specs.Moves.{Cells, TurnList, Move, Goes, Ends, state, turn_at, passing, passing_at}
+use Rattle.f77_code.specs.Moves.{Cells, TurnList, Goes, state, turn_at, passing, passing_at}
 use Rattle.f77_code.specs.Operation as code
-use Rattle.f77_code.specs.Operation.{Point, point, ended_point, passed, one_less, ran}
+use Rattle.f77_code.specs.Operation.{point, ended_point, passed, one_less, ran}
 use Rattle.f77_code.specs.Registers.{register}
 use Rattle.f77_code.specs.Simulation.{IsMove, only_round}
 use Rattle.f77_values.specs.Number.{fits, in_range, trip_count}

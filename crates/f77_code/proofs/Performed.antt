@@ -2,7 +2,7 @@
 use Rattle.std.proofs.Common.{◌≡◌, ℕ, zero, suc, Bool, true, false, List, [], ◌∷◌, Option, Some, None, ℤ, pos, negsuc, refl, sym, ap, ◌∙◌, subst}
 use Rattle.std.specs.Prelude.{Result, Ok, Err, map, slice_get, unwrap_or, MatchOption, if◌then◌else◌}
 use Rattle.std.specs.Option.{option_map_or}
-use Rattle.f77_actions.specs.declared.action.Action.{Action, Declaration, AssignNumber, AssignTruth, ComputedGoto, ArithmeticIf, LogicalIf', Branch, Loop}
+use Rattle.f77_actions.specs.declared.action.Action.{Action, Declaration, AssignNumber, AssignTruth, ComputedGoto, ArithmeticIf, LogicalIf'}
 use Rattle.f77_actions.specs.declared.action.Action as action
 use Rattle.f77_actions.specs.declared.action.Jump.{Jump}
 use Rattle.f77_actions.specs.declared.expression.Condition.{Condition, Related}

@@ -16,9 +16,9 @@ use Rattle.f77_code.specs.Instructions.{Beginning, BeginsDo, registers_for, plac
 use Rattle.f77_code.specs.Evaluation.{number_in}
 use Rattle.f77_code.specs.Holds.{Plan, HoldsRegisters, HoldsCounters, do_rank, is_loop_at}
 use Rattle.f77_code.specs.Moves as moves
-use Rattle.f77_code.specs.Moves.{Cells, TurnList, State, Move, Goes, state, turn_at, acted, go_on, is_executed, is_loop, moved, incremented}
+use Rattle.f77_code.specs.Moves.{Cells, TurnList, Move, Goes, state, turn_at, acted, go_on, is_executed, is_loop, moved, incremented}
 use Rattle.f77_code.specs.Operation as code
-use Rattle.f77_code.specs.Operation.{Point, point, ran}
+use Rattle.f77_code.specs.Operation.{Point, ran}
 use Rattle.f77_code.specs.Simulation.{IsMove, IsNested, MayLeave, MovesAlike, are_active}
 use Rattle.f77_code.specs.Term.{term_value}
 use Rattle.f77_code.proofs.Alike.{fits_of, go_on_alike, used_alike}

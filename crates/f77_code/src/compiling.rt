@@ -1,6 +1,6 @@
 //! Actions are compiled: where their operands are registers, to operations that need no call.
 
-ghost use Rattle.std.specs.Prelude.{◌≡◌, ◌<◌, ◌^◌, true, IfOk, map};
+ghost use Rattle.std.specs.Prelude.{◌≡◌, ◌<◌, true, IfOk, map};
 ghost use Rattle.std.specs.List.{list_all};
 ghost use Rattle.f77_code.specs.Instructions.{comparing, registers_compared};
 ghost use Rattle.f77_code.specs.Compiling.{is_of_32_bits, can_compile};

@@ -1,6 +1,6 @@
 //! How runs end, as places: beyond those of all instructions.
 
-ghost use Rattle.std.specs.Prelude.{◌≡◌, ◌<◌, ◌≤ℤ◌, pos, ℕ, ℤ, Result, Ok, Err};
+ghost use Rattle.std.specs.Prelude.{◌≡◌, ◌<◌, ◌≤ℤ◌, pos, ℕ, ℤ, Result, Err};
 ghost use Rattle.f77_values.specs.declared.finish.Fault.{Fault};
 ghost use Rattle.f77_values.specs.declared.finish.Finish.{Finish};
 ghost use Rattle.f77_values.specs.declared.finish.Finish.TheVariants.{Failed, StepLimit};

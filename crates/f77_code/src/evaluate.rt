@@ -1,8 +1,7 @@
 //! The values of expressions over registers (ANSI X3.9-1978, section 6).
 
-ghost use Rattle.std.specs.Prelude.{◌≡◌, ◌≤◌, ◌<◌, ◌+◌, ◌*◌, true, length, Ok, ℤ, Result};
+ghost use Rattle.std.specs.Prelude.{◌≡◌, ◌≤◌, ◌<◌, ◌+◌, ◌*◌, true, length, Ok};
 ghost use Rattle.f77_actions.specs.declared.expression.Arithmetic.TheVariants as arithmetic;
-ghost use Rattle.f77_values.specs.declared.finish.Fault.{Fault};
 ghost use Rattle.f77_code.specs.Evaluation as meaning;
 ghost use Rattle.f77_code.specs.Registers.{are_held, register, vector_place, matrix_place, element_at};
 ghost use Rattle.f77_code.specs.Term as terms;

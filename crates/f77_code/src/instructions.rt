@@ -1,6 +1,6 @@
 //! Statements are compiled to instructions.
 
-ghost use Rattle.std.specs.Prelude.{◌≡◌, ◌<◌, ◌≤◌, ◌+◌, length, true, Some, slice_get, IfOk};
+ghost use Rattle.std.specs.Prelude.{◌≡◌, ◌<◌, ◌+◌, length, true, Some, slice_get, IfOk};
 ghost use Rattle.f77_code.specs.Compiled.{is_ready, IsInstruction};
 ghost use Rattle.f77_code.specs.code.Compiled.{HaveParameters, IsNext};
 ghost use Rattle.f77_code.specs.Constants.{GrowsPlan};

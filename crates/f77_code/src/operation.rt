@@ -1,6 +1,6 @@
 //! What instructions do.
 
-ghost use Rattle.std.specs.Prelude.{◌≡◌, ◌==◌, true, length, if◌then◌else◌, pos, List, ℕ};
+ghost use Rattle.std.specs.Prelude.{◌≡◌, ◌==◌, true, length, if◌then◌else◌, pos};
 ghost use Rattle.f77_code.specs.Operation as meaning;
 ghost use Rattle.f77_code.specs.Operation.{operation_within, point, used_in_code};
 ghost use Rattle.f77_code.specs.Registers.{are_held};

@@ -1,6 +1,6 @@
 //! The numbers of places: statements come first, and behind them the incrementations of DOs.
 
-ghost use Rattle.std.specs.Prelude.{◌≡◌, ◌<◌, ◌≤◌, ◌+◌, if◌then◌else◌, List, length, true, IfOk};
+ghost use Rattle.std.specs.Prelude.{◌≡◌, ◌<◌, ◌+◌, if◌then◌else◌, List, length, true, IfOk};
 ghost use Rattle.f77_actions.specs.declared.resolved.Resolved.{Resolved};
 ghost use Rattle.f77_code.specs.Instructions as meaning;
 ghost use Rattle.f77_code.specs.Instructions.{IsLeftDone};

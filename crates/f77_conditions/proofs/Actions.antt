@@ -4,7 +4,7 @@ use Rattle.std.specs.Prelude.{Box, Contains, Result, Ok, Err, slice_get, option_
 use Rattle.std.specs.Option.{option_map_or, option_and_then}
 use Rattle.std.specs.declared.alloc.Global.{Global}
 use Rattle.f77_actions.specs.declared.action.Action as actions
-use Rattle.f77_actions.specs.declared.action.Action.{Action, AssignNumber, AssignTruth, ComputedGoto, ArithmeticIf, Branch, Loop}
+use Rattle.f77_actions.specs.declared.action.Action.{Action, Branch}
 use Rattle.f77_actions.specs.declared.action.Jump.{Jump}
 use Rattle.f77_actions.specs.declared.expression.Condition.{Condition}
 use Rattle.f77_actions.specs.declared.resolved.Resolved.{Resolved}

@@ -1,6 +1,6 @@
 //! The places where control may go on.
 
-ghost use Rattle.std.specs.Prelude.{◌≡◌, ◌+◌, ◌<◌, ◌^◌, Contains, ℕ, ℤ, length, slice_get, Some};
+ghost use Rattle.std.specs.Prelude.{◌≡◌, ◌+◌, ◌<◌, ◌^◌, Contains, ℕ, slice_get, Some};
 ghost use Rattle.std.specs.Prelude.{IfOk};
 ghost use Rattle.f77_actions.specs.declared.action.Jump.{Jump};
 ghost use Rattle.f77_code.specs.declared.control.Place.{Place};

@@ -1,8 +1,7 @@
 //! Whether expressions read slots that are set.
 
-ghost use Rattle.std.specs.Prelude.{◌≡◌, ℕ, true, Result, Ok};
-ghost use Rattle.std.specs.Prelude.{[], ◌∷◌, ◌+◌, ℤ};
-ghost use Rattle.f77_values.specs.declared.finish.Fault.{Fault};
+ghost use Rattle.std.specs.Prelude.{◌≡◌, ℕ, true, Ok};
+ghost use Rattle.std.specs.Prelude.{[], ◌∷◌, ◌+◌};
 ghost use Rattle.f77_values.specs.Value.{given, element};
 ghost use Rattle.f77_code.specs.Evaluation.{slot_in, number_in};
 ghost use Rattle.f77_code.specs.Moves.{Cells};

@@ -1,7 +1,6 @@
 //! Whether one condition has the truth value of another where what is told is so.
 
-ghost use Rattle.std.specs.Prelude.{◌≡◌, ◌∷◌, [], pos, true, Bool, Ok, IfOk};
-ghost use Rattle.f77_code.specs.Evaluation.{truth_in};
+ghost use Rattle.std.specs.Prelude.{◌≡◌, pos, true, Ok, IfOk};
 ghost use Rattle.f77_code.specs.Moves.{Cells};
 ghost use Rattle.f77_facts.specs.Facts.{AreIn};
 ghost use Rattle.f77_linear.specs.Cases.{IsOneOf};

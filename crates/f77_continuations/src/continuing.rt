@@ -1,9 +1,6 @@
 //! Whether control comes from a changed statement to where it comes in the program.
 
-ghost use Rattle.std.specs.Prelude.{◌≡◌, ◌≤◌, false, true, length, IfOk, IfSome};
-ghost use Rattle.f77_actions.specs.declared.resolved.Resolved as resolved;
-ghost use Rattle.f77_code.specs.declared.control.Place.TheVariants as places;
-ghost use Rattle.f77_equivalence.specs.Alike.{site};
+ghost use Rattle.std.specs.Prelude.{◌≤◌, length, IfOk, IfSome};
 ghost use Rattle.f77_continuations.specs.code.Continuing.{ContinuesAt, ContinuesInAll, ContinuesWhere};
 ghost use Rattle.f77_continuations.specs.code.Continuing.{MeetAll, MeetEach, MeetInPairs};
 

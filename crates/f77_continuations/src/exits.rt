@@ -1,6 +1,6 @@
 //! How control leaves statements.
 
-ghost use Rattle.std.specs.Prelude.{◌≡◌, ◌<◌, ℕ, ℤ, Bool, true, List, length, slice_get, Some, Ok};
+ghost use Rattle.std.specs.Prelude.{◌≡◌, ◌<◌, ℕ, ℤ, Bool, true, List, length, Some, Ok};
 ghost use Rattle.std.specs.Prelude.{IfSome};
 ghost use Rattle.std.specs.Option.{option_map_or};
 ghost use Rattle.f77_actions.specs.declared.resolved.Resolved.{Resolved};

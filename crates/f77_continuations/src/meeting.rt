@@ -1,6 +1,6 @@
 //! Where two exits lead to one place.
 
-ghost use Rattle.std.specs.Prelude.{◌≡◌, ◌≤◌, true, IfSome};
+ghost use Rattle.std.specs.Prelude.{◌≡◌, true, IfSome};
 ghost use Rattle.f77_continuations.specs.code.Continuing.{Meet, MeetAt};
 ghost use Rattle.f77_continuations.specs.code.Paths.{EndsRun, IsPath};
 

@@ -1,6 +1,6 @@
 //! Where control comes by steps that do nothing else.
 
-ghost use Rattle.std.specs.Prelude.{◌≡◌, ◌<◌, length, slice_get, Some, IfSome};
+ghost use Rattle.std.specs.Prelude.{◌<◌, Some, IfSome};
 ghost use Rattle.f77_continuations.specs.code.Paths.{StepsTo, IsPath};
 
 use crate::exits::{Exit, plain_exit};

@@ -5,7 +5,7 @@ use Rattle.std.specs.Option.{option_map_or}
 use Rattle.std.specs.declared.alloc.Global.{Global}
 use Rattle.std.proofs.lemmas.Option.{slice_get_within}
 use Rattle.f77_actions.specs.declared.action.Action as actions
-use Rattle.f77_actions.specs.declared.action.Action.{Action, AssignNumber, AssignTruth, Goto, ComputedGoto, ArithmeticIf, Branch, Continue, Loop, Return, Stop}
+use Rattle.f77_actions.specs.declared.action.Action.{Action, AssignNumber, AssignTruth, ComputedGoto, ArithmeticIf, Branch, Loop, Return, Stop}
 use Rattle.f77_actions.specs.declared.action.Jump.{Jump}
 use Rattle.f77_actions.specs.declared.expression.Condition.{Condition}
 use Rattle.f77_actions.specs.declared.expression.Element.{Element}

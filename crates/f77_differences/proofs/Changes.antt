@@ -3,7 +3,7 @@ use Rattle.std.proofs.Common.{◌≡◌, ℕ, Bool, true, false, List, Some, ref
 use Rattle.std.specs.Prelude.{Box, Result, Ok, Err, slice_set}
 use Rattle.std.specs.declared.alloc.Global.{Global}
 use Rattle.f77_actions.specs.declared.action.Action as actions
-use Rattle.f77_actions.specs.declared.action.Action.{Action, AssignNumber, AssignTruth, Continue, Trap}
+use Rattle.f77_actions.specs.declared.action.Action.{Action, AssignNumber, AssignTruth, Continue}
 use Rattle.f77_actions.specs.declared.expression.Condition.{Condition}
 use Rattle.f77_actions.specs.declared.expression.Element.{Element}
 use Rattle.f77_actions.specs.declared.expression.Number.{Number}

@@ -1,6 +1,6 @@
 //! What statements do alike where slots that they do not read may differ.
 
-ghost use Rattle.std.specs.Prelude.{◌≡◌, ℕ, List, true, IfOk};
+ghost use Rattle.std.specs.Prelude.{◌≡◌, true, IfOk};
 ghost use Rattle.f77_actions.specs.declared.resolved.Resolved.{Resolved};
 ghost use Rattle.f77_differences.specs.code.Acting.{ActsWithinMarks, ActsAnywhereWithinMarks};
 

@@ -1,7 +1,6 @@
 //! Whether the values that dummy arguments hold may differ.
 
-ghost use Rattle.std.specs.Prelude.{◌≡◌, ◌<◌, ℕ, true, length, slice_get, Some};
-ghost use Rattle.f77_run.specs.Spans.{size_of};
+ghost use Rattle.std.specs.Prelude.{◌≡◌, ◌<◌, ℕ, true, length};
 ghost use Rattle.f77_differences.specs.code.Dummies.{IsDummyUnmarked};
 
 use crate::differences::{Differences, ending_of};

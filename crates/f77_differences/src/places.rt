@@ -1,6 +1,6 @@
 //! Whether two programs make like steps from each place.
 
-ghost use Rattle.std.specs.Prelude.{◌≡◌, ℕ, List, true, slice_get, Some, IfOk};
+ghost use Rattle.std.specs.Prelude.{◌≡◌, List, true, slice_get, Some, IfOk};
 ghost use Rattle.f77_actions.specs.declared.resolved.Resolved.{Resolved};
 ghost use Rattle.f77_code.specs.declared.control.Place.TheVariants as place;
 ghost use Rattle.f77_facts.specs.declared.facts.Fact.{Fact};

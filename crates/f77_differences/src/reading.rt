@@ -1,11 +1,6 @@
 //! Whether expressions read slots that may differ.
 
-ghost use Rattle.std.specs.Prelude.{◌≡◌, ℕ, true, Result};
-ghost use Rattle.f77_values.specs.declared.finish.Fault.{Fault};
-ghost use Rattle.f77_values.specs.Value.{given, whole, logic};
-ghost use Rattle.f77_code.specs.Evaluation.{held_in};
-ghost use Rattle.f77_code.specs.Moves.{Cells};
-ghost use Rattle.f77_facts.specs.Facts.{AreIn};
+ghost use Rattle.std.specs.Prelude.{◌≡◌, true};
 ghost use Rattle.f77_differences.specs.code.Reading.{OneSlot, OneNumber, OneTruth};
 
 use crate::marks::are_unmarked;

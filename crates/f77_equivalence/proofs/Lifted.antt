@@ -22,7 +22,7 @@ use Rattle.f77_run.specs.Reached.{statement_number}
 use Rattle.f77_run.specs.Running.{RunSite}
 use Rattle.f77_run.specs.Site.{site_of}
 use Rattle.f77_run.specs.Step as run
-use Rattle.f77_run.specs.Step.{Config, Next, Step}
+use Rattle.f77_run.specs.Step.{Next, Step}
 use Rattle.f77_run.specs.Value.{Store}
 use Rattle.f77_run.proofs.Moving.{IsRunningIn, moves_in, step_in}
 use Rattle.f77_run.proofs.OneWay.{one_successor}

@@ -1,6 +1,6 @@
 //! Whether one condition has the truth value of another, unless that faults.
 
-ghost use Rattle.std.specs.Prelude.{◌≡◌, Bool, true, Ok, IfOk};
+ghost use Rattle.std.specs.Prelude.{◌≡◌, true, Ok, IfOk};
 ghost use Rattle.f77_code.specs.Evaluation.{truth_in};
 ghost use Rattle.f77_code.specs.Moves.{Cells};
 ghost use Rattle.f77_facts.specs.Facts.{AreIn};

@@ -1,6 +1,6 @@
 //! Whether each step of the changed program is that of the program, from all states of which the entries tell.
 
-ghost use Rattle.std.specs.Prelude.{◌≡◌, ◌≢◌, ◌<◌, false, true, length, slice_get, Some, IfOk};
+ghost use Rattle.std.specs.Prelude.{◌≡◌, ◌≢◌, ◌<◌, false, true, length, IfOk};
 ghost use Rattle.f77_equivalence.specs.Alike.{AgreeBut, PassAlike, site};
 ghost use Rattle.f77_equivalence.specs.Same.{SameMoves, SameInAll};
 

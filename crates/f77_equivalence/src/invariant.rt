@@ -1,6 +1,6 @@
 //! What is known throughout the runs of a program.
 
-ghost use Rattle.std.specs.Prelude.{◌≡◌, ◌<◌, true, length, slice_get, Some, IfOk, IfSome};
+ghost use Rattle.std.specs.Prelude.{◌≡◌, ◌<◌, true, Some, IfOk, IfSome};
 ghost use Rattle.f77_equivalence.specs.Alike.{site};
 ghost use Rattle.f77_equivalence.specs.Invariant.{InvariantFields, HoldsThroughout, IsUnreached};
 

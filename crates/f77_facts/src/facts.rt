@@ -1,6 +1,6 @@
 //! What is known of what slots hold.
 
-ghost use Rattle.std.specs.Prelude.{◌≡◌, ◌<◌, ℤ, true, length, slice_get, slice_set, Option, Some, None, Ok, IfOk};
+ghost use Rattle.std.specs.Prelude.{◌≡◌, ◌<◌, ℤ, true, length, slice_get, slice_set, Option, Some, None, IfOk};
 ghost use Rattle.f77_values.specs.declared.value.Value.{Value};
 ghost use Rattle.f77_values.specs.Value.{whole, logic};
 ghost use Rattle.f77_code.specs.Evaluation.{held_in};

@@ -1,6 +1,6 @@
 //! The places that control was found to come to, with what is known there.
 
-ghost use Rattle.std.specs.Prelude.{◌≡◌, ◌<◌, length, Some, vec_len};
+ghost use Rattle.std.specs.Prelude.{◌≡◌, ◌<◌, length, Some};
 
 use crate::apart::{lies_in, taker_of};
 use crate::ordering::{Ways, order_of};

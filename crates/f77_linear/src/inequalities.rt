@@ -5,7 +5,6 @@ ghost use Rattle.f77_code.specs.Moves.{Cells};
 ghost use Rattle.f77_facts.specs.Facts.{AreIn};
 ghost use Rattle.f77_linear.specs.Sums.{sum_value};
 ghost use Rattle.f77_linear.specs.Inequalities.{IsBelow, AreBelow};
-ghost use Rattle.f77_linear.specs.code.Inequalities.{Follow};
 
 use crate::sums::{Sum, add_multiple, are_zero, combined, constant_sum, copy, slot_sum};
 use f77_facts::facts::{Fact, known_at};

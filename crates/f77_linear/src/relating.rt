@@ -1,6 +1,6 @@
 //! The cases of relations.
 
-ghost use Rattle.std.specs.Prelude.{◌≡◌, ◌-ℤ◌, ℤ, pos, true, IfOk};
+ghost use Rattle.std.specs.Prelude.{◌≡◌, ℤ, pos, true, IfOk};
 ghost use Rattle.f77_code.specs.Evaluation.{compared};
 ghost use Rattle.f77_code.specs.Moves.{Cells};
 ghost use Rattle.f77_linear.specs.Sums.{sum_value};

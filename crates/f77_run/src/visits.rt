@@ -1,6 +1,6 @@
 //! Where control was in a run: the first times that it came to each statement, with the states then.
 
-ghost use Rattle.std.specs.Prelude.{◌≡◌, ◌<◌, ◌+◌, ◌||◌, not, length, map};
+ghost use Rattle.std.specs.Prelude.{◌≡◌, ◌<◌, ◌||◌, length, map};
 ghost use Rattle.std.specs.Prelude.{slice_set, slice_get, Some, IfOk, IfErr, OnOk};
 ghost use Rattle.f77_run.specs.Machine.{placed_in_run};
 ghost use Rattle.f77_run.specs.code.Machine.{state_of};

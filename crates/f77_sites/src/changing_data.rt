@@ -1,6 +1,6 @@
 //! What DATA holds, with another node in the place of one: names stay, values change.
 
-ghost use Rattle.std.specs.Prelude.{◌≡◌, IfOk, map};
+ghost use Rattle.std.specs.Prelude.{IfOk, map};
 ghost use Rattle.f77_tree.specs.Data.{data_group_of};
 ghost use Rattle.f77_nodes.specs.Node.{node_of};
 ghost use Rattle.f77_sites.specs.code.Changing.{Passed};

@@ -1,8 +1,8 @@
 //! The reader of lines: what it keeps from line to line.
 
-ghost use Rattle.std.specs.Prelude.{◌≡◌, ◌≤◌, OnOk, IfOk, true, false};
+ghost use Rattle.std.specs.Prelude.{◌≡◌, OnOk, IfOk, true, false};
 ghost use Rattle.std.specs.List.{list_all};
-ghost use Rattle.f77_source.specs.Line.{kind, own_fault, has_foreign, label_field, is_label_character};
+ghost use Rattle.f77_source.specs.Line.{has_foreign, label_field, is_label_character};
 ghost use Rattle.f77_source.specs.code.Reader.{progress_of, nothing_read, all_cards};
 ghost use Rattle.f77_source.specs.code.Reader.{initial_card, card_begun, gone_on, taken, Steps};
 ghost use Rattle.f77_source.specs.declared.line.LineKind.TheVariants.{Initial, Continuation};

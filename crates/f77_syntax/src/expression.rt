@@ -1,6 +1,6 @@
 //! Expressions read from texts, by recursive descent.
 
-ghost use Rattle.std.specs.Prelude.{◌≡◌, ◌<◌, ◌≤◌, true, length, map, codes, IfOk, option_map};
+ghost use Rattle.std.specs.Prelude.{◌≡◌, ◌<◌, ◌≤◌, true, length, map, IfOk, option_map};
 ghost use Rattle.f77_syntax.specs.code.Reading.{reading, close_at, tree_after, past_comma};
 ghost use Rattle.f77_tree.specs.Grammar.{word, past_word};
 ghost use Rattle.f77_syntax.specs.code.Reading.{start_at, enclosed_at, signed_tree_at};

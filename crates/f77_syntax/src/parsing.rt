@@ -1,6 +1,6 @@
 //! Programs read from cards.
 
-ghost use Rattle.std.specs.Prelude.{◌≡◌, ◌≢◌, ◌≤◌, ◌⊎◌, List, ◌∷◌, [], ◌++◌, true, false};
+ghost use Rattle.std.specs.Prelude.{◌≡◌, ◌≢◌, ◌≤◌, ◌⊎◌, List, ◌∷◌, true};
 ghost use Rattle.std.specs.Prelude.{IfOk, IfErr, MatchResult, map, Some, None, Err};
 ghost use Rattle.f77_source.specs.Card.{CardFields};
 ghost use Rattle.f77_tree.specs.StatementGrammar.{SpellsStatement};

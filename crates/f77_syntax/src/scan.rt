@@ -1,10 +1,9 @@
 //! Names, numbers and operators at the front of a text.
 
-ghost use Rattle.std.specs.Prelude.{◌≡◌, ◌<◌, ◌≤◌, length, true, option_map, IfSome};
+ghost use Rattle.std.specs.Prelude.{◌≡◌, ◌<◌, length, true, option_map, IfSome};
 ghost use Rattle.std.specs.Str.Parse.{digits_value};
 ghost use Rattle.f77_tree.specs.Grammar as grammar;
 ghost use Rattle.f77_syntax.specs.code.Reading as reading;
-ghost use Rattle.std.specs.List.{list_all};
 ghost use Rattle.f77_syntax.specs.code.Reading.{digits, past_digits, operator_at};
 ghost use Rattle.f77_syntax.specs.code.View.{clipped};
 

@@ -1,6 +1,6 @@
 //! SUBROUTINE statements read from texts.
 
-ghost use Rattle.std.specs.Prelude.{◌≡◌, length, option_map};
+ghost use Rattle.std.specs.Prelude.{◌≡◌, option_map};
 ghost use Rattle.f77_syntax.specs.code.Subroutine.{dummies_at, before_close, subroutine_at, AreDummies};
 ghost use Rattle.f77_syntax.specs.code.View.{Gives};
 ghost use Rattle.f77_syntax.specs.code.StatementView.{IsStatement};

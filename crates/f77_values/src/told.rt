@@ -1,7 +1,7 @@
 //! Operations on numbers that tell values or faults: one of 64 bits tells
 //! both, so that no test is made for a fault but that of the range.
 
-ghost use Rattle.std.specs.Prelude.{◌≡◌, ◌+ℤ◌, ◌-ℤ◌, ◌*ℤ◌, if◌then◌else◌, not, ℤ, Result, Ok, Err};
+ghost use Rattle.std.specs.Prelude.{◌≡◌, ◌+ℤ◌, ◌-ℤ◌, ◌*ℤ◌, if◌then◌else◌, ℤ, Result, Ok, Err};
 ghost use Rattle.f77_values.specs.declared.finish.Fault.{Fault};
 ghost use Rattle.f77_values.specs.Number as exact;
 ghost use Rattle.f77_values.specs.Number.{fits, in_range, is_below};

@@ -3,7 +3,7 @@
 ghost use Rattle.std.specs.Prelude.{◌≡◌, ◌⊎◌, ◌≤◌, Err, IfOk, MatchResult, string_bytes};
 ghost use Rattle.clap.specs.Values.{kind_of};
 ghost use Rattle.mothra_app.specs.code.Answer.{IsMade, IsReadyAnswer, IsReportAnswer};
-ghost use Rattle.mothra_app.specs.Answer.{IsRequestOutcome, IsAnswer, IsRefusal};
+ghost use Rattle.mothra_app.specs.Answer.{IsRequestOutcome, IsRefusal};
 ghost use Rattle.mothra_app.specs.Fault.{MayFailBy};
 ghost use Rattle.mothra_job.specs.Job.{job_of};
 ghost use Rattle.mothra_app.specs.Line as Line;

@@ -1,11 +1,10 @@
 //! The command `list`: the mutants of the program of a job.
 
 ghost use Rattle.std.specs.Prelude.{◌≡◌, ◌⊎◌, ◌++◌, ◌≤◌, Ok, Err, Contains, IfErr};
-ghost use Rattle.std.specs.Prelude.{IfOk, MatchResult, OnOk, codes, map, string_bytes};
-ghost use Rattle.f77_program.specs.Program.{line_of};
+ghost use Rattle.std.specs.Prelude.{IfOk, MatchResult, OnOk, codes, string_bytes};
 ghost use Rattle.mothra_app.specs.Fault.{of_mutants};
 ghost use Rattle.mothra_app.specs.Listing as definition;
-ghost use Rattle.mothra_app.specs.Listing.{IsListed, asked_total, total_line};
+ghost use Rattle.mothra_app.specs.Listing.{IsListed, asked_total};
 ghost use Rattle.mothra_app.specs.code.Listing.{asked_lines, plan_lines, plan_text};
 ghost use Rattle.mothra_ops.specs.Mutants.{mutant_text};
 ghost use Rattle.mothra_ops.specs.declared.fault.OpsFault.TheVariants.{Memory};

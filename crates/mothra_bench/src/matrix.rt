@@ -1,7 +1,6 @@
 //! The kill matrix, and the mutation score.
 
 ghost use Rattle.std.specs.Prelude.{◌≡◌, ◌<◌, ◌^◌, List, length, vec_len};
-ghost use Rattle.mothra_bench.specs.Matrix as definition;
 ghost use Rattle.mothra_bench.specs.Matrix.{is_killed, is_equivalent, score_of, counts};
 ghost use Rattle.mothra_bench.specs.declared.matrix.Entry.{Entry};
 

@@ -1,7 +1,6 @@
 //! The text of a report.
 
-ghost use Rattle.std.specs.Prelude.{◌≡◌, ◌++◌, map, flat_map, codes, IfOk, IfErr, OnOk, string_bytes};
-ghost use Rattle.std.specs.Fmt.{decimal};
+ghost use Rattle.std.specs.Prelude.{◌≡◌, ◌++◌, map, flat_map, IfOk, IfErr, OnOk, string_bytes};
 ghost use Rattle.f77_program.specs.Program.{line_of};
 ghost use Rattle.mothra_bench.specs.Report as definition;
 ghost use Rattle.mothra_bench.specs.Report.{bits_of, counts_line, entry_lines, mutant_line, operator_lines};

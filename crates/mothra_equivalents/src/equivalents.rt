@@ -1,6 +1,6 @@
 //! The mutants of a plan that are proved equivalent.
 
-ghost use Rattle.std.specs.Prelude.{◌≡◌, ◌+◌, All, IfErr, IfOk, OnOk};
+ghost use Rattle.std.specs.Prelude.{◌≡◌, ◌+◌, IfErr, IfOk, OnOk};
 ghost use Rattle.mothra_codes.specs.Op.{index};
 ghost use Rattle.mothra_equivalents.specs.Equivalents.{AreEquivalents};
 ghost use Rattle.mothra_equivalents.specs.code.Equivalents.{AreOf, IsFront};
