@@ -1,16 +1,15 @@
 -- Numbers that are sorted, and each kept once, ascend; and no other list that ascends has the same numbers.
-use Rattle.std.proofs.Common.{◌≡◌, ◌<◌, ◌≤◌, ◌+◌, ℕ, zero, suc, List, [], ◌∷◌, Bool, true, false, refl, sym, ap, subst, ◌∙◌, ◌&&◌, ◌||◌, map, arith, Option, Some, None, length, get_or}
+use Rattle.std.proofs.Common.{◌≡◌, ◌<◌, ◌≤◌, ◌+◌, ℕ, zero, suc, List, [], ◌∷◌, Bool, true, false, refl, sym, ap, ◌∙◌, ◌&&◌, ◌||◌, map, arith, Option, Some, None}
 use Rattle.std.proofs.Math.Dec.{T}
-use Rattle.std.specs.List.{AllByRecursion, list_any, dedup, Contains, range_with_len}
-use Rattle.std.specs.Prelude.{nat_eq, nat_le, is_some, filter, cond}
+use Rattle.std.specs.List.{AllByRecursion, list_any, dedup, range_with_len}
+use Rattle.std.specs.Prelude.{nat_eq, nat_le, is_some, cond}
 use Rattle.std.specs.List.Sorted.{IsPermutation, IsSorted, IsStrictlySortedBy}
 use Rattle.std.specs.List.Retain.{IsFiltered, DiffersFromLast}
 use Rattle.std.specs.Ordering.{nat_cmp, eq_by_cmp}
-use Rattle.std.specs.declared.cmp.Ordering.TheVariants.{Less, Equal}
-use Rattle.std.specs.Cmp.{IsEquivalence, eq_by_cmp_equiv, nat_cmp_total, unsigned_ties, unsigned_tied}
+use Rattle.std.specs.declared.cmp.Ordering.TheVariants.{Less}
+use Rattle.std.specs.Cmp.{IsEquivalence, both_ways, eq_by_cmp_equiv, nat_cmp_total, unsigned_ties, unsigned_tied}
 use Rattle.std.specs.FinMap.Entries.{find, is_sorted, below_all, is_some-find, same_entries}
 use Rattle.std.specs.FinSet.{nat_cmp-IsAntisymmetric}
-use Rattle.std.proofs.lemmas.Bool.{cases_Bool}
 use Rattle.std.proofs.lemmas.Bool.Decides.{nat_tests}
 use Rattle.std.proofs.lemmas.List.Filters.{dedup_is}
 use Rattle.std.proofs.lemmas.List.FromFn.{length-range_with_len, get_or-range_with_len}
@@ -122,11 +121,6 @@ has_ascending q ns =
 
 pub ascending_rises : (ns : List ℕ) → Rises (ascending ns)
 ascending_rises ns = IsStrictlySortedBy-filter nat_cmp (λ n. list_any (nat_eq n) ns) (range_with_len 0 (largest_of ns + 1)) (range_rises 0 (largest_of ns + 1))
-
-both_ways : (a b : Bool) → (a ≡ true → b ≡ true) → (b ≡ true → a ≡ true) → a ≡ b
-both_ways true b there back = sym (there refl)
-both_ways false true there back = back refl
-both_ways false false there back = refl
 
 number_equiv : IsEquivalence (eq_by_cmp nat_cmp)
 number_equiv = eq_by_cmp_equiv nat_cmp_total

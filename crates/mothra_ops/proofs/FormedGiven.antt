@@ -1,8 +1,8 @@
 -- What an operator puts in the place of a node of a formed statement is formed.
 use Rattle.std.proofs.Common.{◌≡◌, ℕ, zero, suc, ◌+◌, List, [], ◌∷◌, ◌++◌, Bool, true, false, filter, map, refl, if◌then◌else◌}
 use Rattle.std.specs.Prelude.{not, nat_eq, nat_lt, ◌&&◌}
-use Rattle.std.specs.List.{All, filter_map}
-use Rattle.std.proofs.lemmas.List.Elements.{All-nil, All-cons, All-head, All-tail, All-append, All-filter, All-map, All-weaker}
+use Rattle.std.specs.List.{All}
+use Rattle.std.proofs.lemmas.List.Elements.{All-nil, All-cons, All-append, All-filter, All-map, All-weaker}
 use Rattle.f77_tree.specs.declared.form.Form.{Form}
 use Rattle.f77_tree.specs.declared.operator.Operator.{Operator}
 use Rattle.f77_tree.specs.declared.operator.Operator.TheVariants as operator
@@ -10,7 +10,7 @@ use Rattle.f77_tree.specs.declared.operator.Sign.TheVariants.{Minus}
 use Rattle.f77_tree.specs.declared.tree.Kind.{Kind}
 use Rattle.f77_tree.specs.declared.tree.Kind.TheVariants.{Integer, Logical}
 use Rattle.f77_tree.specs.Comparing.{same_operator, same_tree}
-use Rattle.f77_tree.specs.Grammar.{is_name}
+use Rattle.f77_tree.specs.Grammar.{is_call, is_name}
 use Rattle.f77_tree.specs.Statement.{Statement, form_of, same_statement}
 use Rattle.f77_tree.specs.Tree.{Tree, Trees}
 use Rattle.f77_tree.proofs.Tests.{and_true}
@@ -23,12 +23,13 @@ use Rattle.f77_legal.specs.Names.{Symbol}
 use Rattle.mothra_codes.specs.declared.op.Op.{Op}
 use Rattle.mothra_codes.specs.declared.op.Op.TheVariants.{Aar, Abs, Acr, Aor, Asr, Car, Cnr, Crp, Csr, Der, Dsa}
 use Rattle.mothra_codes.specs.declared.op.Op.TheVariants.{Glr, Lcr, Ror, Rsr, San, Sar, Scr, Sdl, Src, Svr, Uoi}
-use Rattle.mothra_ops.specs.Pools.{PoolFields, scalar}
+use Rattle.mothra_ops.specs.Pools.{PoolFields, Reference, as_tree, same_reference, scalar}
+use Rattle.mothra_ops.specs.Replacements.{as_target, as_variable, of_elements, of_scalars, other_references}
 use Rattle.mothra_ops.specs.Replacements.{absolute, absolute_value, is_replaceable_action, acts_or_continues, altered, arithmetic_operators, comparable, connectors, drawn, exchanged, gives}
 use Rattle.mothra_ops.specs.Replacements.{in_computed, in_labels, in_parts, in_place, in_places, in_statements, in_values, in_variables, is_comparable, is_constant, is_element, is_in, is_scalar}
-use Rattle.mothra_ops.specs.Replacements.{kind_of_expression, lowered, next_constants, operands, others, raised, relations, replacements, stands_in, target, truths, variable, with_group, with_unary}
+use Rattle.mothra_ops.specs.Replacements.{kind_of_expression, lowered, next_constants, operands, others, raised, relations, replacements, stands_in, truths, with_group, with_unary}
 use Rattle.mothra_ops.proofs.FormedNodes.{IsFormedTree, IsNamed, IsNoFunction, each_mapped, node_formed}
-use Rattle.mothra_ops.proofs.FormedPools.{AreFormed}
+use Rattle.mothra_ops.proofs.FormedPools.{AreFormed, IsFormedReference, scalar_formed}
 use Rattle.mothra_ops.proofs.FormedSites.{is_fit}
 
 -- lists of expressions
@@ -57,22 +58,36 @@ drawn_formed is_site kinds pool t all =
     chosen IsFormedTree (is_site t) (others kinds pool t) []
     (All-filter (λ u. same_kind (kind_of_expression kinds u) (kind_of_expression kinds t) && not (same_tree u t)) IsFormedTree pool all) no_trees
 
--- the subscripts of a reference
-abbrev items_formed : Tree → Bool
-items_formed (Tree.Reference name items) = all_formed items
-items_formed _ = true
+-- lists of references
+abbrev AllReferences : List Reference → Type 0
+AllReferences rs = All IsFormedReference rs
 
-of_formed : (t : Tree) → formed t ≡ true → items_formed t ≡ true
-of_formed (Tree.Reference name items) f = (reference_formed name items f).2
-of_formed _ f = refl
+trees_formed : (rs : List Reference) → AllReferences rs → AllFormed (map as_tree rs)
+trees_formed rs all = All-map IsFormedTree as_tree rs all
 
-comparable_formed : (pools : PoolFields) → AreFormed pools → (t : Tree) → items_formed t ≡ true → AllFormed (comparable pools t)
-comparable_formed pools are (Tree.Reference name (Trees.Then t ts)) f =
-    All-map IsFormedTree (λ other. Tree.Reference other (Trees.Then t ts)) (filter (is_comparable pools name) pools.arrays)
-    (All-weaker (λ other. IsNamed other × IsNoFunction other) (λ other. IsFormedTree (Tree.Reference other (Trees.Then t ts)))
-    (λ other own. rw (a_reference other (Trees.Then t ts) own.1 own.0, f) refl) (filter (is_comparable pools name) pools.arrays)
-    (All-filter (is_comparable pools name) (λ other. IsNamed other × IsNoFunction other) pools.arrays are.arrays))
-comparable_formed pools are _ f = no_trees
+scalars_formed : (names : List Symbol) → All IsNamed names → AllReferences (map scalar names)
+scalars_formed names all = All-map IsFormedReference scalar names (All-weaker IsNamed (λ name. IsFormedReference (scalar name)) scalar_formed names all)
+
+others_formed : (kinds : Symbol → Kind) (pool : List Reference) (r : Reference) → AllReferences pool → AllReferences (other_references kinds pool r)
+others_formed kinds pool r all = All-filter (λ other. same_kind (kinds other.name) (kinds r.name) && not (same_reference other r)) IsFormedReference pool all
+
+of_elements_formed : (give : Reference → List Reference) (r : Reference) → AllReferences (give r) → AllReferences (of_elements give r)
+of_elements_formed give r all = chosen IsFormedReference (is_element (as_tree r)) (give r) [] all (All-nil IsFormedReference)
+
+of_scalars_formed : (give : Reference → List Reference) (r : Reference) → AllReferences (give r) → AllReferences (of_scalars give r)
+of_scalars_formed give r all = chosen IsFormedReference (is_scalar (as_tree r)) (give r) [] all (All-nil IsFormedReference)
+
+-- with and without subscripts
+no_function : (name : Symbol) (items : Trees) → IsNoFunction name → is_call name items ≡ false
+no_function name Trees.None own = refl
+no_function name (Trees.Then t ts) own = own
+
+comparable_formed : (pools : PoolFields) → AreFormed pools → (r : Reference) → all_formed r.subscripts ≡ true → AllReferences (comparable pools r)
+comparable_formed pools are r f =
+    All-map IsFormedReference (λ other. record { name = other; subscripts = r.subscripts }) (filter (is_comparable pools r.name) pools.arrays)
+    (All-weaker (λ other. IsNamed other × IsNoFunction other) (λ other. IsFormedTree (Tree.Reference other r.subscripts))
+    (λ other own. rw (a_reference other r.subscripts (no_function other r.subscripts own.1) own.0, f) refl) (filter (is_comparable pools r.name) pools.arrays)
+    (All-filter (is_comparable pools r.name) (λ other. IsNamed other × IsNoFunction other) pools.arrays are.arrays))
 
 absolute_value_formed : (t : Tree) → formed t ≡ true → formed (absolute_value t) ≡ true
 unfolding is_some_list
@@ -125,24 +140,16 @@ no_nodes = All-nil IsFit
 part_fit : (ts : List Tree) → AllFormed ts → All IsFit (map NodeOf.Part ts)
 part_fit ts all = All-map IsFit NodeOf.Part ts all
 
-targets_fit : (ts : List Tree) → AllFormed ts → All IsFit (filter_map target ts)
-targets_fit [] all = no_nodes
-targets_fit (t ∷ ts) all = by t (All-head IsFormedTree t ts all) (targets_fit ts (All-tail IsFormedTree t ts all))
-  where
-    by : (u : Tree) → formed u ≡ true → All IsFit (filter_map target ts) → All IsFit (filter_map target (u ∷ ts))
-    by (Tree.Reference name items) f rest =
-        let (is, other, all) = reference_formed name items f in
-        All-cons IsFit (NodeOf.Target name items) (filter_map target ts) (rw (is, all) refl) rest
-    by _ f rest = rest
+target_fit : (r : Reference) → IsFormedReference r → IsFit (as_target r)
+target_fit r f = let (is, other, all) = reference_formed r.name r.subscripts f in rw (is, all) refl
 
-variables_fit : (ts : List Tree) → AllFormed ts → All IsFit (filter_map variable ts)
-variables_fit [] all = no_nodes
-variables_fit (t ∷ ts) all = by t (All-head IsFormedTree t ts all) (variables_fit ts (All-tail IsFormedTree t ts all))
-  where
-    by : (u : Tree) → formed u ≡ true → All IsFit (filter_map variable ts) → All IsFit (filter_map variable (u ∷ ts))
-    by (Tree.Reference name items) f rest =
-        All-cons IsFit (NodeOf.Named name) (filter_map variable ts) (reference_formed name items f).0 rest
-    by _ f rest = rest
+targets_fit : (rs : List Reference) → AllReferences rs → All IsFit (map as_target rs)
+targets_fit rs all = All-map IsFit as_target rs (All-weaker IsFormedReference (λ r. IsFit (as_target r)) target_fit rs all)
+
+variables_fit : (rs : List Reference) → AllReferences rs → All IsFit (map as_variable rs)
+variables_fit rs all =
+    All-map IsFit as_variable rs
+    (All-weaker IsFormedReference (λ r. IsFit (as_variable r)) (λ r f. (reference_formed r.name r.subscripts f).0) rs all)
 
 -- what operators put in the place of expressions, of references, and of DO variables
 parts_fit : (give : Tree → List Tree) → ((t : Tree) → formed t ≡ true → AllFormed (give t)) → (node : NodeOf) → node_formed node ≡ true
@@ -155,15 +162,23 @@ computed_fit : (give : Tree → List Tree) → ((t : Tree) → formed t ≡ true
 computed_fit give each node f =
     parts_fit (λ t. if is_constant t then [] else give t) (λ t g. chosen IsFormedTree (is_constant t) [] (give t) no_trees (each t g)) node f
 
-places_fit : (give : Tree → List Tree) → ((t : Tree) → items_formed t ≡ true → AllFormed (give t)) → (node : NodeOf) → node_formed node ≡ true
-    → All IsFit (in_places give node)
-places_fit give each (NodeOf.Part t) f = part_fit (give t) (each t (of_formed t f))
+abbrev Gives : (Reference → List Reference) → Type 0
+Gives give = (r : Reference) → all_formed r.subscripts ≡ true → AllReferences (give r)
+
+places_fit : (give : Reference → List Reference) → Gives give → (node : NodeOf) → node_formed node ≡ true → All IsFit (in_places give node)
+places_fit give each (NodeOf.Part t) f = by t f
+  where
+    by : (t : Tree) → formed t ≡ true → All IsFit (in_places give (NodeOf.Part t))
+    by (Tree.Reference name items) f =
+        let r : Reference = record { name = name; subscripts = items } in
+        part_fit (map as_tree (give r)) (trees_formed (give r) (each r (reference_formed name items f).2))
+    by _ f = no_nodes
 places_fit give each (NodeOf.Target name items) f =
-    targets_fit (give (Tree.Reference name items)) (each (Tree.Reference name items) (and_true (is_name name) (all_formed items) f).1)
+    let r : Reference = record { name = name; subscripts = items } in
+    targets_fit (give r) (each r (and_true (is_name name) (all_formed items) f).1)
 places_fit give each _ f = no_nodes
 
-in_variables_fit : (give : Tree → List Tree) → ((t : Tree) → items_formed t ≡ true → AllFormed (give t)) → (node : NodeOf) → node_formed node ≡ true
-    → All IsFit (in_variables give node)
+in_variables_fit : (give : Reference → List Reference) → Gives give → (node : NodeOf) → node_formed node ≡ true → All IsFit (in_variables give node)
 in_variables_fit give each (NodeOf.Named name) f = variables_fit (give (scalar name)) (each (scalar name) refl)
 in_variables_fit give each (NodeOf.Itself s) f = places_fit give each (NodeOf.Itself s) f
 in_variables_fit give each (NodeOf.Target name items) f = places_fit give each (NodeOf.Target name items) f
@@ -189,18 +204,25 @@ statements_fit is_site new fit (NodeOf.Itself s) =
 statements_fit is_site new fit _ = no_nodes
 
 module _ (pools : PoolFields) (are : AreFormed pools) where
+  from_references : (r : Reference) → AllReferences (other_references pools.kinds pools.references r)
+  from_references r = others_formed pools.kinds pools.references r are.references
+
+  from_scalars : (r : Reference) → AllReferences (other_references pools.kinds (map scalar pools.scalars) r)
+  from_scalars r = others_formed pools.kinds (map scalar pools.scalars) r (scalars_formed pools.scalars are.scalars)
+
   replacements_fit : (op : Op) (node : NodeOf) → node_formed node ≡ true → All IsFit (replacements op pools node)
-  replacements_fit Aar node f = places_fit (in_place Aar pools) (λ t g. drawn_formed is_element pools.kinds pools.references t are.references) node f
+  replacements_fit Aar node f = places_fit (in_place Aar pools) (λ r g. of_elements_formed (other_references pools.kinds pools.references) r (from_references r)) node f
   replacements_fit Abs node f =
       computed_fit (λ t. if same_kind Integer (kind_of_expression pools.kinds t) then absolute t else [])
       (λ t g. chosen IsFormedTree (same_kind Integer (kind_of_expression pools.kinds t)) (absolute t) [] (absolute_formed t g) no_trees) node f
   replacements_fit Acr node f =
-      parts_fit (drawn is_constant pools.kinds pools.references) (λ t g. drawn_formed is_constant pools.kinds pools.references t are.references) node f
+      parts_fit (drawn is_constant pools.kinds (map as_tree pools.references))
+      (λ t g. drawn_formed is_constant pools.kinds (map as_tree pools.references) t (trees_formed pools.references are.references)) node f
   replacements_fit Aor node f = parts_fit (with_group arithmetic_operators operands) (group_formed arithmetic_operators operands operands_formed) node f
-  replacements_fit Asr node f = places_fit (in_place Asr pools) (λ t g. drawn_formed is_scalar pools.kinds pools.references t are.references) node f
+  replacements_fit Asr node f = places_fit (in_place Asr pools) (λ r g. of_scalars_formed (other_references pools.kinds pools.references) r (from_references r)) node f
   replacements_fit Car node f =
       parts_fit (drawn is_element pools.kinds pools.constants) (λ t g. drawn_formed is_element pools.kinds pools.constants t are.constants) node f
-  replacements_fit Cnr node f = places_fit (in_place Cnr pools) (λ t g. comparable_formed pools are t g) node f
+  replacements_fit Cnr node f = places_fit (in_place Cnr pools) (λ r g. of_elements_formed (comparable pools) r (comparable_formed pools are r g)) node f
   replacements_fit Crp node f = parts_fit altered altered_formed node f
   replacements_fit Csr node f =
       parts_fit (drawn is_scalar pools.kinds pools.constants) (λ t g. drawn_formed is_scalar pools.kinds pools.constants t are.constants) node f
@@ -214,13 +236,17 @@ module _ (pools : PoolFields) (are : AreFormed pools) where
   replacements_fit Ror node f = parts_fit (with_group relations (λ a b. truths)) (group_formed relations (λ a b. truths) (λ a b g h. truths_formed)) node f
   replacements_fit Rsr node f = statements_fit acts_or_continues Statement.Return refl node
   replacements_fit San node f = statements_fit acts_or_continues Statement.Trap refl node
-  replacements_fit Sar node f = places_fit (in_place Sar pools) (λ t g. drawn_formed is_element pools.kinds pools.scalars t are.scalars) node f
+  replacements_fit Sar node f =
+      places_fit (in_place Sar pools) (λ r g. of_elements_formed (other_references pools.kinds (map scalar pools.scalars)) r (from_scalars r)) node f
   replacements_fit Scr node f =
-      parts_fit (drawn is_constant pools.kinds pools.scalars) (λ t g. drawn_formed is_constant pools.kinds pools.scalars t are.scalars) node f
+      parts_fit (drawn is_constant pools.kinds (map as_tree (map scalar pools.scalars)))
+      (λ t g. drawn_formed is_constant pools.kinds (map as_tree (map scalar pools.scalars)) t
+      (trees_formed (map scalar pools.scalars) (scalars_formed pools.scalars are.scalars))) node f
   replacements_fit Sdl node f = statements_fit is_replaceable_action Statement.Continue refl node
   replacements_fit Src node f =
       parts_fit (drawn is_constant pools.kinds pools.constants) (λ t g. drawn_formed is_constant pools.kinds pools.constants t are.constants) node f
-  replacements_fit Svr node f = in_variables_fit (in_place Svr pools) (λ t g. drawn_formed is_scalar pools.kinds pools.scalars t are.scalars) node f
+  replacements_fit Svr node f =
+      in_variables_fit (in_place Svr pools) (λ r g. of_scalars_formed (other_references pools.kinds (map scalar pools.scalars)) r (from_scalars r)) node f
   replacements_fit Uoi node f = computed_fit (λ t. with_unary (kind_of_expression pools.kinds t) t) (λ t g. unary_formed (kind_of_expression pools.kinds t) t g) node f
 
   pub gives_fit : (op : Op) (s : Statement) (node : NodeOf) → node_formed node ≡ true → All IsFit (gives op pools s node)

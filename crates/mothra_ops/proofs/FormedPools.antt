@@ -1,10 +1,10 @@
 -- What the operators draw from in a legal program is formed.
-use Rattle.std.proofs.Common.{◌≡◌, List, [], ◌∷◌, true, Option, Some, None, filter, map, refl, sym, ap, if◌then◌else◌}
+use Rattle.std.proofs.Common.{◌≡◌, List, [], ◌∷◌, Bool, true, Option, Some, None, filter, map, refl, sym, ap, if◌then◌else◌}
 use Rattle.std.specs.Prelude.{not}
 use Rattle.std.specs.List.{All, cons_option, filter_map}
 use Rattle.std.specs.Option.{IfSome}
 use Rattle.std.proofs.lemmas.List.{map-append}
-use Rattle.std.proofs.lemmas.List.Elements.{All-nil, All-cons, All-head, All-tail, All-append, All-filter, All-map, All-same, All-weaker}
+use Rattle.std.proofs.lemmas.List.Elements.{All-nil, All-cons, All-head, All-tail, All-append, All-filter, All-same}
 use Rattle.f77_tree.specs.Comparing.{same_tree}
 use Rattle.f77_tree.specs.Grammar.{is_name}
 use Rattle.f77_tree.specs.Statement.{Statement}
@@ -17,24 +17,28 @@ use Rattle.f77_program.proofs.Forming.{a_reference}
 use Rattle.f77_legal.specs.Legal.{IsLegal, is_array}
 use Rattle.f77_legal.specs.Names.{Symbol, Mention, mentions, mentions_of, name_in, symbols}
 use Rattle.f77_legal.proofs.Among.{once_all}
-use Rattle.mothra_ops.specs.Pools.{PoolFields, array_reference, constant, each_once, executable_nodes, is_executable, pools_of, scalar}
+use Rattle.mothra_ops.specs.Pools.{PoolFields, Reference, array_reference, as_tree, constant, each_once, executable_nodes, is_executable, pools_of, same_reference, scalar}
 use Rattle.mothra_ops.proofs.FormedNodes.{IsFormedLine, IsFormedNode, IsFormedTree, IsNamed, IsNoFunction, both_parts, lines_formed, nodes_formed, symbols_named, symbols_no_functions}
+
+-- some text spells it
+abbrev pub IsFormedReference : Reference → Type 0
+IsFormedReference r = IsFormedTree (as_tree r)
 
 -- the pools hold what some text spells; the arrays bear names of no functions
 pub record AreFormed (pools : PoolFields) : Type 0 where
-  pub scalars : All IsFormedTree pools.scalars
+  pub scalars : All IsNamed pools.scalars
   pub arrays : All (λ name. IsNamed name × IsNoFunction name) pools.arrays
-  pub references : All IsFormedTree pools.references
+  pub references : All IsFormedReference pools.references
   pub constants : All IsFormedTree pools.constants
 
-scalar_formed : (name : Symbol) → IsNamed name → IsFormedTree (scalar name)
+pub scalar_formed : (name : Symbol) → IsNamed name → IsFormedReference (scalar name)
 scalar_formed name is = rw (a_reference name Trees.None refl is) refl
 
-once_formed : (ts : List Tree) → All IsFormedTree ts → All IsFormedTree (each_once same_tree ts)
-once_formed [] all = All-nil IsFormedTree
-once_formed (t ∷ ts) all =
-    All-cons IsFormedTree t (filter (λ u. not (same_tree t u)) (each_once same_tree ts)) (All-head IsFormedTree t ts all)
-    (All-filter (λ u. not (same_tree t u)) IsFormedTree (each_once same_tree ts) (once_formed ts (All-tail IsFormedTree t ts all)))
+all_each_once : {X : Type 0} (P : X → Type 0) (same : X → X → Bool) (xs : List X) → All P xs → All P (each_once same xs)
+all_each_once P same [] all = All-nil P
+all_each_once P same (x ∷ xs) all =
+    All-cons P x (filter (λ y. not (same x y)) (each_once same xs)) (All-head P x xs all)
+    (All-filter (λ y. not (same x y)) P (each_once same xs) (all_each_once P same xs (All-tail P x xs all)))
 
 constants_formed : (nodes : List NodeOf) → All IsFormedTree (filter_map constant nodes)
 constants_formed [] = All-nil IsFormedTree
@@ -53,20 +57,20 @@ constants_formed (node ∷ nodes) = by node (constants_formed nodes)
 abbrev IsOwn : NodeOf → Type 0
 IsOwn node = IsFormedNode node × IfSome (node_name node) IsNoFunction
 
-references_formed : (nodes : List NodeOf) → All IsOwn nodes → All IsFormedTree (filter_map array_reference nodes)
-references_formed [] all = All-nil IsFormedTree
+references_formed : (nodes : List NodeOf) → All IsOwn nodes → All IsFormedReference (filter_map array_reference nodes)
+references_formed [] all = All-nil IsFormedReference
 references_formed (node ∷ nodes) all = by node (All-head IsOwn node nodes all) (references_formed nodes (All-tail IsOwn node nodes all))
   where
-    by_tree : (t : Tree) → formed t ≡ true → All IsFormedTree (filter_map array_reference nodes)
-        → All IsFormedTree (filter_map array_reference (NodeOf.Part t ∷ nodes))
+    by_tree : (t : Tree) → formed t ≡ true → All IsFormedReference (filter_map array_reference nodes)
+        → All IsFormedReference (filter_map array_reference (NodeOf.Part t ∷ nodes))
     by_tree (Tree.Reference name (Trees.Then t ts)) f rest =
-        All-cons IsFormedTree (Tree.Reference name (Trees.Then t ts)) (filter_map array_reference nodes) f rest
+        All-cons IsFormedReference (record { name = name; subscripts = Trees.Then t ts }) (filter_map array_reference nodes) f rest
     by_tree _ f rest = rest
 
-    by : (n : NodeOf) → IsOwn n → All IsFormedTree (filter_map array_reference nodes) → All IsFormedTree (filter_map array_reference (n ∷ nodes))
+    by : (n : NodeOf) → IsOwn n → All IsFormedReference (filter_map array_reference nodes) → All IsFormedReference (filter_map array_reference (n ∷ nodes))
     by (NodeOf.Target name (Trees.Then t ts)) own rest =
         let (is, items) = and_true (is_name name) (all_formed (Trees.Then t ts)) own.0 in
-        All-cons IsFormedTree (Tree.Reference name (Trees.Then t ts)) (filter_map array_reference nodes)
+        All-cons IsFormedReference (record { name = name; subscripts = Trees.Then t ts }) (filter_map array_reference nodes)
         (rw (a_reference name (Trees.Then t ts) own.1 is, items) refl) rest
     by (NodeOf.Part t) own rest = by_tree t own.0 rest
     by _ own rest = rest
@@ -114,11 +118,9 @@ pools_formed program is legal =
     let others = symbols_no_functions program legal in
     let nodes = executable_nodes program in
     record {
-      scalars = All-map IsFormedTree scalar (filter (λ name. not (is_array program name)) (symbols program))
-          (All-weaker IsNamed (λ name. IsFormedTree (scalar name)) scalar_formed (filter (λ name. not (is_array program name)) (symbols program))
-          (All-filter (λ name. not (is_array program name)) IsNamed (symbols program) named));
+      scalars = All-filter (λ name. not (is_array program name)) IsNamed (symbols program) named;
       arrays = All-filter (is_array program) (λ name. IsNamed name × IsNoFunction name) (symbols program) (λ k d low. (named k d low, others k d low));
-      references = once_formed (filter_map array_reference nodes)
+      references = all_each_once IsFormedReference same_reference (filter_map array_reference nodes)
           (references_formed nodes (own_nodes program lines (once_all IsNoFunction (map name_in (mentions program)) others)));
-      constants = once_formed (filter_map constant nodes) (constants_formed nodes);
+      constants = all_each_once IsFormedTree same_tree (filter_map constant nodes) (constants_formed nodes);
     }

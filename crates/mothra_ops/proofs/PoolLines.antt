@@ -1,9 +1,8 @@
 -- The pools of a program: what a table of names tells.
-use Rattle.std.proofs.Common.{◌≡◌, ◌<◌, ◌≤◌, ◌∷◌, [], ℕ, List, true, false, not, length, map, filter, get_or, nat_lt, refl, sym, ap, ◌∙◌, suc, zero, arith}
+use Rattle.std.proofs.Common.{◌≡◌, ◌∷◌, [], ℕ, List, not, filter, refl, sym, ap, ◌∙◌}
 use Rattle.std.specs.Prelude.{is_some}
-use Rattle.std.specs.List.{insert, filter_map}
+use Rattle.std.specs.List.{filter_map}
 use Rattle.std.specs.Map.{keys_of}
-use Rattle.std.proofs.lemmas.Bool.Decides.{nat_tests}
 use Rattle.std.proofs.lemmas.Map.Made.{keys_of-map_values}
 use Rattle.indexmap.specs.IndexMap.{keys}
 use Rattle.f77_tree.specs.Comparing.{same_tree}
@@ -17,7 +16,7 @@ use Rattle.f77_legal.specs.NameTable.{FactsFields, IsNameTable, facts_fields, fa
 use Rattle.f77_legal.specs.declared.names.Names.{Names}
 use Rattle.f77_legal.proofs.Lookups.{same_kinds, same_bounds}
 use Rattle.f77_legal.proofs.NameTables.{rows}
-use Rattle.mothra_ops.specs.Pools.{PoolFields, pools_of, ascending, each_once, scalar, array_reference, constant, executable_nodes}
+use Rattle.mothra_ops.specs.Pools.{PoolFields, Reference, pools_of, ascending, each_once, same_reference, array_reference, constant, executable_nodes}
 
 keys_rows : (f : Symbol → FactsFields) (names : List Symbol) → keys_of (rows f names) ≡ names
 keys_rows f [] = refl
@@ -27,11 +26,11 @@ keys_are : (names : Names) (program : List LineFields) → IsNameTable names pro
 keys_are names program is =
     sym (keys_of-map_values facts_fields names.facts.entries) ∙ (ap keys_of is ∙ keys_rows (facts_of (mentions program)) (symbols program))
 
-abbrev drawn_from : (Symbol → Kind) → (Symbol → List ℕ) → List Symbol → List Symbol → List Tree → List Tree → List ℕ → PoolFields
+abbrev drawn_from : (Symbol → Kind) → (Symbol → List ℕ) → List Symbol → List Symbol → List Reference → List Tree → List ℕ → PoolFields
 drawn_from kinds bounds scalars arrays references constants ordered = record {
   kinds = kinds;
   bounds = bounds;
-  scalars = map scalar scalars;
+  scalars = scalars;
   arrays = arrays;
   references = references;
   constants = constants;
@@ -46,17 +45,17 @@ module _ (names : Names) (program : List LineFields) (is : IsNameTable names pro
   pub arrays_are : filter (λ name. is_some (some_items (array_bounds names name))) (keys names.facts) ≡ filter (is_array program) (symbols program)
   arrays_are = λ i. filter (λ name. is_some (some_items (same_bounds names program is i name))) (keys_are names program is i)
 
-  pub pools_are : (scalars arrays : List Symbol) (references constants : List Tree) (ordered : List ℕ)
+  pub pools_are : (scalars arrays : List Symbol) (references : List Reference) (constants : List Tree) (ordered : List ℕ)
       → scalars ≡ filter (λ name. not (is_array program name)) (symbols program)
       → arrays ≡ filter (is_array program) (symbols program)
-      → references ≡ each_once same_tree (filter_map array_reference (executable_nodes program))
+      → references ≡ each_once same_reference (filter_map array_reference (executable_nodes program))
       → constants ≡ each_once same_tree (filter_map constant (executable_nodes program))
       → ordered ≡ ascending (labels program)
       → drawn_from (kind_at names) (array_bounds names) scalars arrays references constants ordered ≡ pools_of program
   pools_are scalars arrays references constants ordered without with_bounds referred constant_is sorted = λ i. record {
     kinds = same_kinds names program is i;
     bounds = same_bounds names program is i;
-    scalars = map scalar (without i);
+    scalars = without i;
     arrays = with_bounds i;
     references = referred i;
     constants = constant_is i;

@@ -8,10 +8,10 @@ use Rattle.f77_tree.specs.declared.data.Constant.{Constant}
 use Rattle.f77_tree.specs.declared.operator.Operator.TheVariants as operator
 use Rattle.f77_tree.specs.declared.operator.Sign.TheVariants.{Minus}
 use Rattle.f77_tree.specs.declared.tree.Kind.TheVariants.{Integer}
-use Rattle.mothra_ops.specs.Pools.{PoolFields, scalar, ascending}
+use Rattle.mothra_ops.specs.Pools.{PoolFields, ascending}
 use Rattle.mothra_ops.specs.Replacements.{replacements, next_constants}
-use Rattle.mothra_codes.specs.declared.op.Op.TheVariants.{Aar, Abs, Aor, Cnr, Crp, Csr}
-use Rattle.mothra_codes.specs.declared.op.Op.TheVariants.{Glr, Rsr, Sar, Sdl, Svr}
+use Rattle.mothra_codes.specs.declared.op.Op.TheVariants.{Aar, Abs, Acr, Aor, Asr, Cnr, Crp, Csr}
+use Rattle.mothra_codes.specs.declared.op.Op.TheVariants.{Glr, Rsr, Sar, Scr, Sdl, Svr}
 
 abbrev i : List ℕ
 i = codes "I"
@@ -28,23 +28,33 @@ m = codes "M"
 abbrev n : List ℕ
 n = codes "N"
 
+abbrev variable : List ℕ → Tree
+variable name = Tree.Reference name Trees.None
+
+-- M(I) and N(1)
+abbrev m_of_i : Tree
+m_of_i = Tree.Reference m (Trees.Then (variable i) Trees.None)
+
+abbrev n_of_1 : Tree
+n_of_1 = Tree.Reference n (Trees.Then (Tree.Number 1) Trees.None)
+
 abbrev pools : PoolFields
 pools = record {
   kinds = λ name. Integer;
   bounds = λ name. [];
-  scalars = scalar i ∷ (scalar j ∷ (scalar k ∷ []));
+  scalars = i ∷ (j ∷ (k ∷ []));
   arrays = m ∷ (n ∷ []);
-  references = Tree.Reference m (Trees.Then (scalar i) Trees.None) ∷ (Tree.Reference n (Trees.Then (Tree.Number 1) Trees.None) ∷ []);
+  references = record { name = m; subscripts = Trees.Then (variable i) Trees.None } ∷ (record { name = n; subscripts = Trees.Then (Tree.Number 1) Trees.None } ∷ []);
   constants = Tree.Number 1 ∷ [];
   labels = ascending (30 ∷ (10 ∷ (20 ∷ [])));
 }
 
 abbrev sum : Tree
-sum = Tree.Binary operator.Add (scalar i) (scalar j)
+sum = Tree.Binary operator.Add (variable i) (variable j)
 
 aor : replacements Aor pools (NodeOf.Part sum)
-    ≡ map NodeOf.Part (Tree.Binary operator.Subtract (scalar i) (scalar j) ∷ (Tree.Binary operator.Multiply (scalar i) (scalar j)
-    ∷ (Tree.Binary operator.Divide (scalar i) (scalar j) ∷ (Tree.Binary operator.Power (scalar i) (scalar j) ∷ (scalar i ∷ (scalar j ∷ []))))))
+    ≡ map NodeOf.Part (Tree.Binary operator.Subtract (variable i) (variable j) ∷ (Tree.Binary operator.Multiply (variable i) (variable j)
+    ∷ (Tree.Binary operator.Divide (variable i) (variable j) ∷ (Tree.Binary operator.Power (variable i) (variable j) ∷ (variable i ∷ (variable j ∷ []))))))
 aor = refl
 
 svr : replacements Svr pools (NodeOf.Target k Trees.None) ≡ NodeOf.Target i Trees.None ∷ (NodeOf.Target j Trees.None ∷ [])
@@ -65,15 +75,33 @@ crp_top = refl
 glr : replacements Glr pools (NodeOf.Labelled 20) ≡ NodeOf.Labelled 10 ∷ (NodeOf.Labelled 30 ∷ [])
 glr = refl
 
-aar : replacements Aar pools (NodeOf.Target m (Trees.Then (scalar i) Trees.None)) ≡ NodeOf.Target n (Trees.Then (Tree.Number 1) Trees.None) ∷ []
+aar : replacements Aar pools (NodeOf.Target m (Trees.Then (variable i) Trees.None)) ≡ NodeOf.Target n (Trees.Then (Tree.Number 1) Trees.None) ∷ []
 aar = refl
 
-cnr : replacements Cnr pools (NodeOf.Part (Tree.Reference m (Trees.Then (scalar i) Trees.None))) ≡ NodeOf.Part (Tree.Reference n (Trees.Then (scalar i) Trees.None)) ∷ []
+cnr : replacements Cnr pools (NodeOf.Part m_of_i) ≡ NodeOf.Part (Tree.Reference n (Trees.Then (variable i) Trees.None)) ∷ []
 cnr = refl
 
-sar : replacements Sar pools (NodeOf.Target m (Trees.Then (scalar i) Trees.None))
+sar : replacements Sar pools (NodeOf.Target m (Trees.Then (variable i) Trees.None))
     ≡ NodeOf.Target i Trees.None ∷ (NodeOf.Target j Trees.None ∷ (NodeOf.Target k Trees.None ∷ []))
 sar = refl
+
+sar_part : replacements Sar pools (NodeOf.Part m_of_i) ≡ map NodeOf.Part (variable i ∷ (variable j ∷ (variable k ∷ [])))
+sar_part = refl
+
+asr : replacements Asr pools (NodeOf.Part (variable i)) ≡ map NodeOf.Part (m_of_i ∷ (n_of_1 ∷ []))
+asr = refl
+
+asr_element : replacements Asr pools (NodeOf.Part n_of_1) ≡ []
+asr_element = refl
+
+acr : replacements Acr pools (NodeOf.Part (Tree.Number 1)) ≡ map NodeOf.Part (m_of_i ∷ (n_of_1 ∷ []))
+acr = refl
+
+acr_target : replacements Acr pools (NodeOf.Target k Trees.None) ≡ []
+acr_target = refl
+
+scr : replacements Scr pools (NodeOf.Part (Tree.Number 1)) ≡ map NodeOf.Part (variable i ∷ (variable j ∷ (variable k ∷ [])))
+scr = refl
 
 dsa : next_constants (Constant.Number (pos 5)) ≡ Constant.Number (pos 6) ∷ (Constant.Number (pos 4) ∷ [])
 dsa = refl

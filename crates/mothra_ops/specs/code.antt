@@ -2,4 +2,3 @@ pub mod Edits
 pub mod Original
 pub mod Given
 pub mod Listing
-pub mod InPlaces

@@ -5,7 +5,7 @@ ghost use Rattle.f77_nodes.specs.Node.{NodeOf};
 ghost use Rattle.f77_tree.specs.View.{tree_of};
 ghost use Rattle.f77_legal.specs.Kinds.{same_kind};
 ghost use Rattle.f77_tree.specs.declared.tree.Kind.TheVariants.{Integer};
-ghost use Rattle.mothra_ops.specs.Pools.{pool_fields};
+ghost use Rattle.mothra_ops.specs.Pools.{as_tree, pool_fields, scalar};
 ghost use Rattle.mothra_ops.specs.Replacements as model;
 ghost use Rattle.mothra_ops.specs.Replacements.{drawn};
 ghost use Rattle.mothra_ops.specs.declared.fault.OpsFault.TheVariants.{Memory};
@@ -88,10 +88,10 @@ fn constants_for(alloc: Global, pools: &Pools<'_>, expr: &Expr) -> Result<Vec<Ex
 }
 
 /// The array references of the kind of a constant.
-#[tactic(auto, using(crate::proofs::Elements::references_apart))]
 fn references_for(alloc: Global, pools: &Pools<'_>, expr: &Expr) -> Result<Vec<Expr>, OpsFault>
     ensures list { IfOk result (λ list. map tree_of list.items
-        ≡ drawn model.is_constant (pool_fields pools.now).kinds (pool_fields pools.now).references (tree_of expr.now)) }
+        ≡ drawn model.is_constant (pool_fields pools.now).kinds (map as_tree (pool_fields pools.now).references)
+        (tree_of expr.now)) }
     ensures memory { IfErr result (λ fault. fault ≡ Memory) }
 {
     if is_constant(expr) {
@@ -103,10 +103,10 @@ fn references_for(alloc: Global, pools: &Pools<'_>, expr: &Expr) -> Result<Vec<E
 }
 
 /// The scalars of the kind of a constant.
-#[tactic(auto, using(crate::proofs::Elements::scalars_apart))]
 fn scalars_for(alloc: Global, pools: &Pools<'_>, expr: &Expr) -> Result<Vec<Expr>, OpsFault>
     ensures list { IfOk result (λ list. map tree_of list.items
-        ≡ drawn model.is_constant (pool_fields pools.now).kinds (pool_fields pools.now).scalars (tree_of expr.now)) }
+        ≡ drawn model.is_constant (pool_fields pools.now).kinds
+        (map as_tree (map scalar (pool_fields pools.now).scalars)) (tree_of expr.now)) }
     ensures memory { IfErr result (λ fault. fault ≡ Memory) }
 {
     if is_constant(expr) {

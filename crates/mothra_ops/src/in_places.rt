@@ -4,7 +4,7 @@ ghost use Rattle.std.specs.Prelude.{◌≡◌, true, false, map, IfOk, IfErr};
 ghost use Rattle.f77_nodes.specs.Node.{NodeOf};
 ghost use Rattle.f77_tree.specs.View.{trees, tree_of, reference_fields};
 ghost use Rattle.f77_sites.specs.Replacement.{replacement_of};
-ghost use Rattle.mothra_ops.specs.Pools.{pool_fields, reference_of};
+ghost use Rattle.mothra_ops.specs.Pools.{as_tree, pool_fields, reference_of};
 ghost use Rattle.mothra_ops.specs.Replacements as model;
 ghost use Rattle.mothra_ops.specs.Replacements.{in_place};
 ghost use Rattle.mothra_ops.specs.declared.fault.OpsFault.TheVariants.{Memory};
@@ -20,7 +20,7 @@ use std::alloc::Global;
 
 /// What an operator that puts references in the place of others puts in the place of an array element.
 fn in_element(alloc: Global, op: Op, pools: &Pools<'_>, own: &Ref) -> Result<Vec<Ref>, OpsFault>
-    requires { model.is_element (reference_of own.now) ≡ true }
+    requires { model.is_element (as_tree (reference_of own.now)) ≡ true }
     ensures list { IfOk result
         (λ list. map reference_of list.items ≡ in_place op (pool_fields pools.now) (reference_of own.now)) }
     ensures memory { IfErr result (λ fault. fault ≡ Memory) }
@@ -35,7 +35,7 @@ fn in_element(alloc: Global, op: Op, pools: &Pools<'_>, own: &Ref) -> Result<Vec
 
 /// The same in the place of a scalar.
 fn in_scalar(alloc: Global, op: Op, pools: &Pools<'_>, own: &Ref) -> Result<Vec<Ref>, OpsFault>
-    requires { model.is_element (reference_of own.now) ≡ false }
+    requires { model.is_element (as_tree (reference_of own.now)) ≡ false }
     ensures list { IfOk result
         (λ list. map reference_of list.items ≡ in_place op (pool_fields pools.now) (reference_of own.now)) }
     ensures memory { IfErr result (λ fault. fault ≡ Memory) }
@@ -68,8 +68,8 @@ pub(crate) fn in_place_of(
     pools: &Pools<'_>,
     expr: &Expr,
 ) -> Result<Vec<Expr>, OpsFault>
-    ensures list { IfOk result
-        (λ list. map tree_of list.items ≡ in_place op (pool_fields pools.now) (tree_of expr.now)) }
+    ensures list { IfOk result (λ list. map NodeOf.Part (map tree_of list.items)
+        ≡ model.in_places (in_place op (pool_fields pools.now)) (NodeOf.Part (tree_of expr.now))) }
     ensures memory { IfErr result (λ fault. fault ≡ Memory) }
 {
     match expr {

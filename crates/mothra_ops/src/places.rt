@@ -2,10 +2,9 @@
 
 ghost use Rattle.std.specs.Prelude.{◌≡◌, ◌&&◌, not, map, filter, IfOk, IfErr};
 ghost use Rattle.f77_tree.specs.Comparing.{same_tree};
-ghost use Rattle.f77_tree.specs.Tree.{Tree};
-ghost use Rattle.f77_tree.specs.View.{tree_of, trees, reference_fields};
+ghost use Rattle.f77_tree.specs.View.{tree_of};
 ghost use Rattle.f77_legal.specs.Kinds.{same_kind};
-ghost use Rattle.mothra_ops.specs.Pools.{pool_fields, reference_of, scalar};
+ghost use Rattle.mothra_ops.specs.Pools.{as_tree, pool_fields, reference_of, same_reference, scalar};
 ghost use Rattle.mothra_ops.specs.Replacements as model;
 ghost use Rattle.mothra_ops.specs.Replacements.{others};
 ghost use Rattle.mothra_ops.specs.declared.fault.OpsFault.TheVariants.{Memory};
@@ -19,7 +18,7 @@ use std::alloc::Global;
 /// Whether the reference is an array element, and no scalar.
 #[tactic(auto, using(crate::proofs::Elements::with_some, crate::proofs::Elements::with_none))]
 pub(crate) fn is_element(reference: &Ref) -> bool
-    ensures { result ≡ model.is_element (reference_of reference.now) }
+    ensures { result ≡ model.is_element (as_tree (reference_of reference.now)) }
 {
     match reference.subscripts.as_slice() {
         [] => false,
@@ -38,8 +37,7 @@ pub(crate) fn scalar(alloc: Global, name: &Name) -> Ref
 }
 
 fn is_reference_of_kind(pools: &Pools<'_>, reference: &Ref, kind: Kind) -> bool
-    ensures { result
-        ≡ same_kind (model.kind_of_expression (pool_fields pools.now).kinds (reference_of reference.now)) kind }
+    ensures { result ≡ same_kind ((pool_fields pools.now).kinds (reference_of reference.now).name) kind }
 {
     pools.names.kind(&reference.name) == kind
 }
@@ -52,8 +50,7 @@ pub(crate) fn references_of_kind(
     kind: Kind,
 ) -> Result<Vec<Ref>, OpsFault>
     ensures list { IfOk result (λ list. map reference_of list.items
-        ≡ filter (λ t. same_kind (model.kind_of_expression (pool_fields pools.now).kinds t) kind)
-        (pool_fields pools.now).references) }
+        ≡ filter (λ r. same_kind ((pool_fields pools.now).kinds r.name) kind) (pool_fields pools.now).references) }
     ensures memory { IfErr result (λ fault. fault ≡ Memory) }
 {
     let mut list = Vec::new(alloc);
@@ -67,9 +64,9 @@ pub(crate) fn references_of_kind(
 
 /// Whether another reference may be drawn in the place of this one.
 fn is_drawn(pools: &Pools<'_>, reference: &Ref, own: &Ref) -> bool
-    ensures { result ≡ (same_kind (model.kind_of_expression (pool_fields pools.now).kinds (reference_of reference.now))
-        (model.kind_of_expression (pool_fields pools.now).kinds (reference_of own.now))
-        && not (same_tree (reference_of reference.now) (reference_of own.now))) }
+    ensures { result ≡ (same_kind ((pool_fields pools.now).kinds (reference_of reference.now).name)
+        ((pool_fields pools.now).kinds (reference_of own.now).name)
+        && not (same_reference (reference_of reference.now) (reference_of own.now))) }
 {
     pools.names.kind(&reference.name) == pools.names.kind(&own.name) && *reference != *own
 }
@@ -81,8 +78,8 @@ pub(crate) fn other_references(
     pools: &Pools<'_>,
     own: &Ref,
 ) -> Result<Vec<Ref>, OpsFault>
-    ensures list { IfOk result (λ list. map reference_of list.items
-        ≡ others (pool_fields pools.now).kinds (pool_fields pools.now).references (reference_of own.now)) }
+    ensures list { IfOk result (λ list. map reference_of list.items ≡ model.other_references
+        (pool_fields pools.now).kinds (pool_fields pools.now).references (reference_of own.now)) }
     ensures memory { IfErr result (λ fault. fault ≡ Memory) }
 {
     let mut list = Vec::new(alloc);
@@ -95,7 +92,7 @@ pub(crate) fn other_references(
 }
 
 fn is_of_kind(pools: &Pools<'_>, name: &Name, kind: Kind) -> bool
-    ensures { result ≡ same_kind (model.kind_of_expression (pool_fields pools.now).kinds (scalar name.now)) kind }
+    ensures { result ≡ same_kind ((pool_fields pools.now).kinds name.now) kind }
 {
     pools.names.kind(name) == kind
 }
@@ -108,8 +105,8 @@ pub(crate) fn scalars_of_kind(
     kind: Kind,
 ) -> Result<Vec<Ref>, OpsFault>
     ensures list { IfOk result (λ list. map reference_of list.items
-        ≡ filter (λ t. same_kind (model.kind_of_expression (pool_fields pools.now).kinds t) kind)
-        (pool_fields pools.now).scalars) }
+        ≡ filter (λ r. same_kind ((pool_fields pools.now).kinds r.name) kind)
+        (map scalar (pool_fields pools.now).scalars)) }
     ensures memory { IfErr result (λ fault. fault ≡ Memory) }
 {
     let mut list = Vec::new(alloc);
@@ -124,9 +121,9 @@ pub(crate) fn scalars_of_kind(
 /// Whether the scalar of this name may be drawn in the place of the reference.
 #[tactic(auto, using(crate::proofs::Elements::other_scalar))]
 fn is_drawn_scalar(pools: &Pools<'_>, name: &Name, own: &Ref) -> bool
-    ensures { result ≡ (same_kind (model.kind_of_expression (pool_fields pools.now).kinds (scalar name.now))
-        (model.kind_of_expression (pool_fields pools.now).kinds (reference_of own.now))
-        && not (same_tree (scalar name.now) (reference_of own.now))) }
+    ensures { result ≡ (same_kind ((pool_fields pools.now).kinds name.now)
+        ((pool_fields pools.now).kinds (reference_of own.now).name)
+        && not (same_reference (scalar name.now) (reference_of own.now))) }
 {
     pools.names.kind(name) == pools.names.kind(&own.name) && (*name != own.name || is_element(own))
 }
@@ -138,8 +135,8 @@ pub(crate) fn other_scalars(
     pools: &Pools<'_>,
     own: &Ref,
 ) -> Result<Vec<Ref>, OpsFault>
-    ensures list { IfOk result (λ list. map reference_of list.items
-        ≡ others (pool_fields pools.now).kinds (pool_fields pools.now).scalars (reference_of own.now)) }
+    ensures list { IfOk result (λ list. map reference_of list.items ≡ model.other_references
+        (pool_fields pools.now).kinds (map scalar (pool_fields pools.now).scalars) (reference_of own.now)) }
     ensures memory { IfErr result (λ fault. fault ≡ Memory) }
 {
     let mut list = Vec::new(alloc);
@@ -192,8 +189,8 @@ fn is_comparable(pools: &Pools<'_>, name: &Name, other: &Name) -> bool
 /// A name with the subscripts of the reference.
 #[tactic(auto, using(crate::proofs::Elements::renamed))]
 fn renamed(name: &Name, own: &Ref) -> Result<Ref, OpsFault>
-    ensures made { IfOk result
-        (λ made. reference_of made ≡ Tree.Reference name.now (trees (reference_fields own.now).1)) }
+    ensures made { IfOk result (λ made. reference_of made
+        ≡ record { name = name.now; subscripts = (reference_of own.now).subscripts }) }
     ensures memory { IfErr result (λ fault. fault ≡ Memory) }
 {
     Ok(Ref {
@@ -208,10 +205,8 @@ pub(crate) fn with_subscripts(
     pools: &Pools<'_>,
     own: &Ref,
 ) -> Result<Vec<Ref>, OpsFault>
-    ensures list { IfOk result (λ list. map reference_of list.items
-        ≡ map (λ other. Tree.Reference other (trees (reference_fields own.now).1))
-        (filter (model.is_comparable (pool_fields pools.now) (reference_fields own.now).0)
-        (pool_fields pools.now).arrays)) }
+    ensures list { IfOk result
+        (λ list. map reference_of list.items ≡ model.comparable (pool_fields pools.now) (reference_of own.now)) }
     ensures memory { IfErr result (λ fault. fault ≡ Memory) }
 {
     let mut list = Vec::new(alloc);

@@ -14,7 +14,7 @@ ghost use Rattle.f77_legal.specs.Names.{some_items, symbols};
 ghost use Rattle.f77_legal.specs.NameTable.{IsNameTable, array_bounds};
 ghost use Rattle.mothra_ops.specs.Pools as model;
 ghost use Rattle.mothra_ops.specs.Pools.{each_once, ascending, array_reference};
-ghost use Rattle.mothra_ops.specs.Pools.{constant, pools_of, pool_fields, reference_of};
+ghost use Rattle.mothra_ops.specs.Pools.{constant, pools_of, pool_fields, reference_of, same_reference};
 ghost use Rattle.mothra_ops.specs.declared.fault.OpsFault.TheVariants.{Memory};
 
 use crate::fault::{OpsFault, memory_fault};
@@ -97,7 +97,7 @@ fn scalars_and_arrays(alloc: Global, names: &Names) -> Result<(Vec<Name>, Vec<Na
 /// The array references among the nodes, each once, where it comes first.
 fn references<'a>(alloc: Global, nodes: &[Node<'a>]) -> Result<Vec<&'a Ref>, OpsFault>
     ensures references { IfOk result (λ list. map (λ reference. reference_of reference.now) list.items
-        ≡ each_once same_tree (filter_map array_reference (map node_of nodes.now))) }
+        ≡ each_once same_reference (filter_map array_reference (map node_of nodes.now))) }
     ensures memory { IfErr result (λ fault. fault ≡ Memory) }
 {
     let mut list: Vec<&'a Ref> = Vec::new(alloc);
@@ -182,7 +182,7 @@ fn references_and_constants<'a>(
     lines: &'a [Shared<Line>],
 ) -> Result<(Vec<&'a Ref>, Vec<&'a Expr>), OpsFault>
     ensures references { IfOk result (λ lists. map (λ reference. reference_of reference.now) lists.0.items
-        ≡ each_once same_tree (filter_map array_reference (model.executable_nodes (map line_of lines.now)))) }
+        ≡ each_once same_reference (filter_map array_reference (model.executable_nodes (map line_of lines.now)))) }
     ensures constants { IfOk result (λ lists. map (λ expr. tree_of expr.now) lists.1.items
         ≡ each_once same_tree (filter_map constant (model.executable_nodes (map line_of lines.now)))) }
     ensures memory { IfErr result (λ fault. fault ≡ Memory) }

@@ -4,8 +4,8 @@ ghost use Rattle.std.specs.Prelude.{◌≡◌, map, IfOk, IfErr};
 ghost use Rattle.f77_nodes.specs.Node.{NodeOf};
 ghost use Rattle.f77_tree.specs.View.{tree_of};
 ghost use Rattle.f77_sites.specs.Replacement.{replacement_of};
-ghost use Rattle.mothra_ops.specs.code.InPlaces.{target_node, variable_node};
-ghost use Rattle.mothra_ops.specs.Pools.{reference_of};
+ghost use Rattle.mothra_ops.specs.Pools.{as_tree, reference_of};
+ghost use Rattle.mothra_ops.specs.Replacements.{as_target, as_variable};
 ghost use Rattle.mothra_ops.specs.declared.fault.OpsFault.TheVariants.{Memory};
 
 use crate::fault::OpsFault;
@@ -16,7 +16,7 @@ use std::alloc::Global;
 /// References as expressions.
 #[tactic(auto, using(crate::proofs::Elements::as_expression))]
 pub(crate) fn expressions(alloc: Global, list: Vec<Ref>) -> Result<Vec<Expr>, OpsFault>
-    ensures made { IfOk result (λ made. map tree_of made.items ≡ map reference_of list.items) }
+    ensures made { IfOk result (λ made. map tree_of made.items ≡ map as_tree (map reference_of list.items)) }
     ensures memory { IfErr result (λ fault. fault ≡ Memory) }
 {
     let mut made = Vec::with_capacity(alloc, list.len())?;
@@ -38,7 +38,7 @@ pub(crate) fn in_parts(alloc: Global, list: Vec<Expr>) -> Result<Vec<Replacement
 }
 
 pub(crate) fn in_targets(alloc: Global, list: Vec<Ref>) -> Result<Vec<Replacement>, OpsFault>
-    ensures made { IfOk result (λ made. map replacement_of made.items ≡ map target_node list.items) }
+    ensures made { IfOk result (λ made. map replacement_of made.items ≡ map as_target (map reference_of list.items)) }
     ensures memory { IfErr result (λ fault. fault ≡ Memory) }
 {
     let mut made = Vec::with_capacity(alloc, list.len())?;
@@ -48,9 +48,9 @@ pub(crate) fn in_targets(alloc: Global, list: Vec<Ref>) -> Result<Vec<Replacemen
     Ok(made)
 }
 
-#[tactic(auto, using(crate::proofs::Elements::as_variable))]
+#[tactic(auto, using(crate::proofs::Elements::named))]
 pub(crate) fn in_variables(alloc: Global, list: Vec<Ref>) -> Result<Vec<Replacement>, OpsFault>
-    ensures made { IfOk result (λ made. map replacement_of made.items ≡ map variable_node list.items) }
+    ensures made { IfOk result (λ made. map replacement_of made.items ≡ map as_variable (map reference_of list.items)) }
     ensures memory { IfErr result (λ fault. fault ≡ Memory) }
 {
     let mut made = Vec::with_capacity(alloc, list.len())?;

@@ -44,4 +44,4 @@ returns-in_default-clause-list c =
     let other = part_in_place c.args.op (pool_fields c.args.pools.now) (tree_of c.args.expr.now) c.in_default.not-Abs c.in_default.not-Acr
     c.in_default.not-Aor c.in_default.not-Car c.in_default.not-Crp c.in_default.not-Csr c.in_default.not-Lcr c.in_default.not-Ror
     c.in_default.not-Scr c.in_default.not-Src c.in_default.not-Uoi in
-    IfOk-weaker c.in_place_of.result _ _ (λ list is. ap (map NodeOf.Part) is ∙ other) c.in_place_of.ensures.list
+    IfOk-weaker c.in_place_of.result _ _ (λ list is. is ∙ other) c.in_place_of.ensures.list

@@ -1,27 +1,24 @@
 use Rattle.std.proofs.Common.{map, ap, ◌∙◌}
 use Rattle.std.proofs.lemmas.Result.{IfOk-weaker}
-use Rattle.f77_tree.specs.View.{trees, reference_fields}
-use Rattle.mothra_ops.specs.Pools.{pool_fields, reference_of}
-use Rattle.mothra_ops.specs.Replacements.{is_scalar}
-use Rattle.mothra_ops.proofs.InPlaces.{drawn_at, scalar_at, nothing_in_scalar}
+use Rattle.mothra_ops.specs.Pools.{pool_fields, reference_of, scalar}
+use Rattle.mothra_ops.specs.Replacements.{other_references}
+use Rattle.mothra_ops.proofs.InPlaces.{at_scalar, nothing_in_scalar}
 use Rattle.mothra_ops.proofs.in_places.in_scalar.Goals as goal
 
 pub returns-in-Asr-clause-list : goal.returns-in-Asr-clause-list
 returns-in-Asr-clause-list c =
     let pools = pool_fields c.args.pools.now in
-    let place = reference_fields c.args.own.now in
     rw c.in-Asr.is (IfOk-weaker c.other_references.result _ _
-    (λ list is. is ∙ drawn_at is_scalar pools.kinds pools.references (reference_of c.args.own.now) (scalar_at place.0 (trees place.1) c.requires))
+    (λ list is. is ∙ at_scalar (other_references pools.kinds pools.references) (reference_of c.args.own.now) c.requires)
     c.other_references.ensures.list)
 
 pub returns-in-Svr-clause-list : goal.returns-in-Svr-clause-list
 returns-in-Svr-clause-list c =
     let pools = pool_fields c.args.pools.now in
-    let place = reference_fields c.args.own.now in
-    rw c.in-Svr.is (IfOk-weaker c.other_scalars.result _ _ (λ list is. is ∙ drawn_at is_scalar pools.kinds pools.scalars (reference_of c.args.own.now) (scalar_at place.0 (trees place.1) c.requires))
+    rw c.in-Svr.is (IfOk-weaker c.other_scalars.result _ _
+    (λ list is. is ∙ at_scalar (other_references pools.kinds (map scalar pools.scalars)) (reference_of c.args.own.now) c.requires)
     c.other_scalars.ensures.list)
 
 pub returns-in_default-clause-list : goal.returns-in_default-clause-list
 returns-in_default-clause-list c =
-    let place = reference_fields c.args.own.now in
-    ap (map reference_of) c.new.ensures.items ∙ nothing_in_scalar c.args.op (pool_fields c.args.pools.now) place.0 (trees place.1) c.requires c.in_default.not-Asr c.in_default.not-Svr
+    ap (map reference_of) c.new.ensures.items ∙ nothing_in_scalar c.args.op (pool_fields c.args.pools.now) (reference_of c.args.own.now) c.requires c.in_default.not-Asr c.in_default.not-Svr

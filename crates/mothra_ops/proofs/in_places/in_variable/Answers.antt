@@ -1,8 +1,7 @@
-use Rattle.std.proofs.Common.{ap, ◌∙◌}
+use Rattle.std.proofs.Common.{ap, map, ◌∙◌}
 use Rattle.std.proofs.lemmas.Result.{IfOk-weaker}
-use Rattle.f77_tree.specs.Tree.{Tree}
-use Rattle.mothra_ops.specs.Pools.{pool_fields}
-use Rattle.mothra_ops.specs.Replacements.{others}
+use Rattle.mothra_ops.specs.Pools.{Reference, pool_fields, scalar}
+use Rattle.mothra_ops.specs.Replacements.{other_references}
 use Rattle.mothra_ops.proofs.InPlaces.{of_variable}
 use Rattle.mothra_ops.proofs.in_places.in_variable.Goals as goal
 
@@ -10,5 +9,5 @@ pub returns-in_ok-list-in-Svr-clause-list : goal.returns-in_ok-list-in-Svr-claus
 returns-in_ok-list-in-Svr-clause-list c =
     let pools = pool_fields c.args.pools.now in
     let put = of_variable pools c.args.name.now c.in_ok-list-in-Svr.list.items
-    (c.in_ok-list-in-Svr.ensures.list ∙ ap (λ (t : Tree). others pools.kinds pools.scalars t) c.scalar.ensures) in
+    (c.in_ok-list-in-Svr.ensures.list ∙ ap (λ (r : Reference). other_references pools.kinds (map scalar pools.scalars) r) c.scalar.ensures) in
     rw c.in-Svr.is (IfOk-weaker c.in_variables.result _ _ (λ made is. is ∙ put) c.in_variables.ensures.made)

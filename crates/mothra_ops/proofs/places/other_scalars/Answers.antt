@@ -1,19 +1,16 @@
 use Rattle.std.proofs.Common.{not, sym, ◌∙◌, ap, subst, get_or, length, ◌<◌}
 use Rattle.f77_legal.specs.Names.{Symbol}
 use Rattle.std.specs.Prelude.{◌&&◌}
-use Rattle.f77_tree.specs.Comparing.{same_tree}
 use Rattle.f77_legal.specs.Kinds.{same_kind}
-use Rattle.mothra_ops.specs.Pools.{pool_fields, reference_of, scalar}
-use Rattle.mothra_ops.specs.Replacements as model
+use Rattle.mothra_ops.specs.Pools.{pool_fields, reference_of, same_reference, scalar}
 use Rattle.mothra_ops.proofs.Filters.{pushed, skipped}
 use Rattle.mothra_ops.proofs.places.other_scalars.Goals.{then-is_drawn_scalar+in_ok-push, else-is_drawn_scalar}
 use Rattle.mothra_ops.proofs.places.other_scalars.Goals as goal
 
 pub loop-name-preserved : goal.loop-name-preserved
 loop-name-preserved c =
-    let p = λ (x : Symbol). same_kind (model.kind_of_expression (pool_fields c.args.pools.now).kinds (scalar x))
-    (model.kind_of_expression (pool_fields c.args.pools.now).kinds (reference_of c.args.own.now))
-    && not (same_tree (scalar x) (reference_of c.args.own.now)) in
+    let p = λ (x : Symbol). same_kind ((pool_fields c.args.pools.now).kinds x) ((pool_fields c.args.pools.now).kinds (reference_of c.args.own.now).name)
+    && not (same_reference (scalar x) (reference_of c.args.own.now)) in
     let f = scalar in
     elim c.if-is_drawn_scalar.branch [
       | then-is_drawn_scalar+in_ok-push w ↦ rw w.list-is (pushed p f reference_of c.args.pools.now.scalars.items c.loop-name.name-index

@@ -2,14 +2,13 @@ use Rattle.std.proofs.Common.{sym, ◌∙◌, ap, subst, get_or, length, ◌<◌
 use Rattle.f77_legal.specs.Names.{Symbol}
 use Rattle.f77_legal.specs.Kinds.{same_kind}
 use Rattle.mothra_ops.specs.Pools.{pool_fields, reference_of, scalar}
-use Rattle.mothra_ops.specs.Replacements as model
 use Rattle.mothra_ops.proofs.Filters.{pushed, skipped}
 use Rattle.mothra_ops.proofs.places.scalars_of_kind.Goals.{then-is_of_kind+in_ok-push, else-is_of_kind}
 use Rattle.mothra_ops.proofs.places.scalars_of_kind.Goals as goal
 
 pub loop-name-preserved : goal.loop-name-preserved
 loop-name-preserved c =
-    let p = λ (x : Symbol). same_kind (model.kind_of_expression (pool_fields c.args.pools.now).kinds (scalar x)) c.args.kind in
+    let p = λ (x : Symbol). same_kind ((pool_fields c.args.pools.now).kinds x) c.args.kind in
     let f = scalar in
     elim c.if-is_of_kind.branch [
       | then-is_of_kind+in_ok-push w ↦ rw w.list-is (pushed p f reference_of c.args.pools.now.scalars.items c.loop-name.name-index

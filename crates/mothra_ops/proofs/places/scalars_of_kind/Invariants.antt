@@ -1,11 +1,10 @@
 use Rattle.std.proofs.Common.{◌≡◌, map, filter, take}
 use Rattle.f77_legal.specs.Kinds.{same_kind}
 use Rattle.mothra_ops.specs.Pools.{pool_fields, reference_of, scalar}
-use Rattle.mothra_ops.specs.Replacements as model
 use Rattle.mothra_ops.proofs.places.scalars_of_kind.Given as goal
 
 abbrev pub invariant-loop-name : goal.invariant-loop-name
 invariant-loop-name l =
     map reference_of l.list.items
-    ≡ map (scalar) (filter (λ x. same_kind (model.kind_of_expression (pool_fields l.pools).kinds (scalar x)) l.kind)
+    ≡ map scalar (filter (λ x. same_kind ((pool_fields l.pools).kinds x) l.kind)
     (take l.name-index l.pools.scalars.items))

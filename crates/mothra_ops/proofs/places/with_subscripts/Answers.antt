@@ -1,8 +1,7 @@
 use Rattle.std.proofs.Common.{List, sym, ◌∙◌, ap, subst, get_or, length, ◌<◌}
 use Rattle.f77_legal.specs.Names.{Symbol}
 use Rattle.f77_tree.specs.Tree.{Tree}
-use Rattle.f77_tree.specs.View.{trees, reference_fields}
-use Rattle.mothra_ops.specs.Pools.{pool_fields, reference_of}
+use Rattle.mothra_ops.specs.Pools.{Reference, pool_fields, reference_of}
 use Rattle.mothra_ops.specs.Replacements as model
 use Rattle.f77_tree.proofs.Views.{ref_view}
 use Rattle.mothra_ops.proofs.Filters.{pushed, skipped}
@@ -11,8 +10,8 @@ use Rattle.mothra_ops.proofs.places.with_subscripts.Goals as goal
 
 pub loop-name-preserved : goal.loop-name-preserved
 loop-name-preserved c =
-    let p = model.is_comparable (pool_fields c.args.pools.now) (reference_fields c.args.own.now).0 in
-    let f = λ (other : Symbol). Tree.Reference other (trees (reference_fields c.args.own.now).1) in
+    let p = model.is_comparable (pool_fields c.args.pools.now) (reference_of c.args.own.now).name in
+    let f : Symbol → Reference = λ other. record { name = other; subscripts = (reference_of c.args.own.now).subscripts } in
     let named = ap (λ (place : Symbol × List Tree). model.is_comparable (pool_fields c.args.pools.now) place.0 c.name-item.result) (ref_view c.args.own.now) in
     elim c.if-is_comparable.branch [
       | then-is_comparable+in_ok-renamed+in_ok-push w ↦ rw w.list-is (pushed p f reference_of c.args.pools.now.arrays.items c.loop-name.name-index _

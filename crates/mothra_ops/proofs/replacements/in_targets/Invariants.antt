@@ -1,7 +1,8 @@
 use Rattle.std.proofs.Common.{◌≡◌, map}
 use Rattle.f77_sites.specs.Replacement.{replacement_of}
-use Rattle.mothra_ops.specs.code.InPlaces.{target_node}
+use Rattle.mothra_ops.specs.Pools.{reference_of}
+use Rattle.mothra_ops.specs.Replacements.{as_target}
 use Rattle.mothra_ops.proofs.replacements.in_targets.Given as goal
 
 abbrev pub invariant-loop-reference : goal.invariant-loop-reference
-invariant-loop-reference l = map replacement_of l.made.items ≡ map target_node l.yielded
+invariant-loop-reference l = map replacement_of l.made.items ≡ map as_target (map reference_of l.yielded)
