@@ -1,13 +1,13 @@
 //! What operators put in the place of an expression: other operators, other constants, a sign or an absolute value.
 
-ghost use Rattle.std.specs.Prelude.{◌≡◌, ◌++◌, Bool, not, map, filter, IfOk, IfErr, OnOk, List};
+ghost use Rattle.std.specs.Prelude.{◌≡◌, ◌++◌, not, map, IfOk, IfErr, OnOk};
 ghost use Rattle.f77_tree.specs.Comparing.{same_operator};
 ghost use Rattle.f77_tree.specs.Tree.{Tree};
 ghost use Rattle.f77_tree.specs.View.{tree_of};
 ghost use Rattle.f77_tree.specs.declared.operator.Sign.TheVariants.{Minus};
 ghost use Rattle.f77_legal.specs.NameTable.{kind_at};
 ghost use Rattle.mothra_ops.specs.Replacements as model;
-ghost use Rattle.mothra_ops.specs.Replacements.{exchanged, is_in, operands, truths};
+ghost use Rattle.mothra_ops.specs.Replacements.{exchanged, operands, truths};
 ghost use Rattle.mothra_ops.specs.declared.fault.OpsFault.TheVariants.{Memory};
 
 use crate::fault::OpsFault;

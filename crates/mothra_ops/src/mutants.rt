@@ -1,6 +1,6 @@
 //! The mutants of a plan, one at a time.
 
-ghost use Rattle.std.specs.Prelude.{◌≡◌, ◌++◌, ◌≤◌, option_map, string_bytes, codes, None};
+ghost use Rattle.std.specs.Prelude.{◌≡◌, ◌++◌, option_map, string_bytes, codes, None};
 ghost use Rattle.std.specs.Prelude.{IfOk, IfErr, IfSome, IfNone, OnOk, OnErr};
 ghost use Rattle.f77_check.specs.Checked.{shapes};
 ghost use Rattle.f77_program.specs.Canonical.{statement_text};
@@ -10,7 +10,7 @@ ghost use Rattle.mothra_ops.specs.Edits.{IsMutant, numbered};
 ghost use Rattle.mothra_ops.specs.Mutants.{change_text, line_number_at, mutant_fields, mutant_made};
 ghost use Rattle.mothra_ops.specs.Mutants.{mutant_name, mutant_of, mutant_text, program_of};
 ghost use Rattle.mothra_ops.specs.Original.{IsOriginal};
-ghost use Rattle.mothra_ops.specs.Plan.{PlanFields, IsPlan, edits_of};
+ghost use Rattle.mothra_ops.specs.Plan.{PlanFields, edits_of};
 ghost use Rattle.mothra_ops.specs.declared.fault.OpsFault.TheVariants.{Memory};
 
 use crate::edit::Edit;

@@ -1,9 +1,6 @@
 //! What operators put in the place of a statement, a label or a value of DATA.
 
-ghost use Rattle.std.specs.Prelude.{◌≡◌, [], ◌∷◌, not, map, filter, nat_eq, option_map, IfOk, IfErr, Some, None};
-ghost use Rattle.f77_nodes.specs.Node.{NodeOf};
-ghost use Rattle.f77_tree.specs.Statement.{statement_of};
-ghost use Rattle.f77_legal.specs.NameTable.{kind_at};
+ghost use Rattle.std.specs.Prelude.{◌≡◌, not, filter, nat_eq, IfOk, IfErr};
 ghost use Rattle.mothra_ops.specs.Replacements as model;
 ghost use Rattle.mothra_ops.specs.Replacements.{next_constants};
 ghost use Rattle.mothra_ops.specs.declared.fault.OpsFault.TheVariants.{Memory};
