@@ -12,7 +12,7 @@ use Rattle.f77_legal.specs.Legal.{IsLegal, is_array, is_too_large, name_faults, 
 use Rattle.f77_legal.specs.declared.fault.CheckFault.TheVariants.{TooMany}
 use Rattle.f77_legal.specs.Names.{Symbol, Mention, name_in, mentions, mentions_of, symbols, some_items, bounds_of}
 use Rattle.f77_legal.specs.NameTable.{IsNameTable}
-use Rattle.f77_legal.specs.Presets.{product, preset_elements}
+use Rattle.f77_legal.specs.Presets.{product, element_count}
 use Rattle.f77_check.specs.code.Shapes.{elements_in, shape_at}
 use Rattle.f77_legal.specs.Heading.{dummies, dummies_of}
 use Rattle.f77_legal.proofs.Lookups.{same_kind_at, same_bounds_at}
@@ -27,7 +27,7 @@ none_told : {X : Type 0} (b : Bool) (x : X) → (if b then x ∷ [] else []) ≡
 none_told true x e = absurd (cc (e))
 none_told false x e = refl
 
-small : (program : List LineFields) → IsLegal program → nat_lt 10000 (sum (map (preset_elements program) (filter (is_array program) (symbols program)))) ≡ false
+small : (program : List LineFields) → IsLegal program → nat_lt 10000 (sum (map (element_count program) (filter (is_array program) (symbols program)))) ≡ false
 small program legal =
     let expressions = none_behind (name_faults program) (clause_faults expression_clauses program
     ++ (label_faults program ++ (clause_faults control_clauses program ++ (data_faults program ++ too_large_faults program)))) legal in
@@ -93,8 +93,8 @@ same_shape names program table legal q among =
   where
     within : is_array program q ≡ true → product (bounds_of program q) ≤ 10000
     within array =
-        let below = one_of (preset_elements program) (is_array program) q (symbols program) (dummy_known program q among) array in
-        within_sum (preset_elements program q) (sum (map (preset_elements program) (filter (is_array program) (symbols program)))) below (small program legal)
+        let below = one_of (element_count program) (is_array program) q (symbols program) (dummy_known program q among) array in
+        within_sum (element_count program q) (sum (map (element_count program) (filter (is_array program) (symbols program)))) below (small program legal)
 
 same_all : {A : Type 0} (f g : Symbol → A) (xs : List Symbol) → ((q : Symbol) → list_any (bytes_eq q) xs ≡ true → f q ≡ g q) → map f xs ≡ map g xs
 same_all f g [] same = refl

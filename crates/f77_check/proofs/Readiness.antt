@@ -16,7 +16,8 @@ use Rattle.f77_tree.proofs.Views.{computed_view, logical_view}
 use Rattle.f77_actions.specs.Operators.{relation_of}
 use Rattle.f77_legal.specs.Dimensions.{tree_count, fits_bounds, all_fit}
 use Rattle.f77_check.specs.code.Kept.{is_kept, tree_kept, items_kept}
-use Rattle.f77_legal.specs.Kinds.{same_kind, result_kind, is_of_kind, are_integer}
+use Rattle.f77_tree.specs.Comparing.{same_kind}
+use Rattle.f77_legal.specs.Kinds.{result_kind, is_of_kind, are_integer}
 use Rattle.f77_check.specs.code.Lookup.{IsReadyTree}
 use Rattle.f77_legal.specs.NameTable.{kind_at, array_bounds}
 use Rattle.f77_tree.specs.declared.operator.Operator.{Operator}

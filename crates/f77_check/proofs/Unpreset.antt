@@ -15,7 +15,7 @@ use Rattle.f77_tree.specs.declared.data.Constant.{Constant}
 use Rattle.f77_tree.specs.declared.data.Value.{Value}
 use Rattle.f77_legal.specs.Blocks.{first_numbers}
 use Rattle.f77_legal.specs.Names.{Symbol, Mention, name_in, mentions_of, mentions, symbols}
-use Rattle.f77_legal.specs.Presets.{preset_elements, groups_of}
+use Rattle.f77_legal.specs.Presets.{element_count, groups_of}
 use Rattle.f77_check.specs.Start.{Cell, cells, presets_of, presets, is_cell, preset_value}
 use Rattle.f77_legal.proofs.Symbols.{or_false, any_once}
 
@@ -89,10 +89,10 @@ module _ (program : List LineFields) (name : Symbol) (k : ℕ) where
   no_cell [] none = refl
   no_cell (other ∷ names) none =
       let parts = or_false (bytes_eq name other) (bears names) none in
-      let own : Symbol → List Cell = λ name. map (λ k. (name, k)) (first_numbers (preset_elements program name)) in
+      let own : Symbol → List Cell = λ name. map (λ k. (name, k)) (first_numbers (element_count program name)) in
       ap (list_any (is_cell (name, k))) (flat_map-cons own other names)
       ∙ none_append (is_cell (name, k)) (own other) (cells program names)
-      (other_cells other (first_numbers (preset_elements program other)) parts.0) (no_cell names parts.1)
+      (other_cells other (first_numbers (element_count program other)) parts.0) (no_cell names parts.1)
 
   no_pair : (cs : List Cell) (constants : List Constant) → list_any (is_cell (name, k)) cs ≡ false → list_any gives (zip cs constants) ≡ false
   no_pair [] constants none = refl

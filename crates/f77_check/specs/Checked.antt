@@ -7,7 +7,7 @@ use Rattle.f77_check.specs.declared.checked.Shape.{Shape}
 use Rattle.f77_legal.specs.Legal.{is_array, IsLegal}
 use Rattle.f77_legal.specs.Names.{Symbol, kind_of, bounds_of}
 use Rattle.f77_legal.specs.Patches.{IsStock}
-use Rattle.f77_legal.specs.Presets.{preset_elements}
+use Rattle.f77_legal.specs.Presets.{element_count}
 use Rattle.f77_check.specs.Resolved.{AreResolved}
 use Rattle.f77_check.specs.Slots.{slot_count}
 use Rattle.f77_legal.specs.Heading.{dummies}
@@ -21,7 +21,7 @@ shape_of program name =
     record {
       kind = kind_of program name;
       elements = if is_array program name
-          then Some (preset_elements program name) else None;
+          then Some (element_count program name) else None;
     }
 
 abbrev pub shapes : List LineFields → List Shape

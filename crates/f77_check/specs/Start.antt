@@ -12,7 +12,7 @@ use Rattle.f77_check.specs.declared.start.Start.{Start}
 use Rattle.f77_legal.specs.Blocks.{first_numbers}
 use Rattle.f77_legal.specs.Heading.{dummies}
 use Rattle.f77_legal.specs.Names.{Symbol, kind_of, bounds_of}
-use Rattle.f77_legal.specs.Presets.{preset_elements, groups_of}
+use Rattle.f77_legal.specs.Presets.{element_count, groups_of}
 use Rattle.f77_check.specs.Slots.{first_slot, slot_kinds}
 
 -- an element of a name
@@ -21,7 +21,7 @@ Cell = Symbol × ℕ
 
 abbrev pub cells : List LineFields → List Symbol → List Cell
 cells program names =
-    flat_map (λ name. map (λ k. (name, k)) (first_numbers (preset_elements program name))) names
+    flat_map (λ name. map (λ k. (name, k)) (first_numbers (element_count program name))) names
 
 -- the elements that a group of DATA gives a constant, each with it
 abbrev pub presets_of : List LineFields → GroupFields → List (Cell × Constant)
@@ -54,5 +54,5 @@ pub record IsStartOf (program : List LineFields) (names : List Symbol)
       ≡ map (λ slot. Some slot) start.dummies.items
   pub initial : start.initial.items
       ≡ flat_map
-      (λ name. map (preset_value program name) (first_numbers (preset_elements program name))) names
+      (λ name. map (preset_value program name) (first_numbers (element_count program name))) names
   pub kinds : start.kinds.items ≡ slot_kinds (kind_of program) (bounds_of program) names

@@ -13,7 +13,7 @@ ghost use Rattle.f77_check.specs.code.Kept.{is_kept};
 ghost use Rattle.f77_check.specs.code.Lookup.{by_tables};
 ghost use Rattle.f77_legal.specs.NameTable.{array_bounds, kind_at};
 ghost use Rattle.f77_legal.specs.Presets as presets;
-ghost use Rattle.f77_legal.specs.Presets.{preset_elements};
+ghost use Rattle.f77_legal.specs.Presets.{element_count};
 ghost use Rattle.f77_check.specs.Ready.{CanResolve};
 ghost use Rattle.f77_check.specs.Slots.{first_slot, slot_kinds};
 ghost use Rattle.f77_check.specs.Start as start;
@@ -171,7 +171,7 @@ impl Resolver {
         requires { CanResolve self.now (map line_of lines.now) }
         ensures initial { IfOk result (λ initial. initial.items ≡ flat_map
             (λ name. map (preset_value (map line_of lines.now) name)
-            (first_numbers (preset_elements (map line_of lines.now) name)))
+            (first_numbers (element_count (map line_of lines.now) name)))
             (keys self.now.tables.names.facts)) }
         ensures memory { IfErr result (λ fault. fault ≡ Memory) }
     {

@@ -200,8 +200,8 @@ pub record AreParameters (plan : Plan) (from to by : Number)
   pub last : IsTerm plan to parameters.last
   pub step : IsTerm plan by parameters.step
 
--- it begins the DO i, whose variable has the slot k, whose parameters are these, and which ends
--- at the statement t; and control goes on there when the passes are made
+-- An operation begins the DO i, whose variable has the slot k, whose parameters are these,
+-- and which ends at the statement t; and control goes on at `next` when its passes are made.
 pub record BeginsDo (plan : Plan) (statements : List Resolved) (i k : ℕ) (from to by : Number)
     (t next : ℕ) (begun : Beginning) : Type 0 where
   pub variable : begun.variable ≡ k

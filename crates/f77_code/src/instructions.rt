@@ -44,8 +44,8 @@ pub(crate) fn increment(
     }
 }
 
-/// A DO begins, in a form without a box where its parameters are registers.
-fn begun(
+/// The operation that begins a DO, without a box where its parameters are registers.
+fn beginning_operation(
     alloc: Global,
     variable: u32,
     counter: u32,
@@ -138,7 +138,13 @@ impl Constants {
                 let variable = register_of(*variable, self.slots());
                 let parameters = self.parameters(alloc, first, last, step)?;
                 Ok(Instruction {
-                    operation: begun(alloc, variable, places.counter(i), i as u32 + 1, parameters)?,
+                    operation: beginning_operation(
+                        alloc,
+                        variable,
+                        places.counter(i),
+                        i as u32 + 1,
+                        parameters,
+                    )?,
                     next: places.left(statements, i, *terminal),
                 })
             }

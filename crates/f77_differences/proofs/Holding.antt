@@ -8,7 +8,7 @@ use Rattle.f77_tree.specs.declared.tree.Kind.{Kind}
 use Rattle.f77_legal.specs.Blocks.{first_numbers}
 use Rattle.f77_legal.specs.Heading.{dummies}
 use Rattle.f77_legal.specs.Names.{Symbol, some_items, kind_of, bounds_of}
-use Rattle.f77_legal.specs.Presets.{product, preset_elements}
+use Rattle.f77_legal.specs.Presets.{product, element_count}
 use Rattle.f77_check.specs.Checked.{shape_of, shapes}
 use Rattle.f77_check.specs.Slots.{first_slot}
 use Rattle.f77_values.specs.declared.value.Value.{Value}
@@ -36,7 +36,7 @@ size_by : (kind : Kind) (bounds : List ℕ) → size_of (record { kind = kind; e
 size_by kind [] = refl
 size_by kind (bound ∷ bounds) = refl
 
-size_is : (p : List LineFields) (name : Symbol) → size_of (shape_of p name) ≡ preset_elements p name
+size_is : (p : List LineFields) (name : Symbol) → size_of (shape_of p name) ≡ element_count p name
 size_is p name = size_by (kind_of p name) (bounds_of p name)
 
 -- what a slot holds that is so many behind the first one of a name

@@ -14,12 +14,12 @@ use Rattle.f77_tree.specs.Statement.{Statement}
 use Rattle.f77_tree.specs.declared.tree.Kind.TheVariants.{Integer}
 use Rattle.f77_legal.specs.Frames.{framed, framed_line, frame, HaveOneFrame}
 use Rattle.f77_legal.specs.Heading.{dummies}
-use Rattle.f77_legal.specs.Kinds.{same_kind}
+use Rattle.f77_tree.specs.Comparing.{same_kind}
 use Rattle.f77_legal.specs.Legal.{is_array}
 use Rattle.f77_legal.specs.Names.{Symbol, Mention, Dummy, Typed, Dimensioned, Plain, name_in, mentions_of, mentions, is_dummy, kind_in, some_items, bounds_in}
 use Rattle.f77_legal.specs.Names.{dummies_given, kinds_given, bounds_given, first_item_or, kind_of, bounds_of, is_integer_name, is_real}
 use Rattle.f77_legal.specs.Names.{unit_name, is_twice}
-use Rattle.f77_legal.specs.Presets.{product, preset_elements, is_dummy_name, names_preset, is_preset_twice, groups_of, given_kinds, wanted_kinds, presets_badly}
+use Rattle.f77_legal.specs.Presets.{product, element_count, is_dummy_name, names_preset, is_preset_twice, groups_of, given_kinds, wanted_kinds, presets_badly}
 use Rattle.f77_legal.proofs.Frames.{declares, declared_in-framed, groups_of-framed, dummies_of-framed, unit_name_of-framed}
 
 -- what the frame gives is alike for programs of one frame
@@ -121,7 +121,7 @@ is_dummy_name-frame p name = λ k. nat_le 1 (length (dummies_given-frame p name 
 pub is_array-frame : (p : List LineFields) (name : Symbol) → is_array (frame p) name ≡ is_array p name
 is_array-frame p name = λ k. is_some (some_items (bounds_of-frame p name k))
 
-pub elements-frame : (p : List LineFields) (name : Symbol) → preset_elements (frame p) name ≡ preset_elements p name
+pub elements-frame : (p : List LineFields) (name : Symbol) → element_count (frame p) name ≡ element_count p name
 elements-frame p name = ap product (bounds_of-frame p name)
 
 pub names_preset-frame : (p : List LineFields) → names_preset (frame p) ≡ names_preset p
@@ -168,8 +168,8 @@ module _ (p q : List LineFields) (same : HaveOneFrame p q) where
   pub is_array_same : (name : Symbol) → is_array p name ≡ is_array q name
   is_array_same name = by_frame (λ r. is_array r name) (λ r. is_array-frame r name) p q same
 
-  pub elements_same : (name : Symbol) → preset_elements p name ≡ preset_elements q name
-  elements_same name = by_frame (λ r. preset_elements r name) (λ r. elements-frame r name) p q same
+  pub elements_same : (name : Symbol) → element_count p name ≡ element_count q name
+  elements_same name = by_frame (λ r. element_count r name) (λ r. elements-frame r name) p q same
 
   pub names_preset_same : names_preset p ≡ names_preset q
   names_preset_same = by_frame names_preset names_preset-frame p q same

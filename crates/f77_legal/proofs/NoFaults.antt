@@ -9,7 +9,7 @@ use Rattle.f77_legal.specs.Clause.{breaks, clause_fault, lines_where}
 use Rattle.f77_legal.specs.Dimensions.{dimensions_fit}
 use Rattle.f77_legal.specs.Legal.{IsLegal, is_array, is_too_large, too_large_faults}
 use Rattle.f77_legal.specs.Names.{symbols, bounds_of}
-use Rattle.f77_legal.specs.Presets.{preset_elements}
+use Rattle.f77_legal.specs.Presets.{element_count}
 use Rattle.f77_legal.proofs.LegalGives.{kept_by, map_none}
 use Rattle.f77_legal.proofs.Symbols.{or_false}
 
@@ -37,14 +37,14 @@ module _ (program : List LineFields) (legal : IsLegal program) where
       by true e none = let some = rw e at none in absurd (cc (some))
       by false e none = refl
 
-  within_sizes : (nat_lt 100 (length (symbols program)) ≡ false) × (nat_lt 10000 (sum (map (preset_elements program) (filter (is_array program) (symbols program)))) ≡ false)
+  within_sizes : (nat_lt 100 (length (symbols program)) ≡ false) × (nat_lt 10000 (sum (map (element_count program) (filter (is_array program) (symbols program)))) ≡ false)
   within_sizes =
       let parts = or_false (nat_lt 500 (length program)) (nat_lt 100 (length (symbols program))
-      || nat_lt 10000 (sum (map (preset_elements program) (filter (is_array program) (symbols program))))) not_large in
-      or_false (nat_lt 100 (length (symbols program))) (nat_lt 10000 (sum (map (preset_elements program) (filter (is_array program) (symbols program))))) parts.1
+      || nat_lt 10000 (sum (map (element_count program) (filter (is_array program) (symbols program))))) not_large in
+      or_false (nat_lt 100 (length (symbols program))) (nat_lt 10000 (sum (map (element_count program) (filter (is_array program) (symbols program))))) parts.1
 
   pub few_symbols : length (symbols program) ≤ 100
   few_symbols = let few = within_sizes.0 in grind (arith, nat_tests)
 
-  pub few_elements : sum (map (preset_elements program) (filter (is_array program) (symbols program))) ≤ 10000
+  pub few_elements : sum (map (element_count program) (filter (is_array program) (symbols program))) ≤ 10000
   few_elements = let few = within_sizes.1 in grind (arith, nat_tests)

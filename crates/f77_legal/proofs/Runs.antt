@@ -10,7 +10,7 @@ use Rattle.std.proofs.lemmas.Bool.Decides.{nat_tests}
 use Rattle.std.proofs.lemmas.List.{length-replicate}
 use Rattle.f77_tree.specs.declared.data.Value.{Value}
 use Rattle.f77_tree.specs.declared.tree.Kind.{Kind}
-use Rattle.f77_legal.specs.Kinds.{same_kind}
+use Rattle.f77_tree.specs.Comparing.{same_kind}
 use Rattle.f77_legal.specs.Names.{Symbol}
 use Rattle.f77_legal.specs.Presets.{product}
 use Rattle.f77_legal.specs.code.Runs.{kinds_in, behind_kinds, kinds_wanted}

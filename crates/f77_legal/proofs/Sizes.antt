@@ -14,7 +14,7 @@ use Rattle.f77_legal.specs.Legal.{is_array}
 use Rattle.f77_legal.specs.Names.{Symbol, mentions, symbols, some_items}
 use Rattle.f77_legal.specs.NameTable.{FactsFields, IsNameTable, facts_fields, entry_of, facts_of}
 use Rattle.f77_legal.specs.code.NameTable.{array_size}
-use Rattle.f77_legal.specs.Presets.{product, preset_elements}
+use Rattle.f77_legal.specs.Presets.{product, element_count}
 use Rattle.f77_legal.proofs.NameTables.{rows}
 
 product_push : (xs : List ℕ) (x : ℕ) → product (xs ++ x ∷ []) ≡ product xs * x
@@ -90,7 +90,7 @@ module _ (f : Symbol → FactsFields) where
 
 pub over_is : (names : Names) (program : List LineFields) (n limit : ℕ) → IsNameTable names program → limit < n
     → nat_lt limit (min (sum (map (λ f. array_size (facts_fields f)) (values_of names.facts.entries))) n)
-    ≡ nat_lt limit (sum (map (preset_elements program) (filter (is_array program) (symbols program))))
+    ≡ nat_lt limit (sum (map (element_count program) (filter (is_array program) (symbols program))))
 over_is names program n limit is below =
     over_stopped limit (sum (map (λ f. array_size (facts_fields f)) (values_of names.facts.entries))) n below
     ∙ ap (nat_lt limit)

@@ -8,7 +8,7 @@ use Rattle.f77_program.specs.Program.{LineFields}
 use Rattle.f77_legal.specs.Legal.{IsLegal, is_array, is_too_large}
 use Rattle.f77_legal.specs.Names.{Symbol, name_in, mentions, symbols, is_real, is_twice}
 use Rattle.f77_legal.specs.Patches.{is_name_among, IsStock}
-use Rattle.f77_legal.specs.Presets.{preset_elements}
+use Rattle.f77_legal.specs.Presets.{element_count}
 use Rattle.f77_legal.proofs.Among.{among_holds, among_itself, each_counted, once_fewer, once_smaller}
 use Rattle.f77_legal.proofs.NoFaults.{few_symbols, few_elements}
 use Rattle.f77_legal.proofs.Rules.{keeps_every_rule}
@@ -40,17 +40,17 @@ module _ (names : List Symbol) (program : List LineFields) (stock : IsStock name
   pub stock_sizes : length program ≤ 500 → is_too_large program ≡ false
   stock_sizes short =
       let fewer = once_fewer (map name_in (mentions program)) names stock.covers in
-      let smaller = once_smaller (map name_in (mentions program)) names stock.covers (preset_elements program) (is_array program) in
+      let smaller = once_smaller (map name_in (mentions program)) names stock.covers (element_count program) (is_array program) in
       let few : length (symbols program) ≤ 100 = omega (arith, fewer, stock.few) in
-      let small : sum (map (preset_elements program) (filter (is_array program) (symbols program))) ≤ 10000 = omega (arith, smaller, stock.small) in
+      let small : sum (map (element_count program) (filter (is_array program) (symbols program))) ≤ 10000 = omega (arith, smaller, stock.small) in
       let lines : nat_lt 500 (length program) ≡ false = grind (arith, nat_tests) in
       let symbols_within : nat_lt 100 (length (symbols program)) ≡ false = grind (arith, nat_tests) in
-      let elements_within : nat_lt 10000 (sum (map (preset_elements program) (filter (is_array program) (symbols program)))) ≡ false = grind (arith, nat_tests) in
+      let elements_within : nat_lt 10000 (sum (map (element_count program) (filter (is_array program) (symbols program)))) ≡ false = grind (arith, nat_tests) in
       λ i. lines i || (symbols_within i || elements_within i)
 
   -- another program, of which each name is told the same
   pub stock_kept : (other : List LineFields) → ((name : Symbol) → is_real other name ≡ is_real program name)
-      → ((name : Symbol) → is_twice other name ≡ is_twice program name) → ((name : Symbol) → preset_elements other name ≡ preset_elements program name)
+      → ((name : Symbol) → is_twice other name ≡ is_twice program name) → ((name : Symbol) → element_count other name ≡ element_count program name)
       → ((name : Symbol) → is_array other name ≡ is_array program name) → All (λ name. is_name_among names name ≡ true) (symbols other) → IsStock names other
   stock_kept other real twice sizes arrays covers = record {
     covers = covers;
@@ -59,7 +59,7 @@ module _ (names : List Symbol) (program : List LineFields) (stock : IsStock name
     declared = All-weaker (λ name. is_twice program name ≡ false) (λ name. is_twice other name ≡ false) (λ name h. twice name ∙ h) names stock.declared;
     few = stock.few;
     small =
-        let same : sum (map (preset_elements other) (filter (is_array other) names)) ≡ sum (map (preset_elements program) (filter (is_array program) names))
+        let same : sum (map (element_count other) (filter (is_array other) names)) ≡ sum (map (element_count program) (filter (is_array program) names))
         = λ i. sum (map (λ name. sizes name i) (filter (λ name. arrays name i) names)) in
         omega (arith, same, stock.small);
   }

@@ -1,56 +1,31 @@
 -- The kinds that expressions have and statements want (ANSI X3.9-1978, sections 6, 10 and 11).
-use Rattle.std.specs.Prelude.{◌&&◌, Bool, true, false, Option, Some, None}
+use Rattle.std.specs.Prelude.{◌&&◌, Bool, true, Option, Some, None}
+use Rattle.f77_tree.specs.Comparing.{same_kind}
 use Rattle.f77_tree.specs.Tree.{Tree, Trees}
 use Rattle.f77_tree.specs.Statement.{Statement, value_of}
 use Rattle.f77_tree.specs.declared.operator.Operator.{Operator}
-use Rattle.f77_tree.specs.declared.operator.Operator.TheVariants.{Equivalent, NotEquivalent, Or, And, Less}
-use Rattle.f77_tree.specs.declared.operator.Operator.TheVariants.{LessOrEqual, Equal, NotEqual, GreaterOrEqual}
-use Rattle.f77_tree.specs.declared.operator.Operator.TheVariants.{Greater, Add, Subtract, Multiply, Divide, Power}
+use Rattle.f77_tree.specs.declared.operator.Operator.TheVariants.{Equivalent, NotEquivalent, Or, And}
+use Rattle.f77_tree.specs.declared.operator.Operator.TheVariants.{Add, Subtract, Multiply, Divide, Power}
 use Rattle.f77_tree.specs.declared.tree.Kind.{Kind}
 use Rattle.f77_tree.specs.declared.tree.Kind.TheVariants.{Integer, Logical}
 use Rattle.f77_legal.specs.Names.{Symbol}
 
-abbrev pub same_kind : Kind → Kind → Bool
-same_kind Integer Integer = true
-same_kind Integer Logical = false
-same_kind Logical Integer = false
-same_kind Logical Logical = true
-
--- arithmetic is INTEGER from INTEGER, a relation LOGICAL
--- from INTEGER, a logical operator LOGICAL from LOGICAL
+-- arithmetic is INTEGER, a relation and a logical operator are LOGICAL
 abbrev pub result_kind : Operator → Kind
-result_kind Equivalent = Logical
-result_kind NotEquivalent = Logical
-result_kind Or = Logical
-result_kind And = Logical
-result_kind Less = Logical
-result_kind LessOrEqual = Logical
-result_kind Equal = Logical
-result_kind NotEqual = Logical
-result_kind GreaterOrEqual = Logical
-result_kind Greater = Logical
 result_kind Add = Integer
 result_kind Subtract = Integer
 result_kind Multiply = Integer
 result_kind Divide = Integer
 result_kind Power = Integer
+result_kind _ = Logical
 
+-- a logical operator has LOGICAL operands, arithmetic and a relation have INTEGER ones
 abbrev pub operand_kind : Operator → Kind
 operand_kind Equivalent = Logical
 operand_kind NotEquivalent = Logical
 operand_kind Or = Logical
 operand_kind And = Logical
-operand_kind Less = Integer
-operand_kind LessOrEqual = Integer
-operand_kind Equal = Integer
-operand_kind NotEqual = Integer
-operand_kind GreaterOrEqual = Integer
-operand_kind Greater = Integer
-operand_kind Add = Integer
-operand_kind Subtract = Integer
-operand_kind Multiply = Integer
-operand_kind Divide = Integer
-operand_kind Power = Integer
+operand_kind _ = Integer
 
 -- the expression is of this kind, and so are its parts of theirs, where names are of these kinds
 abbrev mutual

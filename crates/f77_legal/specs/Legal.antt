@@ -13,7 +13,7 @@ use Rattle.f77_legal.specs.declared.fault.CheckFault.TheVariants.{DoubleLabel, B
 use Rattle.f77_legal.specs.Clause.{faults_of, lines_where}
 use Rattle.f77_legal.specs.Names.{Symbol, symbols, is_real, is_twice, bounds_of, some_items}
 use Rattle.f77_legal.specs.Labels.{labels, is_double}
-use Rattle.f77_legal.specs.Presets.{preset_elements, presets_badly}
+use Rattle.f77_legal.specs.Presets.{element_count, presets_badly}
 
 abbrev pub is_array : List LineFields → Symbol → Bool
 is_array program name = is_some (some_items (bounds_of program name))
@@ -24,7 +24,7 @@ is_too_large program =
     nat_lt 500 (length program)
     || (nat_lt 100 (length (symbols program))
     || nat_lt 10000
-    (sum (map (preset_elements program) (filter (is_array program) (symbols program)))))
+    (sum (map (element_count program) (filter (is_array program) (symbols program)))))
 
 abbrev pub name_faults : List LineFields → List CheckFault
 name_faults program = map RealName (filter (is_real program) (symbols program))

@@ -52,16 +52,12 @@ symbols program = names_once (map name_in (mentions program))
 
 abbrev pub is_dummy : Mention → Bool
 is_dummy (Dummy name) = true
-is_dummy (Typed kind declaration) = false
-is_dummy (Dimensioned declaration) = false
-is_dummy (Plain name) = false
+is_dummy _ = false
 
 -- the kind that a mention gives
 abbrev pub kind_in : Mention → Option Kind
-kind_in (Dummy name) = None
 kind_in (Typed kind declaration) = Some kind
-kind_in (Dimensioned declaration) = None
-kind_in (Plain name) = None
+kind_in _ = None
 
 -- a list that is not empty
 abbrev pub some_items : List ℕ → Option (List ℕ)
@@ -70,10 +66,9 @@ some_items (x ∷ xs) = Some (x ∷ xs)
 
 -- the bounds that a mention gives
 abbrev pub bounds_in : Mention → Option (List ℕ)
-bounds_in (Dummy name) = None
 bounds_in (Typed kind declaration) = some_items declaration.bounds
 bounds_in (Dimensioned declaration) = some_items declaration.bounds
-bounds_in (Plain name) = None
+bounds_in _ = None
 
 abbrev pub mentions_with : List Mention → Symbol → List Mention
 mentions_with all name = filter (λ mention. bytes_eq name (name_in mention)) all

@@ -12,7 +12,7 @@ use Rattle.f77_legal.specs.declared.fault.CheckFault.{CheckFault}
 use Rattle.f77_legal.specs.Clause.{breaks, clause_fault}
 use Rattle.f77_legal.specs.Legal.{is_array}
 use Rattle.f77_legal.specs.Names.{Symbol, symbols, is_real, is_twice}
-use Rattle.f77_legal.specs.Presets.{preset_elements}
+use Rattle.f77_legal.specs.Presets.{element_count}
 
 -- the clauses that a statement of an unchanged frame may break, in the order of test
 abbrev pub own_clauses : List Clause
@@ -36,7 +36,7 @@ pub record IsStock (names : List Symbol) (program : List LineFields) : Type 0 wh
   pub typed : All (λ name. is_real program name ≡ false) names
   pub declared : All (λ name. is_twice program name ≡ false) names
   pub few : length names ≤ 100
-  pub small : sum (map (preset_elements program) (filter (is_array program) names)) ≤ 10000
+  pub small : sum (map (element_count program) (filter (is_array program) names)) ≤ 10000
 
 -- each name of an expression passes the test
 abbrev mutual

@@ -10,7 +10,7 @@ use Rattle.f77_tree.specs.declared.tree.Kind.TheVariants.{Integer, Logical}
 use Rattle.f77_program.specs.Program.{LineFields}
 use Rattle.f77_tree.specs.Tree.{GroupFields}
 use Rattle.f77_tree.specs.Statement.{Statement}
-use Rattle.f77_legal.specs.Kinds.{same_kind}
+use Rattle.f77_tree.specs.Comparing.{same_kind}
 use Rattle.f77_legal.specs.Names.{Symbol, mentions, dummies_given, kind_of, bounds_of}
 
 abbrev pub product : List ℕ → ℕ
@@ -18,8 +18,8 @@ product [] = 1
 product (bound ∷ bounds) = bound * product bounds
 
 -- how many elements a name has: the product of its bounds, 1 for a variable
-abbrev pub preset_elements : List LineFields → Symbol → ℕ
-preset_elements program name = product (bounds_of program name)
+abbrev pub element_count : List LineFields → Symbol → ℕ
+element_count program name = product (bounds_of program name)
 
 abbrev pub constant_kind : Constant → Kind
 constant_kind (Number number) = Integer
@@ -28,7 +28,7 @@ constant_kind (Truth truth) = Logical
 -- the kinds of the elements of a group, in order, and of its values, repeats counted
 abbrev pub wanted_kinds : List LineFields → GroupFields → List Kind
 wanted_kinds program group =
-    flat_map (λ name. replicate (preset_elements program name) (kind_of program name)) group.names
+    flat_map (λ name. replicate (element_count program name) (kind_of program name)) group.names
 
 abbrev pub given_kinds : GroupFields → List Kind
 given_kinds group =

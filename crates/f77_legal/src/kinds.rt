@@ -1,6 +1,7 @@
 //! The kinds of expressions, and what statements want of them.
 
 ghost use Rattle.std.specs.Prelude.{◌≡◌, map, option_map};
+ghost use Rattle.f77_tree.specs.Comparing as comparing;
 ghost use Rattle.f77_tree.specs.View.{tree_of, trees};
 ghost use Rattle.f77_tree.specs.Statement.{statement_of};
 ghost use Rattle.f77_legal.specs.Kinds as kinds;
@@ -10,7 +11,7 @@ use crate::names::Names;
 use f77_tree::{Expr, Kind, Operator, Stmt};
 
 pub(crate) fn same_kind(left: Kind, right: Kind) -> bool
-    ensures { result ≡ kinds.same_kind left right }
+    ensures { result ≡ comparing.same_kind left right }
 {
     match left {
         Kind::Integer => matches!(right, Kind::Integer),

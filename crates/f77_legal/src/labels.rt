@@ -1,7 +1,7 @@
 //! The labels of a program: where they stand, and which statements name them.
 
 ghost use Rattle.std.specs.Prelude.{◌≡◌, ◌++◌, ◌∷◌};
-ghost use Rattle.std.specs.Prelude.{ℕ, List, [], Option, None, false, filter, length, map};
+ghost use Rattle.std.specs.Prelude.{List, [], Option, None, false, filter, length, map};
 ghost use Rattle.std.specs.Prelude.{not, nat_eq, is_some, option_map, slice_get, IfOk, IfErr, OnOk};
 ghost use Rattle.std.specs.List.{find, list_any};
 ghost use Rattle.std.specs.Option.{option_and_then, option_map_or};

@@ -1,10 +1,10 @@
 //! The table of names: each variable and array with what the declarations say of it.
 
-ghost use Rattle.std.specs.Prelude.{◌≡◌, ◌-◌, ◌^◌, ◌||◌, List, nat_lt, not, map, filter, sum, min};
+ghost use Rattle.std.specs.Prelude.{◌≡◌, ◌-◌, ◌^◌, ◌||◌, List, nat_lt, map, filter, sum, min};
 ghost use Rattle.std.specs.Prelude.{slice_get, option_map, is_some, length, false, IfOk, IfErr};
 ghost use Rattle.std.specs.List.{find};
 ghost use Rattle.std.specs.Map.Iter.{deref_pair};
-ghost use Rattle.std.specs.Option.{option_and_then, option_map_or};
+ghost use Rattle.std.specs.Option.{option_map_or};
 ghost use Rattle.std.specs.Str.{bytes_eq};
 ghost use Rattle.indexmap.specs.IndexMap.{values};
 ghost use Rattle.f77_tree.specs.Intrinsic.{function_named};
@@ -12,7 +12,7 @@ ghost use Rattle.f77_program.specs.Program.{LineFields, line_of};
 ghost use Rattle.f77_legal.specs.declared.fault.CheckFault.TheVariants as fault;
 ghost use Rattle.f77_legal.specs.Legal.{is_array};
 ghost use Rattle.f77_legal.specs.Names as named;
-ghost use Rattle.f77_legal.specs.Names.{Symbol, symbols, is_real, is_twice, unit_name};
+ghost use Rattle.f77_legal.specs.Names.{symbols, is_real, is_twice, unit_name};
 ghost use Rattle.f77_legal.specs.NameTable as table;
 ghost use Rattle.f77_legal.specs.code.NameTable as table_code;
 ghost use Rattle.f77_legal.specs.NameTable.{IsNameTable, kind_at, array_bounds, facts_fields, entry_of};
@@ -235,7 +235,7 @@ impl Names {
     pub(crate) fn has_over(&self, limit: u32) -> bool
         ensures { (program : List LineFields) → IsNameTable self.now program
             → result
-            ≡ nat_lt limit (sum (map (presets.preset_elements program) (filter (is_array program) (symbols program)))) }
+            ≡ nat_lt limit (sum (map (presets.element_count program) (filter (is_array program) (symbols program)))) }
     {
         self.elements() > u64::from(limit)
     }

@@ -4,11 +4,11 @@ ghost use Rattle.std.specs.Prelude.{◌≡◌, ◌==◌, ◌||◌, ◌≤◌, �
 ghost use Rattle.std.specs.Prelude.{length, map, min, option_map, slice_get, IfOk, IfErr};
 ghost use Rattle.std.specs.List.{list_all, list_any};
 ghost use Rattle.std.specs.Str.{bytes_eq};
+ghost use Rattle.f77_tree.specs.Comparing as comparing;
 ghost use Rattle.f77_tree.specs.Data.{data_group_of};
 ghost use Rattle.f77_program.specs.Program.{line_of};
 ghost use Rattle.f77_tree.specs.Statement.{statement_of};
 ghost use Rattle.f77_legal.specs.declared.fault.CheckFault.TheVariants as fault;
-ghost use Rattle.f77_legal.specs.Kinds as kinds;
 ghost use Rattle.f77_legal.specs.Clause.{lines_where};
 ghost use Rattle.f77_legal.specs.NameTable.{kind_at, array_bounds, IsNameTable};
 ghost use Rattle.f77_legal.specs.code.NameTable.{dummy_at};
@@ -67,7 +67,7 @@ struct Remaining<'a> {
 
 /// Whether what is left begins with none, or with some of this kind.
 fn may_give(rest: Remaining<'_>, kind: Kind) -> bool
-    ensures { result ≡ (rest.entry.times == 0 || kinds.same_kind kind rest.entry.kind) }
+    ensures { result ≡ (rest.entry.times == 0 || comparing.same_kind kind rest.entry.kind) }
 {
     rest.times == 0 || same_kind(kind, rest.kind)
 }

@@ -1,6 +1,6 @@
 //! The tables that the clauses read.
 
-ghost use Rattle.std.specs.Prelude.{◌≡◌, ◌||◌, List, length, map, slice_get, IfOk, IfErr, false};
+ghost use Rattle.std.specs.Prelude.{◌≡◌, ◌||◌, List, map, slice_get, IfOk, IfErr, false};
 ghost use Rattle.std.specs.Option.{option_map_or};
 ghost use Rattle.f77_legal.specs.Blocks.{first_numbers};
 ghost use Rattle.f77_legal.specs.Labels.{label_place};
@@ -9,7 +9,6 @@ ghost use Rattle.f77_tree.specs.Statement.{statement_of};
 ghost use Rattle.f77_legal.specs.Clause as clauses;
 ghost use Rattle.f77_legal.specs.Legal.{clause_faults};
 ghost use Rattle.f77_legal.specs.Loops as loops;
-ghost use Rattle.f77_legal.specs.LoopTable.{IsRangeTable};
 ghost use Rattle.f77_legal.specs.LabelTable.{IsLabelTable};
 ghost use Rattle.f77_legal.specs.BlockTable.{IsBlockTable};
 ghost use Rattle.f77_legal.specs.Tables.{AreTables, Serve};

@@ -4,16 +4,30 @@ use Rattle.std.specs.Prelude.{◌&&◌, map, nat_le}
 use Rattle.std.specs.List.{flat_map, list_all}
 use Rattle.std.proofs.lemmas.List.Folds.{list_all-append, list_all-map}
 use Rattle.std.proofs.Math.Bool.{and-true}
+use Rattle.f77_tree.specs.declared.data.Value.{Value}
 use Rattle.f77_tree.specs.Tree.{Tree, Trees, DeclFields, GroupFields}
 use Rattle.f77_tree.specs.Statement.{Statement}
-use Rattle.f77_nodes.specs.Limits.{largest, is_label, small_tree, decl_constants, small_value, is_small_node, statement_constants}
+use Rattle.f77_nodes.specs.Limits.{largest_integer, is_label, is_small_node, statement_constants}
 use Rattle.f77_nodes.specs.Names.{of_value}
 use Rattle.f77_nodes.specs.Node.{NodeOf, parts, all_parts, tree_nodes, step_parts, group_nodes, target_nodes, label_nodes, parameter_nodes, nodes_of}
+
+-- a part of an expression, a bound, a declared name, a value of DATA
+abbrev pub small_tree : Tree → Bool
+small_tree t = is_small_node (NodeOf.Part t)
+
+abbrev pub small_bound : ℕ → Bool
+small_bound n = nat_le n largest_integer
+
+abbrev pub decl_constants : DeclFields → Bool
+decl_constants d = is_small_node (NodeOf.Declared d)
+
+abbrev pub small_value : Value → Bool
+small_value v = is_small_node (NodeOf.Initial v)
 
 -- an expression, and the expressions of a list
 abbrev mutual
   pub small_constants : Tree → Bool
-  small_constants (Tree.Number n) = nat_le n largest
+  small_constants (Tree.Number n) = nat_le n largest_integer
   small_constants (Tree.Truth b) = true
   small_constants (Tree.Reference name items) = all_small_constants items
   small_constants (Tree.Call f items) = all_small_constants items
@@ -60,7 +74,7 @@ by_part Statement.End = true
 -- The nodes tell the same.
 mutual
   parts_small : (t : Tree) → list_all small_tree (parts t) ≡ small_constants t
-  parts_small (Tree.Number n) = and-true (nat_le n largest)
+  parts_small (Tree.Number n) = and-true (nat_le n largest_integer)
   parts_small (Tree.Truth b) = refl
   parts_small (Tree.Reference name items) = all_small items
   parts_small (Tree.Call f items) = all_small items

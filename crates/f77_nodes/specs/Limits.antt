@@ -4,8 +4,7 @@ use Rattle.std.specs.Prelude.{ℕ, suc, ℤ, pos, negsuc, length, Bool, true, �
 use Rattle.std.specs.List.{list_all}
 use Rattle.f77_tree.specs.declared.data.Constant.{Constant}
 use Rattle.f77_tree.specs.declared.data.Constant.TheVariants.{Number, Truth}
-use Rattle.f77_tree.specs.declared.data.Value.{Value}
-use Rattle.f77_tree.specs.Tree.{Tree, DeclFields}
+use Rattle.f77_tree.specs.Tree.{Tree}
 use Rattle.f77_tree.specs.Statement.{Statement}
 use Rattle.f77_nodes.specs.Node.{NodeOf, nodes_of}
 
@@ -14,23 +13,12 @@ abbrev pub most_nodes : ℕ
 most_nodes = 200
 
 -- the largest INTEGER constant
-abbrev pub largest : ℕ
-largest = 2147483647
+abbrev pub largest_integer : ℕ
+largest_integer = 2147483647
 
 -- a label is 1 to 99999
 abbrev pub is_label : ℕ → Bool
 is_label n = nat_le 1 n && nat_le n 99999
-
--- a constant of an expression is one that INTEGER has
-abbrev pub small_tree : Tree → Bool
-small_tree (Tree.Number n) = nat_le n largest
-small_tree _ = true
-
-abbrev pub small_bound : ℕ → Bool
-small_bound n = nat_le n largest
-
-abbrev pub decl_constants : DeclFields → Bool
-decl_constants d = list_all small_bound d.bounds
 
 -- a number without its sign
 abbrev pub magnitude : ℤ → ℕ
@@ -38,18 +26,16 @@ magnitude (pos n) = n
 magnitude (negsuc n) = suc n
 
 abbrev pub small_constant : Constant → Bool
-small_constant (Number z) = nat_le (magnitude z) largest
+small_constant (Number z) = nat_le (magnitude z) largest_integer
 small_constant (Truth b) = true
 
--- a repeat is 1 at least
-abbrev pub small_value : Value → Bool
-small_value v = nat_le 1 v.times && (nat_le v.times largest && small_constant v.constant)
-
+-- constants, bounds and repeats are ones that INTEGER has, and a repeat is 1 at least
 abbrev pub is_small_node : NodeOf → Bool
-is_small_node (NodeOf.Part t) = small_tree t
-is_small_node (NodeOf.Declared d) = decl_constants d
+is_small_node (NodeOf.Part (Tree.Number n)) = nat_le n largest_integer
+is_small_node (NodeOf.Declared d) = list_all (λ bound. nat_le bound largest_integer) d.bounds
 is_small_node (NodeOf.Labelled label) = is_label label
-is_small_node (NodeOf.Initial v) = small_value v
+is_small_node (NodeOf.Initial v) =
+    nat_le 1 v.times && (nat_le v.times largest_integer && small_constant v.constant)
 is_small_node _ = true
 
 -- constants, bounds, repeats and labels are in range

@@ -92,32 +92,19 @@ nodes_of s = NodeOf.Itself s ∷ nodes_behind s
 
 -- The labels of a statement and the names that its nodes bear, in order of appearance.
 abbrev pub label_of : NodeOf → Option ℕ
-label_of (NodeOf.Itself s) = None
-label_of (NodeOf.Target name items) = None
-label_of (NodeOf.Part t) = None
-label_of (NodeOf.Named name) = None
-label_of (NodeOf.Declared d) = None
 label_of (NodeOf.Labelled label) = Some label
-label_of (NodeOf.Initial v) = None
+label_of _ = None
 
 abbrev pub tree_name : Tree → Option (List ℕ)
-tree_name (Tree.Number n) = None
-tree_name (Tree.Truth b) = None
 tree_name (Tree.Reference name items) = Some name
-tree_name (Tree.Call f items) = None
-tree_name (Tree.Signed sign t) = None
-tree_name (Tree.Not t) = None
-tree_name (Tree.Binary op a b) = None
-tree_name (Tree.ZeroPush t) = None
+tree_name _ = None
 
 abbrev pub node_name : NodeOf → Option (List ℕ)
-node_name (NodeOf.Itself s) = None
 node_name (NodeOf.Target name items) = Some name
 node_name (NodeOf.Part t) = tree_name t
 node_name (NodeOf.Named name) = Some name
 node_name (NodeOf.Declared d) = Some d.name
-node_name (NodeOf.Labelled label) = None
-node_name (NodeOf.Initial v) = None
+node_name _ = None
 
 abbrev pub names_of : Statement → List (List ℕ)
 names_of s = filter_map node_name (nodes_of s)

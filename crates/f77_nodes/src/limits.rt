@@ -5,7 +5,7 @@ ghost use Rattle.std.specs.List.{list_all};
 ghost use Rattle.f77_tree.specs.Declaration.{decl_of};
 ghost use Rattle.f77_tree.specs.View.{tree_of};
 ghost use Rattle.f77_nodes.specs.Limits as limits;
-ghost use Rattle.f77_nodes.specs.Node.{node_of};
+ghost use Rattle.f77_nodes.specs.Node.{NodeOf, node_of};
 
 use crate::node::Node;
 use f77_tree::{Constant, Decl, Expr, Value};
@@ -14,7 +14,7 @@ use f77_tree::{Constant, Decl, Expr, Value};
 const LARGEST: u32 = 2_147_483_647;
 
 fn is_small_tree(expr: &Expr) -> bool
-    ensures { result ≡ limits.small_tree (tree_of expr.now) }
+    ensures { result ≡ limits.is_small_node (NodeOf.Part (tree_of expr.now)) }
 {
     match expr {
         Expr::Number(number) => *number <= LARGEST,
@@ -23,7 +23,7 @@ fn is_small_tree(expr: &Expr) -> bool
 }
 
 fn has_small_bounds(item: &Decl) -> bool
-    ensures { result ≡ limits.decl_constants (decl_of item.now) }
+    ensures { result ≡ limits.is_small_node (NodeOf.Declared (decl_of item.now)) }
 {
     item.bounds.iter().all(|bound| *bound <= LARGEST)
 }
@@ -38,7 +38,7 @@ fn is_small_constant(constant: Constant) -> bool
 }
 
 fn is_small_value(value: &Value) -> bool
-    ensures { result ≡ limits.small_value value.now }
+    ensures { result ≡ limits.is_small_node (NodeOf.Initial value.now) }
 {
     1 <= value.times && value.times <= LARGEST && is_small_constant(value.constant)
 }

@@ -8,7 +8,7 @@ use Rattle.f77_tree.specs.declared.data.Constant.{Constant}
 use Rattle.f77_tree.specs.declared.data.Constant.TheVariants.{Number, Truth}
 use Rattle.f77_tree.specs.declared.data.Value.{Value}
 use Rattle.f77_tree.specs.Grammar.{is_name, truth_constant_text}
-use Rattle.f77_nodes.specs.Limits.{largest, small_constant, small_value}
+use Rattle.f77_nodes.specs.Limits.{largest_integer, small_constant}
 use Rattle.f77_tree.specs.Joined.{Joined, separated}
 use Rattle.f77_tree.specs.code.Joined.{some_all}
 use Rattle.f77_tree.specs.Declaration.{SpellsName, SpellsNumber}
@@ -16,7 +16,7 @@ use Rattle.f77_tree.specs.Tree.{GroupFields}
 use Rattle.f77_tree.specs.Data.{SpellsConstant, SpellsValue, SpellsGroup, SpellsGroups, negative}
 use Rattle.f77_program.specs.code.Data.{any_value, is_group, data_formed}
 use Rattle.f77_program.specs.Data.{constant_text, repeat_text, value_text, name_text, group_text, groups_text}
-use Rattle.f77_nodes.proofs.Constants.{group_constants, data_constants}
+use Rattle.f77_nodes.proofs.Constants.{small_value, group_constants, data_constants}
 use Rattle.f77_tree.proofs.Tests.{and_true}
 use Rattle.f77_program.proofs.Plain.{IsPlain, both, plain_name, plain_decimal}
 use Rattle.f77_program.proofs.JoinedForms.{joined_all, joined_text, joined_back, plain_separated}
@@ -87,11 +87,11 @@ constant_back (Truth b) h = SpellsConstant.logical b
 
 value_back : (v : Value) → small_value v ≡ true → SpellsValue (value_text v) v
 value_back v h =
-    let (least, rest) = and_true (nat_le 1 v.times) (nat_le v.times largest && small_constant v.constant) h in
-    let (most, fits) = and_true (nat_le v.times largest) (small_constant v.constant) rest in
+    let (least, rest) = and_true (nat_le 1 v.times) (nat_le v.times largest_integer && small_constant v.constant) h in
+    let (most, fits) = and_true (nat_le v.times largest_integer) (small_constant v.constant) rest in
     by_times v.times (v.times == 1) refl most (constant_back v.constant fits)
   where
-    by_times : (n : ℕ) (b : Bool) → (n == 1) ≡ b → nat_le n largest ≡ true → SpellsConstant (constant_text v.constant) v.constant
+    by_times : (n : ℕ) (b : Bool) → (n == 1) ≡ b → nat_le n largest_integer ≡ true → SpellsConstant (constant_text v.constant) v.constant
         → SpellsValue (cond b [] (decimal n ++ codes "*") ++ constant_text v.constant) (record { times = n; constant = v.constant })
     by_times n true is most p = subst (λ m. SpellsValue (constant_text v.constant) (record { times = m; constant = v.constant })) (sym (eqb-true n 1 is)) (SpellsValue.once p)
     by_times n false is most p =

@@ -13,7 +13,7 @@ use Rattle.f77_check.specs.Checked.{CheckedFields, IsChecked, shapes}
 use Rattle.f77_check.specs.declared.checked.Shape.{Shape}
 use Rattle.f77_legal.specs.Names.{Symbol, bounds_of, symbols}
 use Rattle.f77_legal.specs.Patches.{is_name_among}
-use Rattle.f77_legal.specs.Presets.{preset_elements, product}
+use Rattle.f77_legal.specs.Presets.{element_count, product}
 use Rattle.f77_check.specs.Slots.{slot_count}
 use Rattle.f77_legal.specs.Heading.{dummies}
 use Rattle.f77_check.specs.Start.{preset_value}
@@ -94,22 +94,22 @@ module _ (checked : CheckedFields) (is : IsChecked checked) where
   laid : empty ≡ flat_map (λ name. map (given_at name) (first_numbers (product (bounds name)))) checked.names
   laid =
       ap (map (option_map constant_value)) is.start.initial
-      ∙ map_joined (option_map constant_value) (λ name. map (preset_value program name) (first_numbers (preset_elements program name))) checked.names
-      ∙ same_joined _ _ (λ name. map_twice (option_map constant_value) (preset_value program name) (first_numbers (preset_elements program name))) checked.names
+      ∙ map_joined (option_map constant_value) (λ name. map (preset_value program name) (first_numbers (element_count program name))) checked.names
+      ∙ same_joined _ _ (λ name. map_twice (option_map constant_value) (preset_value program name) (first_numbers (element_count program name))) checked.names
 
   pub empty_size : length empty ≡ slot_count bounds checked.names
   empty_size = ap length laid ∙ laid_all bounds checked.names given_at
 
-  empty_values : (name : Symbol) → values_of bounds checked.names empty name ≡ map (given_at name) (first_numbers (preset_elements program name))
+  empty_values : (name : Symbol) → values_of bounds checked.names empty name ≡ map (given_at name) (first_numbers (element_count program name))
   empty_values name = by (list_any (bytes_eq name) checked.names) refl
     where
-      by : (b : Bool) → list_any (bytes_eq name) checked.names ≡ b → values_of bounds checked.names empty name ≡ map (given_at name) (first_numbers (preset_elements program name))
+      by : (b : Bool) → list_any (bytes_eq name) checked.names ≡ b → values_of bounds checked.names empty name ≡ map (given_at name) (first_numbers (element_count program name))
       by true among = ap (λ cells. values_of bounds checked.names cells name) laid ∙ laid_values bounds checked.names given_at name among
       by false apart =
           unlaid_values bounds checked.names name apart empty
           ∙ same_mapped (λ k. None) (given_at name)
           (λ k. sym (ap (option_map constant_value) (unpreset program name (other (list_any (bytes_eq name) (symbols program)) refl apart) k)))
-          (first_numbers (preset_elements program name))
+          (first_numbers (element_count program name))
         where
           other : (b : Bool) → list_any (bytes_eq name) (symbols program) ≡ b → list_any (bytes_eq name) checked.names ≡ false → list_any (bytes_eq name) (symbols program) ≡ false
           other true e apart =

@@ -23,7 +23,8 @@ use Rattle.f77_actions.specs.declared.expression.Condition as condition
 use Rattle.f77_actions.specs.declared.resolved.Resolved.{Resolved}
 use Rattle.f77_legal.specs.declared.clause.Clause.TheVariants.{Kinds}
 use Rattle.f77_legal.specs.Dimensions.{dimensions_fit}
-use Rattle.f77_legal.specs.Kinds.{same_kind, result_kind, operand_kind, is_of_kind, are_integer, is_of_kind_if_given, kinds_agree}
+use Rattle.f77_tree.specs.Comparing.{same_kind}
+use Rattle.f77_legal.specs.Kinds.{result_kind, operand_kind, is_of_kind, are_integer, is_of_kind_if_given, kinds_agree}
 use Rattle.f77_legal.specs.Legal.{IsLegal}
 use Rattle.f77_legal.specs.Names.{Symbol, kind_of, bounds_of}
 use Rattle.f77_legal.specs.Presets.{product}

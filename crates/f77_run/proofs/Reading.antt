@@ -12,7 +12,7 @@ use Rattle.f77_legal.specs.Blocks.{first_numbers}
 use Rattle.f77_check.specs.Checked.{shape_of, shapes}
 use Rattle.f77_legal.specs.Heading.{dummies}
 use Rattle.f77_legal.specs.Names.{Symbol, some_items, kind_of, bounds_of}
-use Rattle.f77_legal.specs.Presets.{product, preset_elements}
+use Rattle.f77_legal.specs.Presets.{product, element_count}
 use Rattle.f77_check.specs.Slots.{slot_count, first_slot}
 use Rattle.f77_run.specs.Machine.{values_of}
 use Rattle.f77_code.specs.Moves.{Cells}
@@ -28,7 +28,7 @@ size_by : (kind : Kind) (bounds : List ℕ) → size_of (record { kind = kind; e
 size_by kind [] = refl
 size_by kind (bound ∷ bounds) = refl
 
-pub size_is : (p : List LineFields) (name : Symbol) → size_of (shape_of p name) ≡ preset_elements p name
+pub size_is : (p : List LineFields) (name : Symbol) → size_of (shape_of p name) ≡ element_count p name
 size_is p name = size_by (kind_of p name) (bounds_of p name)
 
 module _ (p : List LineFields) (names : List Symbol) (cells : Cells) where
@@ -38,13 +38,13 @@ module _ (p : List LineFields) (names : List Symbol) (cells : Cells) where
       ap (λ n. span slot n cells) (size_is p name) ∙ sym (ap (λ o. map (held_from cells o) (first_numbers (product (bounds_of p name)))) start)
 
   holding : (list : List Symbol) (slots : List ℕ) → map (first_slot (bounds_of p) names) list ≡ map (λ slot. Some slot) slots
-      → ((name : Symbol) → list_any (bytes_eq name) list ≡ true → HasValues (kind_of p name) (preset_elements p name) (values_of (bounds_of p) names cells name))
+      → ((name : Symbol) → list_any (bytes_eq name) list ≡ true → HasValues (kind_of p name) (element_count p name) (values_of (bounds_of p) names cells name))
       → AllHold cells (zip (map (shape_of p) list) slots)
   holding [] slots starts typed = tt
   holding (x ∷ list) [] starts typed = absurd (cc (starts))
   holding (x ∷ list) (slot ∷ slots) starts typed = (here, holding list slots (cc (starts)) (λ name among. typed name (or_later (bytes_eq name x) (list_any (bytes_eq name) list) among)))
     where
-      own : HasValues (kind_of p x) (preset_elements p x) (values_of (bounds_of p) names cells x)
+      own : HasValues (kind_of p x) (element_count p x) (values_of (bounds_of p) names cells x)
       own = typed x (ap (λ b. b || list_any (bytes_eq x) list) (nat_list_eq_equiv.refl x))
 
       here : HasValues (kind_of p x) (size_of (shape_of p x)) (span slot (size_of (shape_of p x)) cells)

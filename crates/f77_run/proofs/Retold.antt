@@ -7,7 +7,7 @@ use Rattle.std.proofs.lemmas.Cmp.{nat_list_eq_equiv}
 use Rattle.f77_program.specs.Program.{LineFields}
 use Rattle.f77_legal.specs.Heading.{dummies}
 use Rattle.f77_legal.specs.Names.{Symbol, kind_of}
-use Rattle.f77_legal.specs.Presets.{preset_elements}
+use Rattle.f77_legal.specs.Presets.{element_count}
 use Rattle.f77_run.specs.declared.argument.Arg.{Arg}
 use Rattle.f77_values.specs.declared.finish.Finish.{Finish}
 use Rattle.f77_values.specs.declared.finish.Finish.TheVariants as finish
@@ -46,7 +46,7 @@ tells_alike p finish.StepLimit s t answer agree tells = tells
 
 -- the dummy arguments have values of their kinds in both
 pub typed_alike : (p : List LineFields) (s t : Store) → AgreeOnDummies p s t → IsTyped p s → IsTyped p t
-typed_alike p s t agree typed name among = subst (HasValues (kind_of p name) (preset_elements p name)) (agree name among) (typed name among)
+typed_alike p s t agree typed name among = subst (HasValues (kind_of p name) (element_count p name)) (agree name among) (typed name among)
 
 -- whether a store in which the dummy arguments hold the same tells an outcome says whether that is the outcome of the run
 pub same_shown : (p : List LineFields) (arguments : List Arg) (steps : ℕ) (start : Config) (made : ℕ) (end : Finish) (s t : Store) (given : Outcome)

@@ -21,6 +21,7 @@ use Rattle.f77_actions.specs.declared.expression.Number.{Number, Constant, TooLa
 use Rattle.f77_actions.specs.declared.expression.Number as numeric
 use Rattle.f77_actions.specs.declared.expression.Condition.{Condition, Not', Related, Connected'}
 use Rattle.f77_actions.specs.declared.expression.Condition as condition
+use Rattle.f77_tree.specs.Operator.{is_relation}
 use Rattle.f77_check.specs.Expression.{IsElement, IsNumber, IsChosen, IsCondition}
 use Rattle.f77_actions.specs.Operators.{arithmetic_of, relation_of, connective_of}
 use Rattle.f77_legal.specs.Names.{Symbol}
@@ -30,7 +31,7 @@ use Rattle.f77_values.specs.declared.value.Value.{Value}
 use Rattle.f77_code.specs.Evaluation.{held_in, slot_in, number_in, truth_in, calculated, compared, joined}
 use Rattle.f77_run.specs.Machine.{values_of}
 use Rattle.f77_values.specs.Number.{fits, in_range, least, greatest, called, signed, modulus, without_sign}
-use Rattle.f77_run.specs.Value.{Store, arithmetic, related, connected, is_relation, number, numbers, place, truth}
+use Rattle.f77_run.specs.Value.{Store, arithmetic, related, connected, number, numbers, place, truth}
 use Rattle.f77_values.specs.Value.{given, both, whole, logic, element, pushed}
 use Rattle.f77_run.proofs.Cells.{place_within, held_value}
 use Rattle.f77_run.proofs.Choices.{least_first, greatest_first}

@@ -7,7 +7,7 @@ use Rattle.f77_program.specs.Program.{LineFields}
 use Rattle.f77_tree.specs.declared.tree.Kind.{Kind}
 use Rattle.f77_legal.specs.Heading.{dummies}
 use Rattle.f77_legal.specs.Names.{Symbol, kind_of, bounds_of}
-use Rattle.f77_legal.specs.Presets.{preset_elements}
+use Rattle.f77_legal.specs.Presets.{element_count}
 use Rattle.f77_check.specs.Slots.{first_slot, slot_kinds}
 use Rattle.f77_code.specs.declared.constants.Constants.{Constants}
 use Rattle.f77_code.specs.Evaluation.{held_in}
@@ -29,13 +29,13 @@ module _ (p : List LineFields) (names : List Symbol) (table : Constants) (regist
 
   module _ (holds : HoldsRegisters (plan_of kinds table) registers cells) (typed : IsTyped p (values_of (bounds_of p) names cells)) where
     -- an element of a dummy argument that has this first slot, if any
-    element_shown : (name : Symbol) → list_any (bytes_eq name) (dummies p) ≡ true → (j : ℕ) → j < preset_elements p name
+    element_shown : (name : Symbol) → list_any (bytes_eq name) (dummies p) ≡ true → (j : ℕ) → j < element_count p name
         → (o : Option ℕ) → first_slot (bounds_of p) names name ≡ o → held_from cells o j ≡ held_from (shown_cells kinds registers) o j
     element_shown name among j below None starts = refl
     element_shown name among j below (Some first) starts =
         let values = typed name among in
         let read : slice_get (values_of (bounds_of p) names cells name) j ≡ Some (held_in cells (first + j))
-        = read_table (held_from cells (first_slot (bounds_of p) names name)) (preset_elements p name) j below ∙ ap (λ o. Some (held_from cells o j)) starts in
+        = read_table (held_from cells (first_slot (bounds_of p) names name)) (element_count p name) j below ∙ ap (λ o. Some (held_from cells o j)) starts in
         let own : has_kind (kind_of p name) (held_in cells (first + j)) ≡ true
         = all_at (has_kind (kind_of p name)) (values_of (bounds_of p) names cells name) j (held_in cells (first + j)) values.each read in
         let kind : slice_get kinds (first + j) ≡ Some (kind_of p name) = kind_read (kind_of p) (bounds_of p) names name first j starts below in
@@ -46,5 +46,5 @@ module _ (p : List LineFields) (names : List Symbol) (table : Constants) (regist
         same_table
         (held_from cells (first_slot (bounds_of p) names name))
         (held_from (shown_cells kinds registers) (first_slot (bounds_of p) names name))
-        (preset_elements p name)
+        (element_count p name)
         (λ j below. element_shown name among j below (first_slot (bounds_of p) names name) refl)

@@ -13,7 +13,7 @@ use Rattle.f77_check.specs.Checked.{CheckedFields, IsChecked, shape_of}
 use Rattle.f77_check.specs.Slots.{slot_count}
 use Rattle.f77_legal.specs.Heading.{dummies}
 use Rattle.f77_legal.specs.Names.{Symbol, kind_of, bounds_of}
-use Rattle.f77_legal.specs.Presets.{preset_elements}
+use Rattle.f77_legal.specs.Presets.{element_count}
 use Rattle.f77_run.specs.declared.argument.Arg.{Arg}
 use Rattle.f77_run.specs.declared.argument.Arg.TheVariants.{Int, Truth, Ints, Truths}
 use Rattle.f77_values.specs.declared.finish.Finish.{Finish}
@@ -84,7 +84,7 @@ some_argument Logical (Some n) cells is =
     (Truths bs.0, eq-eqb n (length bs.0) (as_many_values (λ b. held_value.Truth b) cells n bs.0 is.count bs.1), bs.1)
 
 some_arguments : (p : List LineFields) (s : Store) (list : List Symbol)
-    → ((name : Symbol) → list_any (bytes_eq name) list ≡ true → HasValues (kind_of p name) (preset_elements p name) (s name))
+    → ((name : Symbol) → list_any (bytes_eq name) list ≡ true → HasValues (kind_of p name) (element_count p name) (s name))
     → (arguments : List Arg) × AreFitting (map (shape_of p) list) arguments × (map s list ≡ map (λ argument. map (λ v. Some v) (values_in argument)) arguments)
 some_arguments p s [] typed = ([], tt, refl)
 some_arguments p s (x ∷ list) typed =

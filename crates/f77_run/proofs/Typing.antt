@@ -16,11 +16,12 @@ use Rattle.f77_tree.specs.declared.tree.Kind.TheVariants.{Integer, Logical}
 use Rattle.f77_legal.specs.declared.clause.Clause.TheVariants.{Kinds}
 use Rattle.f77_check.specs.Checked.{shape_of, shapes}
 use Rattle.f77_legal.specs.Heading.{dummies}
-use Rattle.f77_legal.specs.Kinds.{same_kind, kinds_agree}
+use Rattle.f77_tree.specs.Comparing.{same_kind}
+use Rattle.f77_legal.specs.Kinds.{kinds_agree}
 use Rattle.f77_legal.specs.Labels.{nth_statement}
 use Rattle.f77_legal.specs.Legal.{IsLegal}
 use Rattle.f77_legal.specs.Names.{Symbol, some_items, kind_of, bounds_of}
-use Rattle.f77_legal.specs.Presets.{product, preset_elements}
+use Rattle.f77_legal.specs.Presets.{product, element_count}
 use Rattle.f77_legal.proofs.LegalGives.{clause_kept, kept_by, not_false}
 use Rattle.f77_run.specs.declared.argument.Arg.{Arg}
 use Rattle.f77_run.specs.declared.argument.Arg.TheVariants.{Int, Truth, Ints, Truths}
@@ -51,19 +52,19 @@ set_keeps q (x ∷ cells) (suc k) cell is all =
 pub put_typed : (p : List LineFields) (s : Store) (name : Symbol) (k : ℕ) (v : Value) → has_kind (kind_of p name) (Some v) ≡ true → IsTyped p s → IsTyped p (store_with s name k v)
 put_typed p s name k v is typed other among = by (bytes_eq name other) refl
   where
-    by : (b : Bool) → bytes_eq name other ≡ b → HasValues (kind_of p other) (preset_elements p other) (store_with s name k v other)
+    by : (b : Bool) → bytes_eq name other ≡ b → HasValues (kind_of p other) (element_count p other) (store_with s name k v other)
     by true e =
         let same : name ≡ other = (bytes_eq-Decides name other).0 e in
         let cells : store_with s name k v other ≡ slice_set (s other) k (Some v) = ap (λ b. if b then slice_set (s other) k (Some v) else s other) e in
         let its : has_kind (kind_of p other) (Some v) ≡ true = subst (λ x. has_kind (kind_of p x) (Some v) ≡ true) same is in
         let before = typed other among in
-        subst (HasValues (kind_of p other) (preset_elements p other)) (sym cells) (record {
+        subst (HasValues (kind_of p other) (element_count p other)) (sym cells) (record {
           count = length-set (s other) k (Some v) ∙ before.count;
           each = set_keeps (has_kind (kind_of p other)) (s other) k (Some v) its before.each;
         })
     by false e =
         let cells : store_with s name k v other ≡ s other = ap (λ b. if b then slice_set (s other) k (Some v) else s other) e in
-        subst (HasValues (kind_of p other) (preset_elements p other)) (sym cells) (typed other among)
+        subst (HasValues (kind_of p other) (element_count p other)) (sym cells) (typed other among)
 
 -- numbers are of INTEGER, truths of LOGICAL, and the value of an expression of a kind is of that kind
 number_kind : (kind : Kind) (z : ℤ) → same_kind kind Integer ≡ true → has_kind kind (Some (held.Number z)) ≡ true
@@ -219,7 +220,7 @@ count_twice f [] n e = e
 count_twice f (x ∷ xs) n e = ap suc (count_twice f xs (length xs) refl) ∙ e
 
 pub shaped : (p : List LineFields) (name : Symbol) (argument : Arg) → has_shape (shape_of p name) argument ≡ true
-    → HasValues (kind_of p name) (preset_elements p name) (map (λ v. Some v) (values_in argument))
+    → HasValues (kind_of p name) (element_count p name) (map (λ v. Some v) (values_in argument))
 shaped p name (Int z) is =
     let parts = and_parts _ _ is in
     record { count = shape_single (bounds_of p name) parts.1; each = all_numbers (kind_of p name) (z ∷ []) parts.0 }
@@ -229,13 +230,13 @@ shaped p name (Truth b) is =
 shaped p name (Ints zs) is =
     let parts = and_parts _ _ is in
     record {
-      count = count_twice (λ z. held.Number z) zs (preset_elements p name) (shape_count (bounds_of p name) (length zs) parts.1);
+      count = count_twice (λ z. held.Number z) zs (element_count p name) (shape_count (bounds_of p name) (length zs) parts.1);
       each = all_numbers (kind_of p name) zs parts.0;
     }
 shaped p name (Truths bs) is =
     let parts = and_parts _ _ is in
     record {
-      count = count_twice (λ b. held.Truth b) bs (preset_elements p name) (shape_count (bounds_of p name) (length bs) parts.1);
+      count = count_twice (λ b. held.Truth b) bs (element_count p name) (shape_count (bounds_of p name) (length bs) parts.1);
       each = all_truths (kind_of p name) bs parts.0;
     }
 
@@ -264,28 +265,28 @@ held_later values lists other (Some i) = refl
 
 given_typed : (p : List LineFields) (name : Symbol) (other : List (Option Value)) (names : List Symbol) (arguments : List Arg) → list_any (bytes_eq name) names ≡ true
     → AreFitting (map (shape_of p) names) arguments
-    → HasValues (kind_of p name) (preset_elements p name) (held_at (map values_in arguments) other (position (bytes_eq name) names))
+    → HasValues (kind_of p name) (element_count p name) (held_at (map values_in arguments) other (position (bytes_eq name) names))
 given_typed p name other [] arguments among fits = absurd (cc (among))
 given_typed p name other (x ∷ names) [] among fits = absurd fits
 given_typed p name other (x ∷ names) (argument ∷ arguments) among fits = by (bytes_eq name x) refl (given_typed p name other names arguments)
   where
     by : (b : Bool) → bytes_eq name x ≡ b
         → (list_any (bytes_eq name) names ≡ true → AreFitting (map (shape_of p) names) arguments
-        → HasValues (kind_of p name) (preset_elements p name) (held_at (map values_in arguments) other (position (bytes_eq name) names)))
-        → HasValues (kind_of p name) (preset_elements p name) (held_at (map values_in (argument ∷ arguments)) other (position (bytes_eq name) (x ∷ names)))
+        → HasValues (kind_of p name) (element_count p name) (held_at (map values_in arguments) other (position (bytes_eq name) names)))
+        → HasValues (kind_of p name) (element_count p name) (held_at (map values_in (argument ∷ arguments)) other (position (bytes_eq name) (x ∷ names)))
     by true e later =
         let same : name ≡ x = (bytes_eq-Decides name x).0 e in
         let at : position (bytes_eq name) (x ∷ names) ≡ Some 0
         = first_place (bytes_eq name) x names ∙ ap (λ b. cond b (Some 0) (option_map suc (position (bytes_eq name) names))) e in
-        let holds : HasValues (kind_of p name) (preset_elements p name) (map (λ v. Some v) (values_in argument))
+        let holds : HasValues (kind_of p name) (element_count p name) (map (λ v. Some v) (values_in argument))
         = shaped p name argument (subst (λ y. has_shape (shape_of p y) argument ≡ true) (sym same) fits.0) in
-        subst (λ o. HasValues (kind_of p name) (preset_elements p name) (held_at (map values_in (argument ∷ arguments)) other o)) (sym at) holds
+        subst (λ o. HasValues (kind_of p name) (element_count p name) (held_at (map values_in (argument ∷ arguments)) other o)) (sym at) holds
     by false e later =
         let at : position (bytes_eq name) (x ∷ names) ≡ option_map suc (position (bytes_eq name) names)
         = first_place (bytes_eq name) x names ∙ ap (λ b. cond b (Some 0) (option_map suc (position (bytes_eq name) names))) e in
         let cells = ap (held_at (map values_in (argument ∷ arguments)) other) at ∙ held_later (values_in argument) (map values_in arguments) other (position (bytes_eq name) names) in
         let rest : list_any (bytes_eq name) names ≡ true = sym (ap (λ b. b || list_any (bytes_eq name) names) e) ∙ among in
-        subst (HasValues (kind_of p name) (preset_elements p name)) (sym cells) (later rest fits.1)
+        subst (HasValues (kind_of p name) (element_count p name)) (sym cells) (later rest fits.1)
 
 pub start_typed : (p : List LineFields) (arguments : List Arg) (c : Config) → IsLegal p → AreFitting (shapes p) arguments → IsStart p (map values_in arguments) c → IsTyped p c.values
 start_typed p arguments c legal fitting start =

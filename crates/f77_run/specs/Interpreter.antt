@@ -5,7 +5,7 @@ use Rattle.std.specs.List.{AllZip, zip}
 use Rattle.f77_program.specs.Program.{LineFields}
 use Rattle.f77_tree.specs.declared.tree.Kind.TheVariants.{Integer, Logical}
 use Rattle.f77_check.specs.Checked.{shapes}
-use Rattle.f77_legal.specs.Kinds.{same_kind}
+use Rattle.f77_tree.specs.Comparing.{same_kind}
 use Rattle.f77_check.specs.declared.checked.Shape.{Shape}
 use Rattle.f77_run.specs.declared.argument.Arg.{Arg}
 use Rattle.f77_run.specs.declared.argument.Arg.TheVariants.{Int, Truth, Ints, Truths}

@@ -7,7 +7,7 @@ use Rattle.f77_program.specs.Program.{LineFields}
 use Rattle.f77_tree.specs.declared.data.Constant.{Constant}
 use Rattle.f77_tree.specs.declared.data.Constant.TheVariants.{Number, Truth}
 use Rattle.f77_legal.specs.Blocks.{first_numbers}
-use Rattle.f77_legal.specs.Presets.{preset_elements}
+use Rattle.f77_legal.specs.Presets.{element_count}
 use Rattle.f77_legal.specs.Heading.{dummies}
 use Rattle.f77_check.specs.Start.{preset_value, is_executable_statement}
 use Rattle.f77_run.specs.Value.{Store}
@@ -25,7 +25,7 @@ start_values p given name =
     option_map_or (λ i. option_map_or (map (λ v. Some v)) (slice_get given i) [])
     (position (bytes_eq name) (dummies p))
     (map (λ k. option_map constant_value (preset_value p name k))
-    (first_numbers (preset_elements p name)))
+    (first_numbers (element_count p name)))
 
 -- the first executable statement, which is END where there is no other
 abbrev pub IsStart : List LineFields → List (List Value) → Config → Type 0

@@ -1,8 +1,9 @@
 -- What variables and arrays hold, and the values of expressions (ANSI X3.9-1978, sections 5 and 6).
-use Rattle.std.specs.Prelude.{◌&&◌, ◌||◌, if◌then◌else◌, ◌∷◌, ◌+ℤ◌, ◌-ℤ◌, ◌*ℤ◌, ℕ, Bool, true, false}
+use Rattle.std.specs.Prelude.{◌&&◌, ◌||◌, if◌then◌else◌, ◌∷◌, ◌+ℤ◌, ◌-ℤ◌, ◌*ℤ◌, ℕ, Bool, false}
 use Rattle.std.specs.Prelude.{not, List, [], Option, Some, slice_get, slice_set, ℤ, pos, Result, Ok, Err}
 use Rattle.std.specs.Option.{option_and_then}
 use Rattle.std.specs.Str.{bytes_eq}
+use Rattle.f77_tree.specs.Operator.{is_relation}
 use Rattle.f77_tree.specs.Tree.{Tree, Trees}
 use Rattle.f77_tree.specs.declared.operator.Operator.{Operator}
 use Rattle.f77_tree.specs.declared.operator.Operator.TheVariants.{Equivalent, NotEquivalent, Or, And, Less}
@@ -52,15 +53,6 @@ connected Or a b = a || b
 connected Equivalent a b = same_truth a b
 connected NotEquivalent a b = not (same_truth a b)
 connected _ a b = false
-
-abbrev pub is_relation : Operator → Bool
-is_relation Less = true
-is_relation LessOrEqual = true
-is_relation Equal = true
-is_relation NotEqual = true
-is_relation GreaterOrEqual = true
-is_relation Greater = true
-is_relation _ = false
 
 -- The value of an INTEGER expression where names have these bounds. No legal program asks
 -- it of a LOGICAL one, and only a program made of parts has a constant beyond the range.

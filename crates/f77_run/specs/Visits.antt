@@ -29,16 +29,16 @@ config_in at visit = config_of (bounds_of at.program) at.names (state_in visit)
 
 -- behind m steps or more, and fewer than n, control is not at the statement i
 abbrev pub IsAway : List LineFields → ℕ → Config → ℕ → ℕ → Type 0
-IsAway p i start m n =
-    (k : ℕ) (c : Config) → m ≤ k → k < n → Reaches p k start c → statement_number c.place ≢ i
+IsAway program i start m n =
+    (k : ℕ) (c : Config) → m ≤ k → k < n → Reaches program k start c → statement_number c.place ≢ i
 
 -- behind some of so many steps it is
-pub record IsVisited (p : List LineFields) (i : ℕ) (start : Config) (m n : ℕ) : Type 0 where
+pub record IsVisited (program : List LineFields) (i : ℕ) (start : Config) (m n : ℕ) : Type 0 where
   pub made : ℕ
   pub from : m ≤ made
   pub below : made < n
   pub at : Config
-  pub reaches : Reaches p made start at
+  pub reaches : Reaches program made start at
   pub is : statement_number at.place ≡ i
 
 -- control is at the statement i in the state that is kept

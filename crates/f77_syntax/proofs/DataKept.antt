@@ -9,20 +9,20 @@ use Rattle.f77_tree.specs.declared.data.Constant.TheVariants.{Number, Truth}
 use Rattle.f77_tree.specs.declared.data.Value.{Value}
 use Rattle.f77_syntax.specs.code.View.{clipped}
 use Rattle.f77_tree.specs.Name.{cut}
-use Rattle.f77_nodes.specs.Limits.{largest, magnitude, small_constant, small_value}
+use Rattle.f77_nodes.specs.Limits.{largest_integer, magnitude, small_constant}
 use Rattle.f77_tree.specs.Tree.{GroupFields}
 use Rattle.f77_nodes.specs.Names.{has_short_group_names, data_names}
-use Rattle.f77_nodes.proofs.Constants.{group_constants, data_constants}
+use Rattle.f77_nodes.proofs.Constants.{small_value, group_constants, data_constants}
 use Rattle.f77_syntax.proofs.NodeCounts.{data_nodes}
 use Rattle.f77_syntax.specs.code.Data.{clipped_constant, clip_constant, clip_value, clip_group}
 use Rattle.f77_tree.proofs.Tests.{and_true}
 use Rattle.f77_syntax.proofs.Clip.{constant_clip, small_clipped, short_cuts}
 
 -- Keeping them changes no limit, and within the limits it changes nothing.
-number_clip : (z : ℤ) → nat_le (magnitude (clipped_constant z)) largest ≡ nat_le (magnitude z) largest
-number_clip z = either (nat_le (magnitude z) largest) refl
+number_clip : (z : ℤ) → nat_le (magnitude (clipped_constant z)) largest_integer ≡ nat_le (magnitude z) largest_integer
+number_clip z = either (nat_le (magnitude z) largest_integer) refl
   where
-    either : (b : Bool) → nat_le (magnitude z) largest ≡ b → nat_le (magnitude (cond b z (negsuc largest))) largest ≡ b
+    either : (b : Bool) → nat_le (magnitude z) largest_integer ≡ b → nat_le (magnitude (cond b z (negsuc largest_integer))) largest_integer ≡ b
     either true e = e
     either false e = grind (arith, nat_tests)
 
@@ -47,8 +47,8 @@ constant_same (Truth b) h = refl
 
 value_same : (v : Value) → small_value v ≡ true → clip_value v ≡ v
 value_same v h =
-    let (least, rest) = and_true (nat_le 1 v.times) (nat_le v.times largest && small_constant v.constant) h in
-    let (most, fits) = and_true (nat_le v.times largest) (small_constant v.constant) rest in
+    let (least, rest) = and_true (nat_le 1 v.times) (nat_le v.times largest_integer && small_constant v.constant) h in
+    let (most, fits) = and_true (nat_le v.times largest_integer) (small_constant v.constant) rest in
     rw (small_clipped v.times most, constant_same v.constant fits) refl
 
 values_same : (vs : List Value) → list_all small_value vs ≡ true → map clip_value vs ≡ vs

@@ -8,20 +8,20 @@ use Rattle.f77_tree.specs.declared.data.Constant.{Constant}
 use Rattle.f77_tree.specs.declared.data.Constant.TheVariants.{Number, Truth}
 use Rattle.f77_tree.specs.declared.data.Value.{Value}
 use Rattle.f77_tree.specs.declared.intrinsic.Intrinsic.{Intrinsic}
-use Rattle.f77_tree.specs.declared.intrinsic.Intrinsic.TheVariants as function
 use Rattle.f77_tree.specs.declared.operator.Operator.{Operator}
-use Rattle.f77_tree.specs.declared.operator.Operator.TheVariants as operator
 use Rattle.f77_tree.specs.declared.operator.Sign.{Sign}
 use Rattle.f77_tree.specs.declared.operator.Sign.TheVariants.{Plus, Minus}
 use Rattle.f77_tree.specs.declared.tree.Kind.{Kind}
 use Rattle.f77_tree.specs.declared.tree.Kind.TheVariants.{Integer, Logical}
+use Rattle.f77_tree.specs.Intrinsic.{function_name}
+use Rattle.f77_tree.specs.Operator.{symbol}
 use Rattle.f77_tree.specs.Tree.{Tree, Trees, DeclFields, GroupFields}
 use Rattle.f77_tree.specs.View.{trees}
 
-abbrev pub is_same_kind : Kind → Kind → Bool
-is_same_kind Integer Integer = true
-is_same_kind Logical Logical = true
-is_same_kind _ _ = false
+abbrev pub same_kind : Kind → Kind → Bool
+same_kind Integer Integer = true
+same_kind Logical Logical = true
+same_kind _ _ = false
 
 abbrev pub same_sign : Sign → Sign → Bool
 same_sign Plus Plus = true
@@ -29,29 +29,10 @@ same_sign Minus Minus = true
 same_sign _ _ = false
 
 abbrev pub same_function : Intrinsic → Intrinsic → Bool
-same_function function.Mod function.Mod = true
-same_function function.Iabs function.Iabs = true
-same_function function.Min0 function.Min0 = true
-same_function function.Max0 function.Max0 = true
-same_function _ _ = false
+same_function f g = bytes_eq (function_name f) (function_name g)
 
 abbrev pub same_operator : Operator → Operator → Bool
-same_operator operator.Equivalent operator.Equivalent = true
-same_operator operator.NotEquivalent operator.NotEquivalent = true
-same_operator operator.Or operator.Or = true
-same_operator operator.And operator.And = true
-same_operator operator.Less operator.Less = true
-same_operator operator.LessOrEqual operator.LessOrEqual = true
-same_operator operator.Equal operator.Equal = true
-same_operator operator.NotEqual operator.NotEqual = true
-same_operator operator.GreaterOrEqual operator.GreaterOrEqual = true
-same_operator operator.Greater operator.Greater = true
-same_operator operator.Add operator.Add = true
-same_operator operator.Subtract operator.Subtract = true
-same_operator operator.Multiply operator.Multiply = true
-same_operator operator.Divide operator.Divide = true
-same_operator operator.Power operator.Power = true
-same_operator _ _ = false
+same_operator operator other = bytes_eq (symbol operator) (symbol other)
 
 abbrev pub same_constant : Constant → Constant → Bool
 same_constant (Number z) (Number w) = int_eq z w

@@ -1,5 +1,5 @@
 -- The operators: their texts, their levels and the levels that they want of their operands.
-use Rattle.std.specs.Prelude.{ℕ, List, codes}
+use Rattle.std.specs.Prelude.{ℕ, suc, Bool, true, false, if◌then◌else◌, List, codes}
 use Rattle.f77_tree.specs.declared.operator.Operator.{Operator}
 use Rattle.f77_tree.specs.declared.operator.Operator.TheVariants.{Equivalent, NotEquivalent, Or, And, Less}
 use Rattle.f77_tree.specs.declared.operator.Operator.TheVariants.{LessOrEqual, Equal, NotEqual, GreaterOrEqual}
@@ -46,38 +46,22 @@ level Multiply = 7
 level Divide = 7
 level Power = 8
 
--- the level that is wanted of the operand on the left
-abbrev pub left_level : Operator → ℕ
-left_level Equivalent = 1
-left_level NotEquivalent = 1
-left_level Or = 2
-left_level And = 3
-left_level Less = 6
-left_level LessOrEqual = 6
-left_level Equal = 6
-left_level NotEqual = 6
-left_level GreaterOrEqual = 6
-left_level Greater = 6
-left_level Add = 6
-left_level Subtract = 6
-left_level Multiply = 7
-left_level Divide = 7
-left_level Power = 9
+-- a relational operator
+abbrev pub is_relation : Operator → Bool
+is_relation Less = true
+is_relation LessOrEqual = true
+is_relation Equal = true
+is_relation NotEqual = true
+is_relation GreaterOrEqual = true
+is_relation Greater = true
+is_relation _ = false
 
--- the level that is wanted of the operand on the right
+-- On its left an operator wants an operand of its own level, but a relation and a power want
+-- one of the next; on its right it wants one of the next, but a power wants one of its own.
+abbrev pub left_level : Operator → ℕ
+left_level Power = suc (level Power)
+left_level operator = if is_relation operator then suc (level operator) else level operator
+
 abbrev pub right_level : Operator → ℕ
-right_level Equivalent = 2
-right_level NotEquivalent = 2
-right_level Or = 3
-right_level And = 4
-right_level Less = 6
-right_level LessOrEqual = 6
-right_level Equal = 6
-right_level NotEqual = 6
-right_level GreaterOrEqual = 6
-right_level Greater = 6
-right_level Add = 7
-right_level Subtract = 7
-right_level Multiply = 8
-right_level Divide = 8
-right_level Power = 8
+right_level Power = level Power
+right_level operator = suc (level operator)

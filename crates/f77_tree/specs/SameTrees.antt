@@ -20,21 +20,23 @@ use Rattle.f77_tree.specs.declared.operator.Sign.{Sign}
 use Rattle.f77_tree.specs.declared.operator.Sign.TheVariants.{Plus, Minus}
 use Rattle.f77_tree.specs.declared.tree.Kind.{Kind}
 use Rattle.f77_tree.specs.declared.tree.Kind.TheVariants.{Integer, Logical}
+use Rattle.f77_tree.specs.Intrinsic.{function_name}
+use Rattle.f77_tree.specs.Operator.{symbol}
 use Rattle.f77_tree.specs.Tree.{Tree, Trees, DeclFields, GroupFields}
 use Rattle.f77_tree.specs.Statement.{Statement, same_statement}
 use Rattle.f77_tree.specs.View.{trees}
-use Rattle.f77_tree.specs.Comparing.{is_same_kind, same_sign, same_function, same_operator, same_constant}
+use Rattle.f77_tree.specs.Comparing.{same_kind, same_sign, same_function, same_operator, same_constant}
 use Rattle.f77_tree.specs.Comparing.{same_value, same_tree, same_trees, same_place, same_decl, same_group}
 
 names_decide : (xs ys : List (List ℕ)) → Decides (pointwise bytes_eq xs ys) (xs ≡ ys)
 names_decide = pointwise_decides bytes_decides
 
-kind_is : (x y : Kind) → is_same_kind x y ≡ true → x ≡ y
+kind_is : (x y : Kind) → same_kind x y ≡ true → x ≡ y
 kind_is Integer Integer e = refl
 kind_is Logical Logical e = refl
 kind_is _ _ e = absurd (true≢false (sym e))
 
-kind_own : (x : Kind) → is_same_kind x x ≡ true
+kind_own : (x : Kind) → same_kind x x ≡ true
 kind_own Integer = refl
 kind_own Logical = refl
 
@@ -55,10 +57,7 @@ function_is function.Max0 function.Max0 e = refl
 function_is _ _ e = absurd (true≢false (sym e))
 
 function_own : (x : Intrinsic) → same_function x x ≡ true
-function_own function.Mod = refl
-function_own function.Iabs = refl
-function_own function.Min0 = refl
-function_own function.Max0 = refl
+function_own x = (bytes_decides (function_name x) (function_name x)).1 refl
 
 operator_is : (x y : Operator) → same_operator x y ≡ true → x ≡ y
 operator_is operator.Equivalent operator.Equivalent e = refl
@@ -79,21 +78,7 @@ operator_is operator.Power operator.Power e = refl
 operator_is _ _ e = absurd (true≢false (sym e))
 
 operator_own : (x : Operator) → same_operator x x ≡ true
-operator_own operator.Equivalent = refl
-operator_own operator.NotEquivalent = refl
-operator_own operator.Or = refl
-operator_own operator.And = refl
-operator_own operator.Less = refl
-operator_own operator.LessOrEqual = refl
-operator_own operator.Equal = refl
-operator_own operator.NotEqual = refl
-operator_own operator.GreaterOrEqual = refl
-operator_own operator.Greater = refl
-operator_own operator.Add = refl
-operator_own operator.Subtract = refl
-operator_own operator.Multiply = refl
-operator_own operator.Divide = refl
-operator_own operator.Power = refl
+operator_own x = (bytes_decides (symbol x) (symbol x)).1 refl
 
 constant_is : (x y : Constant) → same_constant x y ≡ true → x ≡ y
 constant_is (Number z) (Number w) e = ap Number ((signed_Decides z w).0 e)

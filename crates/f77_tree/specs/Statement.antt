@@ -9,7 +9,7 @@ use Rattle.f77_tree.specs.declared.statement.Stmt.{Stmt}
 use Rattle.f77_tree.specs.declared.statement.Stmt.TheOpen.{Stmt-F}
 use Rattle.f77_tree.specs.declared.statement.Stmt.TheFolds.{fold-Stmt}
 use Rattle.f77_tree.specs.declared.tree.Kind.{Kind}
-use Rattle.f77_tree.specs.Comparing.{is_same_kind, same_tree, same_trees, same_decl, same_group}
+use Rattle.f77_tree.specs.Comparing.{same_kind, same_tree, same_trees, same_decl, same_group}
 use Rattle.f77_tree.specs.Data.{data_group_of}
 use Rattle.f77_tree.specs.Declaration.{decl_of}
 use Rattle.f77_tree.specs.Joined.{has_items}
@@ -152,7 +152,7 @@ abbrev pub same_statement : Statement → Statement → Bool
 same_statement (Statement.Subroutine name names) (Statement.Subroutine other others) =
     bytes_eq name other && pointwise bytes_eq names others
 same_statement (Statement.Declare kind ds) (Statement.Declare other es) =
-    is_same_kind kind other && pointwise same_decl ds es
+    same_kind kind other && pointwise same_decl ds es
 same_statement (Statement.Dimension ds) (Statement.Dimension es) = pointwise same_decl ds es
 same_statement (Statement.Preset gs) (Statement.Preset hs) = pointwise same_group gs hs
 same_statement (Statement.Assign name items t) (Statement.Assign other others u) =

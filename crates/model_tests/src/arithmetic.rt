@@ -96,7 +96,7 @@ pub(crate) fn related(operator: Operator, a: i32, b: i32) -> Option<bool> {
     }
 }
 
-/// `is_relation` (f77_run/specs/Value.antt; 6.3).
+/// `is_relation` (f77_tree/specs/Operator.antt; 6.3).
 pub(crate) fn is_relation(operator: Operator) -> bool {
     related(operator, 0, 0).is_some()
 }

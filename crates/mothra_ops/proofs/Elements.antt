@@ -5,7 +5,7 @@ use Rattle.std.specs.List.{AllZip}
 use Rattle.std.specs.Prelude.{if◌then◌else◌}
 use Rattle.std.specs.Str.{bytes_eq}
 use Rattle.std.proofs.Common.{true≢false, sym}
-use Rattle.f77_tree.specs.Comparing.{same_tree, same_trees}
+use Rattle.f77_tree.specs.Comparing.{same_tree, same_trees, same_kind}
 use Rattle.f77_tree.specs.SameTrees.{tree_equiv}
 use Rattle.f77_tree.specs.Tree.{Tree, Trees}
 use Rattle.f77_tree.specs.View.{trees, tree_of}
@@ -15,7 +15,6 @@ use Rattle.f77_tree.proofs.Views.{ref_view, reference_view}
 use Rattle.f77_nodes.specs.Node.{NodeOf}
 use Rattle.f77_tree.specs.declared.tree.Expr.TheViews as views
 use Rattle.f77_tree.specs.declared.tree.Kind.{Kind}
-use Rattle.f77_legal.specs.Kinds.{same_kind}
 use Rattle.f77_legal.specs.Names.{Symbol}
 use Rattle.mothra_ops.specs.Pools.{Reference, as_tree, reference_of, same_reference, scalar}
 use Rattle.mothra_ops.specs.Replacements.{as_variable, is_element, is_constant, drawn, kind_of_expression, others}

@@ -9,7 +9,7 @@ use Rattle.f77_tree.specs.declared.operator.Operator.TheVariants as operator
 use Rattle.f77_tree.specs.declared.operator.Sign.TheVariants.{Minus}
 use Rattle.f77_tree.specs.declared.tree.Kind.{Kind}
 use Rattle.f77_tree.specs.declared.tree.Kind.TheVariants.{Integer, Logical}
-use Rattle.f77_tree.specs.Comparing.{same_operator, same_tree}
+use Rattle.f77_tree.specs.Comparing.{same_operator, same_tree, same_kind}
 use Rattle.f77_tree.specs.Grammar.{is_call, is_name}
 use Rattle.f77_tree.specs.Statement.{Statement, form_of, same_statement}
 use Rattle.f77_tree.specs.Tree.{Tree, Trees}
@@ -18,7 +18,6 @@ use Rattle.f77_nodes.specs.Node.{NodeOf}
 use Rattle.f77_program.specs.code.Formed.{all_formed, formed, is_some_list}
 use Rattle.f77_program.proofs.Back.{reference_formed}
 use Rattle.f77_program.proofs.Forming.{a_reference}
-use Rattle.f77_legal.specs.Kinds.{same_kind}
 use Rattle.f77_legal.specs.Names.{Symbol}
 use Rattle.mothra_codes.specs.declared.op.Op.{Op}
 use Rattle.mothra_codes.specs.declared.op.Op.TheVariants.{Aar, Abs, Acr, Aor, Asr, Car, Cnr, Crp, Csr, Der, Dsa}

@@ -5,7 +5,7 @@ use Rattle.std.specs.Prelude.{true, false, not, nat_eq, nat_lt, nat_le, List, []
 use Rattle.std.specs.Prelude.{length, map, filter, if◌then◌else◌}
 use Rattle.std.specs.List.{list_any}
 use Rattle.std.specs.Str.{bytes_eq}
-use Rattle.f77_tree.specs.Comparing.{same_tree, same_operator}
+use Rattle.f77_tree.specs.Comparing.{same_tree, same_operator, same_kind}
 use Rattle.f77_tree.specs.Statement.{same_statement, form_of, Statement}
 use Rattle.f77_nodes.specs.Node.{NodeOf}
 use Rattle.f77_tree.specs.Tree.{Tree, Trees}
@@ -18,7 +18,7 @@ use Rattle.f77_tree.specs.declared.operator.Operator.TheVariants as operator
 use Rattle.f77_tree.specs.declared.operator.Sign.TheVariants.{Minus}
 use Rattle.f77_tree.specs.declared.tree.Kind.{Kind}
 use Rattle.f77_tree.specs.declared.tree.Kind.TheVariants.{Integer, Logical}
-use Rattle.f77_legal.specs.Kinds.{same_kind, result_kind}
+use Rattle.f77_legal.specs.Kinds.{result_kind}
 use Rattle.f77_legal.specs.Names.{Symbol}
 use Rattle.mothra_ops.specs.Pools.{PoolFields, Reference, as_tree, is_executable, same_reference, scalar}
 use Rattle.mothra_codes.specs.declared.op.Op.{Op}

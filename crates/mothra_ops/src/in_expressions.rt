@@ -3,7 +3,7 @@
 ghost use Rattle.std.specs.Prelude.{◌≡◌, [], map, if◌then◌else◌, IfOk, IfErr};
 ghost use Rattle.f77_nodes.specs.Node.{NodeOf};
 ghost use Rattle.f77_tree.specs.View.{tree_of};
-ghost use Rattle.f77_legal.specs.Kinds.{same_kind};
+ghost use Rattle.f77_tree.specs.Comparing.{same_kind};
 ghost use Rattle.f77_tree.specs.declared.tree.Kind.TheVariants.{Integer};
 ghost use Rattle.mothra_ops.specs.Pools.{as_tree, pool_fields, scalar};
 ghost use Rattle.mothra_ops.specs.Replacements as model;

@@ -1,9 +1,8 @@
 //! What operators put in the place of a constant, a scalar or an array reference: other ones of the program.
 
 ghost use Rattle.std.specs.Prelude.{◌≡◌, ◌&&◌, not, map, filter, IfOk, IfErr};
-ghost use Rattle.f77_tree.specs.Comparing.{same_tree};
+ghost use Rattle.f77_tree.specs.Comparing.{same_tree, same_kind};
 ghost use Rattle.f77_tree.specs.View.{tree_of};
-ghost use Rattle.f77_legal.specs.Kinds.{same_kind};
 ghost use Rattle.mothra_ops.specs.Pools.{as_tree, pool_fields, reference_of, same_reference, scalar};
 ghost use Rattle.mothra_ops.specs.Replacements as model;
 ghost use Rattle.mothra_ops.specs.Replacements.{others};

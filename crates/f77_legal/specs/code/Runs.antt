@@ -10,7 +10,7 @@ use Rattle.f77_tree.specs.declared.tree.Kind.{Kind}
 use Rattle.f77_tree.specs.Tree.{GroupFields}
 use Rattle.f77_tree.specs.Statement.{Statement}
 use Rattle.f77_legal.specs.declared.presets.Remaining.{Remaining}
-use Rattle.f77_legal.specs.Kinds.{same_kind}
+use Rattle.f77_tree.specs.Comparing.{same_kind}
 use Rattle.f77_legal.specs.Names.{Symbol}
 use Rattle.f77_legal.specs.Presets.{product, constant_kind, given_kinds, groups_of}
 

@@ -7,7 +7,7 @@ use Rattle.f77_tree.specs.declared.tree.Kind.{Kind}
 use Rattle.f77_tree.specs.declared.tree.Kind.TheVariants.{Integer, Logical}
 use Rattle.f77_legal.specs.Heading.{dummies}
 use Rattle.f77_legal.specs.Names.{Symbol, kind_of}
-use Rattle.f77_legal.specs.Presets.{preset_elements}
+use Rattle.f77_legal.specs.Presets.{element_count}
 use Rattle.f77_values.specs.declared.value.Value.{Value}
 use Rattle.f77_values.specs.declared.value.Value.TheVariants as held
 use Rattle.f77_run.specs.Value.{Store}
@@ -27,4 +27,4 @@ pub record HasValues (kind : Kind) (n : ℕ) (cells : List (Option Value)) : Typ
 abbrev pub IsTyped : List LineFields → Store → Type 0
 IsTyped program s =
     (name : Symbol) → list_any (bytes_eq name) (dummies program) ≡ true
-    → HasValues (kind_of program name) (preset_elements program name) (s name)
+    → HasValues (kind_of program name) (element_count program name) (s name)

@@ -11,7 +11,7 @@ use Rattle.f77_syntax.specs.code.Names.{names_at}
 use Rattle.f77_syntax.specs.code.Declaration.{bound_at}
 use Rattle.f77_syntax.specs.code.Joined.{items_at}
 use Rattle.f77_tree.specs.Name.{cut}
-use Rattle.f77_nodes.specs.Limits.{largest, magnitude}
+use Rattle.f77_nodes.specs.Limits.{largest_integer, magnitude}
 use Rattle.f77_syntax.specs.Reading.{◌>>=◌, strip}
 use Rattle.f77_syntax.specs.code.Reading.{tree_after, past_comma}
 use Rattle.f77_tree.specs.Tree.{GroupFields}
@@ -78,7 +78,7 @@ groups_at s = groups_within (suc (length s)) s
 -- What the code keeps of them: the first six characters of a name, a repeat that is
 -- too large as the least one that is, a number that is too large as -2147483648.
 abbrev pub clipped_constant : ℤ → ℤ
-clipped_constant z = if nat_le (magnitude z) largest then z else negsuc largest
+clipped_constant z = if nat_le (magnitude z) largest_integer then z else negsuc largest_integer
 
 abbrev pub clip_constant : Constant → Constant
 clip_constant (Number z) = Number (clipped_constant z)

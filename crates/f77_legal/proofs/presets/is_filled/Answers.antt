@@ -2,7 +2,7 @@ use Rattle.std.proofs.Common.{arith, ◌≡◌, ◌+◌, ◌<◌, length, false,
 use Rattle.std.specs.Prelude.{min, Some, None}
 use Rattle.std.specs.Option.{option_map_or}
 use Rattle.std.specs.Cmp.Lexicographic.{pointwise}
-use Rattle.f77_legal.specs.Kinds.{same_kind}
+use Rattle.f77_tree.specs.Comparing.{same_kind}
 use Rattle.f77_legal.specs.NameTable.{array_bounds, kind_at}
 use Rattle.f77_legal.specs.Presets.{product}
 use Rattle.f77_legal.specs.code.Runs.{kinds_left, behind_kinds, kinds_wanted}

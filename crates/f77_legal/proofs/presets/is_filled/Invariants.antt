@@ -1,7 +1,7 @@
 use Rattle.std.proofs.Common.{◌≡◌, ◌<◌, length, drop}
 use Rattle.std.specs.Cmp.Lexicographic.{pointwise}
 use Rattle.f77_tree.specs.Data.{data_group_of}
-use Rattle.f77_legal.specs.Kinds.{same_kind}
+use Rattle.f77_tree.specs.Comparing.{same_kind}
 use Rattle.f77_legal.specs.NameTable.{array_bounds, kind_at}
 use Rattle.f77_legal.specs.code.Runs.{fills, kinds_left, kinds_wanted}
 use Rattle.f77_legal.proofs.presets.is_filled.Given as goal

@@ -1,6 +1,6 @@
 use Rattle.std.proofs.Common.{rules, ◌≡◌, ◌||◌, ◌-◌, ◌∷◌, true, sym, ap, ◌∙◌}
 use Rattle.std.specs.Prelude.{◌==◌, None}
-use Rattle.f77_legal.specs.Kinds.{same_kind}
+use Rattle.f77_tree.specs.Comparing.{same_kind}
 use Rattle.f77_legal.specs.code.Runs.{kinds_in, behind_kinds}
 use Rattle.f77_legal.proofs.Runs.{passed, at_end, within}
 use Rattle.f77_legal.proofs.presets.take_run.Goals as goal

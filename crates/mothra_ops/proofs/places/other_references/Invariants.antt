@@ -1,6 +1,6 @@
 use Rattle.std.proofs.Common.{◌≡◌, not, map, filter, take}
 use Rattle.std.specs.Prelude.{◌&&◌}
-use Rattle.f77_legal.specs.Kinds.{same_kind}
+use Rattle.f77_tree.specs.Comparing.{same_kind}
 use Rattle.mothra_ops.specs.Pools.{pool_fields, reference_of, same_reference}
 use Rattle.mothra_ops.proofs.places.other_references.Given as goal
 

@@ -3,7 +3,7 @@ use Rattle.std.specs.Borrow.{Bor}
 use Rattle.f77_tree.specs.Tree.{Tree}
 use Rattle.f77_tree.specs.View.{trees}
 use Rattle.f77_tree.specs.declared.tree.Ref.{Ref}
-use Rattle.f77_legal.specs.Kinds.{same_kind}
+use Rattle.f77_tree.specs.Comparing.{same_kind}
 use Rattle.f77_legal.specs.Names.{Symbol}
 use Rattle.mothra_ops.specs.Pools.{pool_fields, reference_of}
 use Rattle.mothra_ops.proofs.Filters.{pushed, skipped}

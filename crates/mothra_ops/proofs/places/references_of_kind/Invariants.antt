@@ -1,5 +1,5 @@
 use Rattle.std.proofs.Common.{◌≡◌, map, filter, take}
-use Rattle.f77_legal.specs.Kinds.{same_kind}
+use Rattle.f77_tree.specs.Comparing.{same_kind}
 use Rattle.mothra_ops.specs.Pools.{pool_fields, reference_of}
 use Rattle.mothra_ops.proofs.places.references_of_kind.Given as goal
 
