@@ -12,6 +12,7 @@ from unittest import mock
 
 import running  # noqa: F401
 from mutants.gate import edits
+from mutants.program.roots import ROOT
 from mutants.statuses import FAULT, SUCCESS
 
 SOURCE = """\
@@ -117,6 +118,14 @@ class Reading(Repository):
         same = self.put("c", edit_text("    x + 1", "    1"))
         groups = edits.in_groups([one, other, same], self.crate)
         self.assertEqual([list(group.values()) for group in groups], [[one, other], [same]])
+
+
+class Stored(unittest.TestCase):
+    def test_each_edit_of_the_repository_applies(self) -> None:
+        for folder in ("must-fail", "more-edits"):
+            for path in sorted(ROOT.glob(f"crates/*/{folder}/*.edit")):
+                with self.subTest(f"{path.parent.parent.name}/{path.stem}"):
+                    self.assertTrue(edits.read_edit(path, path.parent.parent))
 
 
 class Judging(unittest.TestCase):
