@@ -1,5 +1,4 @@
--- Operations that stand for actions in each plan that begins
--- with a table of constants, and operations made of terms.
+-- Which actions can be compiled.
 use Rattle.std.specs.Prelude.{◌&&◌, ℕ, Bool, true, false, nat_lt}
 use Rattle.std.specs.List.{list_all}
 use Rattle.f77_actions.specs.declared.action.Action.{Action, AssignNumber, AssignTruth, Goto}

@@ -1,5 +1,5 @@
--- One step of a machine over slots: what it does to its place, its slots and its active
--- DOs, and which slots and statements it asks for. Statements are numbered from 0 here.
+-- One step of a machine over slots: what it does to its place, its
+-- slots and its active DOs. Statements are numbered from 0 here.
 use Rattle.std.specs.Prelude.{◌+◌, ◌-◌, ◌∷◌, ◌+ℤ◌, if◌then◌else◌, nat_lt}
 use Rattle.std.specs.Prelude.{ℕ, zero, suc, List, [], Option, Some, None, is_some, slice_get, slice_set}
 use Rattle.std.specs.Prelude.{ℤ, pos, negsuc, Bool, true, false, option_map, Result, Ok, Err}
@@ -163,7 +163,6 @@ moved statements s = at s.place
         s.cells s.turns) (turn_at s.turns d) else None)
         (slice_get statements d)
 
--- What statements name is there, of so many slots and
--- so many statements: these numbers are below that one.
+-- each of these numbers is below that one
 abbrev pub are_below : ℕ → List ℕ → Bool
 are_below n numbers = list_all (λ k. nat_lt k n) numbers

@@ -1,4 +1,4 @@
--- The code of a program, and that of one that differs in a statement.
+-- The code of a program.
 use Rattle.std.specs.Prelude.{List}
 use Rattle.f77_actions.specs.declared.resolved.Resolved.{Resolved}
 use Rattle.f77_code.specs.declared.code.Code.{Code}

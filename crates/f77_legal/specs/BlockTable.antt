@@ -6,11 +6,11 @@ use Rattle.f77_legal.specs.Blocks.{is_block_if, statement_numbers, has_at}
 use Rattle.f77_legal.specs.Blocks.{block_end, branch_end, is_in_block, is_end_of_block, ends_else, begins_branch}
 use Rattle.f77_legal.specs.declared.blocks.Blocks.{Blocks}
 
--- what the table holds of each statement: of a block IF its END IF,
--- of an ELSE the end of its branch, of what begins a branch its end
+-- what the table holds of each statement: of a block IF its END IF
 abbrev pub block_end_at : List LineFields → ℕ → Option ℕ
 block_end_at program i = if has_at is_block_if program i then block_end program i else None
 
+-- what it holds of what begins a branch: the end of that branch
 abbrev pub branch_end_at : List LineFields → ℕ → Option ℕ
 branch_end_at program i = if begins_branch program i then branch_end program i else None
 

@@ -26,6 +26,7 @@ breaks Nests program i statement = breaks_nesting program i
 breaks Jumps program i statement = jumps_in program i statement
 breaks Variables program i statement = sets_variable program i statement
 
+-- what is told of the line of a statement that breaks the clause: C4, C5, or C7 to C12
 abbrev pub clause_fault : Clause → ℕ → CheckFault
 clause_fault Kinds line = TypeClash line
 clause_fault Bounds line = Dimensions line

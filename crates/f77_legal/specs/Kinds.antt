@@ -10,7 +10,7 @@ use Rattle.f77_tree.specs.declared.tree.Kind.{Kind}
 use Rattle.f77_tree.specs.declared.tree.Kind.TheVariants.{Integer, Logical}
 use Rattle.f77_legal.specs.Names.{Symbol}
 
--- arithmetic is INTEGER, a relation and a logical operator are LOGICAL
+-- arithmetic is INTEGER, a relation and a logical operator are LOGICAL (section 6)
 abbrev pub result_kind : Operator → Kind
 result_kind Add = Integer
 result_kind Subtract = Integer
@@ -19,7 +19,7 @@ result_kind Divide = Integer
 result_kind Power = Integer
 result_kind _ = Logical
 
--- a logical operator has LOGICAL operands, arithmetic and a relation have INTEGER ones
+-- a logical operator has LOGICAL operands, arithmetic and a relation have INTEGER ones (section 6)
 abbrev pub operand_kind : Operator → Kind
 operand_kind Equivalent = Logical
 operand_kind NotEquivalent = Logical
@@ -50,13 +50,13 @@ abbrev mutual
   are_integer kinds (Trees.Then tree trees) =
       is_of_kind kinds Integer tree && are_integer kinds trees
 
--- the expression, where there is one, is of this kind
+-- the expression, where there is one, is of this kind (section 6)
 abbrev pub is_of_kind_if_given : (Symbol → Kind) → Kind → Option Tree → Bool
 is_of_kind_if_given kinds kind None = true
 is_of_kind_if_given kinds kind (Some tree) = is_of_kind kinds kind tree
 
--- the kinds of a statement agree: a condition is LOGICAL, and
--- what else is neither assigned nor a parameter is INTEGER
+-- the kinds of a statement agree: what is assigned has that of its target, a condition
+-- is LOGICAL, other expressions and a DO variable are INTEGER (sections 10 and 11)
 abbrev pub kinds_agree : (Symbol → Kind) → Statement → Bool
 kinds_agree kinds (Statement.Assign name items tree) =
     are_integer kinds items && is_of_kind kinds (kinds name) tree

@@ -7,14 +7,14 @@ use Rattle.std.specs.Option.{option_and_then, option_map_or}
 use Rattle.f77_program.specs.Program.{LineFields}
 use Rattle.f77_tree.specs.Statement.{Statement, jumps_of}
 
--- the labels that stand on a statement, in order
+-- the labels that stand on a statement, in order (3.4)
 abbrev pub labels : List LineFields → List ℕ
 labels program = filter_map (λ line. line.label) program
 
 abbrev pub bears : ℕ → LineFields → Bool
 bears label line = option_map_or (λ own. own == label) line.label false
 
--- it stands on two statements
+-- it stands on two statements (3.4)
 abbrev pub is_double : List LineFields → ℕ → Bool
 is_double program label = nat_le 2 (length (filter (bears label) program))
 
@@ -33,14 +33,14 @@ abbrev pub terminal_label : Statement → Option ℕ
 terminal_label (Statement.Loop label name first last step) = Some label
 terminal_label _ = None
 
--- the statement names a label that stands on none
+-- the statement names a label that stands on none (11.1 to 11.10)
 abbrev pub names_no_label : List LineFields → Statement → Bool
 names_no_label program statement =
     list_any (λ label. not (is_some (label_place program label))) (jumps_of statement)
     || option_map_or (λ label. not (is_some (label_place program label)))
     (terminal_label statement) false
 
--- control may go there: the statement is executable, and no ELSE IF or ELSE
+-- control may go there: the statement is executable, and no ELSE IF or ELSE (11.1 to 11.10)
 abbrev pub is_target : Statement → Bool
 is_target (Statement.Subroutine name names) = false
 is_target (Statement.Declare kind declarations) = false
@@ -50,7 +50,7 @@ is_target (Statement.ElseIf tree) = false
 is_target Statement.Else = false
 is_target _ = true
 
--- a jump of the statement leads to one where control may not go
+-- a jump of the statement leads to one where control may not go (11.1 to 11.10)
 abbrev pub jumps_badly : List LineFields → Statement → Bool
 jumps_badly program statement =
     list_any (λ label. option_map_or (λ target. not (is_target target))
@@ -75,7 +75,7 @@ is_terminal Statement.Stop = false
 is_terminal Statement.End = false
 is_terminal _ = true
 
--- the statement is a DO that names one which may be no terminal statement
+-- the statement is a DO that names one which may be no terminal statement (11.10)
 abbrev pub ends_badly : List LineFields → Statement → Bool
 ends_badly program statement =
     option_map_or (λ label. option_map_or (λ last. not (is_terminal last))

@@ -26,6 +26,8 @@ is_too_large program =
     || nat_lt 10000
     (sum (map (element_count program) (filter (is_array program) (symbols program)))))
 
+-- C2 of each name that is REAL by its first letter, then C3 of each
+-- that is declared twice, or names the unit or a function as well
 abbrev pub name_faults : List LineFields → List CheckFault
 name_faults program = map RealName (filter (is_real program) (symbols program))
     ++ map Twice (filter (is_twice program) (symbols program))
@@ -33,12 +35,15 @@ name_faults program = map RealName (filter (is_real program) (symbols program))
 abbrev pub clause_faults : List Clause → List LineFields → List CheckFault
 clause_faults clauses program = flat_map (λ clause. faults_of clause program) clauses
 
+-- C6 of each label that stands on two statements
 abbrev pub label_faults : List LineFields → List CheckFault
 label_faults program = map DoubleLabel (filter (is_double program) (labels program))
 
+-- C13 of each line whose DATA statement has a name or a value that may not stand there
 abbrev pub data_faults : List LineFields → List CheckFault
 data_faults program = map BadData (lines_where (presets_badly program) program)
 
+-- C14 of a program with too many statements, names or elements
 abbrev pub too_large_faults : List LineFields → List CheckFault
 too_large_faults program = if is_too_large program then TooMany ∷ [] else []
 
@@ -65,9 +70,11 @@ faults program =
     ++ (data_faults program
     ++ too_large_faults program))))
 
+-- the program is legal: no clause has a fault
 abbrev pub IsLegal : List LineFields → Type 0
 IsLegal program = faults program ≡ []
 
+-- what is told of a program that is not legal: the first of its faults
 abbrev pub first_fault : List LineFields → Option CheckFault
 first_fault program = slice_get (faults program) 0
 

@@ -29,10 +29,11 @@ is_left program i j d = range_holds program d i && not (range_holds program d j)
 abbrev pub left_by : List LineFields → ℕ → ℕ → List ℕ
 left_by program i j = filter (is_left program i j) (statement_numbers program)
 
--- the DOs that end at t, the innermost first
+-- the DO d ends at t
 abbrev pub ends_at : List LineFields → ℕ → ℕ → Bool
 ends_at program t d = option_map_or (λ e. e == t) (terminal program d) false
 
+-- the DOs that end at t, the innermost first
 abbrev pub loops_ending : List LineFields → ℕ → List ℕ
 loops_ending program t = reverse (filter (ends_at program t) (statement_numbers program))
 
@@ -40,7 +41,7 @@ loops_ending program t = reverse (filter (ends_at program t) (statement_numbers 
 abbrev pub branches : List LineFields → ℕ → List ℕ
 branches program k = filter (λ i. branch_holds program i k) (statement_numbers program)
 
--- the DOs whose range holds k and the branches that hold it, the outermost first
+-- the DOs whose range holds k and the branches that hold it, the outermost first (11.6 to 11.10)
 abbrev pub enclosing : List LineFields → ℕ → List ℕ
 enclosing program k =
     filter (λ i. range_holds program i k || branch_holds program i k) (statement_numbers program)
@@ -57,6 +58,7 @@ ends_outside program d t =
     && list_all (λ e. not (range_holds program e d) || range_holds program e t)
     (statement_numbers program)))
 
+-- the DO d has its terminal statement, and that stands where the DO may not end (11.10)
 abbrev pub breaks_range : List LineFields → ℕ → Bool
 breaks_range program d = option_map_or (ends_outside program d) (terminal program d) false
 
@@ -68,10 +70,11 @@ AreNested program = (d : ℕ) → breaks_range program d ≡ false
 abbrev pub breaks_nesting : List LineFields → ℕ → Bool
 breaks_nesting program i = breaks_block program i || breaks_range program i
 
--- control goes from i to j, and into a range or a branch from outside of it
+-- control goes from i to j, and into a range or a branch from outside of it (11.6 to 11.10)
 abbrev pub goes_in : List LineFields → ℕ → ℕ → Bool
 goes_in program i j = not (starts_with (λ a b. a == b) (enclosing program i) (enclosing program j))
 
+-- a jump of the statement i leads into a range or a branch from outside of it (11.6 to 11.10)
 abbrev pub jumps_in : List LineFields → ℕ → Statement → Bool
 jumps_in program i statement =
     list_any (λ label. option_map_or (goes_in program i) (label_place program label) false)
@@ -84,6 +87,7 @@ set_by (Statement.LogicalIf tree statement) = set_by statement
 set_by (Statement.Loop label name first last step) = Some name
 set_by _ = None
 
+-- the DO variable of a DO; other statements have none (11.10)
 abbrev pub do_variable_of : Statement → Option Symbol
 do_variable_of (Statement.Loop label name first last step) = Some name
 do_variable_of _ = None

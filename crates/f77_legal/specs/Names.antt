@@ -86,20 +86,20 @@ abbrev pub first_item_or : {X : Type 0} → X → List X → X
 first_item_or other [] = other
 first_item_or other (x ∷ xs) = x
 
--- the kind of a name, INTEGER where no type statement
--- gives one, and its bounds, none for a variable
+-- the kind of a name, INTEGER where no type statement gives one (4.1.2 and 8.4)
 abbrev pub kind_of : List LineFields → Symbol → Kind
 kind_of program name = first_item_or Integer (kinds_given (mentions program) name)
 
+-- the bounds of a name, none for a variable (8.1 and 8.4)
 abbrev pub bounds_of : List LineFields → Symbol → List ℕ
 bounds_of program name = first_item_or [] (bounds_given (mentions program) name)
 
--- its first letter is I to N
+-- its first letter is I to N (4.1.2)
 abbrev pub is_integer_name : Symbol → Bool
 is_integer_name [] = false
 is_integer_name (letter ∷ rest) = nat_le 73 letter && nat_le letter 78
 
--- the name is REAL by its first letter
+-- the name is REAL by its first letter (4.1.2)
 abbrev pub is_real : List LineFields → Symbol → Bool
 is_real program name =
     (length (kinds_given (mentions program) name) == 0) && not (is_integer_name name)
@@ -108,14 +108,15 @@ abbrev pub unit_name_of : Statement → Option Symbol
 unit_name_of (Statement.Subroutine name names) = Some name
 unit_name_of _ = None
 
+-- the name of the unit, which its SUBROUTINE statement gives (15.6)
 abbrev pub unit_name : List LineFields → Option Symbol
 unit_name program = option_and_then (λ line. unit_name_of line.stmt) (slice_get program 0)
 
 abbrev pub names_unit : List LineFields → Symbol → Bool
 names_unit program name = option_map_or (bytes_eq name) (unit_name program) false
 
--- the name is typed twice, given bounds twice or a
--- dummy twice, or names the unit or a function as well
+-- the name is typed twice, given bounds twice or a dummy
+-- twice, or names the unit or a function as well (8.1 and 8.4)
 abbrev pub is_twice : List LineFields → Symbol → Bool
 is_twice program name =
     nat_le 2 (length (kinds_given (mentions program) name))

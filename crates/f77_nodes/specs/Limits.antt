@@ -42,7 +42,6 @@ is_small_node _ = true
 abbrev pub statement_constants : Statement → Bool
 statement_constants s = list_all is_small_node (nodes_of s)
 
--- The statement itself is a node, and so are each dummy argument, declared name, name and
--- value of DATA, label and DO variable; the unit's name, bounds and repeats are none.
+-- how many nodes the statement has, itself counted
 abbrev pub statement_nodes : Statement → ℕ
 statement_nodes s = length (nodes_of s)

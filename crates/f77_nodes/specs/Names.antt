@@ -25,21 +25,21 @@ abbrev pub of_value : (Tree → Bool) → Option Tree → Bool
 of_value p None = true
 of_value p (Some t) = p t
 
--- The limits: names of six characters at most, bounds that INTEGER has, and a node for each name.
+-- a declared name has six characters at most
 abbrev pub decl_name : DeclFields → Bool
 decl_name d = is_short d.name
 
 abbrev pub declaration_names : List DeclFields → Bool
 declaration_names ds = list_all decl_name ds
 
--- The limits: names of six characters at most, numbers that
--- INTEGER has, and a node for each name and each value.
+-- each name of a group of DATA has six characters at most
 abbrev pub has_short_group_names : GroupFields → Bool
 has_short_group_names g = list_all is_short g.names
 
 abbrev pub data_names : List GroupFields → Bool
 data_names gs = list_all has_short_group_names gs
 
+-- each name of the statement has six characters at most (ANSI X3.9-1978, 2.2)
 abbrev pub statement_names : Statement → Bool
 statement_names (Statement.Subroutine name names) = is_short name && list_all is_short names
 statement_names (Statement.Declare kind ds) = declaration_names ds

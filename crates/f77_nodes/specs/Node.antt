@@ -39,6 +39,7 @@ abbrev mutual
   all_parts Trees.None = []
   all_parts (Trees.Then t ts) = parts t ++ all_parts ts
 
+-- the nodes of an expression: one for itself, and one for each of its parts, in preorder
 abbrev pub tree_nodes : Tree → List NodeOf
 tree_nodes t = map NodeOf.Part (parts t)
 
@@ -87,18 +88,21 @@ nodes_behind Statement.Stop = []
 nodes_behind Statement.Trap = []
 nodes_behind Statement.End = []
 
+-- the nodes of a statement: node 0 is the statement itself
 abbrev pub nodes_of : Statement → List NodeOf
 nodes_of s = NodeOf.Itself s ∷ nodes_behind s
 
--- The labels of a statement and the names that its nodes bear, in order of appearance.
+-- the label that a node is
 abbrev pub label_of : NodeOf → Option ℕ
 label_of (NodeOf.Labelled label) = Some label
 label_of _ = None
 
+-- the name that a reference bears
 abbrev pub tree_name : Tree → Option (List ℕ)
 tree_name (Tree.Reference name items) = Some name
 tree_name _ = None
 
+-- the name that a node bears
 abbrev pub node_name : NodeOf → Option (List ℕ)
 node_name (NodeOf.Target name items) = Some name
 node_name (NodeOf.Part t) = tree_name t
@@ -106,6 +110,7 @@ node_name (NodeOf.Named name) = Some name
 node_name (NodeOf.Declared d) = Some d.name
 node_name _ = None
 
+-- the names that the nodes of a statement bear, in order of appearance
 abbrev pub names_of : Statement → List (List ℕ)
 names_of s = filter_map node_name (nodes_of s)
 

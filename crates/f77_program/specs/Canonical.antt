@@ -1,4 +1,4 @@
--- The canonical text of a tree.
+-- The canonical texts of expressions and statements.
 use Rattle.std.specs.Prelude.{ℕ, List, [], ◌∷◌, ◌++◌, nat_lt, if◌then◌else◌, codes, Option, Some, None}
 use Rattle.std.specs.Fmt.{decimal}
 use Rattle.f77_tree.specs.Operator.{symbol, sign_symbol, level, left_level, right_level}

@@ -1,5 +1,4 @@
--- Initial values (ANSI X3.9-1978, section 9): whether
--- some text spells them, and their canonical text.
+-- The canonical text of initial values (ANSI X3.9-1978, section 9).
 use Rattle.std.specs.Prelude.{ℕ, List, [], ◌++◌, codes, ◌==◌, if◌then◌else◌}
 use Rattle.std.specs.Fmt.{decimal, signed_decimal}
 use Rattle.f77_tree.specs.declared.data.Constant.{Constant}
@@ -9,7 +8,7 @@ use Rattle.f77_tree.specs.Grammar.{truth_constant_text}
 use Rattle.f77_tree.specs.Joined.{separated}
 use Rattle.f77_tree.specs.Tree.{GroupFields}
 
--- The canonical text, as I,J/1,2/,K/3*0/.
+-- a number, with its sign where that is minus, or a truth value
 abbrev pub constant_text : Constant → List ℕ
 constant_text (Number z) = signed_decimal z
 constant_text (Truth b) = truth_constant_text b
@@ -28,5 +27,6 @@ abbrev pub group_text : GroupFields → List ℕ
 group_text g =
     separated name_text [] g.names ++ (separated value_text (codes "/") g.values ++ codes "/")
 
+-- groups joined by commas, as I,J/1,2/,K/3*0/
 abbrev pub groups_text : List GroupFields → List ℕ
 groups_text gs = separated group_text [] gs

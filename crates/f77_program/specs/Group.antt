@@ -15,6 +15,7 @@ form_group Form.Preset = Data
 form_group Form.End = End
 form_group _ = Executable
 
+-- the group that a statement belongs to, by which its place in a subroutine is told (3.5)
 abbrev pub group_of : Statement → Group
 group_of statement = form_group (form_of statement)
 
@@ -30,9 +31,8 @@ group_rank End = 4
 abbrev pub comes_later : ℕ → ℕ → Bool
 comes_later before n = nat_lt 0 n && (nat_le before n && nat_lt before 4)
 
--- A statement of the second group may stand behind one of the first, and
--- behind none where it is the first: SUBROUTINE first and only there, then
--- declarations, then DATA, then what is executed, END last and only there.
+-- A statement of the second group may stand behind one of the first, or first: SUBROUTINE
+-- once and first, then declarations, DATA and what is executed, and END once and last (3.5).
 abbrev pub may_stand : Option Group → Group → Bool
 may_stand None group = group_rank group == 0
 may_stand (Some before) group = comes_later (group_rank before) (group_rank group)

@@ -1,4 +1,4 @@
--- A machine in a run of a program: where it stands is what the run comes to.
+-- A run of a program, as a machine makes it.
 use Rattle.std.specs.Prelude.{List}
 use Rattle.f77_program.specs.Program.{LineFields}
 use Rattle.f77_legal.specs.Names.{Symbol}

@@ -1,5 +1,4 @@
--- The site of a checked program and values of its dummy
--- arguments, and what the dummy arguments hold in a machine.
+-- A checked program with values of its dummy arguments, and what its names hold in slots.
 use Rattle.std.specs.Prelude.{List, map}
 use Rattle.f77_program.specs.Program.{line_of}
 use Rattle.f77_check.specs.Checked.{CheckedFields}

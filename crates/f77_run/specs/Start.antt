@@ -19,7 +19,8 @@ abbrev pub constant_value : Constant → Value
 constant_value (Number z) = held.Number z
 constant_value (Truth b) = held.Truth b
 
--- what a name holds at the start, where these are the elements of the dummy arguments in order
+-- what a name holds at the start, where these are the elements
+-- of the dummy arguments in order (section 9 and 15.9)
 abbrev pub start_values : List LineFields → List (List Value) → Store
 start_values p given name =
     option_map_or (λ i. option_map_or (map (λ v. Some v)) (slice_get given i) [])
@@ -27,7 +28,8 @@ start_values p given name =
     (map (λ k. option_map constant_value (preset_value p name k))
     (first_numbers (element_count p name)))
 
--- the first executable statement, which is END where there is no other
+-- control is at the first executable statement, which is END where there
+-- is no other; names have the values of the start, and no DO is active
 abbrev pub IsStart : List LineFields → List (List Value) → Config → Type 0
 IsStart p given c =
     (i : ℕ) × (position (λ line. is_executable_statement line.stmt) p ≡ Some i)

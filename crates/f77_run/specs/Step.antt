@@ -48,14 +48,14 @@ pub data Next : Type 0 where
   Goes : Config → Next
   Ends : Finish → Store → Next
 
--- d is the innermost active DO that ends at t
+-- d is the innermost active DO that ends at t (11.10)
 pub record IsInnermost (program : List LineFields) (active : Turns) (t d : ℕ) : Type 0 where
   pub ends : terminal program d ≡ Some t
   pub turns : IsSome (active d)
   pub inner : (e : ℕ) → d < e → terminal program e ≡ Some t → active e ≡ None
 
 -- Control goes on from the statement t, which did not jump: the innermost
--- active DO that ends there is incremented, where there is one.
+-- active DO that ends there is incremented, where there is one (11.10).
 abbrev pub GoesOn : List LineFields → ℕ → Store → Turns → Next → Type 0
 GoesOn program t store active next =
     ((d : ℕ) × IsInnermost program active t d × (next ≡ Goes (config (Increment d) store active)))
@@ -63,16 +63,17 @@ GoesOn program t store active next =
     × (j : ℕ)
     × (statement_behind program t ≡ Some j) × (next ≡ Goes (config (Execute j) store active)))
 
--- a jump from i to j leaves the DOs whose range holds i and not j
+-- the DOs that stay active: a jump from i to j leaves those whose range holds i and not j (11.10)
 abbrev pub left_behind : List LineFields → ℕ → ℕ → Turns → Turns
 left_behind program i j active = λ d. if is_left program i j d then None else active d
 
+-- a jump from the statement i to the one that bears the label (11.1 to 11.4)
 abbrev pub Jumps : List LineFields → ℕ → ℕ → Store → Turns → Next → Type 0
 Jumps program i label store active next = (j : ℕ)
     × (label_place program label ≡ Some j)
     × (next ≡ Goes (config (Execute j) store (left_behind program i j active)))
 
--- the DO d has this many passes to make
+-- the DO d has this many passes to make (11.10)
 abbrev pub Passes : List LineFields → ℕ → ℕ → ℤ → Store → Turns → Next → Type 0
 Passes program d zero step store active next =
     (t : ℕ) × (terminal program d ≡ Some t) × GoesOn program t store (with_turn active d None) next
@@ -80,7 +81,7 @@ Passes program d (suc k) step store active next =
     next ≡ Goes (config (Execute (d + 1)) store
     (with_turn active d (Some (record { passes = suc k; step = step }))))
 
--- the DO d begins with these parameters
+-- the DO d begins with these parameters (11.10)
 abbrev pub Begins : List LineFields → ℕ → Symbol → ℤ → ℤ → ℤ → Store → Turns → Next → Type 0
 Begins program d name first last (pos zero) store active next = next ≡ Ends (Failed ZeroStep) store
 Begins program d name first last (pos (suc m)) store active next =
@@ -99,8 +100,8 @@ abbrev pub Either : Bool → Type 0 → Type 0 → Type 0
 Either true P Q = P
 Either false P Q = Q
 
--- control goes from the beginning of a branch to the next ELSE
--- IF, ELSE or END IF of its block, which is executed then
+-- control goes from the beginning of a branch to the next ELSE IF,
+-- ELSE or END IF of its block, which is executed then (11.6 and 11.7)
 abbrev pub Skips : List LineFields → ℕ → Store → Turns → Next → Type 0
 Skips program i store active next =
     (j : ℕ) × (branch_end program i ≡ Some j) × (next ≡ Goes (config (Execute j) store active))
@@ -109,7 +110,7 @@ abbrev pub step_number : (Symbol → List ℕ) → Store → Option Tree → Res
 step_number bounds store None = Ok (pos 1)
 step_number bounds store (Some t) = number bounds store t
 
--- the statement i is executed
+-- the statement i is executed (sections 10 and 11)
 abbrev pub Executes : List LineFields → ℕ → Statement → Store → Turns → Next → Type 0
 Executes program i (Statement.Assign name items t) store active next =
     With (place (bounds_of program) store name items) store next
@@ -147,7 +148,7 @@ Executes program i Statement.Trap store active next = next ≡ Ends (Failed Trap
 Executes program i Statement.End store active next = next ≡ Ends Returned store
 Executes program i _ store active next = ⊥
 
--- the DO d is incremented
+-- the DO d is incremented (11.10)
 abbrev pub Increments : List LineFields → ℕ → Statement → Turn → Store → Turns → Next → Type 0
 Increments program d (Statement.Loop label name a b c) turn store active next =
     With (number (bounds_of program) store (Tree.Reference name Trees.None)) store next
@@ -156,6 +157,7 @@ Increments program d (Statement.Loop label name a b c) turn store active next =
     (store_with store name 0 (held.Number sum)) active next))
 Increments program d _ turn store active next = ⊥
 
+-- a step at this place: its statement is executed, or its DO is incremented (sections 10 and 11)
 abbrev pub StepAt : List LineFields → Place → Store → Turns → Next → Type 0
 StepAt program (Execute i) store active next =
     MatchOption (nth_statement program i) ⊥ (λ stmt. Executes program i stmt store active next)

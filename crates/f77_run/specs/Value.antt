@@ -75,11 +75,11 @@ abbrev mutual
   numbers bounds store (Trees.Then t ts) =
       given (number bounds store t) (λ z. given (numbers bounds store ts) (λ zs. Ok (z ∷ zs)))
 
--- the place of the element that a reference names
+-- the place of the element that a reference names (section 5)
 abbrev pub place : (Symbol → List ℕ) → Store → Symbol → Trees → Result ℕ Fault
 place bounds store name items = given (numbers bounds store items) (element (bounds name))
 
--- the value of a LOGICAL expression
+-- the value of a LOGICAL expression (section 6)
 abbrev pub truth : (Symbol → List ℕ) → Store → Tree → Result Bool Fault
 truth bounds store (Tree.Truth b) = Ok b
 truth bounds store (Tree.Reference name items) = given (place bounds store name items)
@@ -91,7 +91,7 @@ truth bounds store (Tree.Binary op a b) =
     else both (λ x y. Ok (connected op x y)) (truth bounds store a) (truth bounds store b)
 truth bounds store _ = Err Undefined
 
--- the value of an expression of this kind
+-- the value of an expression of this kind (section 6)
 abbrev pub value : Kind → (Symbol → List ℕ) → Store → Tree → Result Value Fault
 value Integer bounds store t = given (number bounds store t) (λ z. Ok (held.Number z))
 value Logical bounds store t = given (truth bounds store t) (λ b. Ok (held.Truth b))

@@ -18,10 +18,11 @@ is_blank c = c == 32
 abbrev pub counted : List ℕ → List ℕ
 counted line = take 72 line
 
--- columns 1 to 5, and 7 to 72
+-- columns 1 to 5
 abbrev pub label_field : List ℕ → List ℕ
 label_field line = take 5 line
 
+-- columns 7 to 72
 abbrev pub statement_field : List ℕ → List ℕ
 statement_field line = drop 6 (counted line)
 
@@ -29,7 +30,7 @@ statement_field line = drop 6 (counted line)
 abbrev pub column : List ℕ → ℕ → ℕ
 column line n = slice_index_or line (n - 1) 32
 
--- C or * in column 1, or only blanks
+-- C, c or * in column 1, or only blanks in columns 1 to 72
 unfoldable pub is_comment : List ℕ → Bool
 is_comment line = (column line 1 == 67)
     || (column line 1 == 99) || (column line 1 == 42) || list_all is_blank (counted line)
@@ -66,13 +67,15 @@ line_part line = map to_ascii_uppercase (filter (λ c. not (is_blank c)) (statem
 abbrev pub is_foreign : ℕ → Bool
 is_foreign c = not (is_in_range 32 126 c || (c == 9))
 
+-- F3: columns 1 to 72 hold a byte outside 32 to 126 that is no tab (3.2)
 abbrev pub has_foreign : List ℕ → Bool
 has_foreign line = list_any is_foreign (counted line)
 
+-- F4: columns 1 to 72 hold a tab (3.2)
 abbrev pub has_tab : List ℕ → Bool
 has_tab line = list_any (λ c. c == 9) (counted line)
 
--- columns 1 to 5 of a continuation line are blank
+-- columns 1 to 5 hold a label or blanks in an initial line, and only blanks in a continuation line
 abbrev pub fits_label_field : LineKind → List ℕ → Bool
 fits_label_field Initial line = is_label_field line
 fits_label_field Continuation line = list_all is_blank (label_field line)

@@ -22,12 +22,15 @@ piece text k = take 66 (drop (66 * k) text)
 abbrev pub continuation_count : List ℕ → ℕ
 continuation_count text = (length text - 1) / 66
 
+-- an initial line: the label, a blank in column 6, and the first piece of the text (3.2)
 abbrev pub initial_line : CardFields → List ℕ
 initial_line card = label_text card.label ++ (32 ∷ (piece card.text 0 ++ 10 ∷ []))
 
+-- continuation line k: five blanks, + in column 6, and piece k of the text (3.2)
 abbrev pub continuation_line : List ℕ → ℕ → List ℕ
 continuation_line text k = codes "     +" ++ (piece text k ++ 10 ∷ [])
 
+-- a card as lines: its initial line, and as many continuation lines as its text takes (3.2)
 unfoldable pub written_card : CardFields → List ℕ
 written_card card = initial_line card
     ++ flat_map (continuation_line card.text) (range_with_len 1 (continuation_count card.text))
@@ -36,6 +39,7 @@ written_card card = initial_line card
 abbrev pub written : List CardFields → List ℕ
 written cards = flat_map written_card cards
 
+-- a character of 32 to 126: no other is written
 abbrev pub is_printable : ℕ → Bool
 is_printable c = is_in_range 32 126 c
 

@@ -57,12 +57,13 @@ pub data AreLines : Option Group → List CardFields → List LineFields → Typ
       → AreLines (Some (group_of s)) cards lines
       → AreLines before (card ∷ cards) (line_with card s ∷ lines)
 
--- what is told of a statement out of its place
+-- what is told of a statement out of its place (ANSI X3.9-1978, 3.5)
 abbrev pub misplaced_statement : Option Group → ℕ → SyntaxFault
 misplaced_statement None line = NoSubroutine
 misplaced_statement (Some group) line = Unknown line
 
--- what is told where the cards end behind a statement of this group, which is not END, or at once
+-- what is told where the cards end behind a statement of this
+-- group, which is not END, or at once (ANSI X3.9-1978, 3.5)
 abbrev pub unfinished : Option Group → SyntaxFault
 unfinished None = NoSubroutine
 unfinished (Some group) = NoEnd

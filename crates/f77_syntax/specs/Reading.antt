@@ -1,4 +1,4 @@
--- Reading from left to right: an operand, and then operators with their right operands.
+-- What reading is made of: one part after another, and a prefix that is taken off.
 use Rattle.std.specs.Prelude.{ℕ, List, [], ◌∷◌, ◌==◌, if◌then◌else◌}
 use Rattle.std.specs.Prelude.{Option, Some, None, option_and_then}
 

@@ -20,7 +20,7 @@ is_digit c = nat_le 48 c && nat_le c 57
 abbrev pub is_word : ℕ → Bool
 is_word c = is_letter c || is_digit c
 
--- letters and digits, the first of them a letter
+-- letters and digits, the first of them a letter (2.2)
 abbrev pub is_name : List ℕ → Bool
 is_name [] = false
 is_name (c ∷ s) = is_letter c && list_all is_word s

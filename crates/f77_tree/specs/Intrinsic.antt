@@ -4,6 +4,7 @@ use Rattle.std.specs.Str.{bytes_eq}
 use Rattle.f77_tree.specs.declared.intrinsic.Intrinsic.{Intrinsic}
 use Rattle.f77_tree.specs.declared.intrinsic.Intrinsic.TheVariants.{Mod, Iabs, Min0, Max0}
 
+-- the name by which a function is called (15.10)
 abbrev pub function_name : Intrinsic → List ℕ
 function_name Mod = codes "MOD"
 function_name Iabs = codes "IABS"

@@ -7,6 +7,7 @@ use Rattle.f77_tree.specs.declared.operator.Operator.TheVariants.{Greater, Add, 
 use Rattle.f77_tree.specs.declared.operator.Sign.{Sign}
 use Rattle.f77_tree.specs.declared.operator.Sign.TheVariants.{Plus, Minus}
 
+-- the text of an operator, as it stands between its operands (ANSI X3.9-1978, section 6)
 abbrev pub symbol : Operator → List ℕ
 symbol Equivalent = codes ".EQV."
 symbol NotEquivalent = codes ".NEQV."
@@ -24,11 +25,12 @@ symbol Multiply = codes "*"
 symbol Divide = codes "/"
 symbol Power = codes "**"
 
+-- the character of a sign, + or - (ANSI X3.9-1978, section 6)
 abbrev pub sign_symbol : Sign → ℕ
 sign_symbol Plus = 43
 sign_symbol Minus = 45
 
--- the level of a form with this operator, loosest first
+-- the level of a form with this operator, loosest first (ANSI X3.9-1978, section 6)
 abbrev pub level : Operator → ℕ
 level Equivalent = 1
 level NotEquivalent = 1
@@ -56,12 +58,14 @@ is_relation GreaterOrEqual = true
 is_relation Greater = true
 is_relation _ = false
 
--- On its left an operator wants an operand of its own level, but a relation and a power want
--- one of the next; on its right it wants one of the next, but a power wants one of its own.
+-- the level wanted of a left operand: the operator's own, but the
+-- next one for a relation and for a power (ANSI X3.9-1978, section 6)
 abbrev pub left_level : Operator → ℕ
 left_level Power = suc (level Power)
 left_level operator = if is_relation operator then suc (level operator) else level operator
 
+-- the level wanted of a right operand: the next one,
+-- but for a power its own (ANSI X3.9-1978, section 6)
 abbrev pub right_level : Operator → ℕ
 right_level Power = level Power
 right_level operator = suc (level operator)

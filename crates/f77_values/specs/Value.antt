@@ -25,7 +25,7 @@ abbrev pub logic : Option Value → Result Bool Fault
 logic (Some (held.Truth b)) = Ok b
 logic _ = Err Undefined
 
--- The place of an element, from 0. No legal program has other subscripts than bounds.
+-- The place of an element, from 0 (section 5). No legal program has other subscripts than bounds.
 abbrev pub element : List ℕ → List ℤ → Result ℕ Fault
 element [] [] = Ok 0
 element (bound ∷ bounds) (pos (suc n) ∷ zs) =
@@ -37,6 +37,8 @@ abbrev pub same_truth : Bool → Bool → Bool
 same_truth true b = b
 same_truth false b = not b
 
+-- the value of ZPUSH(e), which ABS puts in: that of
+-- e, and Trapped where it is 0 (King and Offutt 1991)
 abbrev pub pushed : ℤ → Result ℤ Fault
 pushed (pos zero) = Err Trapped
 pushed z = Ok z

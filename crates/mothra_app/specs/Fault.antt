@@ -34,12 +34,13 @@ request_memory_faults (command.Exec test steps) = Job job.Memory ∷ of_runs
 request_memory_faults (command.List operators every) = Job job.Memory ∷ of_mutants
 request_memory_faults (command.Run operators every steps workers) = Job job.Memory ∷ of_mutants
 
--- what may come in place of any other answer of the command:
--- want of memory, and of `run` a thread that could not begin
+-- what may come in place of any other answer of `run`: want of memory, or of a thread
 abbrev pub MayFailRun : Fault → Type 0
 MayFailRun (Bench fault) = IsNoReport fault
 MayFailRun fault = Contains (Job job.Memory ∷ of_mutants) fault
 
+-- what may come in place of any other answer of the
+-- command: want of memory, and for `run` of a thread too
 abbrev pub MayFailBy : Request → Fault → Type 0
 MayFailBy (command.Run operators every steps workers) fault = MayFailRun fault
 MayFailBy request fault = Contains (request_memory_faults request) fault

@@ -37,6 +37,7 @@ printable name = map shown_character (chars name)
 abbrev pub named_line : List ℕ → List ℕ → List ℕ
 named_line code name = codes "FAULT " ++ (code ++ (codes " " ++ (printable name ++ codes "\n")))
 
+-- J1 to J8: the detail is a key, or the number of a test or of an entry
 abbrev pub job_line : JobFault → List ℕ
 job_line job.Memory = plain_line (codes "J1")
 job_line job.NotJson = plain_line (codes "J2")
@@ -47,6 +48,7 @@ job_line job.TooManyTests = plain_line (codes "J6")
 job_line job.TooLarge = plain_line (codes "J7")
 job_line (job.NoTest test) = numbered_line (codes "J8") test
 
+-- F1 to F7: the detail is the number of a line
 abbrev pub form_line : FormFault → List ℕ
 form_line form.Memory = plain_line (codes "F1")
 form_line form.TooLarge = plain_line (codes "F2")
@@ -56,6 +58,7 @@ form_line (form.BadLabel line) = numbered_line (codes "F5") line
 form_line (form.LooseContinuation line) = numbered_line (codes "F6") line
 form_line (form.TooManyContinuations line) = numbered_line (codes "F7") line
 
+-- S1 to S9: the detail is the number of an initial line
 abbrev pub syntax_line : SyntaxFault → List ℕ
 syntax_line syntax.Memory = plain_line (codes "S1")
 syntax_line (syntax.Unknown line) = numbered_line (codes "S2") line
@@ -67,6 +70,7 @@ syntax_line syntax.NoSubroutine = plain_line (codes "S7")
 syntax_line syntax.NoEnd = plain_line (codes "S8")
 syntax_line (syntax.AfterEnd line) = numbered_line (codes "S9") line
 
+-- C1 to C14: the detail is a name, a label, or the number of a line
 abbrev pub check_line : CheckFault → List ℕ
 check_line check.Memory = plain_line (codes "C1")
 check_line (check.RealName name) = named_line (codes "C2") name
@@ -83,12 +87,13 @@ check_line (check.DoVariable line) = numbered_line (codes "C12") line
 check_line (check.BadData line) = numbered_line (codes "C13") line
 check_line check.TooMany = plain_line (codes "C14")
 
+-- N1 to N3: the detail is the number of a dummy argument
 abbrev pub run_line : RunFault → List ℕ
 run_line run.Memory = plain_line (codes "N1")
 run_line run.ArgumentCount = plain_line (codes "N2")
 run_line (run.ArgumentShape argument) = numbered_line (codes "N3") argument
 
--- the detail is the operator's code
+-- O1 to O3: the detail is the operator's code
 abbrev pub ops_line : OpsFault → List ℕ
 ops_line ops.Memory = plain_line (codes "O1")
 ops_line ops.NotASite = plain_line (codes "O2")
@@ -99,6 +104,7 @@ abbrev pub mutant_fault_line : List ℕ → Ticket → List ℕ
 mutant_fault_line code t = codes "FAULT "
     ++ (code ++ (codes " " ++ (code_of t.op ++ (codes " " ++ (decimal t.number ++ codes "\n")))))
 
+-- B1 to B10: the detail is the number of a test or of an entry, or a ticket
 abbrev pub bench_line : BenchFault → List ℕ
 bench_line bench.Memory = plain_line (codes "B1")
 bench_line bench.Thread = plain_line (codes "B2")
@@ -111,6 +117,7 @@ bench_line (bench.Stranger ticket) = mutant_fault_line (codes "B8") ticket
 bench_line (bench.Missing ticket) = mutant_fault_line (codes "B9") ticket
 bench_line bench.Stalled = plain_line (codes "B10")
 
+-- the line of a fault, by the call that it comes from
 unfoldable pub fault_line : Fault → List ℕ
 fault_line (Job fault) = job_line fault
 fault_line (Form fault) = form_line fault

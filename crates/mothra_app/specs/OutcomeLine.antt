@@ -7,10 +7,11 @@ use Rattle.f77_run.specs.declared.argument.Arg.TheVariants.{Int, Truth, Ints, Tr
 use Rattle.f77_run.specs.declared.outcome.Outcome.{Outcome}
 use Rattle.f77_run.specs.declared.outcome.Outcome.TheVariants as outcome
 
+-- T for true, F for false
 abbrev pub truth_letter : Bool → List ℕ
 truth_letter b = if b then codes "T" else codes "F"
 
--- the elements of an array, joined by commas
+-- the elements of an array in parentheses, joined by commas
 abbrev pub array_text : {A : Type 0} → (A → List ℕ) → List A → List ℕ
 array_text text xs = codes "(" ++ (separated text [] xs ++ codes ")")
 
@@ -24,6 +25,7 @@ argument_text (Truths bs) = array_text truth_letter bs
 abbrev pub arguments_text : List Arg → List ℕ
 arguments_text arguments = flat_map (λ argument. codes " " ++ argument_text argument) arguments
 
+-- `RETURNED` or `STOPPED` and the values of the dummy arguments, or a word for another outcome
 abbrev pub outcome_text : Outcome → List ℕ
 outcome_text (outcome.Returned arguments) = codes "RETURNED" ++ arguments_text arguments
 outcome_text (outcome.Stopped arguments) = codes "STOPPED" ++ arguments_text arguments
@@ -36,5 +38,6 @@ outcome_text outcome.Undefined = codes "UNDEFINED"
 outcome_text outcome.Trapped = codes "TRAPPED"
 outcome_text outcome.StepLimit = codes "STEPLIMIT"
 
+-- the text of the outcome, ended by LF
 abbrev pub outcome_line : Outcome → List ℕ
 outcome_line answer = outcome_text answer ++ codes "\n"

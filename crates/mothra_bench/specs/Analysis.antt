@@ -16,6 +16,7 @@ pub record AreEntries (bench : BenchFields) (entries : List Entry) : Type 0 wher
   pub verdicts : All (λ entry. IsVerdict bench entry.ticket entry.kills) entries
   pub declared : All (λ entry. IsTrue entry.declared ↔ IsDeclared bench entry.ticket) entries
 
+-- the text is the report of the bench, made of the entries of its mutants
 pub record IsReport (bench : BenchFields) (text : List ℕ) : Type 0 where
   pub entries : List Entry
   pub are : AreEntries bench entries

@@ -28,7 +28,7 @@ pub record IsKnown (bench : BenchFields) (row : Row) : Type 0 where
   pub has : HasMutant bench.plan row.ticket
   pub tests : length row.kills ≡ length bench.tests
 
--- the first row that is not
+-- the first row that is of no mutant of the plan, or has not a truth value for each test
 pub record IsFirstStranger (bench : BenchFields) (rows : List Row) (ticket : Ticket) : Type 0 where
   pub before : List Row
   pub row : Row

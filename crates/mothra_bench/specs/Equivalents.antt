@@ -1,4 +1,4 @@
--- The mutants that declared entries name, and what is told of an entry behind those before it.
+-- The mutants that declared entries name.
 use Rattle.std.specs.Prelude.{◌↔◌, ◌<◌, ◌^◌, List, All, Contains}
 use Rattle.mothra_codes.specs.declared.ticket.Ticket.{Ticket}
 

@@ -16,6 +16,7 @@ tickets op count = map (λ k. ticket op (k + 1)) (range_with_len 0 count)
 abbrev pub tickets_of : PlanFields → List Ticket
 tickets_of plan = flat_map (λ op. tickets op (length (edits_of plan op))) all_ops
 
+-- some test kills the mutant (DeMillo, Lipton and Sayward 1978)
 abbrev pub is_killed : Entry → Bool
 is_killed entry = list_any (λ kill. kill) entry.kills
 
@@ -29,6 +30,7 @@ pub record Counts : Type 0 where
   pub killed : ℕ
   pub equivalent : ℕ
 
+-- how many of these entries there are, are killed, are equivalent
 abbrev pub counts : List Entry → Counts
 counts entries = record {
   total = length entries;
@@ -42,8 +44,8 @@ is_entry_of op entry = index entry.ticket.op == index op
 abbrev pub entries_of : Op → List Entry → List Entry
 entries_of op entries = filter (is_entry_of op) entries
 
--- the mutation score in hundredths of a percent, rounded
--- down: killed over mutants that are not equivalent
+-- the mutation score (DeMillo, Lipton and Sayward 1978) in hundredths of
+-- a percent, rounded down: killed over mutants that are not equivalent
 abbrev pub score_of : Counts → Option ℕ
 score_of counts = if counts.total - counts.equivalent == 0
     then None else Some (10000 * counts.killed / (counts.total - counts.equivalent))

@@ -18,10 +18,11 @@ line text = text ++ codes "\n"
 abbrev pub named_number : List ℕ → ℕ → List ℕ
 named_number name number = name ++ (codes " " ++ decimal number)
 
+-- `UNIT` and the name of the unit
 abbrev pub unit_line : List LineFields → List ℕ
 unit_line program = line (codes "UNIT " ++ unwrap_or (unit_name program) [])
 
--- the unit's name, the numbers of tests and steps, and which of each list is kept
+-- the version, the unit's name, the numbers of tests and steps, and which of each list is kept
 abbrev pub heading : BenchFields → List ℕ
 heading bench =
     line (codes "REPORT 2")
@@ -48,6 +49,7 @@ score_text None = codes "NONE"
 score_text (Some score) =
     decimal (score / 100) ++ (codes "." ++ (decimal (score % 100 / 10) ++ decimal (score % 10)))
 
+-- `SCORE`, and the score with two decimals or `NONE`
 abbrev pub score_line : Option ℕ → List ℕ
 score_line score = line (codes "SCORE " ++ score_text score)
 
@@ -57,16 +59,18 @@ status_of entry =
     if entry.declared then (if is_killed entry then codes "W" else codes "E")
     else (if is_killed entry then codes "K" else codes "S")
 
--- a digit for each test, 1 where it kills; - where there are no tests
+-- 1 for a test that kills, 0 for one that does not
 abbrev pub bit_of : Bool → ℕ
 bit_of kill = if kill then 49 else 48
 
+-- a digit for each test, in order; - where there are no tests
 abbrev pub bits_of : List Bool → List ℕ
 bits_of kills = if length kills == 0 then codes "-" else map bit_of kills
 
 abbrev pub entry_name : PlanFields → Entry → List ℕ
 entry_name plan entry = mutant_name plan.every entry.ticket.op entry.ticket.number
 
+-- `MUTANT`, the code and the two numbers of the mutant, its status and its bits
 abbrev pub mutant_line : PlanFields → Entry → List ℕ
 mutant_line plan entry =
     line (codes "MUTANT " ++ (entry_name plan entry
@@ -76,6 +80,8 @@ mutant_line plan entry =
 abbrev pub is_survivor : Entry → Bool
 is_survivor entry = not entry.declared && not (is_killed entry)
 
+-- `SURVIVOR`, the code and the two numbers of the mutant, and
+-- where it is changed; nothing for one that is killed or declared
 abbrev pub survivor_line : PlanFields → Entry → List ℕ
 survivor_line plan entry = if is_survivor entry
     then line (codes "SURVIVOR " ++ mutant_text plan entry.ticket.op entry.ticket.number) else []
@@ -84,6 +90,8 @@ survivor_line plan entry = if is_survivor entry
 abbrev pub is_wrong : Entry → Bool
 is_wrong entry = entry.declared && is_killed entry
 
+-- `WRONG` and the code and the two numbers of the mutant;
+-- nothing for one that is not declared or not killed
 abbrev pub wrong_line : PlanFields → Entry → List ℕ
 wrong_line plan entry =
     if is_wrong entry then line (codes "WRONG " ++ entry_name plan entry) else []

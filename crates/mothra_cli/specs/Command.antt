@@ -4,6 +4,7 @@ use Rattle.clap.specs.Words.{App, Rule, Shape, new_rule, with_subcommand}
 use Rattle.clap.specs.Simple.{new_shape}
 use Rattle.clap.specs.declared.builder.value_parser.ValueParser.TheVariants.{Unsigned}
 
+-- `print`, which has no options
 abbrev pub print_shape : Shape
 print_shape = new_shape (codes "print")
 
@@ -23,6 +24,7 @@ steps_rule = record (new_rule (codes "steps")) {
   defaults = codes "10000" ∷ [];
 }
 
+-- `exec` with `--test` and `--steps`
 abbrev pub exec_shape : Shape
 exec_shape = record (new_shape (codes "exec")) { rules = test_rule ∷ steps_rule ∷ [] }
 
@@ -38,6 +40,7 @@ every_rule = record (new_rule (codes "every")) {
   defaults = codes "1" ∷ [];
 }
 
+-- `list` with `--ops` and `--every`
 abbrev pub list_shape : Shape
 list_shape = record (new_shape (codes "list")) { rules = ops_rule ∷ every_rule ∷ [] }
 
@@ -49,6 +52,7 @@ workers_rule = record (new_rule (codes "workers")) {
   defaults = codes "2" ∷ [];
 }
 
+-- `run` with `--ops`, `--every`, `--steps` and `--workers`
 abbrev pub run_shape : Shape
 run_shape = record (new_shape (codes "run")) {
   rules = ops_rule
@@ -63,6 +67,7 @@ bare = record {
   subs = [];
 }
 
+-- the command line: one of the four subcommands, with its options
 unfoldable pub mothra : App
 mothra = with_subcommand (with_subcommand
     (with_subcommand (with_subcommand bare print_shape) exec_shape) list_shape) run_shape

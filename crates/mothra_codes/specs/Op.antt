@@ -33,7 +33,7 @@ abbrev pub all_ops : List Op
 all_ops = Aar ∷ Abs ∷ Acr ∷ Aor ∷ Asr ∷ Car ∷ Cnr
     ∷ Crp ∷ Csr ∷ Der ∷ Dsa ∷ Glr ∷ Lcr ∷ Ror ∷ Rsr ∷ San ∷ Sar ∷ Scr ∷ Sdl ∷ Src ∷ Svr ∷ Uoi ∷ []
 
--- the code in the article of King and Offutt
+-- the code of the operator (King and Offutt 1991)
 abbrev pub code_of : Op → List ℕ
 code_of Aar = codes "AAR"
 code_of Abs = codes "ABS"

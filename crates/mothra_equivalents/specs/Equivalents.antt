@@ -27,7 +27,7 @@ pub record IsSparedMutant (plan : PlanFields) (ticket : Ticket) (spare : ℕ) : 
   pub spared : IsEquivalentWithin spare (program_of plan)
       (patched (program_of plan) mutant.number mutant.statement)
 
--- and what it says of the ticket's mutant
+-- what a rule says of the ticket's mutant
 abbrev pub IsMutantBy : Why → PlanFields → Ticket → Type 0
 IsMutantBy why.Same plan ticket = IsEquivalentMutant plan ticket
 IsMutantBy why.Unread plan ticket = IsEquivalentMutant plan ticket

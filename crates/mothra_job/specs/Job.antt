@@ -38,6 +38,7 @@ abbrev pub keys_of : Members → List (List ℕ)
 keys_of no_members = []
 keys_of (member key value rest) = key ∷ keys_of rest
 
+-- the keys that are none of `source`, `suite` and `equivalent`, in the order of their bytes (J3)
 abbrev pub unknown_keys : Members → List (List ℕ)
 unknown_keys members = filter (λ key. not (is_known key)) (keys_of members)
 
@@ -93,7 +94,7 @@ abbrev pub value_faults : Option Data → List JobFault
 value_faults None = NotJson ∷ []
 value_faults (Some value) = object_faults value (as_object value)
 
--- J7
+-- J7 of a job of more than 1,048,576 bytes
 abbrev pub job_size_faults : List ℕ → List JobFault
 job_size_faults bytes = if nat_lt 1048576 (length bytes) then TooLarge ∷ [] else []
 

@@ -47,7 +47,7 @@ test value = option_and_then (each argument) (as_array value)
 abbrev pub tests_of : List Data → List (List Arg)
 tests_of values = filter_map test values
 
--- J6
+-- J6 of more than 256 tests
 abbrev pub count_faults : List Data → List JobFault
 count_faults values = if nat_lt 256 (length values) then TooManyTests ∷ [] else []
 

@@ -83,10 +83,11 @@ abbrev pub thinned : {X : Type 0} → ℕ → List X → List X
 thinned q xs =
     map (λ numbered. numbered.1) (filter (λ numbered. numbered.0 % q == 0) (enumerate_from 0 xs))
 
--- the most items of a list that is thinned, and of one before that
+-- the most items of a list that is thinned
 abbrev pub most_edits : ℕ
 most_edits = 1048575
 
+-- the most items of a whole list, before it is thinned
 abbrev pub most_whole : ℕ
 most_whole = 4294967295
 

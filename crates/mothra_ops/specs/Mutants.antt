@@ -60,6 +60,7 @@ edit_text program q op number edit =
     option_map_or (λ mutant. mutant_name q op number ++ (codes " " ++ change_text program mutant))
     (mutant_made program edit) []
 
+-- how the plan's mutant of this number is told, nothing where the operator has no such mutant
 abbrev pub mutant_text : PlanFields → Op → ℕ → List ℕ
 mutant_text plan op number = option_map_or (edit_text (program_of plan) plan.every op number)
     (numbered (edits_of plan op) number) []

@@ -34,14 +34,15 @@ plan_fields checked every lists =
 abbrev pub list_of_operator : PlanFields → Op → Option ListFields
 list_of_operator plan op = find (λ list. index list.op == index op) plan.lists
 
--- an operator that was asked for; its list, empty of
--- one that was not, and the length of the whole one
+-- the plan was asked for the operator
 abbrev pub asked : PlanFields → Op → Bool
 asked plan op = is_some (list_of_operator plan op)
 
+-- the operator's list, empty where the plan was not asked for it
 abbrev pub edits_of : PlanFields → Op → List Edit
 edits_of plan op = option_map_or (λ list. list.edits) (list_of_operator plan op) []
 
+-- the length of its whole list
 abbrev pub whole_of : PlanFields → Op → ℕ
 whole_of plan op = option_map_or (λ list. list.whole) (list_of_operator plan op) 0
 

@@ -38,6 +38,7 @@ abbrev pub value_formed : Option Tree → Bool
 value_formed None = true
 value_formed (Some t) = formed t
 
+-- some text spells the statement: its parts are formed, and it has what its form wants
 abbrev pub statement_formed : Statement → Bool
 statement_formed (Statement.Subroutine name names) = is_name name && list_all is_name names
 statement_formed (Statement.Declare kind ds) = declaration_formed ds

@@ -17,6 +17,7 @@ reference_behind name (c ∷ r) =
     if c == 40 then (reading.items r >>= λ x. close_at x.1 >>= λ z. Some (name, x.0, z))
     else Some (name, Trees.None, c ∷ r)
 
+-- what is assigned to, a name with its subscripts, and what follows (ANSI X3.9-1978, section 10)
 unfoldable pub reference_at : List ℕ → Option (List ℕ × Trees × List ℕ)
 reference_at s = if is_name (word s) then reference_behind (word s) (past_word s) else None
 
@@ -24,5 +25,6 @@ reference_at s = if is_name (word s) then reference_behind (word s) (past_word s
 abbrev pub value_at : List ℕ → Trees → List ℕ → Option Statement
 value_at name items y = reading.expr 1 y >>= λ v. value_ended (Statement.Assign name items v.0) v.1
 
+-- an assignment: a reference, an equals sign and an expression (ANSI X3.9-1978, section 10)
 unfoldable pub assign_at : List ℕ → Option Statement
 assign_at s = reference_at s >>= λ x. tree_after 61 x.2 >>= λ y. value_at x.0 x.1 y

@@ -31,6 +31,7 @@ truth_by None None = None
 abbrev pub truth_at : List ℕ → Option (Constant × List ℕ)
 truth_at s = truth_by (strip (codes ".TRUE.") s) (strip (codes ".FALSE.") s)
 
+-- a number with a sign or without, .TRUE. or .FALSE. (ANSI X3.9-1978, section 9)
 unfoldable pub constant_at : List ℕ → Option (Constant × List ℕ)
 constant_at [] = None
 constant_at (c ∷ s) =
@@ -47,7 +48,7 @@ repeat_at s = bound_at s >>= λ x. tree_after 42 x.1 >>= λ r. Some (x.0, r)
 abbrev pub times_at : ℕ × List ℕ → Option (Value × List ℕ)
 times_at x = constant_at x.1 >>= λ y. Some (record { times = x.0; constant = y.0 }, y.1)
 
--- the repeat is 1 where none is written
+-- a constant, so many times: once where no repeat is written (ANSI X3.9-1978, section 9)
 unfoldable pub data_value_at : List ℕ → Option (Value × List ℕ)
 data_value_at s = times_at (unwrap_or (repeat_at s) (1, s))
 
@@ -59,6 +60,7 @@ abbrev pub with_values : List (List ℕ) → List ℕ → Option (GroupFields ×
 with_values names s =
     data_values_at s >>= λ x. tree_after 47 x.1 >>= λ r. Some (record { names = names; values = x.0 }, r)
 
+-- names, and their values between slashes (ANSI X3.9-1978, section 9)
 unfoldable pub group_at : List ℕ → Option (GroupFields × List ℕ)
 group_at s = names_at s >>= λ x. tree_after 47 x.1 >>= λ r. with_values x.0 r
 
@@ -72,6 +74,7 @@ abbrev pub groups_within : ℕ → List ℕ → Option (List GroupFields)
 groups_within zero s = None
 groups_within (suc n) s = group_at s >>= λ x. with_groups (groups_within n) x.0 x.1
 
+-- groups up to the end, of which a comma may stand between two (ANSI X3.9-1978, section 9)
 unfoldable pub groups_at : List ℕ → Option (List GroupFields)
 groups_at s = groups_within (suc (length s)) s
 

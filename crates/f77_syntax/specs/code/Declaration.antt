@@ -20,6 +20,7 @@ use Rattle.f77_tree.specs.Declaration.{decl_of}
 abbrev pub bound_at : List ℕ → Option (ℕ × List ℕ)
 bound_at s = if is_number (word s) then Some (digits_value 10 (word s), past_word s) else None
 
+-- bounds joined by commas, each of them digits (ANSI X3.9-1978, 8.1 and 8.4)
 unfoldable pub bounds_at : List ℕ → Option (List ℕ × List ℕ)
 bounds_at s = items_at bound_at s
 
@@ -29,9 +30,11 @@ read_bounds name rest None = Some (record { name = name; bounds = [] }, rest)
 read_bounds name rest (Some inner) =
     bounds_at inner >>= λ x. close_at x.1 >>= λ z. Some (record { name = name; bounds = x.0 }, z)
 
+-- a name, and its bounds in parentheses or none (ANSI X3.9-1978, 8.1 and 8.4)
 unfoldable pub decl_at : List ℕ → Option (DeclFields × List ℕ)
 decl_at s = name_at s >>= λ x. read_bounds x.0 x.1 (tree_after 40 x.1)
 
+-- declared names joined by commas, up to the end (ANSI X3.9-1978, 8.1 and 8.4)
 unfoldable pub declarations_at : List ℕ → Option (List DeclFields)
 declarations_at s = items_at decl_at s >>= λ x. value_ended x.0 x.1
 

@@ -7,11 +7,11 @@ use Rattle.f77_syntax.specs.code.Assignment.{value_ended}
 use Rattle.f77_syntax.specs.code.Joined.{items_at}
 use Rattle.f77_syntax.specs.code.Label.{label_at, last_label}
 
--- the expression behind the labels, and the comma before it, which may be left out
+-- the expression behind the labels, and the comma before it, which may be left out (11.2)
 unfoldable pub selector_at : List ℕ → List ℕ → Option Statement
 selector_at labels s = reading.expr 1 (past_comma s) >>= λ x. value_ended (Statement.ComputedGoto labels x.0) x.1
 
--- what stands behind `GOTO(`
+-- what stands behind `GOTO(` (11.2)
 unfoldable pub computed_at : List ℕ → Option Statement
 computed_at s = items_at label_at s >>= λ x. close_at x.1 >>= λ r. selector_at x.0 r
 
@@ -20,5 +20,6 @@ abbrev pub goto_by : List ℕ → Option (List ℕ) → Option Statement
 goto_by s (Some r) = computed_at r
 goto_by s None = last_label s >>= λ l. Some (Statement.Goto l)
 
+-- a GO TO or a computed one, by what stands behind `GOTO` (11.1 and 11.2)
 unfoldable pub goto_at : List ℕ → Option Statement
 goto_at s = goto_by s (tree_after 40 s)

@@ -44,13 +44,14 @@ actions_only s = if is_action s then Some s else None
 unfoldable pub simple_action_at : List ℕ → Option Statement
 simple_action_at s = simple_at s >>= actions_only
 
--- a statement that may stand in a logical IF
+-- a statement that may stand in a logical IF, by its class
 abbrev pub action_by : Class → List ℕ → Option Statement
 action_by If s = condition_at s >>= λ x. arithmetic_at x.0 x.1
 action_by Loop s = None
 action_by Assignment s = assign_at s
 action_by Keyword s = simple_action_at s
 
+-- a statement that may stand in a logical IF (ANSI X3.9-1978, 11.5)
 unfoldable pub action_at : List ℕ → Option Statement
 action_at s = action_by (class_of s) s
 
@@ -58,27 +59,28 @@ abbrev pub begins_digit : List ℕ → Bool
 begins_digit [] = false
 begins_digit (c ∷ s) = is_digit c
 
--- what stands behind the condition of an IF
+-- what stands behind the condition of an IF (ANSI X3.9-1978, 11.4 to 11.6)
 unfoldable pub branch_at : Tree → List ℕ → Option Statement
 branch_at t s =
     if bytes_eq s (codes "THEN") then Some (Statement.BlockIf t)
     else (if begins_digit s then arithmetic_at t s
     else (action_at s >>= λ a. Some (Statement.LogicalIf t a)))
 
--- what stands behind the keyword ELSE
+-- what stands behind the keyword ELSE (ANSI X3.9-1978, 11.7 and 11.8)
 unfoldable pub else_at : List ℕ → Option Statement
 else_at s =
     if length s == 0 then Some Statement.Else
     else (condition_at s >>= λ x. if bytes_eq x.1 (codes "THEN") then Some (Statement.ElseIf x.0) else None)
 
--- INTEGER, LOGICAL and DIMENSION
+-- what stands behind INTEGER or LOGICAL: names with bounds or without (ANSI X3.9-1978, 8.4)
 abbrev pub declared_at : Kind → List ℕ → Option Statement
 declared_at kind s = declarations_at s >>= λ ds. Some (Statement.Declare kind ds)
 
+-- what stands behind DIMENSION: names that all have bounds (ANSI X3.9-1978, 8.1)
 abbrev pub dimension_at : List ℕ → Option Statement
 dimension_at s = declarations_at s >>= λ ds. if all_bounded ds then Some (Statement.Dimension ds) else None
 
--- DATA
+-- what stands behind DATA (ANSI X3.9-1978, section 9)
 abbrev pub data_at : List ℕ → Option Statement
 data_at s = groups_at s >>= λ gs. Some (Statement.Preset gs)
 

@@ -10,7 +10,7 @@ use Rattle.f77_syntax.specs.Reading.{◌>>=◌}
 use Rattle.f77_syntax.specs.code.Assignment.{value_ended}
 use Rattle.f77_syntax.specs.code.Names.{names_at}
 
--- the dummy arguments: names up to the end, or nothing
+-- the dummy arguments: names up to the end, or nothing (ANSI X3.9-1978, 15.6)
 unfoldable pub dummies_at : List ℕ → Option (List (List ℕ))
 dummies_at s = if length s == 0 then Some [] else (names_at s >>= λ x. value_ended x.0 x.1)
 
@@ -24,6 +24,7 @@ arguments_at name (c ∷ r) =
     if c == 40 then (before_close r >>= λ s. dummies_at s >>= λ names. Some (Statement.Subroutine name names))
     else None
 
+-- the name of the unit, and its dummy arguments in parentheses or none (ANSI X3.9-1978, 15.6)
 unfoldable pub subroutine_at : List ℕ → Option Statement
 subroutine_at s = if is_name (word s) then arguments_at (word s) (past_word s) else None
 
