@@ -1,5 +1,4 @@
--- One step of a machine over slots: what it does to its place, its slots and its active
--- DOs, and which slots and statements it asks for. Statements are numbered from 0 here.
+-- Which slots and statements the step of a machine over slots asks for. Statements are numbered from 0 here.
 -- Private functions and proofs alone cite what stands here.
 use Rattle.std.specs.Prelude.{◌&&◌, nat_lt}
 use Rattle.std.specs.Prelude.{ℕ, List}

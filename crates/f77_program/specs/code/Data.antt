@@ -1,4 +1,4 @@
--- Initial values (ANSI X3.9-1978, section 9): whether some text spells them, and their canonical text.
+-- Whether some text spells initial values (ANSI X3.9-1978, section 9).
 -- Private functions and proofs alone cite what stands here.
 use Rattle.std.specs.Prelude.{List, Bool, true, ◌&&◌}
 use Rattle.f77_tree.specs.declared.data.Value.{Value}
@@ -6,10 +6,11 @@ use Rattle.f77_tree.specs.Grammar.{is_name}
 use Rattle.f77_tree.specs.code.Joined.{some_all}
 use Rattle.f77_tree.specs.Tree.{GroupFields}
 
--- Whether some text spells them: each group has a name and a value.
+-- each constant is spelled by some text
 abbrev pub any_value : Value → Bool
 any_value v = true
 
+-- a group has a name at least, and a value at least
 abbrev pub is_group : GroupFields → Bool
 is_group g = some_all is_name g.names && some_all any_value g.values
 

@@ -1,12 +1,11 @@
--- Declared names with their bounds (ANSI X3.9-1978, 8.1 and
--- 8.4): whether some text spells them, and their canonical text.
+-- Whether some text spells declared names with their bounds (ANSI X3.9-1978, 8.1 and 8.4).
 -- Private functions and proofs alone cite what stands here.
 use Rattle.std.specs.Prelude.{List, Bool}
 use Rattle.f77_tree.specs.Grammar.{is_name}
 use Rattle.f77_tree.specs.code.Joined.{some_all}
 use Rattle.f77_tree.specs.Tree.{DeclFields}
 
--- Whether some text spells them.
+-- a declared name: bounds of any size and number are spelled by some text
 abbrev pub is_decl : DeclFields → Bool
 is_decl d = is_name d.name
 
