@@ -14,6 +14,7 @@ use Rattle.f77_tree.specs.Grammar.{is_call, is_name}
 use Rattle.f77_tree.specs.Statement.{Statement, form_of, same_statement}
 use Rattle.f77_tree.specs.Tree.{Tree, Trees}
 use Rattle.f77_tree.proofs.Tests.{and_true}
+use Rattle.f77_nodes.specs.Limits.{largest_integer}
 use Rattle.f77_nodes.specs.Node.{NodeOf}
 use Rattle.f77_program.specs.code.Formed.{all_formed, formed, is_some_list}
 use Rattle.f77_program.proofs.Back.{reference_formed}
@@ -24,7 +25,7 @@ use Rattle.mothra_codes.specs.declared.op.Op.TheVariants.{Aar, Abs, Acr, Aor, As
 use Rattle.mothra_codes.specs.declared.op.Op.TheVariants.{Glr, Lcr, Ror, Rsr, San, Sar, Scr, Sdl, Src, Svr, Uoi}
 use Rattle.mothra_ops.specs.Pools.{PoolFields, Reference, as_tree, same_reference, scalar}
 use Rattle.mothra_ops.specs.Replacements.{as_target, as_variable, of_elements, of_scalars, other_references}
-use Rattle.mothra_ops.specs.Replacements.{absolute, absolute_value, is_replaceable_action, acts_or_continues, altered, arithmetic_operators, comparable, connectors, drawn, exchanged, gives}
+use Rattle.mothra_ops.specs.Replacements.{absolute, absolute_value, is_replaceable_action, acts_or_continues, altered, are_some, arithmetic_operators, comparable, connectors, drawn, exchanged, gives}
 use Rattle.mothra_ops.specs.Replacements.{in_computed, in_labels, in_parts, in_place, in_places, in_statements, in_values, in_variables, is_comparable, is_constant, is_element, is_in, is_scalar}
 use Rattle.mothra_ops.specs.Replacements.{kind_of_expression, lowered, next_constants, operands, others, raised, relations, replacements, stands_in, truths, with_group, with_unary}
 use Rattle.mothra_ops.proofs.FormedNodes.{IsFormedTree, IsNamed, IsNoFunction, each_mapped, node_formed}
@@ -71,10 +72,10 @@ others_formed : (kinds : Symbol → Kind) (pool : List Reference) (r : Reference
 others_formed kinds pool r all = All-filter (λ other. same_kind (kinds other.name) (kinds r.name) && not (same_reference other r)) IsFormedReference pool all
 
 of_elements_formed : (give : Reference → List Reference) (r : Reference) → AllReferences (give r) → AllReferences (of_elements give r)
-of_elements_formed give r all = chosen IsFormedReference (is_element (as_tree r)) (give r) [] all (All-nil IsFormedReference)
+of_elements_formed give r all = chosen IsFormedReference (are_some r.subscripts) (give r) [] all (All-nil IsFormedReference)
 
 of_scalars_formed : (give : Reference → List Reference) (r : Reference) → AllReferences (give r) → AllReferences (of_scalars give r)
-of_scalars_formed give r all = chosen IsFormedReference (is_scalar (as_tree r)) (give r) [] all (All-nil IsFormedReference)
+of_scalars_formed give r all = chosen IsFormedReference (are_some r.subscripts) [] (give r) (All-nil IsFormedReference) all
 
 -- with and without subscripts
 no_function : (name : Symbol) (items : Trees) → IsNoFunction name → is_call name items ≡ false
@@ -108,7 +109,7 @@ lowered_formed (suc n) = refl
 altered_formed : (t : Tree) → formed t ≡ true → AllFormed (altered t)
 altered_formed (Tree.Number n) f =
     All-append IsFormedTree (raised n) (lowered n ∷ [])
-    (chosen IsFormedTree (nat_lt n 2147483647) (Tree.Number (n + 1) ∷ []) [] (one_tree (Tree.Number (n + 1)) refl) no_trees)
+    (chosen IsFormedTree (nat_lt n largest_integer) (Tree.Number (n + 1) ∷ []) [] (one_tree (Tree.Number (n + 1)) refl) no_trees)
     (one_tree (lowered n) (lowered_formed n))
 altered_formed (Tree.Truth b) f = one_tree (Tree.Truth (not b)) refl
 altered_formed _ f = no_trees

@@ -1,5 +1,5 @@
 -- What operators put in the place of a reference, in the place of what has none, and as other sorts of nodes.
-use Rattle.std.proofs.Common.{◌≡◌, ◌≢◌, ◌∷◌, [], List, Bool, true, false, true≢false, map, refl, sym, ap, ◌∙◌}
+use Rattle.std.proofs.Common.{◌≡◌, ◌≢◌, ◌∷◌, [], List, Bool, true, false, true≢false, map, refl, ap, ◌∙◌}
 use Rattle.std.specs.Prelude.{not, if◌then◌else◌}
 use Rattle.f77_nodes.specs.Node.{NodeOf}
 use Rattle.f77_tree.specs.Statement.{same_statement, form_of, Statement}
@@ -14,25 +14,16 @@ use Rattle.mothra_codes.specs.declared.op.Op.{Op}
 use Rattle.mothra_codes.specs.declared.op.Op.TheVariants.{Aar, Abs, Acr, Aor, Asr, Car, Cnr, Crp, Csr}
 use Rattle.mothra_codes.specs.declared.op.Op.TheVariants.{Lcr, Ror, Rsr, San, Sar, Scr, Sdl, Src, Svr, Uoi}
 
--- a reference is a scalar or an element
-scalar_at : (name : Symbol) (items : Trees) → is_element (Tree.Reference name items) ≡ false → is_scalar (Tree.Reference name items) ≡ true
-scalar_at name Trees.None h = refl
-scalar_at name (Trees.Then t ts) h = absurd (true≢false h)
-
-no_scalar : (name : Symbol) (items : Trees) → is_element (Tree.Reference name items) ≡ true → is_scalar (Tree.Reference name items) ≡ false
-no_scalar name Trees.None h = absurd (true≢false (sym h))
-no_scalar name (Trees.Then t ts) h = refl
-
 -- what is drawn in the place of an element, and of a scalar
 pub at_element : (give : Reference → List Reference) (r : Reference) → is_element (as_tree r) ≡ true → give r ≡ of_elements give r
 at_element give r h = rw h refl
 
 pub at_scalar : (give : Reference → List Reference) (r : Reference) → is_element (as_tree r) ≡ false → give r ≡ of_scalars give r
-at_scalar give r h = rw (scalar_at r.name r.subscripts h) refl
+at_scalar give r h = rw h refl
 
 -- nothing in the place of an element, and nothing in the place of a scalar, by the operators that have no sites there
 no_scalar_at : (give : Reference → List Reference) (r : Reference) → is_element (as_tree r) ≡ true → [] ≡ of_scalars give r
-no_scalar_at give r h = rw (no_scalar r.name r.subscripts h) refl
+no_scalar_at give r h = rw h refl
 
 no_element_at : (give : Reference → List Reference) (r : Reference) → is_element (as_tree r) ≡ false → [] ≡ of_elements give r
 no_element_at give r h = rw h refl

@@ -5,11 +5,13 @@ use Rattle.f77_nodes.specs.Node.{NodeOf}
 use Rattle.f77_tree.specs.Tree.{Tree, Trees}
 use Rattle.f77_tree.specs.Statement.{Statement}
 use Rattle.f77_tree.specs.declared.data.Constant.{Constant}
+use Rattle.f77_tree.specs.Operator.{is_relation}
+use Rattle.f77_tree.specs.declared.operator.Operator.{Operator}
 use Rattle.f77_tree.specs.declared.operator.Operator.TheVariants as operator
 use Rattle.f77_tree.specs.declared.operator.Sign.TheVariants.{Minus}
 use Rattle.f77_tree.specs.declared.tree.Kind.TheVariants.{Integer}
 use Rattle.mothra_ops.specs.Pools.{PoolFields, ascending}
-use Rattle.mothra_ops.specs.Replacements.{replacements, next_constants}
+use Rattle.mothra_ops.specs.Replacements.{is_in, next_constants, relations, replacements}
 use Rattle.mothra_codes.specs.declared.op.Op.TheVariants.{Aar, Abs, Acr, Aor, Asr, Cnr, Crp, Csr}
 use Rattle.mothra_codes.specs.declared.op.Op.TheVariants.{Glr, Rsr, Sar, Scr, Sdl, Svr}
 
@@ -114,6 +116,11 @@ rsr = refl
 
 sdl : replacements Sdl pools (NodeOf.Itself (Statement.Goto 10)) ≡ NodeOf.Itself Statement.Continue ∷ []
 sdl = refl
+
+-- what ROR exchanges are the relational operators, and all of them
+relational : (op : Operator) → is_in relations op ≡ is_relation op
+relational operator.Less = refl
+relational _ = refl
 
 abs_none : replacements Abs pools (NodeOf.Part (Tree.Number 3)) ≡ []
 abs_none = refl

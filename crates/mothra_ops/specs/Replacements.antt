@@ -7,6 +7,7 @@ use Rattle.std.specs.List.{list_any}
 use Rattle.std.specs.Str.{bytes_eq}
 use Rattle.f77_tree.specs.Comparing.{same_tree, same_operator, same_kind}
 use Rattle.f77_tree.specs.Statement.{same_statement, form_of, Statement}
+use Rattle.f77_nodes.specs.Limits.{largest_integer}
 use Rattle.f77_nodes.specs.Node.{NodeOf}
 use Rattle.f77_tree.specs.Tree.{Tree, Trees}
 use Rattle.f77_tree.specs.declared.data.Constant.{Constant}
@@ -36,14 +37,19 @@ kind_of_expression kinds (Tree.Not t) = Logical
 kind_of_expression kinds (Tree.Binary op a b) = result_kind op
 kind_of_expression kinds (Tree.ZeroPush t) = Integer
 
+-- there are subscripts: an array element has some, a scalar has none
+abbrev pub are_some : Trees → Bool
+are_some Trees.None = false
+are_some (Trees.Then t ts) = true
+
 -- an array element
 abbrev pub is_element : Tree → Bool
-is_element (Tree.Reference name (Trees.Then t ts)) = true
+is_element (Tree.Reference name subscripts) = are_some subscripts
 is_element _ = false
 
 -- a scalar
 abbrev pub is_scalar : Tree → Bool
-is_scalar (Tree.Reference name Trees.None) = true
+is_scalar (Tree.Reference name subscripts) = not (are_some subscripts)
 is_scalar _ = false
 
 -- a constant
@@ -95,18 +101,18 @@ with_unary Integer t =
     ∷ (Tree.Binary operator.Subtract t (Tree.Number 1) ∷ []))
 with_unary Logical t = Tree.Not t ∷ []
 
--- AOR: the arithmetic operators
+-- AOR: the arithmetic operators (ANSI X3.9-1978, 6.1)
 abbrev pub arithmetic_operators : List Operator
 arithmetic_operators = operator.Add
     ∷ (operator.Subtract ∷ (operator.Multiply ∷ (operator.Divide ∷ (operator.Power ∷ []))))
 
--- ROR: the relational operators
+-- ROR: the relational operators (ANSI X3.9-1978, 6.3)
 abbrev pub relations : List Operator
 relations =
     operator.Less ∷ (operator.LessOrEqual ∷ (operator.Equal
     ∷ (operator.NotEqual ∷ (operator.GreaterOrEqual ∷ (operator.Greater ∷ [])))))
 
--- LCR: the logical connectors
+-- LCR: the logical connectors (ANSI X3.9-1978, 6.4)
 abbrev pub connectors : List Operator
 connectors = operator.And ∷ (operator.Or ∷ (operator.Equivalent ∷ (operator.NotEquivalent ∷ [])))
 
@@ -134,7 +140,7 @@ truths = Tree.Truth true ∷ (Tree.Truth false ∷ [])
 
 -- one more, where it is in the range of INTEGER
 abbrev pub raised : ℕ → List Tree
-raised n = if nat_lt n 2147483647 then Tree.Number (n + 1) ∷ [] else []
+raised n = if nat_lt n largest_integer then Tree.Number (n + 1) ∷ [] else []
 
 -- one less: below 0 a sign before 1
 abbrev pub lowered : ℕ → Tree
@@ -177,10 +183,10 @@ in_variables gives node = in_places gives node
 abbrev pub in_computed : (Tree → List Tree) → NodeOf → List NodeOf
 in_computed gives = in_parts (λ t. if is_constant t then [] else gives t)
 
--- DSA: one more and one less, within 2147483647 either way; the other truth value
+-- DSA: one more and one less, within the largest constant either way; the other truth value
 abbrev pub next_constants : Constant → List Constant
 next_constants (Constant.Number z) = map Constant.Number
-    (filter (λ w. nat_le (nat_abs w) 2147483647) ((z +ℤ pos 1) ∷ ((z -ℤ pos 1) ∷ [])))
+    (filter (λ w. nat_le (nat_abs w) largest_integer) ((z +ℤ pos 1) ∷ ((z -ℤ pos 1) ∷ [])))
 next_constants (Constant.Truth b) = Constant.Truth (not b) ∷ []
 
 -- in the place of a value of DATA, as many times
@@ -216,11 +222,11 @@ in_statements is_site new _ = []
 
 -- in the place of an array element alone
 abbrev pub of_elements : (Reference → List Reference) → Reference → List Reference
-of_elements gives r = if is_element (as_tree r) then gives r else []
+of_elements gives r = if are_some r.subscripts then gives r else []
 
 -- in the place of a scalar alone
 abbrev pub of_scalars : (Reference → List Reference) → Reference → List Reference
-of_scalars gives r = if is_scalar (as_tree r) then gives r else []
+of_scalars gives r = if are_some r.subscripts then [] else gives r
 
 -- what the operators that put references in the place of references put there
 abbrev pub in_place : Op → PoolFields → Reference → List Reference
@@ -268,8 +274,8 @@ abbrev pub is_preset : Form → Bool
 is_preset Form.Preset = true
 is_preset _ = false
 
--- The statements in which an operator has sites: executable ones,
--- but for DATA; of the two that exchange labels DER has the DOs.
+-- The statements in which an operator has sites: executable ones, and of DSA those
+-- of DATA; of the two that exchange labels DER has the DOs, and GLR the others.
 abbrev pub stands_in : Op → Statement → Bool
 stands_in Der s = is_loop_form (form_of s)
 stands_in Dsa s = is_preset (form_of s)
