@@ -23,17 +23,16 @@ use Rattle.f77_run.specs.declared.argument.Arg.{Arg}
 use Rattle.f77_values.specs.declared.value.Value.{Value}
 use Rattle.f77_run.specs.Interpreter.{AreFitting, AreArguments, values_in}
 use Rattle.f77_run.specs.Machine.{values_of, turns_of, turn_of, placed_in_run}
-use Rattle.f77_code.specs.Moves.{Cells, turn_at}
+use Rattle.f77_code.specs.Moves.{Cells, State, turn_at}
 use Rattle.f77_run.specs.Site.{site_of, held}
 use Rattle.f77_run.specs.code.Spans.{HaveRoom, AreWithin, AllHold, span}
 use Rattle.f77_run.specs.Spans.{size_of, all_filled}
 use Rattle.f77_run.specs.Start.{IsStart, constant_value, start_values}
 use Rattle.f77_values.specs.declared.finish.Finish.{Finish}
-use Rattle.f77_run.specs.declared.machine.Machine.{Machine}
 use Rattle.f77_code.specs.declared.control.Place.TheVariants as places
 use Rattle.f77_run.specs.Control.{Comes}
 use Rattle.f77_run.specs.Outcome.{IsOutcome}
-use Rattle.f77_run.specs.code.Running.{IsRunning, config_at}
+use Rattle.f77_run.specs.code.Running.{IsRunningIn, stands_for}
 use Rattle.f77_run.specs.Step.{Config, config}
 use Rattle.f77_run.specs.Step as run
 use Rattle.f77_run.specs.code.Typed.{IsTyped}
@@ -148,24 +147,24 @@ module _ (checked : CheckedFields) (is : IsChecked checked) where
     pub starts : held checked filled_cells ≡ start_values program (map values_in arguments)
     starts = λ i. λ name. starts_each name i
 
-    -- a machine with these slots and no active DO, at the first executable statement
-    module _ (m : Machine) (n : ℕ) (place : m.place ≡ places.Execute checked.start.entry) (cells : m.cells.items ≡ filled_cells) (turns : m.turns.items ≡ replicate n None) where
-      pub machine_starts : IsStart program (map values_in arguments) (config_at (site_of checked arguments) m)
-      machine_starts = (
+    -- a state with these slots and no active DO, at the first executable statement
+    module _ (s : State) (n : ℕ) (place : s.place ≡ places.Execute checked.start.entry) (cells : s.cells ≡ filled_cells) (turns : s.turns ≡ replicate n None) where
+      pub state_starts : IsStart program (map values_in arguments) (stands_for (site_of checked arguments) s)
+      state_starts = (
         checked.start.entry,
         is.start.entry,
         (λ i. config (placed_in_run (place i)) (held checked (cells i)) (turns_of (turns i)))
             ∙ (λ i. config (run.Execute checked.start.entry) (starts i) (none_active n i)),
       )
 
-      pub machine_runs : n ≡ length program → IsRunning (site_of checked arguments) checked.statements m
-      machine_runs long = record {
+      pub state_runs : n ≡ length program → IsRunningIn (site_of checked arguments) checked.statements s
+      state_runs long = record {
         formed = is.formed;
         legal = is.legal;
         resolved = is.statements;
         cells = ap length cells ∙ filled_size;
         turns = ap length turns ∙ length-replicate n None ∙ long;
-        comes = Comes.at_start machine_starts;
+        comes = Comes.at_start state_starts;
       }
 
   -- at an end the dummy arguments have values

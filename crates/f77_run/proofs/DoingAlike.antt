@@ -37,7 +37,7 @@ module _ (at : RunSite) (statements : List Resolved) (m : Machine) (runs : IsRun
   executes_small here = small (executes_below here)
 
   pub increments_below : m.place ≡ Increment i → i < length statements
-  increments_below here = incremented_within statements m i here moves
+  increments_below here = incremented_within statements (state_of m) i here moves
 
   pub increments_small : m.place ≡ Increment i → Fits w64 (i * 8)
   increments_small here = small (increments_below here)

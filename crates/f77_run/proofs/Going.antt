@@ -33,22 +33,20 @@ use Rattle.f77_code.proofs.Assembled.{code_stands}
 use Rattle.f77_code.proofs.Listed.{item_at, order}
 use Rattle.f77_code.proofs.Reached.{code_there}
 use Rattle.f77_code.proofs.Sequences.{blocks_alike, goes_round}
-use Rattle.f77_run.specs.declared.machine.Machine.{Machine}
-use Rattle.f77_run.specs.code.Machine.{state_of}
 use Rattle.f77_run.specs.Machine.{turn_of}
 use Rattle.f77_run.specs.Outcome.{IsOutcome}
-use Rattle.f77_run.specs.code.Registers.{plan_of, loaded, shown_cells, counters_of, values_fit}
+use Rattle.f77_run.specs.code.Registers.{AreLoaded, plan_of, loaded, shown_cells, counters_of, values_fit}
 use Rattle.f77_run.specs.Running.{RunSite}
-use Rattle.f77_run.specs.code.Running.{IsRunning, AgreeOnDummies, ComesToCells, CameBack, config_at, values_at}
+use Rattle.f77_run.specs.declared.registers.Registers.{Registers}
+use Rattle.f77_run.specs.code.Running.{IsBegun, IsRunningIn, AgreeOnDummies, ComesToCells, CameBack, stands_for, values_at}
 use Rattle.f77_run.specs.code.Typed.{IsTyped}
 use Rattle.f77_run.proofs.Advancing.{after_more}
 use Rattle.f77_run.proofs.Endless.{limit_met}
 use Rattle.f77_run.proofs.Kinded.{have_actions}
 use Rattle.f77_run.proofs.Loaded.{loaded_count, loaded_holds, counters_count, counters_hold, shown_count}
-use Rattle.f77_run.proofs.Moving.{IsRunningIn, ComesIn, running_in, moves_by, all_nested, ends_later, place_below}
+use Rattle.f77_run.proofs.Moving.{ComesIn, moves_by, moves_in, all_nested, ends_later, place_below}
 use Rattle.f77_run.proofs.PassesLeft.{active_is_loop, passes_left}
 use Rattle.f77_run.proofs.Readiness.{few_statements, all_ready}
-use Rattle.f77_run.proofs.Runs.{can_move, stands_for}
 use Rattle.f77_run.proofs.Shown.{agree_on_dummies}
 use Rattle.f77_run.proofs.SlotKinds.{kinds_count}
 use Rattle.f77_run.proofs.Steps.{incremented_within}
@@ -61,7 +59,7 @@ end_far Stopped = omega arith
 end_far (Failed fault) = omega arith
 end_far StepLimit = omega arith
 
-module _ (at : RunSite) (statements : List Resolved) (m : Machine) (is : IsRunning at statements m) (kinds : List Kind)
+module _ (at : RunSite) (statements : List Resolved) (s : State) (is : IsRunningIn at statements s) (kinds : List Kind)
     (kinds_are : kinds ≡ slot_kinds (kind_of at.program) (bounds_of at.program) at.names) (code : Code) (compiled : IsCode statements code)
     (slots : code.constants.slots ≡ length kinds) where
   abbrev plan : Plan
@@ -70,10 +68,10 @@ module _ (at : RunSite) (statements : List Resolved) (m : Machine) (is : IsRunni
   many_kinds : length kinds ≡ slot_count (bounds_of at.program) at.names
   many_kinds = ap length kinds_are ∙ kinds_count (kind_of at.program) (bounds_of at.program) at.names
 
-  sized : length m.cells.items ≡ length kinds
+  pub sized : length s.cells ≡ length kinds
   sized = is.cells ∙ sym many_kinds
 
-  pub long : length m.turns.items ≡ length statements
+  pub long : length s.turns ≡ length statements
   long = is.turns ∙ sym is.resolved.count
 
   begins : BeginsPlan plan code.constants
@@ -86,65 +84,62 @@ module _ (at : RunSite) (statements : List Resolved) (m : Machine) (is : IsRunni
       (have_actions at.program at.names statements code.constants is.legal is.resolved))
 
   -- the machine stands at a place whose DO, if it is that of one, is among the statements
-  pub place_among : is_place_among (length code.places.increments.items) m.place ≡ true
-  place_among = by m.place refl
+  pub place_among : is_place_among (length code.places.increments.items) s.place ≡ true
+  place_among = by s.place refl
     where
-      by : (place : Place) → m.place ≡ place → is_place_among (length code.places.increments.items) place ≡ true
+      by : (place : Place) → s.place ≡ place → is_place_among (length code.places.increments.items) place ≡ true
       by (Execute i) e = refl
       by (Increment d) e =
-          let below = incremented_within statements m d e (can_move at statements m is) in
+          let below = incremented_within statements s d e (moves_in at statements s is) in
           lt-ltb d (length code.places.increments.items) (omega (arith, below, compiled.places.count))
 
   -- what is loaded stands for the state of the machine
-  module _ (registers : List ℤ) (loads : registers ≡ loaded kinds m.cells.items ++ code.constants.values.items) (held : are_held registers ≡ true)
-      (fit : values_fit kinds m.cells.items ≡ true) (constants_fit : list_all fits code.constants.values.items ≡ true) (counters : List Turn)
-      (counts : counters ≡ counters_of statements m.turns.items) where
+  module _ (registers : List ℤ) (loads : registers ≡ loaded kinds s.cells ++ code.constants.values.items) (held : are_held registers ≡ true)
+      (fit : values_fit kinds s.cells ≡ true) (constants_fit : list_all fits code.constants.values.items ≡ true) (counters : List Turn)
+      (counts : counters ≡ counters_of statements s.turns) where
     abbrev begin : Point
-    begin = point (place_at statements m.place) registers counters
+    begin = point (place_at statements s.place) registers counters
 
     pub within : code_within (length registers) (length counters) code.instructions.items ≡ true
     within =
         let size : length registers ≡ length kinds + length code.constants.values.items
-        = ap length loads ∙ length-append (loaded kinds m.cells.items) code.constants.values.items
-        ∙ ap (λ n. n + length code.constants.values.items) (loaded_count kinds m.cells.items sized) in
-        let many : length counters ≡ loop_count statements = ap length counts ∙ counters_count statements m.turns.items long in
+        = ap length loads ∙ length-append (loaded kinds s.cells) code.constants.values.items
+        ∙ ap (λ n. n + length code.constants.values.items) (loaded_count kinds s.cells sized) in
+        let many : length counters ≡ loop_count statements = ap length counts ∙ counters_count statements s.turns long in
         let there = code_there plan statements code.instructions.items are
         (subst (λ n. are_ready n statements ≡ true) (sym many_kinds) (all_ready at.program at.names statements is.legal is.resolved is.formed)) in
         subst (λ n. code_within n (length counters) code.instructions.items ≡ true) (sym size)
         (subst (λ n. code_within (length kinds + length code.constants.values.items) n code.instructions.items ≡ true) (sym many) there)
 
-    holds : HoldsRegisters plan registers m.cells.items
+    holds : HoldsRegisters plan registers s.cells
     holds =
-        subst (λ list. HoldsRegisters plan list m.cells.items) (sym loads)
-        (loaded_holds kinds code.constants m.cells.items sized (subst (λ list. are_held list ≡ true) loads held) fit constants_fit)
+        subst (λ list. HoldsRegisters plan list s.cells) (sym loads)
+        (loaded_holds kinds code.constants s.cells sized (subst (λ list. are_held list ≡ true) loads held) fit constants_fit)
 
-    counted : HoldsCounters statements counters m.turns.items
+    counted : HoldsCounters statements counters s.turns
     counted =
-        subst (λ list. HoldsCounters statements list m.turns.items) (sym counts)
-        (counters_hold statements m.turns.items long
+        subst (λ list. HoldsCounters statements list s.turns) (sym counts)
+        (counters_hold statements s.turns long
         (λ d turn active. (
-          active_is_loop at.program at.names at.given statements (config_at at m) is.formed is.legal is.resolved is.comes d (turn_of turn)
+          active_is_loop at.program at.names at.given statements (stands_for at s) is.formed is.legal is.resolved is.comes d (turn_of turn)
               (ap (option_map turn_of) active),
-          passes_left at.program at.given (config_at at m) is.comes d (turn_of turn) (ap (option_map turn_of) active),
+          passes_left at.program at.given (stands_for at s) is.comes d (turn_of turn) (ap (option_map turn_of) active),
         )))
 
-    starts : IsAt plan statements begin (state_of m)
+    starts : IsAt plan statements begin s
     starts = record { place = refl; holds = holds; counts = counted }
 
     -- where the code stands behind so many instructions, the run stands, or ended there
-    module _ (typed : IsTyped at.program (values_at at m.cells.items)) (steps made place : ℕ) (after_registers : List ℤ) (after_counters : List Turn)
+    module _ (typed : IsTyped at.program (values_at at s.cells)) (steps made place : ℕ) (after_registers : List ℤ) (after_counters : List Turn)
         (stands : point place after_registers after_counters ≡ code_after code.instructions.items made begin) (few : made ≤ steps)
         (rest : made < steps → (length code.instructions.items ≤ place) ⊎ CameBack code.instructions.items begin made)
         (finish : Finish) (told : (f : Finish) → place ≡ ended_point f → finish ≡ f) (limit : place < 4294967296 → finish ≡ StepLimit) where
-      running : IsRunningIn at statements (state_of m)
-      running = running_in at statements m is
+      moves : (n : ℕ) → (move : Move) × (moved_by statements n s ≡ Some move) × ComesIn at statements n (stands_for at s) move
+      moves n = moves_by at statements n s is
 
-      moves : (n : ℕ) → (move : Move) × (moved_by statements n (state_of m) ≡ Some move) × ComesIn at statements n (config_at at m) move
-      moves n = moves_by at statements n (state_of m) running
-
-      did : (n : ℕ) (move : Move) → moved_by statements n (state_of m) ≡ Some move → IsMove plan statements (code_after code.instructions.items n begin) move
+      did : (n : ℕ) (move : Move) → moved_by statements n s ≡ Some move → IsMove plan statements (code_after code.instructions.items n begin) move
       did n move e =
-          blocks_alike plan statements code.instructions.items begin (state_of m) n move are starts (all_nested at statements n (state_of m) running) e
+          blocks_alike plan statements code.instructions.items begin s n move are starts (all_nested at statements n s is) e
 
       -- the registers behind them, and what the dummy arguments hold
       agree : (cells : Cells) → HoldsRegisters plan (code_after code.instructions.items made begin).registers cells → IsTyped at.program (values_at at cells)
@@ -155,33 +150,33 @@ module _ (at : RunSite) (statements : List Resolved) (m : Machine) (is : IsRunni
           (agree_on_dummies at.program at.names code.constants after_registers cells
           (subst (λ list. HoldsRegisters (plan_of list code.constants) after_registers cells) kinds_are here) typed)
 
-      typed_then : (o : Finish) (cells : Cells) → IsOutcome at.program made (config_at at m) o (values_at at cells) → IsTyped at.program (values_at at cells)
-      typed_then o cells ends = outcome_typed at.program made (config_at at m) o (values_at at cells) is.legal ends typed
+      typed_then : (o : Finish) (cells : Cells) → IsOutcome at.program made (stands_for at s) o (values_at at cells) → IsTyped at.program (values_at at cells)
+      typed_then o cells ends = outcome_typed at.program made (stands_for at s) o (values_at at cells) is.legal ends typed
 
       -- the run has ended
-      ends_there : (o : Finish) (cells : Cells) → moved_by statements made (state_of m) ≡ Some (Ends o cells)
-          → ComesIn at statements made (config_at at m) (Ends o cells) → IsMove plan statements (code_after code.instructions.items made begin) (Ends o cells)
-          → ComesToCells at steps (config_at at m) made finish (shown_cells kinds after_registers)
+      ends_there : (o : Finish) (cells : Cells) → moved_by statements made s ≡ Some (Ends o cells)
+          → ComesIn at statements made (stands_for at s) (Ends o cells) → IsMove plan statements (code_after code.instructions.items made begin) (Ends o cells)
+          → ComesToCells at steps (stands_for at s) made finish (shown_cells kinds after_registers)
       ends_there o cells e comes is_end =
           let same : finish ≡ o = told o (ap (λ (p : Point). p.place) stands ∙ is_end.0) in
           let later = moves steps in
           let last : later.0 ≡ Ends o cells
-          = same_Some later.0 (Ends o cells) (sym later.1 ∙ ends_later at statements made steps (state_of m) o cells few e) in
-          let whole : ComesIn at statements steps (config_at at m) (Ends o cells) = subst (ComesIn at statements steps (config_at at m)) last later.2 in
+          = same_Some later.0 (Ends o cells) (sym later.1 ∙ ends_later at statements made steps s o cells few e) in
+          let whole : ComesIn at statements steps (stands_for at s) (Ends o cells) = subst (ComesIn at statements steps (stands_for at s)) last later.2 in
           record {
             values = values_at at cells;
             ends = record {
               within = few;
-              ends = subst (λ f. IsOutcome at.program made (config_at at m) f (values_at at cells)) (sym same) comes.0;
+              ends = subst (λ f. IsOutcome at.program made (stands_for at s) f (values_at at cells)) (sym same) comes.0;
               held = values_at at cells;
-              outcome = subst (λ f. IsOutcome at.program steps (config_at at m) f (values_at at cells)) (sym same) whole.0;
+              outcome = subst (λ f. IsOutcome at.program steps (stands_for at s) f (values_at at cells)) (sym same) whole.0;
               told = λ other. refl;
             };
             dummies = agree cells is_end.1 (typed_then o cells comes.0);
           }
 
       -- it goes on: all steps were made, or it comes back, and never ends
-      far_there : (n : ℕ) (o : Finish) (cells : Cells) → moved_by statements n (state_of m) ≡ Some (Ends o cells)
+      far_there : (n : ℕ) (o : Finish) (cells : Cells) → moved_by statements n s ≡ Some (Ends o cells)
           → slice_get code.instructions.items (code_after code.instructions.items n begin).place ≡ None
       far_there n o cells e =
           let is_end = did n (Ends o cells) e in
@@ -190,7 +185,7 @@ module _ (at : RunSite) (statements : List Resolved) (m : Machine) (is : IsRunni
           let place = is_end.0 in
           slice_get_past code.instructions.items (code_after code.instructions.items n begin).place (omega (arith, far, few, place))
 
-      never_back : CameBack code.instructions.items begin made → (o : Finish) (cells : Cells) → moved_by statements steps (state_of m) ≢ Some (Ends o cells)
+      never_back : CameBack code.instructions.items begin made → (o : Finish) (cells : Cells) → moved_by statements steps s ≢ Some (Ends o cells)
       never_back b o cells = λ e.
           let sum = b.sum in
           let whole : b.before + (steps - b.before) ≡ steps = omega (arith, sum, few) in
@@ -203,27 +198,27 @@ module _ (at : RunSite) (statements : List Resolved) (m : Machine) (is : IsRunni
           let found = item_at code.instructions.items (code_after code.instructions.items b.before begin).place b.there in
           absurd (cc (none, found.1))
 
-      never_ends : (t : State) → moved_by statements made (state_of m) ≡ Some (Goes t) → place < length code.instructions.items
-          → (o : Finish) (cells : Cells) → moved_by statements steps (state_of m) ≢ Some (Ends o cells)
+      never_ends : (t : State) → moved_by statements made s ≡ Some (Goes t) → place < length code.instructions.items
+          → (o : Finish) (cells : Cells) → moved_by statements steps s ≢ Some (Ends o cells)
       never_ends t e below o cells = by (order made steps)
         where
           back : (length code.instructions.items ≤ place) ⊎ CameBack code.instructions.items begin made
-              → moved_by statements steps (state_of m) ≢ Some (Ends o cells)
+              → moved_by statements steps s ≢ Some (Ends o cells)
           back (inl out) = absurd (omega (arith, out, below))
           back (inr b) = never_back b o cells
 
-          by : (made < steps) ⊎ (steps ≤ made) → moved_by statements steps (state_of m) ≢ Some (Ends o cells)
+          by : (made < steps) ⊎ (steps ≤ made) → moved_by statements steps s ≢ Some (Ends o cells)
           by (inl less) = back (rest less)
           by (inr all) = λ end.
               let same : made ≡ steps = omega (arith, few, all) in
-              let twice = ap (λ n. moved_by statements n (state_of m)) same in
+              let twice = ap (λ n. moved_by statements n s) same in
               let one : Goes t ≡ Ends o cells = cc (twice, e, end) in
               absurd (cc (one))
 
       -- so it meets its limit
-      meets_limit : (t : State) → moved_by statements made (state_of m) ≡ Some (Goes t) → ComesIn at statements made (config_at at m) (Goes t)
+      meets_limit : (t : State) → moved_by statements made s ≡ Some (Goes t) → ComesIn at statements made (stands_for at s) (Goes t)
           → IsMove plan statements (code_after code.instructions.items made begin) (Goes t)
-          → ComesToCells at steps (config_at at m) made finish (shown_cells kinds after_registers)
+          → ComesToCells at steps (stands_for at s) made finish (shown_cells kinds after_registers)
       meets_limit t e comes is_at = by later.0 later.1 later.2
         where
           here : place ≡ place_at statements t.place
@@ -235,43 +230,66 @@ module _ (at : RunSite) (statements : List Resolved) (m : Machine) (is : IsRunni
           same : finish ≡ StepLimit
           same = limit (let few = are.few in omega (arith, below, few))
 
-          met : IsOutcome at.program made (config_at at m) StepLimit (values_at at t.cells)
-          met = limit_met at.program made (config_at at m) (stands_for at t) comes.0
+          met : IsOutcome at.program made (stands_for at s) StepLimit (values_at at t.cells)
+          met = limit_met at.program made (stands_for at s) (stands_for at t) comes.0
 
-          later : (move : Move) × (moved_by statements steps (state_of m) ≡ Some move) × ComesIn at statements steps (config_at at m) move
+          later : (move : Move) × (moved_by statements steps s ≡ Some move) × ComesIn at statements steps (stands_for at s) move
           later = moves steps
 
-          by : (move : Move) → moved_by statements steps (state_of m) ≡ Some move → ComesIn at statements steps (config_at at m) move
-              → ComesToCells at steps (config_at at m) made finish (shown_cells kinds after_registers)
+          by : (move : Move) → moved_by statements steps s ≡ Some move → ComesIn at statements steps (stands_for at s) move
+              → ComesToCells at steps (stands_for at s) made finish (shown_cells kinds after_registers)
           by (Goes u) is whole = record {
             values = values_at at t.cells;
             ends = record {
               within = few;
-              ends = subst (λ f. IsOutcome at.program made (config_at at m) f (values_at at t.cells)) (sym same) met;
+              ends = subst (λ f. IsOutcome at.program made (stands_for at s) f (values_at at t.cells)) (sym same) met;
               held = values_at at u.cells;
-              outcome = subst (λ f. IsOutcome at.program steps (config_at at m) f (values_at at u.cells)) (sym same)
-                  (limit_met at.program steps (config_at at m) (stands_for at u) whole.0);
+              outcome = subst (λ f. IsOutcome at.program steps (stands_for at s) f (values_at at u.cells)) (sym same)
+                  (limit_met at.program steps (stands_for at s) (stands_for at u) whole.0);
               told = λ other. absurd (other same);
             };
             dummies = agree t.cells is_at.holds (typed_then StepLimit t.cells met);
           }
           by (Ends o cells) is whole = absurd (never_ends t e below o cells is)
 
-      pub comes_to_cells : ComesToCells at steps (config_at at m) made finish (shown_cells kinds after_registers)
+      pub comes_to_cells : ComesToCells at steps (stands_for at s) made finish (shown_cells kinds after_registers)
       comes_to_cells = by now.0 now.1 now.2
         where
-          now : (move : Move) × (moved_by statements made (state_of m) ≡ Some move) × ComesIn at statements made (config_at at m) move
+          now : (move : Move) × (moved_by statements made s ≡ Some move) × ComesIn at statements made (stands_for at s) move
           now = moves made
 
-          by : (move : Move) → moved_by statements made (state_of m) ≡ Some move → ComesIn at statements made (config_at at m) move
-              → ComesToCells at steps (config_at at m) made finish (shown_cells kinds after_registers)
+          by : (move : Move) → moved_by statements made s ≡ Some move → ComesIn at statements made (stands_for at s) move
+              → ComesToCells at steps (stands_for at s) made finish (shown_cells kinds after_registers)
           by (Goes t) e comes = meets_limit t e comes (did made (Goes t) e)
           by (Ends o cells) e comes = ends_there o cells e comes (did made (Ends o cells) e)
 
   -- as many slots are shown as there are
-  pub cells_shown : (registers : List ℤ) → registers ≡ loaded kinds m.cells.items ++ code.constants.values.items → (new : List ℤ)
+  pub cells_shown : (registers : List ℤ) → registers ≡ loaded kinds s.cells ++ code.constants.values.items → (new : List ℤ)
       → length new ≡ length registers → length (shown_cells kinds new) ≡ slot_count (bounds_of at.program) at.names
   cells_shown registers loads new same =
-      let size = ap length loads ∙ length-append (loaded kinds m.cells.items) code.constants.values.items in
-      let slots = loaded_count kinds m.cells.items sized in
+      let size = ap length loads ∙ length-append (loaded kinds s.cells) code.constants.values.items in
+      let slots = loaded_count kinds s.cells sized in
       shown_count kinds new (omega (arith, same, size, slots)) ∙ many_kinds
+
+  -- there is a register for each slot
+  pub room_shown : (registers : List ℤ) → registers ≡ loaded kinds s.cells ++ code.constants.values.items → (new : List ℤ)
+      → length new ≡ length registers → length kinds ≤ length new
+  room_shown registers loads new same =
+      let size = ap length loads ∙ length-append (loaded kinds s.cells) code.constants.values.items in
+      let slots = loaded_count kinds s.cells sized in
+      omega (arith, same, size, slots)
+
+  -- registers and counters that are loaded of the state are at the start of its run
+  pub run_begun : IsTyped at.program (values_at at s.cells) → (registers : Registers) → registers.items.items ≡ loaded kinds s.cells ++ code.constants.values.items
+      → are_held registers.items.items ≡ true → values_fit kinds s.cells ≡ true → list_all fits code.constants.values.items ≡ true
+      → registers.counters.items ≡ counters_of statements s.turns → IsBegun (record { site = at; statements = statements; state = s }) code s.place registers
+  run_begun typed registers loads held values numbers counts = record {
+    running = is;
+    typed = typed;
+    compiled = compiled;
+    slots = slots ∙ ap length kinds_are;
+    place = refl;
+    loaded = subst (λ kinds. AreLoaded kinds s.cells code.constants.values.items registers.items.items) kinds_are
+        (record { count = sized; items = loads; held = held; values = values; numbers = numbers });
+    counters = counts;
+  }

@@ -63,5 +63,6 @@ mod Walked
 mod Advancing
 mod Going
 mod Answering
+mod Entered
 pub mod ControlDefinitions
 pub mod ReachedDefinitions

@@ -22,7 +22,7 @@ use Rattle.f77_code.specs.Registers.{register, told_by_register, told_at, are_he
 use Rattle.f77_code.proofs.Counters.{weight, more}
 use Rattle.f77_code.proofs.Listed.{all_at, get_behind, one_if}
 use Rattle.f77_code.proofs.Written.{told_fits}
-use Rattle.f77_run.specs.code.Registers.{values_fit, plan_of, loaded, shown_as, shown_cells, counter_of, counters_of}
+use Rattle.f77_run.specs.code.Registers.{AreLoaded, values_fit, plan_of, loaded, shown_as, shown_cells, counter_of, counters_of}
 use Rattle.f77_run.specs.code.Typed.{has_kind}
 
 -- a register for each slot
@@ -146,7 +146,7 @@ shown_count (kind ∷ kinds) [] room = absurd (omega (arith, room))
 shown_count (kind ∷ kinds) (x ∷ registers) room = ap suc (shown_count kinds registers (omega (arith, room)))
 
 -- what is shown of a slot is what its register tells, by its kind
-shown_at : (kinds : List Kind) (registers : List ℤ) → length kinds ≤ length registers → (k : ℕ) (kind : Kind) → slice_get kinds k ≡ Some kind
+pub shown_at : (kinds : List Kind) (registers : List ℤ) → length kinds ≤ length registers → (k : ℕ) (kind : Kind) → slice_get kinds k ≡ Some kind
     → held_in (shown_cells kinds registers) k ≡ shown_as kind (register registers k)
 shown_at [] registers room k kind at = absurd (cc (at))
 shown_at (x ∷ kinds) [] room k kind at = absurd (omega (arith, room))
@@ -171,3 +171,10 @@ shown_is kinds table registers cells holds k kind at is =
     let reads : register registers k ≡ read_as kind (held_in cells k)
     = holds.slots k (slice_get_within kinds k kind at) ∙ ap (λ kind. read_as kind (held_in cells k)) own in
     shown_at kinds registers holds.room k kind at ∙ ap (shown_as kind) reads ∙ read_shown kind (held_in cells k) is
+
+-- there is a register for each slot
+pub loaded_room : (kinds : List Kind) (cells : Cells) (constants registers : List ℤ) → AreLoaded kinds cells constants registers → length kinds ≤ length registers
+loaded_room kinds cells constants registers are =
+    let size = ap length are.items ∙ length-append (loaded kinds cells) constants in
+    let slots = loaded_count kinds cells are.count in
+    omega (arith, size, slots)

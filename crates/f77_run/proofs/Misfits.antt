@@ -42,7 +42,7 @@ all_fit (shape ∷ list) (argument ∷ arguments) count none =
     let parts = neither (has_shape shape argument) (first_misfit list arguments) (sym (misfit_more shape list argument arguments) ∙ none) in
     (parts.0, all_fit list arguments (omega (arith, count)) parts.1)
 
-no_misfit : (list : List Shape) (arguments : List Arg) → AreFitting list arguments → first_misfit list arguments ≡ None
+pub no_misfit : (list : List Shape) (arguments : List Arg) → AreFitting list arguments → first_misfit list arguments ≡ None
 no_misfit [] [] fits = refl
 no_misfit [] (argument ∷ arguments) fits = absurd fits
 no_misfit (shape ∷ list) [] fits = absurd fits
@@ -57,8 +57,12 @@ pub fit_whole : (list : List Shape) (n : ℕ) (arguments : List Arg) → length 
 fit_whole list n arguments end joined =
     subst (AreFitting list) (append-nil arguments) (joined [] (subst (λ left. AreFitting left []) (sym (drop_all n list end)) tt))
 
+-- arguments that fit are as many as the shapes
+pub as_many_fit : (list : List Shape) (arguments : List Arg) → AreFitting list arguments → length arguments ≡ length list
+as_many_fit list arguments fits = AllZip-long (λ shape argument. has_shape shape argument ≡ true) list arguments fits
+
 -- arguments that fit are not refused
 pub not_refused : (list : List Shape) (arguments : List Arg) → AreFitting list arguments → refusal list arguments ≡ None
 not_refused list arguments fits =
-    let count = eq-eqb (length arguments) (length list) (AllZip-long (λ shape argument. has_shape shape argument ≡ true) list arguments fits) in
+    let count = eq-eqb (length arguments) (length list) (as_many_fit list arguments fits) in
     rw (count, no_misfit list arguments fits) refl

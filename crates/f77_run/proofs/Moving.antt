@@ -5,14 +5,11 @@ use Rattle.std.specs.Prelude.{IsSome, Result, Ok, Err, if◌then◌else◌, opti
 use Rattle.std.specs.Option.{option_and_then, option_map_or}
 use Rattle.std.proofs.lemmas.List.{length-set}
 use Rattle.std.proofs.lemmas.Option.{slice_get_within}
-use Rattle.f77_program.specs.Program.{IsProgram}
 use Rattle.f77_actions.specs.declared.action.Action.{Action, Declaration, AssignNumber, AssignTruth, Goto, ComputedGoto, ArithmeticIf}
 use Rattle.f77_actions.specs.declared.action.Action.{LogicalIf', Branch, Continue, Loop, Return, Stop, Trap}
 use Rattle.f77_actions.specs.declared.action.Jump.{Jump}
 use Rattle.f77_actions.specs.declared.resolved.Resolved.{Resolved}
-use Rattle.f77_legal.specs.Legal.{IsLegal}
 use Rattle.f77_legal.specs.Names.{bounds_of}
-use Rattle.f77_check.specs.Resolved.{AreResolved}
 use Rattle.f77_check.specs.Slots.{slot_count}
 use Rattle.f77_values.specs.declared.finish.Fault.{Fault}
 use Rattle.f77_values.specs.declared.finish.Fault.TheVariants.{ZeroStep, Trapped}
@@ -34,27 +31,16 @@ use Rattle.f77_code.specs.Sequences.{then_moved, moved_by, AreStatesNested}
 use Rattle.f77_code.specs.Simulation.{IsNested}
 use Rattle.f77_code.proofs.Counters.{rank_below}
 use Rattle.f77_code.proofs.Listed.{loop_is}
-use Rattle.f77_run.specs.declared.machine.Machine.{Machine}
 use Rattle.f77_run.specs.Control.{Comes}
 use Rattle.f77_run.specs.Endless.{Reaches}
-use Rattle.f77_run.specs.code.Machine.{next_of, state_of}
+use Rattle.f77_run.specs.code.Machine.{next_of}
 use Rattle.f77_run.specs.Outcome.{IsOutcome}
 use Rattle.f77_run.specs.Running.{RunSite}
-use Rattle.f77_run.specs.code.Running.{IsRunning, values_at}
+use Rattle.f77_run.specs.code.Running.{IsRunningIn, stands_for, values_at}
 use Rattle.f77_run.specs.Step.{Config, Step}
 use Rattle.f77_run.proofs.NeverLost.{leads_on}
-use Rattle.f77_run.proofs.Runs.{stands_for}
 use Rattle.f77_run.proofs.Simulation.{simulates, moves_on}
 use Rattle.f77_run.proofs.StandsNested.{stands_nested}
-
--- A state in a run of a program: what it stands for is what the run comes to.
-pub record IsRunningIn (at : RunSite) (statements : List Resolved) (s : State) : Type 0 where
-  pub formed : IsProgram None at.program
-  pub legal : IsLegal at.program
-  pub resolved : AreResolved at.program at.names statements
-  pub cells : length s.cells ≡ slot_count (bounds_of at.program) at.names
-  pub turns : length s.turns ≡ length at.program
-  pub comes : Comes at.program at.given (stands_for at s)
 
 -- What moves from a configuration lead to: the run comes to the state behind as many steps, and goes on there, or it ends within them.
 abbrev pub ComesIn : RunSite → List Resolved → ℕ → Config → Move → Type 0
@@ -257,17 +243,6 @@ module _ (statements : List Resolved) (cells : Cells) (turns : TurnList) where
       by (Some r) found some = loop_below d r found (is_loop r.action) refl some
 
 module _ (at : RunSite) (statements : List Resolved) where
-  -- the state of a machine in a run
-  pub running_in : (m : Machine) → IsRunning at statements m → IsRunningIn at statements (state_of m)
-  running_in m is = record {
-    formed = is.formed;
-    legal = is.legal;
-    resolved = is.resolved;
-    cells = is.cells;
-    turns = is.turns;
-    comes = is.comes;
-  }
-
   -- a run has a move from each state that it comes to
   pub moves_in : (s : State) → IsRunningIn at statements s → IsSome (moved statements s)
   moves_in s is =

@@ -27,7 +27,7 @@ use Rattle.f77_run.specs.code.Machine.{state_of}
 use Rattle.f77_run.specs.Outcome.{IsOutcome}
 use Rattle.f77_run.specs.code.Parting.{Parting, IsParting, DoesAlikeIn, DoAlikeBefore, changed_site, site_in, start_in}
 use Rattle.f77_run.specs.code.Running.{IsRunning, AgreeOnDummies, ComesToEnd, config_at, values_at}
-use Rattle.f77_run.specs.code.Site.{HoldsDummies}
+use Rattle.f77_run.specs.code.Site.{HoldDummies}
 use Rattle.f77_run.specs.Site.{held}
 use Rattle.f77_run.specs.Start.{IsStart}
 use Rattle.f77_run.specs.Step.{Config, Step}
@@ -196,12 +196,12 @@ module _ (parting : Parting) (changed : List Resolved) (is : IsParting parting c
     typed_there : IsTyped q s
     typed_there = changed_typed (behind + made) end s from_start.ends
 
-    pub holds_dummies : (m : Machine) → AgreeOnDummies q s (values_at (changed_site parting) m.cells.items)
-        → length m.cells.items ≡ slot_count (bounds_of q) parting.checked.names → HoldsDummies parting.checked m
-    holds_dummies m agree size = record {
-      cells = size ∙ ap (λ b. slot_count b parting.checked.names) bounds;
-      typed = own_typed (held parting.checked m.cells.items)
-          (subst (IsTyped q) (same_held m.cells.items) (typed_alike q s (values_at (changed_site parting) m.cells.items) agree typed_there));
+    pub hold_dummies : (cells : Cells) → AgreeOnDummies q s (values_at (changed_site parting) cells)
+        → length cells ≡ slot_count (bounds_of q) parting.checked.names → HoldDummies parting.checked cells
+    hold_dummies cells agree size = record {
+      count = size ∙ ap (λ b. slot_count b parting.checked.names) bounds;
+      typed = own_typed (held parting.checked cells)
+          (subst (IsTyped q) (same_held cells) (typed_alike q s (values_at (changed_site parting) cells) agree typed_there));
     }
 
     pub told_there : (cells : Cells) → AgreeOnDummies q s (values_at (changed_site parting) cells) → (outcome : Outcome) (same : Bool)

@@ -16,13 +16,12 @@ use Rattle.f77_run.specs.declared.machine.Machine.{Machine}
 use Rattle.f77_run.specs.Control.{Comes}
 use Rattle.f77_run.specs.Endless.{Reaches}
 use Rattle.f77_run.specs.code.Machine.{KeepsLengths, next_of, state_of, move_of}
-use Rattle.f77_run.specs.Machine.{config_of}
 use Rattle.f77_code.specs.Moves.{Cells, State, Move, moved}
 use Rattle.f77_code.specs.code.Moves.{all_within}
 use Rattle.f77_code.specs.Moves as moves
 use Rattle.f77_run.specs.Outcome.{IsOutcome}
 use Rattle.f77_run.specs.Running.{RunSite}
-use Rattle.f77_run.specs.code.Running.{IsRunning, ComesToEnd, values_at, config_at}
+use Rattle.f77_run.specs.code.Running.{IsRunning, ComesToEnd, values_at, config_at, stands_for}
 use Rattle.f77_run.specs.Step.{Config, Step}
 use Rattle.f77_run.proofs.Endless.{joined, one_step, one_more as further, whole, limit_met, endless_before, comes_back, meets_limits}
 use Rattle.f77_run.proofs.NeverLost.{leads_on}
@@ -33,10 +32,6 @@ use Rattle.f77_run.proofs.Simulation.{simulates, moves_on}
 pub record IsLeft (at : RunSite) (statements : List Resolved) (start now : Machine) (done : ℕ) : Type 0 where
   pub running : IsRunning at statements now
   pub reached : Reaches at.program done (config_at at start) (config_at at now)
-
--- what a state stands for
-abbrev pub stands_for : RunSite → State → Config
-stands_for at s = config_of (bounds_of at.program) at.names s
 
 -- the state that is kept is one on the way, some steps back
 abbrev pub IsKept : RunSite → Config → Config → Option State → Type 0

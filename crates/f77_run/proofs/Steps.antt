@@ -15,7 +15,7 @@ use Rattle.f77_code.specs.declared.control.Turn.{Turn}
 use Rattle.f77_code.specs.Evaluation.{number_within}
 use Rattle.f77_values.specs.declared.value.Value.{Value}
 use Rattle.f77_values.specs.declared.value.Value.TheVariants as held
-use Rattle.f77_code.specs.Moves.{Cells, TurnList, moved, acted, begun, incremented, is_executed, is_loop, passing_at, turn_at, are_below}
+use Rattle.f77_code.specs.Moves.{Cells, State, TurnList, moved, acted, begun, incremented, is_executed, is_loop, passing_at, turn_at, are_below}
 use Rattle.f77_code.specs.code.Moves.{action_within, resolved_within, all_within}
 use Rattle.f77_run.specs.code.Machine.{state_of}
 use Rattle.f77_values.specs.Number.{trip_count}
@@ -89,15 +89,15 @@ executed_moves statements m i r is here some =
     rw (is, got, test) refl
 
 -- the DO that is incremented is among the statements
-pub incremented_within : (statements : List Resolved) (m : Machine) (d : ℕ) → m.place ≡ Increment d → IsSome (moved statements (state_of m)) → d < length statements
-incremented_within statements m d is some =
-    among (λ r. if is_loop r.action then option_map (λ turn. incremented statements d r.action turn m.cells.items m.turns.items) (turn_at m.turns.items d) else None) statements d (rw is at some)
+pub incremented_within : (statements : List Resolved) (s : State) (d : ℕ) → s.place ≡ Increment d → IsSome (moved statements s) → d < length statements
+incremented_within statements s d is some =
+    among (λ r. if is_loop r.action then option_map (λ turn. incremented statements d r.action turn s.cells s.turns) (turn_at s.turns d) else None) statements d (rw is at some)
 
 -- it is a DO, and active
 pub incremented_active : (statements : List Resolved) (m : Machine) (d : ℕ) (r : Resolved) → m.place ≡ Increment d → r ≡ get_or statements d r → IsSome (moved statements (state_of m))
     → (is_loop r.action ≡ true) × IsSome (turn_at m.turns.items d)
 incremented_active statements m d r is here some =
-    let got = slice_get_read statements (length statements) d r refl (incremented_within statements m d is some) here in
+    let got = slice_get_read statements (length statements) d r refl (incremented_within statements (state_of m) d is some) here in
     let done : IsSome (if is_loop r.action then option_map (λ turn. incremented statements d r.action turn m.cells.items m.turns.items) (turn_at m.turns.items d) else None) = rw (is, got) at some in
     let test = tested (is_loop r.action) (option_map (λ turn. incremented statements d r.action turn m.cells.items m.turns.items) (turn_at m.turns.items d)) done in
     (test.0, mapped (λ turn. incremented statements d r.action turn m.cells.items m.turns.items) (turn_at m.turns.items d) test.1)
@@ -106,7 +106,7 @@ incremented_active statements m d r is here some =
 pub incremented_moves : (statements : List Resolved) (m : Machine) (d : ℕ) (r : Resolved) (turn : Turn) → m.place ≡ Increment d → r ≡ get_or statements d r → turn_at m.turns.items d ≡ Some turn
     → IsSome (moved statements (state_of m)) → moved statements (state_of m) ≡ Some (incremented statements d r.action turn m.cells.items m.turns.items)
 incremented_moves statements m d r turn is here active some =
-    let got = slice_get_read statements (length statements) d r refl (incremented_within statements m d is some) here in
+    let got = slice_get_read statements (length statements) d r refl (incremented_within statements (state_of m) d is some) here in
     let test = (incremented_active statements m d r is here some).0 in
     rw (is, got, test, active) refl
 

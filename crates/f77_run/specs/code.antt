@@ -1,5 +1,6 @@
 pub mod Machine
 pub mod Effect
+pub mod Ending
 pub mod Typed
 pub mod Spans
 pub mod Holding

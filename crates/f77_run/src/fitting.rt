@@ -1,6 +1,7 @@
 //! Which arguments fit dummy arguments.
 
 ghost use Rattle.std.specs.Prelude.{◌≡◌, ◌≢◌, ◌+◌, ◌==◌, Some, Err, IfOk, IfSome, IfErr};
+ghost use Rattle.std.specs.Bool.{Decides};
 ghost use Rattle.f77_run.specs.Interpreter as run;
 ghost use Rattle.f77_run.specs.Interpreter.{AreFitting, first_misfit, is_count, refusal};
 ghost use Rattle.f77_run.specs.declared.outcome.RunFault.TheVariants as fault;
@@ -41,6 +42,14 @@ pub(crate) fn misfit(shapes: &[Shape], arguments: &[Arg]) -> Option<usize>
         .iter()
         .zip(arguments)
         .position(|(shape, argument)| !has_shape(shape, argument))
+}
+
+/// Whether there are as many arguments as shapes, each of its shape. It takes no memory.
+#[tactic(auto, using(crate::proofs::Misfits::all_fit, crate::proofs::Misfits::no_misfit, crate::proofs::Misfits::as_many_fit))]
+pub(crate) fn are_fitting(shapes: &[Shape], arguments: &[Arg]) -> bool
+    ensures { Decides result (AreFitting shapes.now arguments.now) }
+{
+    arguments.len() == shapes.len() && misfit(shapes, arguments).is_none()
 }
 
 /// Tells arguments that do not fit: N2 before N3. It takes no memory.

@@ -11,7 +11,7 @@ ghost use Rattle.f77_run.specs.Interpreter.{AreFitting, AreArguments, IsOutcomeO
 ghost use Rattle.f77_run.specs.Running.{RunSite};
 ghost use Rattle.f77_run.specs.code.Running.{IsRunning, ComesToCells, config_at, values_at};
 ghost use Rattle.f77_run.specs.Site.{site_of, held};
-ghost use Rattle.f77_run.specs.code.Site.{HoldsDummies};
+ghost use Rattle.f77_run.specs.code.Site.{HoldDummies};
 ghost use Rattle.f77_run.specs.Start.{IsStart, constant_value};
 ghost use Rattle.f77_run.specs.code.Typed.{IsTyped};
 ghost use Rattle.f77_run.specs.declared.argument.Arg.{Arg};
@@ -76,7 +76,7 @@ fn told(fault: Fault) -> Outcome
 }
 
 /// So many DOs, none of them active.
-fn no_turns(alloc: Global, count: usize) -> Result<Vec<Option<Turn>>, RunFault>
+pub(crate) fn no_turns(alloc: Global, count: usize) -> Result<Vec<Option<Turn>>, RunFault>
     ensures turns { IfOk result (λ turns. turns.items ≡ replicate count None) }
     ensures memory { IfErr result (λ e. e ≡ fault.Memory) }
 {
@@ -124,7 +124,7 @@ pub(crate) fn begin(
 
 /// What the dummy arguments hold.
 fn dummies(alloc: Global, checked: &Checked, machine: &Machine) -> Result<Values<Arg>, RunFault>
-    requires { HoldsDummies checked.now machine.now }
+    requires { HoldDummies checked.now machine.now.cells.items }
     ensures arguments { IfOk result
         (λ arguments. AreArguments (map line_of checked.now.program)
         (held checked.now machine.now.cells.items) arguments) }
@@ -145,7 +145,7 @@ pub(crate) fn answer(
     finish: Finish,
     machine: &Machine,
 ) -> Result<Outcome, RunFault>
-    requires { HoldsDummies checked.now machine.now }
+    requires { HoldDummies checked.now machine.now.cells.items }
     ensures tells { IfOk result
         (λ outcome. Tells (map line_of checked.now.program) finish (held checked.now machine.now.cells.items) outcome) }
     ensures memory { IfErr result (λ e. e ≡ fault.Memory) }

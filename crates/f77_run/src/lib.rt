@@ -4,8 +4,11 @@
 mod alike;
 mod argument;
 mod changed;
+mod compiled;
 mod course;
 mod effect;
+mod ending;
+mod entering;
 mod evaluate;
 mod execute;
 mod fitting;

@@ -19,10 +19,11 @@ ghost use Rattle.f77_run.specs.declared.outcome.RunFault.TheVariants as fault;
 use crate::alike::{act_alike, increment_alike};
 use crate::argument::Arg;
 use crate::changed::Change;
+use crate::ending::{is_told, is_told_by};
 use crate::outcome::{Outcome, RunFault};
 use crate::recompiled::Recompiled;
-use crate::runner::{is_told, restart};
-use crate::running::go;
+use crate::runner::restart;
+use crate::running::go_from;
 use crate::visits::{Visit, Visited};
 use crate::walking::walk;
 use crate::workspace::Workspace;
@@ -102,16 +103,17 @@ fn finish(
 {
     space.earlier.forget(patience);
     let start = checked.start();
-    let end = go(
+    let end = go_from(
         &start.kinds,
         changed,
         code,
-        &mut space.machine,
+        &space.machine,
         &mut space.registers,
         &mut space.earlier,
         steps - behind,
     )?;
-    Ok(is_told(checked, end.finish, &space.machine, outcome))
+    let registers = &space.registers.items;
+    Ok(is_told_by(checked, end.finish, registers, outcome))
 }
 
 /// The same, where the code of the changed program may have to be compiled first.

@@ -27,7 +27,7 @@ pub(crate) struct Registers {
 }
 
 /// What a register has for a slot of this kind.
-fn number(kind: Kind, cell: Option<Value>) -> i64
+pub(crate) fn number(kind: Kind, cell: Option<Value>) -> i64
     ensures number { result ≡ coded (read_as kind cell) }
     ensures held { is_held result ≡ true }
     ensures fitting { is_fitting (read_as kind cell) ≡ true }
@@ -41,7 +41,7 @@ fn number(kind: Kind, cell: Option<Value>) -> i64
 }
 
 /// What a slot of this kind holds, by its register.
-fn value(kind: Kind, register: i64) -> Option<Value>
+pub(crate) fn value(kind: Kind, register: i64) -> Option<Value>
     requires { is_held register ≡ true }
     ensures { result ≡ meaning.shown_as kind (told_by_register register) }
 {
@@ -158,6 +158,20 @@ fn load_counters(
     Ok(())
 }
 
+/// The list becomes the other. It takes memory where it has another length.
+fn copy_items<T: Copy>(list: &mut Vec<T>, other: &[T]) -> Result<(), RunFault>
+    ensures items { OnOk result (list.new.items ≡ other.now) }
+    ensures memory { IfErr result (λ e. e ≡ fault.Memory) }
+{
+    if list.len() == other.len() {
+        list.copy_from_slice(other);
+        return Ok(());
+    }
+    list.clear();
+    list.extend_from_slice(other)?;
+    Ok(())
+}
+
 impl Registers {
     /// No registers yet. It takes no memory.
     pub(crate) fn new(alloc: Global) -> Registers {
@@ -188,6 +202,16 @@ impl Registers {
         load_constants(&mut self.items, slots, constants);
         self.counters.clear();
         load_counters(&mut self.counters, statements, &machine.turns)
+    }
+
+    /// They become what these are.
+    pub(crate) fn copy_from(&mut self, other: &Registers) -> Result<(), RunFault>
+        ensures items { OnOk result (self.new.items.items ≡ other.now.items.items) }
+        ensures counters { OnOk result (self.new.counters.items ≡ other.now.counters.items) }
+        ensures memory { IfErr result (λ e. e ≡ fault.Memory) }
+    {
+        copy_items(&mut self.items, &other.items)?;
+        copy_items(&mut self.counters, &other.counters)
     }
 
     /// Puts what they stand for back into slots.

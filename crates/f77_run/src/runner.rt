@@ -3,42 +3,36 @@
 ghost use Rattle.std.specs.Prelude.{◌≡◌, ◌⊎◌, map, option_map, Some, Err, IfOk, IfErr, IfSome};
 ghost use Rattle.std.specs.Bool.{Decides};
 ghost use Rattle.f77_program.specs.Program.{line_of};
-ghost use Rattle.f77_code.specs.Program.{IsCode};
-ghost use Rattle.f77_run.specs.Interpreter as meaning;
-ghost use Rattle.f77_run.specs.Interpreter.{AreArguments, AreFitting, IsOutcomeOf, Tells, refusal, values_in};
+ghost use Rattle.f77_run.specs.Interpreter.{AreFitting, IsOutcomeOf, refusal, values_in};
 ghost use Rattle.f77_run.specs.Reached.{AreReached};
 ghost use Rattle.f77_run.specs.Running.{RunSite};
 ghost use Rattle.f77_run.specs.code.Running.{IsRunning, config_at};
-ghost use Rattle.f77_run.specs.Site.{site_of, held};
-ghost use Rattle.f77_run.specs.code.Site.{HoldsDummies};
+ghost use Rattle.f77_run.specs.Site.{site_of};
 ghost use Rattle.f77_run.specs.Start.{IsStart, constant_value};
 ghost use Rattle.f77_run.specs.Visits.{IsFollowed};
 ghost use Rattle.f77_run.specs.declared.outcome.Outcome.{Outcome};
 ghost use Rattle.f77_run.specs.declared.outcome.RunFault.TheVariants as fault;
 
 use crate::argument::Arg;
+use crate::compiled::Compiled;
 use crate::course::Course;
 use crate::fitting::fit;
-use crate::holding::are_held;
 use crate::interpreter::{answer, enter};
 use crate::machine::Machine;
 use crate::outcome::{Outcome, RunFault};
 use crate::reached::follow;
-use crate::running::go;
 use crate::values::Values;
 use crate::visits::Visits;
-use crate::workspace::{Workspace, code_of};
+use crate::workspace::Workspace;
 use f77_check::Checked;
-use f77_code::Code;
-use f77_values::{Fault, Finish, Value};
+use f77_values::Value;
 use std::alloc::Global;
 use std::marker::Model;
 
 /// The runs of one program, one after another, in memory that is taken once.
 #[derive(Drop)]
 pub struct Runner<'a> {
-    checked: &'a Checked,
-    code: Code,
+    program: Compiled<'a>,
     space: Workspace,
 }
 
@@ -52,7 +46,6 @@ impl<'a> Model for Runner<'a> {
     ghost use Rattle.f77_actions.specs.contracts.expression.Condition as condition;
     ghost use Rattle.f77_actions.specs.contracts.expression.Element as element;
     ghost use Rattle.f77_actions.specs.contracts.expression.Number as number;
-    ghost use Rattle.f77_code.specs.Program.{IsCode};
     ghost use Rattle.f77_run.specs.Start.{constant_value};
 
     ghost Value = { CheckedFields };
@@ -67,11 +60,10 @@ impl<'a> Model for Runner<'a> {
       action.the_row.coded,
     ) };
 
-    ghost view = { λ runner. runner.checked.now };
+    ghost view = { λ runner. runner.program };
 
     ghost invariant = { λ runner.
-        (runner.space.initial.items ≡ map (option_map constant_value) runner.checked.now.start.initial.items)
-        × IsCode runner.checked.now.statements runner.code × (runner.code.constants.slots ≡ runner.checked.now.slots) };
+        runner.space.initial.items ≡ map (option_map constant_value) runner.program.start.initial.items };
 }
 
 /// The machine is at the start of a run, whatever it did before.
@@ -96,95 +88,6 @@ pub(crate) fn restart(
     machine.turns.resize(checked.count(), None)?;
     enter(checked, machine, arguments);
     Ok(())
-}
-
-/// Whether the dummy arguments hold these values.
-fn are_dummies(checked: &Checked, machine: &Machine, arguments: &[Arg]) -> bool
-    requires { HoldsDummies checked.now machine.now }
-    ensures { Decides result
-        (AreArguments (map line_of checked.now.program) (held checked.now machine.now.cells.items) arguments.now) }
-{
-    let start = checked.start();
-    match fit(checked.arguments(), arguments) {
-        Ok(()) => are_held(&machine.cells, &start.dummies, arguments),
-        Err(RunFault::ArgumentCount | RunFault::ArgumentShape(_)) => false,
-        Err(RunFault::Memory) => unreachable!(),
-    }
-}
-
-/// Whether this is the outcome of a run that failed.
-fn is_fault(fault: Fault, outcome: &Outcome) -> bool
-    ensures { Decides result (outcome.now ≡ meaning.told_outcome fault) }
-{
-    match outcome {
-        Outcome::Overflow => matches!(fault, Fault::Overflow),
-        Outcome::DivideByZero => matches!(fault, Fault::DivideByZero),
-        Outcome::ZeroPower => matches!(fault, Fault::ZeroPower),
-        Outcome::BadSubscript => matches!(fault, Fault::BadSubscript),
-        Outcome::ZeroStep => matches!(fault, Fault::ZeroStep),
-        Outcome::Undefined => matches!(fault, Fault::Undefined),
-        Outcome::Trapped => matches!(fault, Fault::Trapped),
-        Outcome::Returned(_) | Outcome::Stopped(_) | Outcome::StepLimit => false,
-    }
-}
-
-/// Whether this is told of an end.
-pub(crate) fn is_told(
-    checked: &Checked,
-    finish: Finish,
-    machine: &Machine,
-    outcome: &Outcome,
-) -> bool
-    requires { HoldsDummies checked.now machine.now }
-    ensures { Decides result
-        (Tells (map line_of checked.now.program) finish (held checked.now machine.now.cells.items) outcome.now) }
-{
-    match (finish, outcome) {
-        (Finish::Returned, Outcome::Returned(arguments))
-        | (Finish::Stopped, Outcome::Stopped(arguments)) => {
-            are_dummies(checked, machine, arguments.as_slice())
-        }
-        (Finish::Failed(fault), outcome) => is_fault(fault, outcome),
-        (Finish::StepLimit, Outcome::StepLimit) => true,
-        (Finish::Returned | Finish::Stopped | Finish::StepLimit, _) => false,
-    }
-}
-
-/// Whether the run with arguments that fit has this outcome.
-fn same_outcome(
-    checked: &Checked,
-    code: &Code,
-    space: &mut Workspace,
-    arguments: &[Arg],
-    steps: u32,
-    outcome: &Outcome,
-) -> Result<bool, RunFault>
-    ghost at: { RunSite }
-    requires site { at ≡ site_of checked.now arguments.now }
-    requires initial { space.old.initial.items ≡ map (option_map constant_value) checked.now.start.initial.items }
-    requires code { IsCode checked.now.statements code.now }
-    requires slots { code.now.constants.slots ≡ checked.now.slots }
-    requires fitting { AreFitting checked.now.arguments arguments.now }
-    ensures outcome { IfOk result (λ same. (other : Outcome)
-        × IsOutcomeOf (map line_of checked.now.program) arguments.now steps other
-        × Decides same (outcome.now ≡ other)) }
-    ensures initial { space.new.initial.items ≡ space.old.initial.items }
-    ensures memory { IfErr result (λ e. e ≡ fault.Memory) }
-{
-    restart(checked, &space.initial, &mut space.machine, arguments)?;
-    space.earlier.forget(0);
-    let start = checked.start();
-    let statements = checked.statements();
-    let end = go(
-        &start.kinds,
-        statements,
-        code,
-        &mut space.machine,
-        &mut space.registers,
-        &mut space.earlier,
-        steps,
-    )?;
-    Ok(is_told(checked, end.finish, &space.machine, outcome))
 }
 
 /// The course of the run with arguments that fit.
@@ -236,13 +139,9 @@ impl<'a> Runner<'a> {
         ensures program { IfOk result (λ runner. runner ≡ checked.now) }
         ensures memory { IfErr result (λ e. e ≡ fault.Memory) }
     {
-        let code = code_of(alloc, checked)?;
+        let program = Compiled::of(alloc, checked)?;
         let space = Workspace::of(alloc, checked)?;
-        Ok(Runner {
-            checked,
-            code,
-            space,
-        })
+        Ok(Runner { program, space })
     }
 
     /// Whether the run with these values of the dummy arguments, in order, for so many steps at most, has this outcome.
@@ -261,16 +160,10 @@ impl<'a> Runner<'a> {
         ensures refused { IfSome (refusal self.old.arguments arguments.now) (λ e. result ≡ Err e) }
         ensures fault { IfErr result (λ e. (e ≡ fault.Memory) ⊎ (refusal self.old.arguments arguments.now ≡ Some e)) }
     {
-        let checked = self.checked;
-        match fit(checked.arguments(), arguments) {
-            Ok(()) => same_outcome(
-                checked,
-                &self.code,
-                &mut self.space,
-                arguments,
-                steps,
-                outcome,
-            ),
+        match fit(self.program.program().arguments(), arguments) {
+            Ok(()) => self
+                .program
+                .comes_to(&mut self.space, arguments, steps, outcome),
             Err(fault) => Err(fault),
         }
     }
@@ -298,7 +191,7 @@ impl<'a> Runner<'a> {
         ensures refused { IfSome (refusal self.old.arguments arguments.now) (λ e. result ≡ Err e) }
         ensures fault { IfErr result (λ e. (e ≡ fault.Memory) ⊎ (refusal self.old.arguments arguments.now ≡ Some e)) }
     {
-        let checked = self.checked;
+        let checked = self.program.program();
         match fit(checked.arguments(), arguments) {
             Ok(()) => course_of(alloc, checked, &mut self.space, arguments, steps, room),
             Err(fault) => Err(fault),

@@ -8,9 +8,10 @@ ghost use Rattle.f77_code.specs.Moves.{TurnList};
 ghost use Rattle.f77_code.specs.Operation.{point};
 ghost use Rattle.f77_code.specs.Program.{IsCode};
 ghost use Rattle.f77_code.specs.Registers.{are_held};
-ghost use Rattle.f77_run.specs.code.Registers.{counters_of};
+ghost use Rattle.f77_run.specs.code.Registers.{counters_of, shown_cells};
 ghost use Rattle.f77_run.specs.Running.{RunSite};
-ghost use Rattle.f77_run.specs.code.Running.{IsRunning, ComesToCells, CameBack, config_at, values_at};
+ghost use Rattle.f77_run.specs.code.Running.{IsBegun, IsRunning, StateOfRun, ComesToCells, CameBack};
+ghost use Rattle.f77_run.specs.code.Running.{config_at, kinds_at, stands_for, values_at};
 ghost use Rattle.f77_run.specs.code.Snapshot.{kept_point};
 ghost use Rattle.f77_run.specs.code.Typed.{IsTyped};
 ghost use Rattle.f77_run.specs.declared.outcome.RunFault.TheVariants as fault;
@@ -20,7 +21,7 @@ use crate::outcome::RunFault;
 use crate::registers::Registers;
 use crate::snapshot::Snapshot;
 use f77_actions::Resolved;
-use f77_code::{Code, Instruction, Stand, Turn, block, block_to, finish_at};
+use f77_code::{Code, Instruction, Place, Stand, Turn, block, block_to, finish_at};
 use f77_tree::{Kind, Shared};
 use f77_values::Finish;
 
@@ -114,8 +115,71 @@ fn with_loops<'s>(statements: &'s [Shared<Resolved>], code: &Code) -> &'s [Share
     statements
 }
 
-/// At most so many steps, by the code of the program: how they end, and what the slots of its dummy
-/// arguments hold then. A run that comes back to where it was never ends, and meets its limit.
+/// At most so many steps, by the code of the program, from a place on, where registers and counters have what is held
+/// there: how they end. The registers have then what the slots of dummy arguments hold.
+/// A run that comes back to where it was never ends, and meets its limit.
+pub(crate) fn go_on(
+    code: &Code,
+    registers: &mut Registers,
+    place: Place,
+    earlier: &mut Snapshot,
+    steps: u32,
+) -> Result<End, RunFault>
+    requires begun { (run : StateOfRun) × IsBegun run code.now place registers.old }
+    requires none { kept_point earlier.old ≡ None }
+    ensures ends { (run : StateOfRun) → IsBegun run code.now place registers.old
+        → IfOk result (λ end. ComesToCells run.site steps (stands_for run.site run.state) end.made end.finish
+        (shown_cells (kinds_at run.site) registers.new.items.items)) }
+    ensures cells { OnOk result ((run : StateOfRun) → IsBegun run code.now place registers.old
+        → length (shown_cells (kinds_at run.site) registers.new.items.items)
+        ≡ slot_count (bounds_of run.site.program) run.site.names) }
+    ensures room { OnOk result ((run : StateOfRun) → IsBegun run code.now place registers.old
+        → length (kinds_at run.site) ≤ length registers.new.items.items) }
+    ensures held { OnOk result (are_held registers.new.items.items ≡ true) }
+    ensures memory { IfErr result (λ e. e ≡ fault.Memory) }
+{
+    let stand = advance(
+        code.instructions(),
+        &mut registers.items,
+        &mut registers.counters,
+        code.place(place),
+        earlier,
+        steps,
+    )?;
+    Ok(End::new(finish_at(stand.place), stand.made))
+}
+
+/// The same from the state of a machine, which stays in it.
+pub(crate) fn go_from(
+    kinds: &[Kind],
+    statements: &[Shared<Resolved>],
+    code: &Code,
+    machine: &Machine,
+    registers: &mut Registers,
+    earlier: &mut Snapshot,
+    steps: u32,
+) -> Result<End, RunFault>
+    ghost at: { RunSite }
+    requires running { IsRunning at statements.now machine.now }
+    requires typed { IsTyped at.program (values_at at machine.now.cells.items) }
+    requires kinds { kinds.now ≡ slot_kinds (kind_of at.program) (bounds_of at.program) at.names }
+    requires code { IsCode statements.now code.now }
+    requires slots { code.now.constants.slots ≡ length kinds.now }
+    requires none { kept_point earlier.old ≡ None }
+    ensures ends { IfOk result (λ end. ComesToCells at steps (config_at at machine.now) end.made end.finish
+        (shown_cells kinds.now registers.new.items.items)) }
+    ensures cells { OnOk result (length (shown_cells kinds.now registers.new.items.items)
+        ≡ slot_count (bounds_of at.program) at.names) }
+    ensures room { OnOk result (length kinds.now ≤ length registers.new.items.items) }
+    ensures held { OnOk result (are_held registers.new.items.items ≡ true) }
+    ensures memory { IfErr result (λ e. e ≡ fault.Memory) }
+{
+    let constants = code.constants().values();
+    registers.load(kinds, constants, with_loops(statements, code), machine)?;
+    go_on(code, registers, machine.place, earlier, steps)
+}
+
+/// The same, and the slots of the machine hold then what those of the dummy arguments hold.
 pub(crate) fn go(
     kinds: &[Kind],
     statements: &[Shared<Resolved>],
@@ -137,17 +201,7 @@ pub(crate) fn go(
     ensures cells { OnOk result (length machine.new.cells.items ≡ slot_count (bounds_of at.program) at.names) }
     ensures memory { IfErr result (λ e. e ≡ fault.Memory) }
 {
-    let start = code.place(machine.place);
-    let constants = code.constants().values();
-    registers.load(kinds, constants, with_loops(statements, code), machine)?;
-    let stand = advance(
-        code.instructions(),
-        &mut registers.items,
-        &mut registers.counters,
-        start,
-        earlier,
-        steps,
-    )?;
+    let end = go_from(kinds, statements, code, machine, registers, earlier, steps)?;
     registers.show(kinds, &mut machine.cells)?;
-    Ok(End::new(finish_at(stand.place), stand.made))
+    Ok(end)
 }

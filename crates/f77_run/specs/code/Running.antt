@@ -1,14 +1,15 @@
--- A machine in a run of a program: where it stands is what the run comes to.
+-- A state, and a machine, in a run of a program: where it stands is what the run comes to.
 -- Private functions and proofs alone cite what stands here.
 use Rattle.std.specs.Prelude.{◌≡◌, ◌≢◌, ◌≤◌, ◌<◌, ◌+◌, ℕ, suc, true, None, List, length}
 use Rattle.std.specs.List.{list_any}
 use Rattle.std.specs.Str.{bytes_eq}
 use Rattle.f77_program.specs.Program.{LineFields, IsProgram}
+use Rattle.f77_tree.specs.declared.tree.Kind.{Kind}
 use Rattle.f77_legal.specs.Heading.{dummies}
 use Rattle.f77_legal.specs.Legal.{IsLegal}
-use Rattle.f77_legal.specs.Names.{Symbol, bounds_of}
+use Rattle.f77_legal.specs.Names.{Symbol, bounds_of, kind_of}
 use Rattle.f77_check.specs.Resolved.{AreResolved}
-use Rattle.f77_check.specs.Slots.{slot_count}
+use Rattle.f77_check.specs.Slots.{slot_count, slot_kinds}
 use Rattle.f77_actions.specs.declared.resolved.Resolved.{Resolved}
 use Rattle.f77_values.specs.declared.finish.Finish.{Finish}
 use Rattle.f77_values.specs.declared.finish.Finish.TheVariants.{StepLimit}
@@ -16,29 +17,63 @@ use Rattle.f77_run.specs.declared.machine.Machine.{Machine}
 use Rattle.f77_run.specs.Control.{Comes}
 use Rattle.f77_run.specs.Machine.{config_of, values_of}
 use Rattle.f77_run.specs.code.Machine.{state_of}
+use Rattle.f77_code.specs.declared.code.Code.{Code}
+use Rattle.f77_code.specs.declared.control.Place.{Place}
 use Rattle.f77_code.specs.declared.instruction.Instruction.{Instruction}
 use Rattle.f77_code.specs.Block.{code_after}
-use Rattle.f77_code.specs.Moves.{Cells}
+use Rattle.f77_code.specs.Moves.{Cells, State}
 use Rattle.f77_code.specs.Operation.{Point}
+use Rattle.f77_code.specs.Program.{IsCode}
+use Rattle.f77_run.specs.code.Registers.{AreLoaded, counters_of}
+use Rattle.f77_run.specs.code.Typed.{IsTyped}
+use Rattle.f77_run.specs.declared.registers.Registers.{Registers}
 use Rattle.f77_run.specs.Outcome.{IsOutcome}
 use Rattle.f77_run.specs.Step.{Config}
 use Rattle.f77_run.specs.Value.{Store}
 use Rattle.f77_run.specs.Running.{RunSite}
 
--- what the slots, and a machine, stand for there
+-- what the slots, a state and a machine stand for there
 abbrev pub values_at : RunSite → Cells → Store
 values_at at cells = values_of (bounds_of at.program) at.names cells
 
-abbrev pub config_at : RunSite → Machine → Config
-config_at at m = config_of (bounds_of at.program) at.names (state_of m)
+abbrev pub stands_for : RunSite → State → Config
+stands_for at s = config_of (bounds_of at.program) at.names s
 
-pub record IsRunning (at : RunSite) (statements : List Resolved) (m : Machine) : Type 0 where
+abbrev pub config_at : RunSite → Machine → Config
+config_at at m = stands_for at (state_of m)
+
+-- the kinds of the slots there
+abbrev pub kinds_at : RunSite → List Kind
+kinds_at at = slot_kinds (kind_of at.program) (bounds_of at.program) at.names
+
+-- a state in a run, and a machine that is in one
+pub record IsRunningIn (at : RunSite) (statements : List Resolved) (s : State) : Type 0 where
   pub formed : IsProgram None at.program
   pub legal : IsLegal at.program
   pub resolved : AreResolved at.program at.names statements
-  pub cells : length m.cells.items ≡ slot_count (bounds_of at.program) at.names
-  pub turns : length m.turns.items ≡ length at.program
-  pub comes : Comes at.program at.given (config_at at m)
+  pub cells : length s.cells ≡ slot_count (bounds_of at.program) at.names
+  pub turns : length s.turns ≡ length at.program
+  pub comes : Comes at.program at.given (stands_for at s)
+
+abbrev pub IsRunning : RunSite → List Resolved → Machine → Type 0
+IsRunning at statements m = IsRunningIn at statements (state_of m)
+
+-- a state that a run by statements resolved has come to
+pub record StateOfRun : Type 0 where
+  pub site : RunSite
+  pub statements : List Resolved
+  pub state : State
+
+-- The code is at the start of such a run: it is that of the statements, and
+-- the registers and counters have what the slots and the DOs of the state have.
+pub record IsBegun (run : StateOfRun) (code : Code) (start : Place) (registers : Registers) : Type 0 where
+  pub running : IsRunningIn run.site run.statements run.state
+  pub typed : IsTyped run.site.program (values_at run.site run.state.cells)
+  pub compiled : IsCode run.statements code
+  pub slots : code.constants.slots ≡ length (kinds_at run.site)
+  pub place : start ≡ run.state.place
+  pub loaded : AreLoaded (kinds_at run.site) run.state.cells code.constants.values.items registers.items.items
+  pub counters : registers.counters.items ≡ counters_of run.statements run.state.turns
 
 -- The run from a configuration comes to this end within so many steps, and within those that were
 -- made, with these values. Where it meets the limit, they are those behind the steps that were made.

@@ -1,15 +1,20 @@
--- The site of a checked program and values of its dummy arguments, and what the dummy arguments hold in a machine.
+-- What the dummy arguments of a checked program hold in slots.
 -- Private functions and proofs alone cite what stands here.
-use Rattle.std.specs.Prelude.{◌≡◌, length, map}
+use Rattle.std.specs.Prelude.{◌≡◌, List, length, map, ℤ}
 use Rattle.f77_program.specs.Program.{line_of}
 use Rattle.f77_check.specs.Checked.{CheckedFields}
 use Rattle.f77_legal.specs.Names.{bounds_of}
 use Rattle.f77_check.specs.Slots.{slot_count}
-use Rattle.f77_run.specs.declared.machine.Machine.{Machine}
+use Rattle.f77_code.specs.Moves.{Cells}
+use Rattle.f77_run.specs.code.Registers.{shown_cells}
 use Rattle.f77_run.specs.code.Typed.{IsTyped}
 use Rattle.f77_run.specs.Site.{held}
 
 -- there are all its slots, and each dummy argument has values
-pub record HoldsDummies (checked : CheckedFields) (m : Machine) : Type 0 where
-  pub cells : length m.cells.items ≡ slot_count (bounds_of (map line_of checked.program)) checked.names
-  pub typed : IsTyped (map line_of checked.program) (held checked m.cells.items)
+pub record HoldDummies (checked : CheckedFields) (cells : Cells) : Type 0 where
+  pub count : length cells ≡ slot_count (bounds_of (map line_of checked.program)) checked.names
+  pub typed : IsTyped (map line_of checked.program) (held checked cells)
+
+-- what the slots of the program hold by registers
+abbrev pub shown_by : CheckedFields → List ℤ → Cells
+shown_by checked registers = shown_cells checked.start.kinds.items registers

@@ -1,6 +1,7 @@
 use Rattle.std.proofs.Common.{Some, ap, sym, ◌∙◌, arith}
 use Rattle.std.proofs.lemmas.Bool.{false≢true}
 use Rattle.f77_code.specs.Moves.{acted, incremented}
+use Rattle.f77_run.specs.code.Machine.{state_of}
 use Rattle.f77_run.proofs.Steps.{executed_within, executed_moves, incremented_within, incremented_active, incremented_moves, statement_within, loop_within, some_loop, turn_read}
 use Rattle.f77_run.proofs.execute.step.Goals as goal
 
@@ -21,20 +22,20 @@ unreachable-requires c =
 
 pub unreachable-requires-in_default-index : goal.unreachable-requires-in_default-index
 unreachable-requires-in_default-index c =
-    let below = incremented_within c.args.statements.now c.args.machine.now c.in-Increment.d c.in-Increment.is c.requires.moves in
+    let below = incremented_within c.args.statements.now (state_of c.args.machine.now) c.in-Increment.d c.in-Increment.is c.requires.moves in
     let active = incremented_active c.args.statements.now c.args.machine.now c.in-Increment.d c.index-statements-d.result c.in-Increment.is c.index-statements-d.is c.requires.moves in
     let read = turn_read c.args.machine.now.turns.items c.in-Increment.d c.index.result.now (omega arith) c.index.ensures ∙ c.in_default-index.is in
     false≢true (rw read at active.1)
 
 pub increment-requires-clause-terminal : goal.increment-requires-clause-terminal
 increment-requires-clause-terminal c =
-    let below = incremented_within c.args.statements.now c.args.machine.now c.in-Increment.d c.in-Increment.is c.requires.moves in
+    let below = incremented_within c.args.statements.now (state_of c.args.machine.now) c.in-Increment.d c.in-Increment.is c.requires.moves in
     let within = (statement_within _ _ c.args.statements.now c.in-Increment.d c.index-statements-d.result c.requires.statements below c.index-statements-d.is).0 in
     let bounds = loop_within _ _ _ _ _ _ _ _ (sym (ap (λ r. r.action) c.deref.ensures) ∙ c.in-Loop.is) within in omega (arith, bounds.1, c.requires.long)
 
 pub increment-requires-clause-variable : goal.increment-requires-clause-variable
 increment-requires-clause-variable c =
-    let below = incremented_within c.args.statements.now c.args.machine.now c.in-Increment.d c.in-Increment.is c.requires.moves in
+    let below = incremented_within c.args.statements.now (state_of c.args.machine.now) c.in-Increment.d c.in-Increment.is c.requires.moves in
     let within = (statement_within _ _ c.args.statements.now c.in-Increment.d c.index-statements-d.result c.requires.statements below c.index-statements-d.is).0 in
     (loop_within _ _ _ _ _ _ _ _ (sym (ap (λ r. r.action) c.deref.ensures) ∙ c.in-Loop.is) within).0
 
@@ -46,7 +47,7 @@ returns-in-Execute-clause-moved c =
 
 pub returns-in-Some-clause-moved : goal.returns-in-Some-clause-moved
 returns-in-Some-clause-moved c =
-    let below = incremented_within c.args.statements.now c.args.machine.now c.in-Increment.d c.in-Increment.is c.requires.moves in
+    let below = incremented_within c.args.statements.now (state_of c.args.machine.now) c.in-Increment.d c.in-Increment.is c.requires.moves in
     let active = turn_read c.args.machine.now.turns.items c.in-Increment.d c.index.result.now (omega arith) c.index.ensures ∙ c.in-Some.is in
     incremented_moves c.args.statements.now c.args.machine.now c.in-Increment.d c.index-statements-d.result c.in-Some.turn c.in-Increment.is c.index-statements-d.is active c.requires.moves
     ∙ ap

@@ -10,13 +10,13 @@ pub arguments-requires-2-clause-within : goal.arguments-requires-2-clause-within
 arguments-requires-2-clause-within c =
     let slots = c.deref.ensures.value ∙ ap (λ s. s.dummies.items) c.start.ensures.start in
     rw (c.deref-2.ensures.value, slots, c.arguments.ensures)
-    (dummies_within c.args.checked.now c.start.ensures.checked c.args.machine.now.cells.items c.requires.cells c.requires.typed)
+    (dummies_within c.args.checked.now c.start.ensures.checked c.args.machine.now.cells.items c.requires.count c.requires.typed)
 
 pub arguments-requires-2-clause-hold : goal.arguments-requires-2-clause-hold
 arguments-requires-2-clause-hold c =
     let slots = c.deref.ensures.value ∙ ap (λ s. s.dummies.items) c.start.ensures.start in
     rw (c.deref-2.ensures.value, slots, c.arguments.ensures)
-    (dummies_hold c.args.checked.now c.start.ensures.checked c.args.machine.now.cells.items c.requires.cells c.requires.typed)
+    (dummies_hold c.args.checked.now c.start.ensures.checked c.args.machine.now.cells.items c.requires.count c.requires.typed)
 
 pub returns-clause-arguments : goal.returns-clause-arguments
 returns-clause-arguments c =
@@ -28,6 +28,6 @@ returns-clause-arguments c =
     _
     c.arguments-2.result c.arguments-2.ensures.fitting c.arguments-2.ensures.values
     (λ arguments fits values.
-    dummies_read checked c.start.ensures.checked c.args.machine.now.cells.items c.requires.cells c.requires.typed arguments
+    dummies_read checked c.start.ensures.checked c.args.machine.now.cells.items c.requires.count c.requires.typed arguments
     (subst (λ list. AreFitting list arguments) c.arguments.ensures fits)
     (values ∙ (λ i. map (λ pair. span pair.1 (size_of pair.0) (c.deref-2.ensures.value i)) (zip (c.arguments.ensures i) (slots i)))))

@@ -1,4 +1,4 @@
-use Rattle.std.proofs.Common.{◌≡◌, map, refl, sym, ap, subst, ◌∙◌}
+use Rattle.std.proofs.Common.{◌≡◌, map, sym, ap, subst, ◌∙◌}
 use Rattle.f77_program.specs.Program.{line_of}
 use Rattle.f77_legal.specs.Names.{bounds_of}
 use Rattle.f77_check.specs.Slots.{slot_count}
@@ -32,7 +32,7 @@ answer-requires g c =
     let end
     = subst (λ (at : RunSite). ComesToCells at c.args.steps (config_at at c.in_ok-machine.machine) c.in_ok-end.end.made c.in_ok-end.end.finish c.end_of.new.machine.cells.items) at
     c.in_ok-end.ensures.ends in
-    shown_dummies checked (c.in_ok-end.ensures.checked) c.args.arguments.now c.requires.1 _ c.in_ok-machine.ensures.starts _ _ _ _ end c.end_of.new.machine refl
+    shown_dummies checked (c.in_ok-end.ensures.checked) c.args.arguments.now c.requires.1 _ c.in_ok-machine.ensures.starts _ _ _ _ end
     (c.in_ok-end.ensures.cells ∙ ap (λ (at : RunSite). slot_count (bounds_of at.program) at.names) at)
 
 pub returns-clause-outcome : goal.returns-clause-outcome

@@ -8,11 +8,11 @@ use Rattle.f77_run.specs.Endless.{Reaches}
 use Rattle.f77_run.specs.Interpreter.{Tells}
 use Rattle.f77_run.specs.code.Parting.{changed_site, start_in}
 use Rattle.f77_run.specs.code.Running.{ComesToEnd, IsRunning, config_at, values_at}
-use Rattle.f77_run.specs.code.Site.{HoldsDummies}
+use Rattle.f77_run.specs.code.Site.{HoldDummies}
 use Rattle.f77_run.specs.Site.{held}
 use Rattle.f77_run.specs.declared.running.End.{End}
 use Rattle.f77_run.proofs.Endless.{joined}
-use Rattle.f77_run.proofs.Parted.{holds_dummies, told_there}
+use Rattle.f77_run.proofs.Parted.{hold_dummies, told_there}
 use Rattle.f77_run.proofs.parting.comes_from_there.Goals as goal
 
 pub walk-requires : goal.walk-requires
@@ -31,9 +31,9 @@ is_told-requires g c =
     → ComesToEnd g.parting.program limit (config_at (changed_site g.parting) m) end.made end.finish
     (values_at (changed_site g.parting) c.walk.new.machine.cells.items)))
     c.in-Some.is c.walk.ensures.ends (c.args.steps - behind) c.few_steps-few.ensures in
-    subst (λ (checked : CheckedFields). HoldsDummies checked c.walk.new.machine) (sym c.requires.1.0)
-    (holds_dummies g.parting c.args.change.now.statements.items c.requires.0 behind c.args.steps c.requires.1.1.1.1.1.1.1 (config_at (changed_site g.parting) m)
-    c.requires.1.1.1.1.1.1.0 end.made end.finish (values_at (changed_site g.parting) c.walk.new.machine.cells.items) ends c.walk.new.machine
+    subst (λ (checked : CheckedFields). HoldDummies checked c.walk.new.machine.cells.items) (sym c.requires.1.0)
+    (hold_dummies g.parting c.args.change.now.statements.items c.requires.0 behind c.args.steps c.requires.1.1.1.1.1.1.1 (config_at (changed_site g.parting) m)
+    c.requires.1.1.1.1.1.1.0 end.made end.finish (values_at (changed_site g.parting) c.walk.new.machine.cells.items) ends c.walk.new.machine.cells.items
     (λ name among. refl) c.walk.ensures.cells)
 
 pub returns-in-Some-clause-outcome : goal.returns-in-Some-clause-outcome

@@ -30,7 +30,7 @@ answer-requires g c =
     = subst (λ (at : RunSite). ComesToEnd at.program c.args.steps (config_at at c.restart.new.machine) c.in_ok-end.end.made c.in_ok-end.end.finish (values_at at c.follow.new.machine.cells.items))
     at c.in_ok-end.ensures.ends in
     record {
-      cells = c.follow.ensures.cells ∙ ap (λ (at : RunSite). slot_count (bounds_of at.program) at.names) at;
+      count = c.follow.ensures.cells ∙ ap (λ (at : RunSite). slot_count (bounds_of at.program) at.names) at;
       typed = ends_typed c.args.checked.now c.statements-statements.ensures.checked c.args.arguments.now c.requires.1.1 _ c.in_ok-restart.ensures.starts _ _ _ ends.ends;
     }
 

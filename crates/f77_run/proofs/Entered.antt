@@ -1,0 +1,193 @@
+-- Values put into the registers of slots, and compared with what these show.
+use Rattle.std.proofs.Common.{arith, ◌≡◌, ℕ, zero, suc, ◌+◌, ◌<◌, ◌≤◌, ℤ, Bool, true, List, [], ◌∷◌, ◌++◌, drop, take, length, map, get_or, Option, Some, None}
+use Rattle.std.proofs.Common.{refl, sym, ap, subst, ◌∙◌}
+use Rattle.std.specs.Prelude.{slice_get, slice_set}
+use Rattle.std.specs.Bool.{beq, Decides}
+use Rattle.std.specs.Cmp.{booleans_Decides}
+use Rattle.std.specs.List.{list_all, zip}
+use Rattle.std.specs.Option.{option_eq}
+use Rattle.std.specs.Ordering.{int_eq}
+use Rattle.std.proofs.lemmas.Bool.{and_from, and_parts}
+use Rattle.std.proofs.lemmas.Bool.Decides.{Decides-int_eq}
+use Rattle.std.proofs.lemmas.List.{drop_all, drop_more, get_or-map, length-map, length-set, set-append_left}
+use Rattle.std.proofs.lemmas.Option.{same_Some, slice_get-get_or}
+use Rattle.std.proofs.lemmas.Simd.{map-map}
+use Rattle.f77_tree.specs.Deciding.{option_decides}
+use Rattle.f77_tree.specs.declared.tree.Kind.{Kind}
+use Rattle.f77_values.specs.contracts.value.ValuePartialEq.TheImpl as values
+use Rattle.f77_values.specs.declared.value.Value.{Value}
+use Rattle.f77_values.specs.declared.value.Value.TheVariants as held
+use Rattle.f77_values.specs.Told.{coded, is_fitting}
+use Rattle.f77_code.specs.Evaluation.{held_in}
+use Rattle.f77_code.specs.Holds.{read_as}
+use Rattle.f77_code.specs.Moves.{Cells}
+use Rattle.f77_code.specs.Registers.{is_held, told_at, told_by_register}
+use Rattle.f77_run.specs.declared.argument.Arg.{Arg}
+use Rattle.f77_run.specs.Interpreter.{values_in}
+use Rattle.f77_run.specs.code.Registers.{AreLoaded, loaded, shown_as, shown_cells, values_fit}
+use Rattle.f77_run.specs.code.Spans.{span}
+use Rattle.f77_run.specs.Spans.{all_filled, filled}
+use Rattle.f77_run.proofs.Cells.{get_or-table}
+use Rattle.f77_run.proofs.Held.{decided_not, decided_of}
+use Rattle.f77_run.proofs.Loaded.{loaded_count, shown_at}
+
+-- a member put in the place of another keeps what holds of each
+set_keeps : {X : Type 0} (test : X → Bool) (xs : List X) (k : ℕ) (x : X) → test x ≡ true → list_all test xs ≡ true → list_all test (slice_set xs k x) ≡ true
+set_keeps test [] k x is all = refl
+set_keeps test (y ∷ xs) zero x is all = and_from (test x) (list_all test xs) is (and_parts (test y) (list_all test xs) all).1
+set_keeps test (y ∷ xs) (suc k) x is all =
+    let parts = and_parts (test y) (list_all test xs) all in
+    and_from (test y) (list_all test (slice_set xs k x)) parts.0 (set_keeps test xs k x is parts.1)
+
+module _ (kind : Kind) (cell : Option Value) where
+  -- what is loaded where one slot is changed
+  loaded_set : (kinds : List Kind) (cells : Cells) (k : ℕ) → length cells ≡ length kinds → slice_get kinds k ≡ Some kind
+      → loaded kinds (slice_set cells k cell) ≡ slice_set (loaded kinds cells) k (coded (read_as kind cell))
+  loaded_set [] cells k long at = absurd (cc (at))
+  loaded_set (own ∷ kinds) [] k long at = absurd (omega (arith, long))
+  loaded_set (own ∷ kinds) (x ∷ cells) zero long at = ap (λ kind. coded (read_as kind cell) ∷ loaded kinds cells) (same_Some own kind at)
+  loaded_set (own ∷ kinds) (x ∷ cells) (suc k) long at = ap (λ list. coded (read_as own x) ∷ list) (loaded_set kinds cells k (omega (arith, long)) at)
+
+  -- and its values are in the range of INTEGER
+  fitting_set : (kinds : List Kind) (cells : Cells) (k : ℕ) → length cells ≡ length kinds → slice_get kinds k ≡ Some kind → is_fitting (read_as kind cell) ≡ true
+      → values_fit kinds cells ≡ true → values_fit kinds (slice_set cells k cell) ≡ true
+  fitting_set [] cells k long at fits all = absurd (cc (at))
+  fitting_set (own ∷ kinds) [] k long at fits all = absurd (omega (arith, long))
+  fitting_set (own ∷ kinds) (x ∷ cells) zero long at fits all =
+      and_from (is_fitting (read_as own cell)) (values_fit kinds cells) (ap (λ kind. is_fitting (read_as kind cell)) (same_Some own kind at) ∙ fits)
+      (and_parts (is_fitting (read_as own x)) (values_fit kinds cells) all).1
+  fitting_set (own ∷ kinds) (x ∷ cells) (suc k) long at fits all =
+      let parts = and_parts (is_fitting (read_as own x)) (values_fit kinds cells) all in
+      and_from (is_fitting (read_as own x)) (values_fit kinds (slice_set cells k cell)) parts.0 (fitting_set kinds cells k (omega (arith, long)) at fits parts.1)
+
+  -- a slot is changed with its register
+  pub slot_put : (kinds : List Kind) (cells : Cells) (constants registers : List ℤ) (k : ℕ) (z : ℤ) → k < length kinds → slice_get kinds k ≡ Some kind
+      → z ≡ coded (read_as kind cell) → is_held z ≡ true → is_fitting (read_as kind cell) ≡ true → AreLoaded kinds cells constants registers
+      → AreLoaded kinds (slice_set cells k cell) constants (slice_set registers k z)
+  slot_put kinds cells constants registers k z below at is held fits was =
+      let count = loaded_count kinds cells was.count in
+      record {
+        count = length-set cells k cell ∙ was.count;
+        items = ap (λ list. slice_set list k z) was.items
+            ∙ set-append_left (loaded kinds cells) constants k z (omega (arith, below, count))
+            ∙ ap (λ list. list ++ constants) (ap (slice_set (loaded kinds cells) k) is ∙ sym (loaded_set kinds cells k was.count at));
+        held = set_keeps is_held registers k z held was.held;
+        values = fitting_set kinds cells k was.count at fits was.values;
+        numbers = was.numbers;
+      }
+
+-- what is loaded in these registers is loaded in those, its slots changed so
+abbrev pub IsChanged : List Kind → (Cells → Cells) → List ℤ → List ℤ → Type 0
+IsChanged kinds change old new = (cells : Cells) (constants : List ℤ) → AreLoaded kinds cells constants old → AreLoaded kinds (change cells) constants new
+
+-- the whole change is made where the rest of it is made too
+abbrev pub IsBegun : List Kind → (Cells → Cells) → (Cells → Cells) → List ℤ → List ℤ → Type 0
+IsBegun kinds whole rest old now = (last : List ℤ) → IsChanged kinds rest now last → IsChanged kinds whole old last
+
+module _ (kinds : List Kind) (whole rest : Cells → Cells) (old now : List ℤ) where
+  -- one change more is made
+  more_changed : (one left : Cells → Cells) (new : List ℤ) → ((cells : Cells) → rest cells ≡ left (one cells)) → IsChanged kinds one now new
+      → IsBegun kinds whole rest old now → IsBegun kinds whole left old new
+  more_changed one left new same put begun last changed =
+      begun last (λ cells constants was. subst (λ cells. AreLoaded kinds cells constants last) (sym (same cells)) (changed (one cells) constants (put cells constants was)))
+
+  -- all is changed where nothing is left
+  all_changed : ((cells : Cells) → rest cells ≡ cells) → IsBegun kinds whole rest old now → IsChanged kinds whole old now
+  all_changed none begun = begun now (λ cells constants was. subst (λ cells. AreLoaded kinds cells constants now) (sym (none cells)) was)
+
+-- values that are put one after another
+module _ {A : Type 0} (f : A → Value) (xs : List A) (kinds : List Kind) (first : ℕ) (old : List ℤ) where
+  abbrev with_all : Cells → Cells
+  with_all cells = filled cells first (map f xs)
+
+  abbrev with_rest : ℕ → Cells → Cells
+  with_rest k cells = filled cells (first + k) (map f (drop k xs))
+
+  abbrev with_one : ℕ → A → Cells → Cells
+  with_one k x cells = slice_set cells (first + k) (Some (f x))
+
+  -- all are put where those from this one on are put too
+  abbrev pub AreBegun : ℕ → List ℤ → Type 0
+  AreBegun k now = IsBegun kinds with_all (with_rest k) old now
+
+  -- one value more is put
+  pub value_put : (k : ℕ) (d : A) (now new : List ℤ) → k < length xs → IsChanged kinds (with_one k (get_or xs k d)) now new → AreBegun k now → AreBegun (k + 1) new
+  value_put k d now new below put begun = more_changed kinds with_all (with_rest k) old now (with_one k (get_or xs k d)) (with_rest (k + 1)) new same put begun
+    where
+      same : (cells : Cells) → with_rest k cells ≡ with_rest (k + 1) (with_one k (get_or xs k d) cells)
+      same cells =
+          let next : first + k + 1 ≡ first + (k + 1) = omega arith in
+          ap (λ list. filled cells (first + k) (map f list)) (drop_more xs k d below)
+          ∙ ap (λ n. filled (with_one k (get_or xs k d) cells) n (map f (drop (k + 1) xs))) next
+
+  -- no value is left
+  pub values_put : (k : ℕ) (now : List ℤ) → length xs ≤ k → AreBegun k now → IsChanged kinds with_all old now
+  values_put k now past begun =
+      all_changed kinds with_all (with_rest k) old now (λ cells. ap (λ list. filled cells (first + k) (map f list)) (drop_all k xs past)) begun
+
+-- arguments that are put one after another
+module _ (dummies : List ℕ) (arguments : List Arg) (kinds : List Kind) (old : List ℤ) where
+  abbrev with_arguments : Cells → Cells
+  with_arguments cells = all_filled cells (zip dummies arguments)
+
+  abbrev with_others : ℕ → Cells → Cells
+  with_others i cells = all_filled cells (zip (drop i dummies) (drop i arguments))
+
+  -- all are put where those from this one on are put too
+  abbrev pub ArePassed : ℕ → List ℤ → Type 0
+  ArePassed i now = IsBegun kinds with_arguments (with_others i) old now
+
+  -- one argument more is put
+  pub argument_put : (i first : ℕ) (argument : Arg) (now new : List ℤ)
+      → zip (drop i dummies) (drop i arguments) ≡ (first, argument) ∷ zip (drop (i + 1) dummies) (drop (i + 1) arguments)
+      → IsChanged kinds (λ cells. filled cells first (values_in argument)) now new → ArePassed i now → ArePassed (i + 1) new
+  argument_put i first argument now new step put begun =
+      more_changed kinds with_arguments (with_others i) old now (λ cells. filled cells first (values_in argument)) (with_others (i + 1)) new
+      (λ cells. ap (all_filled cells) step) put begun
+
+  -- no argument is left
+  pub arguments_put : (i : ℕ) (now : List ℤ) → zip (drop i dummies) (drop i arguments) ≡ [] → ArePassed i now → IsChanged kinds with_arguments old now
+  arguments_put i now none begun = all_changed kinds with_arguments (with_others i) old now (λ cells. ap (all_filled cells) none) begun
+
+-- a slot that is shown holds what its register tells, by its kind
+pub slot_shown : (kinds : List Kind) (registers : List ℤ) (k : ℕ) (d : Kind) (e : ℤ) → length kinds ≤ length registers → k < length kinds
+    → held_in (shown_cells kinds registers) k ≡ shown_as (get_or kinds k d) (told_by_register (get_or registers k e))
+slot_shown kinds registers k d e room below =
+    let at : slice_get registers k ≡ Some (get_or registers k e) = slice_get-get_or registers k e (omega (arith, room, below)) in
+    shown_at kinds registers room k (get_or kinds k d) (slice_get-get_or kinds k d below) ∙ ap (λ told. shown_as (get_or kinds k d) (told_at told)) at
+
+module _ {A : Type 0} (f : A → Value) (xs : List A) (cells : Cells) (first : ℕ) where
+  -- the slots hold so many of the values
+  abbrev pub AreSame : ℕ → Type 0
+  AreSame k = map (λ x. Some (f x)) (take k xs) ≡ span first k cells
+
+  -- the slots hold all of them
+  abbrev pub AllSame : Type 0
+  AllSame = map (λ x. Some (f x)) xs ≡ span first (length xs) cells
+
+  -- they do not where one of them holds something else
+  pub one_other : (k : ℕ) (d : A) → k < length xs → (Some (f (get_or xs k d)) ≡ held_in cells (first + k) → ⊥) → AllSame → ⊥
+  one_other k d below other same =
+      other (sym (get_or-map (λ x. Some (f x)) xs k d None below)
+      ∙ (ap (λ list. get_or list k None) same
+      ∙ get_or-table (λ k. held_in cells (first + k)) (length xs) k None below))
+
+  -- the elements of an array
+  pub array_same : (r : Bool) → Decides r AllSame → Decides r (map (λ v. Some v) (map f xs) ≡ span first (length (map f xs)) cells)
+  array_same r decides =
+      let values : map (λ v. Some v) (map f xs) ≡ map (λ x. Some (f x)) xs = map-map (λ v. Some v) f xs in
+      let count : span first (length xs) cells ≡ span first (length (map f xs)) cells = ap (λ n. span first n cells) (sym (length-map xs f)) in
+      decided_of r decides (λ same. values ∙ same ∙ count) (λ same. sym values ∙ same ∙ sym count)
+
+-- the test of two values
+values_decide : (a b : Value) → Decides (values.ghosts.eq a b) (a ≡ b)
+values_decide (held.Number x) (held.Number y) = decided_of (int_eq x y) (Decides-int_eq x y) (λ same. ap (λ z. held.Number z) same) (λ same. cc (same))
+values_decide (held.Number x) (held.Truth c) = decided_not (λ same. absurd (cc (same)))
+values_decide (held.Truth b) (held.Number y) = decided_not (λ same. absurd (cc (same)))
+values_decide (held.Truth b) (held.Truth c) = decided_of (beq b c) (booleans_Decides b c) (λ same. ap (λ b. held.Truth b) same) (λ same. cc (same))
+
+-- the test of a value and what a slot holds
+pub slot_decides : (own cell : Option Value) (other : Value) (r : Bool) → r ≡ option_eq values.ghosts.eq own (Some other) → own ≡ cell → Decides r (Some other ≡ cell)
+slot_decides own cell other r is same =
+    let decides = option_decides values.ghosts.eq values_decide own (Some other) in
+    (λ e. sym (decides.0 (sym is ∙ e)) ∙ same, λ e. is ∙ decides.1 (same ∙ sym e))

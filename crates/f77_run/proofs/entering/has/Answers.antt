@@ -1,0 +1,19 @@
+use Rattle.std.proofs.Common.{rules, ◌∙◌, ap, get_or, pos, sym, w64, FitsSigned}
+use Rattle.std.proofs.lemmas.Int.{to_z-of_z}
+use Rattle.f77_tree.specs.declared.tree.Kind.TheVariants.{Integer}
+use Rattle.f77_code.specs.Registers.{told_by_register}
+use Rattle.f77_code.specs.Evaluation.{held_in}
+use Rattle.f77_run.specs.code.Registers.{shown_as, shown_cells}
+use Rattle.f77_run.proofs.Entered.{slot_decides, slot_shown}
+use Rattle.f77_run.proofs.entering.has.Goals as goal
+
+pub returns : goal.returns
+returns c =
+    let kinds = c.args.kinds.now in
+    let registers = c.args.registers.now in
+    let slot = c.args.slot in
+    let z = get_or registers slot (pos 0) in
+    let wide : FitsSigned w64 z = search rules in
+    let shown = slot_shown kinds registers slot Integer (pos 0) c.requires.room c.requires.slot in
+    let own = c.value.ensures ∙ ap (λ z. shown_as (get_or kinds slot Integer) (told_by_register z)) (to_z-of_z w64 z wide) in
+    slot_decides c.value.result (held_in (shown_cells kinds registers) slot) c.args.other c.eq.result c.eq.ensures (own ∙ sym shown)

@@ -1,0 +1,127 @@
+//! Whether an outcome is told of the end of a run.
+
+ghost use Rattle.std.specs.Prelude.{◌≡◌, ◌≤◌, List, length, map, option_map, true, IfSome};
+ghost use Rattle.std.specs.Bool.{Decides};
+ghost use Rattle.f77_program.specs.Program.{LineFields, line_of};
+ghost use Rattle.f77_code.specs.Registers.{are_held};
+ghost use Rattle.f77_run.specs.Interpreter as meaning;
+ghost use Rattle.f77_run.specs.Interpreter.{AreArguments, Tells};
+ghost use Rattle.f77_run.specs.Site.{held};
+ghost use Rattle.f77_run.specs.Value.{Store};
+ghost use Rattle.f77_run.specs.code.Site.{HoldDummies, shown_by};
+ghost use Rattle.f77_run.specs.code.Ending as code;
+
+use crate::argument::Arg;
+use crate::entering::have_arguments;
+use crate::fitting::are_fitting;
+use crate::holding::are_held;
+use crate::machine::Machine;
+use crate::outcome::Outcome;
+use f77_check::Checked;
+use f77_values::{Fault, Finish};
+
+/// Whether the dummy arguments hold these values.
+fn are_dummies(checked: &Checked, machine: &Machine, arguments: &[Arg]) -> bool
+    requires { HoldDummies checked.now machine.now.cells.items }
+    ensures { Decides result
+        (AreArguments (map line_of checked.now.program) (held checked.now machine.now.cells.items) arguments.now) }
+{
+    let start = checked.start();
+    if !are_fitting(checked.arguments(), arguments) {
+        return false;
+    }
+    are_held(&machine.cells, &start.dummies, arguments)
+}
+
+/// Whether the registers have these values of the dummy arguments.
+fn have_dummies(checked: &Checked, registers: &[i64], arguments: &[Arg]) -> bool
+    requires held { are_held registers.now ≡ true }
+    requires room { length checked.now.start.kinds.items ≤ length registers.now }
+    requires dummies { HoldDummies checked.now (shown_by checked.now registers.now) }
+    ensures { Decides result (AreArguments (map line_of checked.now.program)
+        (held checked.now (shown_by checked.now registers.now)) arguments.now) }
+{
+    let start = checked.start();
+    if !are_fitting(checked.arguments(), arguments) {
+        return false;
+    }
+    have_arguments(registers, &start.kinds, &start.dummies, arguments)
+}
+
+/// The values of the dummy arguments that the outcome tells.
+fn values_told(outcome: &Outcome) -> Option<&[Arg]>
+    ensures { option_map (λ arguments. arguments.now) result ≡ code.values_told outcome.now }
+{
+    match outcome {
+        Outcome::Returned(arguments) | Outcome::Stopped(arguments) => Some(arguments.as_slice()),
+        _ => None,
+    }
+}
+
+/// Whether this is the outcome of a run that failed.
+fn is_fault(fault: Fault, outcome: &Outcome) -> bool
+    ensures { Decides result (outcome.now ≡ meaning.told_outcome fault) }
+{
+    match outcome {
+        Outcome::Overflow => matches!(fault, Fault::Overflow),
+        Outcome::DivideByZero => matches!(fault, Fault::DivideByZero),
+        Outcome::ZeroPower => matches!(fault, Fault::ZeroPower),
+        Outcome::BadSubscript => matches!(fault, Fault::BadSubscript),
+        Outcome::ZeroStep => matches!(fault, Fault::ZeroStep),
+        Outcome::Undefined => matches!(fault, Fault::Undefined),
+        Outcome::Trapped => matches!(fault, Fault::Trapped),
+        Outcome::Returned(_) | Outcome::Stopped(_) | Outcome::StepLimit => false,
+    }
+}
+
+/// Whether this is told of an end, where it is known whether the dummy arguments hold the values that it tells.
+fn is_told_where(held: bool, finish: Finish, outcome: &Outcome) -> bool
+    ensures { (program : List LineFields) (store : Store)
+        → IfSome (code.values_told outcome.now) (λ arguments. Decides held (AreArguments program store arguments))
+        → Decides result (Tells program finish store outcome.now) }
+{
+    match (finish, outcome) {
+        (Finish::Returned, Outcome::Returned(_)) | (Finish::Stopped, Outcome::Stopped(_)) => held,
+        (Finish::Failed(fault), outcome) => is_fault(fault, outcome),
+        (Finish::StepLimit, Outcome::StepLimit) => true,
+        (Finish::Returned | Finish::Stopped | Finish::StepLimit, _) => false,
+    }
+}
+
+/// Whether this is told of an end with the machine in this state.
+pub(crate) fn is_told(
+    checked: &Checked,
+    finish: Finish,
+    machine: &Machine,
+    outcome: &Outcome,
+) -> bool
+    requires { HoldDummies checked.now machine.now.cells.items }
+    ensures { Decides result
+        (Tells (map line_of checked.now.program) finish (held checked.now machine.now.cells.items) outcome.now) }
+{
+    let held = match values_told(outcome) {
+        Some(arguments) => are_dummies(checked, machine, arguments),
+        None => false,
+    };
+    is_told_where(held, finish, outcome)
+}
+
+/// Whether this is told of an end with these registers.
+pub(crate) fn is_told_by(
+    checked: &Checked,
+    finish: Finish,
+    registers: &[i64],
+    outcome: &Outcome,
+) -> bool
+    requires held { are_held registers.now ≡ true }
+    requires room { length checked.now.start.kinds.items ≤ length registers.now }
+    requires dummies { HoldDummies checked.now (shown_by checked.now registers.now) }
+    ensures { Decides result (Tells (map line_of checked.now.program) finish
+        (held checked.now (shown_by checked.now registers.now)) outcome.now) }
+{
+    let held = match values_told(outcome) {
+        Some(arguments) => have_dummies(checked, registers, arguments),
+        None => false,
+    };
+    is_told_where(held, finish, outcome)
+}
