@@ -22,15 +22,14 @@ use Rattle.f77_run.specs.Interpreter.{AreFitting, AreArguments, IsOutcomeOf, Tel
 use Rattle.f77_run.specs.Machine.{config_of, values_of}
 use Rattle.f77_run.specs.Outcome.{IsOutcome}
 use Rattle.f77_run.specs.Running.{RunSite}
-use Rattle.f77_run.specs.code.Running.{values_at}
+use Rattle.f77_run.specs.code.Running.{IsRunningIn, stands_for, values_at}
 use Rattle.f77_run.specs.Site.{site_of}
 use Rattle.f77_run.specs.Start.{IsStart, argument_values}
 use Rattle.f77_run.specs.Step.{Config}
 use Rattle.f77_run.specs.Value.{Store}
-use Rattle.f77_run.proofs.Moving.{IsRunningIn, ComesIn, moves_by, comes_by}
+use Rattle.f77_run.proofs.Moving.{ComesIn, moves_by, comes_by}
 use Rattle.f77_run.proofs.OneAnswer.{one_start}
 use Rattle.f77_run.proofs.OneWay.{one_outcome}
-use Rattle.f77_run.proofs.Runs.{stands_for}
 use Rattle.f77_run.proofs.Unreached.{starts_same, tells_same}
 use Rattle.f77_equivalence.specs.Changed.{EndsAlike, EquivalentWhereEndsAlike, HoldAlike, IsChange, IsEnding}
 use Rattle.f77_equivalence.proofs.Changed.{EndsAlikeWithin}

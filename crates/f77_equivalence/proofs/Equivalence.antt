@@ -12,7 +12,7 @@ use Rattle.f77_run.specs.Interpreter.{AreFitting, values_in}
 use Rattle.f77_run.specs.Outcome.{IsOutcome}
 use Rattle.f77_run.specs.Site.{site_of}
 use Rattle.f77_run.proofs.OneAnswer.{one_start}
-use Rattle.f77_run.proofs.Runs.{stands_for}
+use Rattle.f77_run.specs.code.Running.{stands_for}
 use Rattle.f77_run.proofs.Unreached.{starts_same, tells_same}
 use Rattle.f77_equivalence.specs.Changed.{IsChange, IsEnding, SameWhereChanged, EquivalentWhereSame}
 use Rattle.f77_equivalence.specs.Equivalent.{KeepsEnds}

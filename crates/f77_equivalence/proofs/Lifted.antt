@@ -24,9 +24,9 @@ use Rattle.f77_run.specs.Site.{site_of}
 use Rattle.f77_run.specs.Step as run
 use Rattle.f77_run.specs.Step.{Next, Step}
 use Rattle.f77_run.specs.Value.{Store}
-use Rattle.f77_run.proofs.Moving.{IsRunningIn, moves_in, step_in}
+use Rattle.f77_run.proofs.Moving.{moves_in, step_in}
 use Rattle.f77_run.proofs.OneWay.{one_successor}
-use Rattle.f77_run.proofs.Runs.{stands_for}
+use Rattle.f77_run.specs.code.Running.{IsRunningIn, stands_for}
 use Rattle.f77_run.proofs.Simulation.{simulates}
 use Rattle.f77_run.proofs.Unreached.{step_same}
 use Rattle.f77_equivalence.specs.Changed.{IsChange, SameWhereChanged}

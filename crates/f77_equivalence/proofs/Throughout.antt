@@ -16,15 +16,14 @@ use Rattle.f77_run.specs.Interpreter.{AreFitting, values_in}
 use Rattle.f77_run.specs.code.Machine.{next_of}
 use Rattle.f77_run.specs.Machine.{turn_of, turns_of}
 use Rattle.f77_run.specs.Running.{RunSite}
-use Rattle.f77_run.specs.code.Running.{values_at}
+use Rattle.f77_run.specs.code.Running.{IsRunningIn, stands_for, values_at}
 use Rattle.f77_run.specs.Site.{site_of}
 use Rattle.f77_run.specs.Start.{IsStart}
 use Rattle.f77_run.specs.Step as run
 use Rattle.f77_run.specs.Step.{Config, config, Step}
 use Rattle.f77_run.proofs.Beginning.{filled_size, starts}
-use Rattle.f77_run.proofs.Moving.{IsRunningIn, moves_in, step_in, runs_on_in}
+use Rattle.f77_run.proofs.Moving.{moves_in, step_in, runs_on_in}
 use Rattle.f77_run.proofs.OneWay.{one_successor}
-use Rattle.f77_run.proofs.Runs.{stands_for}
 use Rattle.f77_equivalence.specs.Start.{start_state, StartsIn}
 
 -- none of so many DOs is active
