@@ -2,6 +2,7 @@
 use Rattle.std.proofs.Common.{arith, ◌≡◌, ◌≢◌, ◌==◌, ℕ, zero, suc, ◌+◌, ◌<◌, ◌≤◌, ◌||◌, Bool, true, false, true≢false, inl, inr, List, [], ◌∷◌, ◌++◌, length, map, Some, refl, sym, ap, subst, ◌∙◌}
 use Rattle.std.specs.Prelude.{option_map, slice_get, slice_set, OnOk, Result, Ok, Err}
 use Rattle.std.specs.Bool.{Decides}
+use Rattle.std.specs.List.{All}
 use Rattle.std.proofs.Math.ListN.{length-set}
 use Rattle.std.proofs.lemmas.Bool.{cases_lt}
 use Rattle.std.proofs.lemmas.Bool.Decides.{nat_tests}
@@ -29,7 +30,7 @@ use Rattle.f77_run.specs.Start.{IsStart}
 use Rattle.f77_run.specs.Step.{Config, Ends, Step}
 use Rattle.f77_run.specs.Value.{Store}
 use Rattle.f77_run.specs.code.Visits.{AreUnvisited, Notes, has_some, is_visited}
-use Rattle.f77_run.specs.Visits.{AreVisited, AreVisits, IsAway, IsVisited, IsVisit, config_in}
+use Rattle.f77_run.specs.Visits.{AreDecided, AreVisited, AreVisits, IsAway, IsDecided, IsVisited, IsVisit, config_in}
 use Rattle.f77_run.proofs.Endless.{determined}
 use Rattle.f77_run.proofs.Following.{no_later}
 use Rattle.f77_run.proofs.OneAnswer.{one_start}
@@ -61,6 +62,21 @@ some_item xs i below = elim (slice_get_cases xs i).1 [
 pub on_success : {A E P Q : Type 0} (r : Result A E) → OnOk r P → (P → Q) → OnOk r Q
 on_success (Ok a) p f = f p
 on_success (Err e) p f = p
+
+-- those that are kept of one statement are others now, and decided too
+pub decided_more : (statements : List Resolved) (list : List Visited) (i : ℕ) (new : Visited)
+    → ((r : Resolved) → slice_get statements i ≡ Some r → All (IsDecided r.action) new.visits.items)
+    → AreDecided statements list → AreDecided statements (slice_set list i new)
+decided_more statements list i new here are j visited r told stated = by (i == j) refl
+  where
+    by : (b : Bool) → (i == j) ≡ b → All (IsDecided r.action) visited.visits.items
+    by true e =
+        let same : i ≡ j = grind (arith, nat_tests) in
+        let written : new ≡ visited = set_here list i new visited (ap (λ k. slice_get (slice_set list i new) k) same ∙ told) in
+        subst (λ (v : Visited). All (IsDecided r.action) v.visits.items) written (here r (ap (slice_get statements) same ∙ stated))
+    by false e =
+        let apart : i ≢ j = λ same. absurd (true≢false (sym (own i) ∙ ap (λ k. i == k) same ∙ e)) in
+        are j visited r (sym (set_there list i j new apart) ∙ told) stated
 
 module _ (at : RunSite) (start : Config) where
   abbrev p : List LineFields

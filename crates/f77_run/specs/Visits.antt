@@ -1,7 +1,8 @@
 -- Where control was in a run: the first times that it came to each statement,
 -- with the states of the machine then. Statements are numbered from 0 here.
-use Rattle.std.specs.Prelude.{◌≡◌, ◌≢◌, ◌+◌, ◌<◌, ◌≤◌, ℕ, Bool, true, false}
-use Rattle.std.specs.Prelude.{List, [], ◌∷◌, length, map, Some, slice_get}
+use Rattle.std.specs.Prelude.{◌≡◌, ◌≢◌, ◌+◌, ◌<◌, ◌≤◌, ℕ, Bool, true, false, Ok}
+use Rattle.std.specs.Prelude.{List, [], ◌∷◌, length, map, Some, IfSome, slice_get}
+use Rattle.std.specs.List.{All}
 use Rattle.f77_program.specs.Program.{LineFields, line_of}
 use Rattle.f77_legal.specs.Names.{bounds_of}
 use Rattle.f77_check.specs.Checked.{CheckedFields}
@@ -13,12 +14,29 @@ use Rattle.f77_run.specs.declared.visits.Visits.{Visits}
 use Rattle.f77_run.specs.Endless.{Reaches}
 use Rattle.f77_run.specs.Interpreter.{AreFitting, values_in}
 use Rattle.f77_run.specs.Machine.{config_of, placed_in_run}
-use Rattle.f77_code.specs.Moves.{State, state}
+use Rattle.f77_actions.specs.declared.action.Action.{Action, AssignNumber, AssignTruth}
+use Rattle.f77_actions.specs.declared.action.Action.{ComputedGoto, ArithmeticIf, LogicalIf', Branch}
+use Rattle.f77_actions.specs.declared.resolved.Resolved.{Resolved}
+use Rattle.f77_code.specs.Evaluation.{number_in, truth_in}
+use Rattle.f77_code.specs.Moves.{Cells, State, state}
+use Rattle.f77_values.specs.declared.value.Value.{Value}
+use Rattle.f77_values.specs.declared.value.Value.TheVariants as held
 use Rattle.f77_run.specs.Reached.{statement_number}
 use Rattle.f77_run.specs.Running.{RunSite}
 use Rattle.f77_run.specs.Site.{site_of}
 use Rattle.f77_run.specs.Start.{IsStart}
 use Rattle.f77_run.specs.Step.{Config}
+
+-- the value that decides what a statement does where slots hold this: of an assignment what
+-- is assigned, of an IF and a computed GO TO that of their expression (11.2, 11.4 to 11.6)
+abbrev pub IsDeciding : Action → Cells → Value → Type 0
+IsDeciding (AssignNumber e x) cells (held.Number z) = number_in cells x ≡ Ok z
+IsDeciding (AssignTruth e x) cells (held.Truth b) = truth_in cells x ≡ Ok b
+IsDeciding (ComputedGoto x jumps) cells (held.Number z) = number_in cells x ≡ Ok z
+IsDeciding (ArithmeticIf x a b c) cells (held.Number z) = number_in cells x ≡ Ok z
+IsDeciding (LogicalIf' x p action) cells (held.Truth b) = truth_in cells x ≡ Ok b
+IsDeciding (Branch x otherwise) cells (held.Truth b) = truth_in cells x ≡ Ok b
+IsDeciding _ cells _ = ⊥
 
 -- the state that is kept, and what it stands for
 abbrev pub state_in : Visit → State
@@ -64,6 +82,16 @@ pub record AreVisited (at : RunSite) (start : Config) (n : ℕ) (list : List Vis
   pub each : (i : ℕ) (visited : Visited)
       → slice_get list i ≡ Some visited → AreVisits at i start 0 n visited.visits.items visited.more
 
+-- a value that is kept with a state decides what the statement with this action does there
+abbrev pub IsDecided : Action → Visit → Type 0
+IsDecided action visit = IfSome visit.value (IsDeciding action visit.cells.items)
+
+-- those that are kept of each statement
+abbrev pub AreDecided : List Resolved → List Visited → Type 0
+AreDecided statements list =
+    (i : ℕ) (visited : Visited) (r : Resolved) → slice_get list i ≡ Some visited
+    → slice_get statements i ≡ Some r → All (IsDecided r.action) visited.visits.items
+
 -- where control was in the run with these arguments within so many steps
 pub record IsFollowed (checked : CheckedFields) (arguments : List Arg) (steps : ℕ)
     (visits : Visits) : Type 0 where
@@ -71,3 +99,4 @@ pub record IsFollowed (checked : CheckedFields) (arguments : List Arg) (steps : 
   pub start : Config
   pub starts : IsStart (map line_of checked.program) (map values_in arguments) start
   pub visited : AreVisited (site_of checked arguments) start steps visits.list.items
+  pub decided : AreDecided checked.statements visits.list.items

@@ -1,13 +1,14 @@
 //! Whether two statements do the same in a state.
 
-ghost use Rattle.std.specs.Prelude.{◌≡◌, ℕ, List, true, length};
+ghost use Rattle.std.specs.Prelude.{◌≡◌, ℕ, List, true, length, IfSome};
 ghost use Rattle.f77_actions.specs.declared.resolved.Resolved.{Resolved as Statement};
 ghost use Rattle.f77_code.specs.declared.control.Turn.{Turn};
 ghost use Rattle.f77_run.specs.code.Effect.{AgreeElsewhere, ContinueAlike, effected};
+ghost use Rattle.f77_run.specs.Visits.{IsDeciding};
 ghost use Rattle.f77_code.specs.Moves.{Cells, TurnList, acted, incremented, is_executed};
 ghost use Rattle.f77_code.specs.code.Moves.{action_within};
 
-use crate::effect::{Effect, effect_of};
+use crate::effect::{Effect, effect_of, effect_with};
 use f77_check::{Action, Jump, Resolved};
 use f77_values::Value;
 
@@ -69,8 +70,15 @@ fn are_same(one: Effect<'_>, other: Effect<'_>, i: usize) -> bool
 }
 
 /// Whether two statements that stand in the place `i` do the same where the slots hold these values.
-pub(crate) fn act_alike(own: &Resolved, other: &Resolved, i: usize, cells: &[Option<Value>]) -> bool
+pub(crate) fn act_alike(
+    own: &Resolved,
+    other: &Resolved,
+    i: usize,
+    cells: &[Option<Value>],
+    value: Option<Value>,
+) -> bool
     requires own { is_executed own.now.action ≡ true }
+    requires deciding { IfSome value (IsDeciding own.now.action cells.now) }
     requires other { is_executed other.now.action ≡ true }
     requires within { (n : ℕ) × (action_within (length cells.now) n own.now.action ≡ true)
         × (action_within (length cells.now) n other.now.action ≡ true) }
@@ -83,7 +91,7 @@ pub(crate) fn act_alike(own: &Resolved, other: &Resolved, i: usize, cells: &[Opt
         return false;
     }
     match (
-        effect_of(&own.action, cells),
+        effect_with(&own.action, cells, value),
         effect_of(&other.action, cells),
     ) {
         (Ok(one), Ok(other)) => {

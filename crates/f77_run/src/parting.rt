@@ -1,7 +1,10 @@
 //! Where the run of a changed program parts from that of the program, and what it comes to from there.
 
-ghost use Rattle.std.specs.Prelude.{◌≡◌, ◌<◌, ◌≤◌, true, map, option_map, length, IfOk, IfErr, IfSome, IfNone, Bool, ℕ};
+ghost use Rattle.std.specs.Prelude.{◌≡◌, ◌<◌, ◌≤◌, true, map, option_map, slice_get, Some};
+ghost use Rattle.std.specs.Prelude.{length, IfOk, IfErr, IfSome, IfNone, Bool, ℕ};
 ghost use Rattle.std.specs.Bool.{Decides};
+ghost use Rattle.std.specs.List.{All};
+ghost use Rattle.f77_actions.specs.declared.resolved.Resolved.{Resolved as Statement};
 ghost use Rattle.f77_program.specs.Program.{line_of};
 ghost use Rattle.f77_code.specs.Program.{IsCode};
 ghost use Rattle.f77_run.specs.Changed.{IsChanged, IsCodeOf, changed_fields};
@@ -12,7 +15,7 @@ ghost use Rattle.f77_run.specs.code.Parting.{Parting, IsParting, DoesAlikeIn, Do
 ghost use Rattle.f77_run.specs.code.Parting.{changed_site, parting_of, site_in, start_in};
 ghost use Rattle.f77_run.specs.code.Running.{IsRunning, config_at};
 ghost use Rattle.f77_run.specs.Start.{constant_value};
-ghost use Rattle.f77_run.specs.Visits.{AreVisits, IsVisit, config_in};
+ghost use Rattle.f77_run.specs.Visits.{AreVisits, IsDecided, IsVisit, config_in};
 ghost use Rattle.f77_run.specs.declared.outcome.Outcome.{Outcome};
 ghost use Rattle.f77_run.specs.declared.outcome.RunFault.TheVariants as fault;
 
@@ -43,10 +46,12 @@ fn does_alike(statements: &[Shared<Resolved>], changed: &[Shared<Resolved>], vis
     requires visit { IsVisit (site_in parting) parting.place (start_in parting) visit.now }
     requires together { Reaches parting.program visit.now.made (start_in parting)
         (config_in (site_in parting) visit.now) }
+    requires decided { (own : Statement) → slice_get statements.now parting.place ≡ Some own
+        → IsDecided own.action visit.now }
     ensures { result ≡ true → DoesAlikeIn parting visit.now }
 {
     match visit.place {
-        Place::Execute(i) => act_alike(&statements[i], &changed[i], i, &visit.cells),
+        Place::Execute(i) => act_alike(&statements[i], &changed[i], i, &visit.cells, visit.value),
         Place::Increment(d) => increment_alike(&statements[d], &changed[d], d),
     }
 }
@@ -63,6 +68,8 @@ pub(crate) fn first_other(
     requires others { AgreeElsewhere parting.place statements.now changed.now }
     requires visits { (n : ℕ)
         × (more : Bool) × AreVisits (site_in parting) parting.place (start_in parting) 0 n visits.now more }
+    requires decided { (own : Statement) → slice_get statements.now parting.place ≡ Some own
+        → All (IsDecided own.action) visits.now }
     ensures within { IfSome result (λ k. k < length visits.now) }
     ensures before { IfSome result (DoAlikeBefore parting visits.now) }
     ensures all { IfNone result (DoAlikeBefore parting visits.now (length visits.now)) }
@@ -296,6 +303,8 @@ pub(crate) fn comes_alike(
         visited.now.visits.items visited.now.more }
     requires outcome { IsOutcomeOf (map line_of parting.checked.program) parting.arguments steps outcome.now }
     requires initial { space.old.initial.items ≡ map (option_map constant_value) parting.checked.start.initial.items }
+    requires decided { (own : Statement) → slice_get parting.checked.statements parting.place ≡ Some own
+        → All (IsDecided own.action) visited.now.visits.items }
     ensures outcome { IfOk result (λ same. (other : Outcome)
         × IsOutcomeOf parting.program parting.arguments steps other × Decides same (outcome.now ≡ other)) }
     ensures code { IfSome codes.new.changed (IsCodeOf change.now.checked.now change.now.statements.items) }

@@ -10,7 +10,7 @@ ghost use Rattle.f77_run.specs.Running.{RunSite};
 ghost use Rattle.f77_run.specs.code.Running.{IsRunning, ComesToEnd, values_at, config_at};
 ghost use Rattle.f77_run.specs.Site.{site_of};
 ghost use Rattle.f77_run.specs.code.Visits.{AreUnvisited};
-ghost use Rattle.f77_run.specs.Visits.{AreVisited};
+ghost use Rattle.f77_run.specs.Visits.{AreDecided, AreVisited};
 ghost use Rattle.f77_run.specs.declared.outcome.RunFault.TheVariants as fault;
 
 use crate::argument::Arg;
@@ -45,10 +45,11 @@ pub(crate) fn follow(
         IfOk result (λ end. ComesToEnd at.program steps (config_at at machine.old) end.made end.finish values) }
     ensures cells { length machine.new.cells.items ≡ slot_count (bounds_of at.program) at.names }
     ensures visited { OnOk result (AreVisited at (config_at at machine.old) steps visits.new.list.items) }
+    ensures decided { OnOk result (AreDecided statements.now visits.new.list.items) }
     ensures memory { IfErr result (λ e. e ≡ fault.Memory) }
 {
     for made in 0..steps {
-        visits.note(alloc, machine, made, room)?;
+        visits.note(alloc, statements, machine, made, room)?;
         match step(statements, machine) {
             Ok(Control::Goes) => {}
             Ok(Control::Returns) => return Ok(End::new(Finish::Returned, made + 1)),

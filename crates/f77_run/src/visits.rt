@@ -1,18 +1,23 @@
 //! Where control was in a run: the first times that it came to each statement, with the states then.
 
-ghost use Rattle.std.specs.Prelude.{◌≡◌, ◌<◌, ◌||◌, length, map};
+ghost use Rattle.std.specs.Prelude.{◌≡◌, ◌<◌, ◌||◌, ℕ, length, map, true};
+ghost use Rattle.std.specs.List.{All};
 ghost use Rattle.std.specs.Prelude.{slice_set, slice_get, Some, IfOk, IfErr, OnOk};
 ghost use Rattle.f77_run.specs.Machine.{placed_in_run};
 ghost use Rattle.f77_run.specs.code.Machine.{state_of};
 ghost use Rattle.f77_run.specs.Reached.{statement_number};
 ghost use Rattle.f77_run.specs.code.Visits.{AreUnvisited, Notes, is_visited};
-ghost use Rattle.f77_run.specs.Visits.{state_in};
+ghost use Rattle.f77_code.specs.code.Moves.{action_within, all_within};
+ghost use Rattle.f77_run.specs.Visits.{AreDecided, IsDecided, state_in};
 ghost use Rattle.f77_run.specs.declared.outcome.RunFault.TheVariants as fault;
 ghost use Rattle.f77_run.specs.declared.visits.Visited.{Visited as VisitedModel};
 
+use crate::effect::deciding;
 use crate::machine::{Machine, number};
 use crate::outcome::RunFault;
+use f77_check::{Action, Resolved};
 use f77_code::{Place, Turn};
+use f77_tree::Shared;
 use f77_values::Value;
 use std::alloc::Global;
 
@@ -26,11 +31,19 @@ pub(crate) struct Visit {
     pub(crate) place: Place,
     pub(crate) cells: Vec<Option<Value>>,
     pub(crate) turns: Vec<Option<Turn>>,
+    /// The value that decides what the statement does there, if it is known.
+    pub(crate) value: Option<Value>,
 }
 
 impl Visit {
-    /// The state of the machine, which is in it behind so many steps.
-    fn of(alloc: Global, machine: &Machine, made: u32) -> Result<Visit, RunFault>
+    /// The state of the machine, which is in it behind so many steps, where this value decides.
+    fn of(
+        alloc: Global,
+        machine: &Machine,
+        made: u32,
+        value: Option<Value>,
+    ) -> Result<Visit, RunFault>
+        ensures value { IfOk result (λ visit. visit.value ≡ value) }
         ensures made { IfOk result (λ visit. visit.made ≡ made) }
         ensures state { IfOk result (λ visit. state_in visit ≡ state_of machine.now) }
         ensures memory { IfErr result (λ e. e ≡ fault.Memory) }
@@ -40,6 +53,7 @@ impl Visit {
             place: machine.place,
             cells: machine.cells.to_vec(alloc)?,
             turns: machine.turns.to_vec(alloc)?,
+            value,
         })
     }
 
@@ -72,9 +86,13 @@ impl Visited {
         &mut self,
         alloc: Global,
         machine: &Machine,
+        action: &Action,
         made: u32,
         room: &mut usize,
     ) -> Result<(), RunFault>
+        requires { (n : ℕ) × (action_within (length machine.now.cells.items) n action.now ≡ true) }
+        ensures decided { OnOk result
+            (All (IsDecided action.now) self.old.visits.items → All (IsDecided action.now) self.new.visits.items) }
         ensures noted { OnOk result (Notes made (state_of machine.now) self.old self.new) }
         ensures memory { IfErr result (λ e. e ≡ fault.Memory) }
     {
@@ -83,7 +101,8 @@ impl Visited {
             self.more = true;
             return Ok(());
         }
-        self.visits.push(Visit::of(alloc, machine, made)?)?;
+        let value = deciding(action, &machine.cells);
+        self.visits.push(Visit::of(alloc, machine, made, value)?)?;
         *room -= size;
         Ok(())
     }
@@ -124,11 +143,16 @@ impl Visits {
     pub(crate) fn note(
         &mut self,
         alloc: Global,
+        statements: &[Shared<Resolved>],
         machine: &Machine,
         made: u32,
         room: &mut usize,
     ) -> Result<(), RunFault>
-        requires { statement_number (placed_in_run machine.now.place) < length self.old.list.items }
+        requires list { statement_number (placed_in_run machine.now.place) < length self.old.list.items }
+        requires statements { statement_number (placed_in_run machine.now.place) < length statements.now }
+        requires within { (n : ℕ) × (all_within (length machine.now.cells.items) n statements.now ≡ true) }
+        ensures decided { OnOk result (AreDecided statements.now self.old.list.items
+            → AreDecided statements.now self.new.list.items) }
         ensures noted { OnOk result ((old : VisitedModel)
             → slice_get self.old.list.items (statement_number (placed_in_run machine.now.place)) ≡ Some old
             → (new : VisitedModel) × Notes made (state_of machine.now) old new
@@ -136,7 +160,8 @@ impl Visits {
             ≡ slice_set self.old.list.items (statement_number (placed_in_run machine.now.place)) new)) }
         ensures memory { IfErr result (λ e. e ≡ fault.Memory) }
     {
-        self.list[number(machine.place)].note(alloc, machine, made, room)
+        let number = number(machine.place);
+        self.list[number].note(alloc, machine, &statements[number].action, made, room)
     }
 
     /// Of each statement, in order, whether control was there.

@@ -1,4 +1,4 @@
-use Rattle.std.proofs.Common.{◌+◌, arith, ap, subst, sym, ◌∙◌}
+use Rattle.std.proofs.Common.{◌+◌, arith, length, ap, subst, sym, ◌∙◌}
 use Rattle.std.specs.Prelude.{Some, Ok}
 use Rattle.f77_run.specs.code.Machine.{move_of, state_of}
 use Rattle.f77_run.specs.Machine.{placed_in_run}
@@ -25,7 +25,20 @@ note-requires g c =
     let within = place_within c.args.statements.now (state_of c.loop-made.machine) (can_move g.at c.args.statements.now c.loop-made.machine running) in
     let count = running.resolved.count in
     let long = c.loop-made.invariant.1.count in
-    omega (arith, within, count, long)
+    record {
+      list = omega (arith, within, count, long);
+      statements = within;
+      within = (length c.loop-made.machine.turns.items, are_within g.at c.args.statements.now c.loop-made.machine running);
+    }
+
+pub returns-in-Ok-Returns-clause-decided : goal.returns-in-Ok-Returns-clause-decided
+returns-in-Ok-Returns-clause-decided g c = c.in_ok-note.ensures.decided c.loop-made.invariant.3
+
+pub returns-in-Ok-Stops-clause-decided : goal.returns-in-Ok-Stops-clause-decided
+returns-in-Ok-Stops-clause-decided g c = c.in_ok-note.ensures.decided c.loop-made.invariant.3
+
+pub returns-in-Err-clause-decided : goal.returns-in-Err-clause-decided
+returns-in-Err-clause-decided g c = c.in_ok-note.ensures.decided c.loop-made.invariant.3
 
 pub returns-in-Ok-Returns-clause-visited : goal.returns-in-Ok-Returns-clause-visited
 returns-in-Ok-Returns-clause-visited g c =
@@ -81,6 +94,7 @@ loop-made-preserved g c =
           (visited_more g.at c.args.statements.now c.args.machine.now c.loop-made.machine c.loop-made.made c.loop-made.invariant.0 c.loop-made.visits.list.items old.0 new.0 old.1 new.1
           c.loop-made.invariant.1),
       omega (arith, below),
+      c.in_ok-note.ensures.decided c.loop-made.invariant.3,
     )
 
 pub returns-in-Ok-Returns-clause-ends : goal.returns-in-Ok-Returns-clause-ends
