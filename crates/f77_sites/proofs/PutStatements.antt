@@ -1,6 +1,6 @@
 -- Each form of statement with another node in the place of one behind its own.
-use Rattle.std.proofs.Common.{arith, ◌≡◌, ◌-◌, ℕ, suc, List, ◌++◌, length, ap, sym, ◌∙◌, subst, Option, inl, inr}
-use Rattle.std.specs.Prelude.{map, ◌≢◌, Box, Vec, option_map, ◌⊎◌, Result, Ok, Err, IfOk}
+use Rattle.std.proofs.Common.{arith, ◌≡◌, ◌-◌, ℕ, List, ◌++◌, length, ap, sym, ◌∙◌, subst, Option, inl, inr}
+use Rattle.std.specs.Prelude.{map, Box, Vec, option_map, ◌⊎◌, Result, Ok, Err, IfOk}
 use Rattle.std.proofs.lemmas.List.{length-map}
 use Rattle.std.specs.declared.alloc.Global.{Global}
 use Rattle.f77_tree.specs.declared.data.Value.{Value}
@@ -19,9 +19,9 @@ use Rattle.f77_tree.specs.Statement.{statement_of, Statement}
 use Rattle.f77_tree.specs.Tree.{Tree, Trees, GroupFields}
 use Rattle.f77_tree.specs.View.{tree_of}
 use Rattle.f77_tree.proofs.Views.{subroutine_view, declare_view, dimension_view, preset_view, assign_view, goto_view, computed_view, arithmetic_view, logical_view, block_view, else_if_view, loop_view}
-use Rattle.f77_sites.specs.Sites.{Site, site_within, list_sites, tree_sites, step_sites, target_sites, label_sites, name_sites, value_sites, group_sites, statement_or, sites_behind, sites}
+use Rattle.f77_sites.specs.Sites.{Site, site_within, list_sites, tree_sites, step_sites, target_sites, label_sites, name_sites, value_sites, group_sites, sites_behind, sites}
 use Rattle.f77_sites.specs.code.Changing.{IsPut, Passed, assigned_reference}
-use Rattle.f77_sites.proofs.Passes.{passed_one, passed_two, passed_pair, pair_sites, within_pair, passed_behind, passed_fixed, passed_all_fixed}
+use Rattle.f77_sites.proofs.Passes.{passed_one, passed_two, passed_pair, pair_sites, within_pair, passed_fixed, passed_all_fixed}
 
 pub passed_group : (group new : DataGroup) (k i j : ℕ) (n : NodeOf) (old : List Value) → new.names.items ≡ group.names.items → old ≡ group.values.items
     → i ≡ k - length group.names.items → Passed (list_sites value_sites old) i j n old new.values.items
@@ -141,34 +141,28 @@ ok_more (Err e) P Q f h = h
 abbrev pub Declares : Stmt → Vec Decl Global → Type 0
 Declares stmt items = ((kind : Kind) × stmt ≡ forms.Declare kind items) ⊎ (stmt ≡ forms.Dimension items)
 
--- behind a node of its own
-module _ {E : Type 0} (r : Result Stmt E) (stmt : Stmt) (k i j : ℕ) (n : NodeOf) (other : k ≢ 1) (falls : i ≡ k - 1) where
-  behind : (s : Statement) → statement_of stmt ≡ s → (new : Stmt) → IsPut s i j n (statement_of new)
-      → Passed (sites (statement_of stmt)) k j n (statement_of stmt) (statement_of new)
-  behind s is new p =
-      subst (λ (x : Statement). Passed (sites x) k j n x (statement_of new)) (sym is)
-      (passed_behind (NodeOf.Itself s, statement_or s) (sites_behind s) k i j n s (statement_of new) other falls p)
+-- what is made where a statement has this form
+module _ {E : Type 0} (r : Result Stmt E) (stmt : Stmt) (i j : ℕ) (n : NodeOf) where
+  abbrev Made : Type 0
+  Made = IfOk r (λ new. IsPut (statement_of stmt) i j n (statement_of new))
 
-  pub put_statement : (s : Statement) → statement_of stmt ≡ s → IfOk r (λ new. IsPut s i j n (statement_of new))
-      → IfOk r (λ new. Passed (sites (statement_of stmt)) k j n (statement_of stmt) (statement_of new))
-  put_statement s is made =
-      ok_more r (λ new. IsPut s i j n (statement_of new)) (λ new. Passed (sites (statement_of stmt)) k j n (statement_of stmt) (statement_of new)) (behind s is) made
+  pub put_form : (s : Statement) → statement_of stmt ≡ s → IfOk r (λ new. IsPut s i j n (statement_of new)) → Made
+  put_form s is made = subst (λ (x : Statement). IfOk r (λ new. IsPut x i j n (statement_of new))) (sym is) made
 
   -- nothing is put behind the statement's own
-  kept : (s : Statement) → statement_of stmt ≡ s → Passed (sites_behind s) i j n s s → IfOk r (λ new. statement_of new ≡ statement_of stmt)
-      → IfOk r (λ new. Passed (sites (statement_of stmt)) k j n (statement_of stmt) (statement_of new))
+  kept : (s : Statement) → statement_of stmt ≡ s → Passed (sites_behind s) i j n s s → IfOk r (λ new. statement_of new ≡ statement_of stmt) → Made
   kept s is p same =
-      put_statement s is (ok_more r (λ new. statement_of new ≡ statement_of stmt) (λ new. IsPut s i j n (statement_of new))
+      put_form s is (ok_more r (λ new. statement_of new ≡ statement_of stmt) (λ new. IsPut s i j n (statement_of new))
       (λ new e. subst (λ (x : Statement). Passed (sites_behind s) i j n s x) (sym (e ∙ is)) p) same)
 
   pub passed_subroutine : (name : List ℕ) (names : Vec (List ℕ) Global) → stmt ≡ forms.Subroutine name names → j ≡ i - length names.items
-      → IfOk r (λ new. statement_of new ≡ statement_of stmt) → IfOk r (λ new. Passed (sites (statement_of stmt)) k j n (statement_of stmt) (statement_of new))
+      → IfOk r (λ new. statement_of new ≡ statement_of stmt) → Made
   passed_subroutine name names is past same =
       kept (Statement.Subroutine name names.items) (ap statement_of is ∙ subroutine_view name names)
       (passed_all_fixed NodeOf.Named names.items i j n (Statement.Subroutine name names.items) past) same
 
   pub passed_declared : (items : Vec Decl Global) → Declares stmt items → j ≡ i - length items.items
-      → IfOk r (λ new. statement_of new ≡ statement_of stmt) → IfOk r (λ new. Passed (sites (statement_of stmt)) k j n (statement_of stmt) (statement_of new))
+      → IfOk r (λ new. statement_of new ≡ statement_of stmt) → Made
   passed_declared items (inl (kind, is)) past same =
       let s : Statement = Statement.Declare kind (map decl_of items.items) in
       kept s (ap statement_of is ∙ declare_view kind items)
@@ -177,12 +171,3 @@ module _ {E : Type 0} (r : Result Stmt E) (stmt : Stmt) (k i j : ℕ) (n : NodeO
       let s : Statement = Statement.Dimension (map decl_of items.items) in
       kept s (ap statement_of is ∙ dimension_view items)
       (passed_all_fixed NodeOf.Declared (map decl_of items.items) i j n s (omega (arith, past, length-map items.items decl_of))) same
-
--- how deep a statement lies inside others: one stands inside a logical IF
-abbrev pub depth : Statement → ℕ
-depth (Statement.LogicalIf t s) = suc (suc (depth s))
-depth _ = 0
-
-pub depth_logical : (stmt : Stmt) (condition : Expr) (a : Box Stmt Global) → stmt ≡ boxed.LogicalIf condition a
-    → depth (statement_of stmt) ≡ suc (suc (depth (statement_of a.value)))
-depth_logical stmt condition a is = ap depth (ap statement_of is ∙ logical_view condition a)

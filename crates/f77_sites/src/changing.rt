@@ -1,12 +1,12 @@
 //! Statements with another node in the place of one of theirs.
 
-ghost use Rattle.std.specs.Prelude.{◌≡◌, ◌-◌, ◌+◌, ◌<◌, ◌^◌, IfOk, map, option_map};
+ghost use Rattle.std.specs.Prelude.{◌≡◌, ◌-◌, IfOk, map, option_map};
 ghost use Rattle.f77_tree.specs.Data.{data_group_of};
 ghost use Rattle.f77_nodes.specs.Node.{node_of};
 ghost use Rattle.f77_tree.specs.Statement.{statement_of, Statement};
 ghost use Rattle.f77_tree.specs.View.{tree_of};
 ghost use Rattle.f77_sites.specs.code.Changing.{IsPut, Passed, assigned_reference};
-ghost use Rattle.f77_sites.specs.Sites.{changed, label_sites, list_sites, sites, statement_or};
+ghost use Rattle.f77_sites.specs.Sites.{label_sites, list_sites, sites, statement_or};
 
 use crate::changing_data::put_groups;
 use crate::changing_expression::{put_expression, put_step, put_target};
@@ -15,22 +15,8 @@ use f77_nodes::Node;
 use f77_tree::{DataGroup, Expr, Name, Ref, Stmt};
 use std::alloc::{AllocError, Global};
 
-/// The statement with this node in the place of the one at this position; a node of another sort changes nothing.
-pub fn with_node(
-    alloc: Global,
-    stmt: &Stmt,
-    position: usize,
-    node: Node<'_>,
-) -> Result<Stmt, AllocError>
-    requires { position + 1 < 2 ^ 64 }
-    ensures { IfOk result (λ s. statement_of s ≡ changed (statement_of stmt.now) position (node_of node.entry)) }
-{
-    let mut number = position + 1;
-    let made = put_statement(alloc, stmt, &mut number, node)?;
-    Ok(made)
-}
-
-/// The same of the node with this number, from 1. The number falls by the nodes that were passed.
+/// The statement with this node in the place of the one with this
+/// number, from 1. The number falls by the nodes that were passed.
 #[cycle(put)]
 fn put_statement(
     alloc: Global,
@@ -44,6 +30,20 @@ fn put_statement(
     if is_next(number) {
         return put_itself(stmt, node);
     }
+    put_behind(alloc, stmt, number, node)
+}
+
+/// The same of the nodes behind the statement's own.
+#[cycle(put)]
+pub fn put_behind(
+    alloc: Global,
+    stmt: &Stmt,
+    number: &mut usize,
+    node: Node<'_>,
+) -> Result<Stmt, AllocError>
+    ensures { IfOk result
+        (λ s. IsPut (statement_of stmt.now) number.old number.new (node_of node.entry) (statement_of s)) }
+{
     match stmt {
         Stmt::Subroutine { arguments, .. } => pass(stmt, arguments.len(), number),
         Stmt::Declare { items, .. } | Stmt::Dimension { items } => pass(stmt, items.len(), number),

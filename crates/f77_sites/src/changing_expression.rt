@@ -4,7 +4,7 @@ ghost use Rattle.std.specs.Prelude.{IfOk, map, option_map};
 ghost use Rattle.f77_nodes.specs.Node.{node_of};
 ghost use Rattle.f77_tree.specs.View.{tree_of, trees};
 ghost use Rattle.f77_sites.specs.code.Changing.{Passed, assigned_reference};
-ghost use Rattle.f77_sites.specs.Sites.{item_sites, step_sites, target_sites, tree_sites};
+ghost use Rattle.f77_sites.specs.Sites.{item_sites, parts_behind, step_sites, target_sites, tree_sites};
 
 use crate::changing_node::is_next;
 use f77_nodes::Node;
@@ -29,6 +29,20 @@ pub fn put_expression(
             _ => expr.clone(),
         };
     }
+    put_parts(alloc, expr, number, node)
+}
+
+/// The same of the parts behind the expression's own node.
+#[cycle(put)]
+pub fn put_parts(
+    alloc: Global,
+    expr: &Expr,
+    number: &mut usize,
+    node: Node<'_>,
+) -> Result<Expr, AllocError>
+    ensures { IfOk result (λ e. Passed (parts_behind (tree_of expr.now)) number.old number.new (node_of node.entry)
+        (tree_of expr.now) (tree_of e)) }
+{
     match expr {
         Expr::Number(_) | Expr::Truth(_) => expr.clone(),
         Expr::Reference(place) => Ok(Expr::Reference(Ref {
@@ -69,7 +83,7 @@ fn put_boxed(
 }
 
 #[cycle(put)]
-fn put_items(
+pub fn put_items(
     alloc: Global,
     items: &[Expr],
     number: &mut usize,

@@ -6,7 +6,9 @@ mod changing_data;
 mod changing_expression;
 mod changing_node;
 pub mod law;
+mod remaking;
+mod remaking_expression;
 mod replacement;
 
-pub use changing::with_node;
+pub use remaking::remake;
 pub use replacement::Replacement;

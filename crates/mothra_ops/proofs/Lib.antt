@@ -14,6 +14,7 @@ mod Members
 mod MakesMutant
 mod Comings
 mod Made
+mod NodeLists
 mod Applied
 mod Plans
 mod Numbered

@@ -2,7 +2,7 @@
 use Rattle.std.proofs.Common.{◌≡◌, ◌∙◌, ◌-◌, ℕ, zero, suc, List, [], ◌∷◌, ◌++◌, Bool, true, false, true≢false, cond, Option, Some, None, refl, sym, ap, subst, map, filter}
 use Rattle.std.specs.Prelude.{is_some, option_map, slice_get, if◌then◌else◌}
 use Rattle.std.specs.List.{filter_map}
-use Rattle.std.specs.Option.{IfSome, option_and_then}
+use Rattle.std.specs.Option.{option_and_then}
 use Rattle.std.specs.Str.{bytes_eq}
 use Rattle.std.proofs.lemmas.List.Elements.{filter-append, filter_map-append}
 use Rattle.std.proofs.lemmas.Option.{none-some, same_Some, option_and_then_some}
@@ -10,7 +10,7 @@ use Rattle.f77_program.specs.Group.{group_of}
 use Rattle.f77_nodes.specs.Node.{NodeOf, names_of}
 use Rattle.f77_program.specs.Program.{LineFields}
 use Rattle.f77_program.specs.Patching.{Fits, replaced, patched}
-use Rattle.f77_tree.specs.Statement.{statement_of, Statement}
+use Rattle.f77_tree.specs.Statement.{Statement}
 use Rattle.f77_program.specs.declared.group.Group.{Group}
 use Rattle.f77_program.specs.declared.group.Group.TheVariants.{Subroutine, Declaration}
 use Rattle.f77_tree.specs.declared.tree.Kind.TheVariants.{Integer}
@@ -21,12 +21,11 @@ use Rattle.f77_check.specs.Checked.{shapes}
 use Rattle.f77_sites.specs.Sites.{Site, sites}
 use Rattle.mothra_codes.specs.declared.op.Op.{Op}
 use Rattle.mothra_codes.specs.declared.op.Op.TheVariants.{Der, Dsa, Glr}
-use Rattle.mothra_ops.specs.Edits.{IsMutant, made, numbered}
-use Rattle.mothra_ops.specs.Mutants.{MutantFields, mutant_fields, mutant_made}
+use Rattle.mothra_ops.specs.Edits.{made, numbered}
+use Rattle.mothra_ops.specs.Mutants.{MutantFields, mutant_made}
 use Rattle.mothra_ops.specs.Pools.{PoolFields, pools_of, is_executable}
 use Rattle.mothra_ops.specs.Replacements.{gives, replacements, stands_in}
 use Rattle.mothra_ops.specs.declared.edit.Edit.{Edit}
-use Rattle.mothra_ops.specs.declared.mutants.Mutant.{Mutant}
 use Rattle.mothra_ops.proofs.MakesMutant.{counted_at}
 use Rattle.mothra_ops.proofs.Numbered.{nothing_numbered}
 
@@ -162,9 +161,9 @@ module _ (program : List LineFields) (edit : Edit) (statement : Statement) (make
       shapes_replaced program (edit.statement - 1) fits.line statement fits.at old (ap is_quiet fits.group ∙ old)
 
 -- what an edit makes takes the arguments of the program
-edit_shapes : (program : List LineFields) (edit : Edit) (mutant : MutantFields) → mutant_made program edit ≡ Some mutant → Fits program mutant.number mutant.statement
+pub edit_shapes : (program : List LineFields) (edit : Edit) (mutant : MutantFields) → Some mutant ≡ mutant_made program edit → Fits program mutant.number mutant.statement
     → shapes (patched program mutant.number mutant.statement) ≡ shapes program
-edit_shapes program edit mutant makes fits = by (made (pools_of program) program edit) refl makes
+edit_shapes program edit mutant makes fits = by (made (pools_of program) program edit) refl (sym makes)
   where
     by : (o : Option Statement) → made (pools_of program) program edit ≡ o
         → option_map (λ statement. record { number = edit.statement; statement = statement }) o ≡ Some mutant
@@ -174,9 +173,3 @@ edit_shapes program edit mutant makes fits = by (made (pools_of program) program
         let same : record { number = edit.statement; statement = statement } ≡ mutant = same_Some _ _ h in
         subst (λ (m : MutantFields). shapes (patched program m.number m.statement) ≡ shapes program) same
         (made_shapes program edit statement e (subst (λ (m : MutantFields). Fits program m.number m.statement) (sym same) fits))
-
-pub answer_shapes : (program : List LineFields) (edit : Edit) (answer : Option Mutant) → option_map mutant_fields answer ≡ mutant_made program edit
-    → IfSome answer (λ m. IsMutant program m.number (statement_of m.stmt))
-    → IfSome answer (λ m. shapes (patched program m.number (statement_of m.stmt)) ≡ shapes program)
-answer_shapes program edit None makes mutant = tt
-answer_shapes program edit (Some m) makes mutant = edit_shapes program edit (mutant_fields m) (sym makes) mutant.fits

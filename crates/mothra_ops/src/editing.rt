@@ -20,19 +20,19 @@ use crate::original::{Original, put};
 use crate::replacing::gives;
 use crate::site::Site;
 use f77_check::Checked;
-use f77_nodes::nodes;
 use f77_sites::Replacement;
 use f77_tree::Stmt;
 use mothra_codes::Op;
 use std::alloc::Global;
 
 impl Original<'_> {
-    /// Whether a mutant comes of putting the node at the site.
+    /// Whether a mutant comes of putting the node at the site. It is made in the memory of `made`.
     fn makes_mutant(
         &self,
         alloc: Global,
         site: Site<'_>,
         new: &Replacement,
+        made: &mut Stmt,
     ) -> Result<bool, OpsFault>
         requires { site.position + 1 < 2 ^ 64 }
         ensures decided { IfOk result (λ yes. IsTrue yes
@@ -40,16 +40,17 @@ impl Original<'_> {
             (changed (statement_of site.entry.stmt.now) site.entry.position (replacement_of new.now))) }
         ensures memory { IfErr result (λ fault. fault ≡ Memory) }
     {
-        let made = put(alloc, site.stmt, site.position, new)?;
-        self.is_mutant(site.number, &made)
+        put(alloc, site.stmt, site.position, new, made)?;
+        self.is_mutant(site.number, made)
     }
 
-    /// Puts the edits of a site into the list.
+    /// Puts the edits of a site into the list. What they make is made in the memory of `made`.
     fn list_site(
         &self,
         alloc: Global,
         site: Site<'_>,
         listing: &mut Listing,
+        made: &mut Stmt,
     ) -> Result<(), OpsFault>
         requires every { 1 ≤ listing.now.every }
         requires position { site.position + 1 < 2 ^ 64 }
@@ -64,7 +65,7 @@ impl Original<'_> {
     {
         let replacements = gives(alloc, listing.op, &self.pools, site.stmt, site.node)?;
         for k in 0..replacements.len() {
-            if self.makes_mutant(alloc, site, &replacements[k])? {
+            if self.makes_mutant(alloc, site, &replacements[k], made)? {
                 listing.add(Edit {
                     op: listing.op,
                     statement: site.number,
@@ -76,13 +77,14 @@ impl Original<'_> {
         Ok(())
     }
 
-    /// Puts the edits of a statement into the list.
+    /// Puts the edits of a statement into the list. What they make is made in the memory of `made`.
     fn list_statement(
         &self,
         alloc: Global,
         number: usize,
         stmt: &Stmt,
         listing: &mut Listing,
+        made: &mut Stmt,
     ) -> Result<(), OpsFault>
         requires { 1 ≤ listing.now.every }
         ensures same_op { listing.new.op ≡ listing.old.op }
@@ -96,7 +98,9 @@ impl Original<'_> {
             → HasCome listing.old (lines_of self.now) number 0 0
             → IsNoList listing.old.op (lines_of self.now) listing.old.every fault) }
     {
-        let nodes = nodes(alloc, stmt)?;
+        let Some(nodes) = self.nodes.at(number) else {
+            return Ok(());
+        };
         for position in 0..nodes.len() {
             let site = Site {
                 number,
@@ -104,7 +108,7 @@ impl Original<'_> {
                 position,
                 node: nodes[position],
             };
-            self.list_site(alloc, site, listing)?;
+            self.list_site(alloc, site, listing, made)?;
         }
         Ok(())
     }
@@ -118,9 +122,10 @@ impl Original<'_> {
         ensures refused { IfErr result (λ fault. IsOriginal self.now → IsNoList op (lines_of self.now) every fault) }
     {
         let mut listing = Listing::new(alloc, op, every, Limits::of_lists());
+        let mut made = Stmt::Continue;
         let lines = self.checked.program().lines();
         for i in 0..lines.len() {
-            self.list_statement(alloc, i + 1, &lines[i].stmt, &mut listing)?;
+            self.list_statement(alloc, i + 1, &lines[i].stmt, &mut listing, &mut made)?;
         }
         Ok(listing)
     }

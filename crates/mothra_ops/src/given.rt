@@ -24,7 +24,7 @@ pub(crate) struct Given {
 }
 
 impl Given {
-    ghost use Rattle.std.specs.Prelude.{◌≡◌, ◌↔◌, option_map, OnOk, IfOk, IfErr, IsTrue};
+    ghost use Rattle.std.specs.Prelude.{◌≡◌, ◌↔◌, Some, None, if◌then◌else◌, OnOk, IfOk, IfErr, IsTrue};
     ghost use Rattle.f77_tree.specs.Statement.{statement_of};
     ghost use Rattle.mothra_ops.specs.Edits.{made};
     ghost use Rattle.mothra_ops.specs.code.Given.{IsFor};
@@ -85,26 +85,29 @@ impl Given {
         Ok(())
     }
 
-    /// The statement that the edit makes; none where no replacement has its rank.
-    pub(crate) fn made(
+    /// The statement that the edit makes is put in the place of `statement`, in whose memory it is made: whether there
+    /// is one, which is not where no replacement has its rank.
+    pub(crate) fn remake(
         &self,
         alloc: Global,
         original: &Original<'_>,
         edit: &Edit,
-    ) -> Result<Option<Stmt>, OpsFault>
+        statement: &mut Stmt,
+    ) -> Result<bool, OpsFault>
         requires given { IsGiven original.now self.now }
         requires edit { IsFor self.now edit.now }
-        ensures made { IfOk result (λ statement. option_map statement_of statement
+        ensures made { IfOk result (λ found. (if found then Some (statement_of statement.new) else None)
             ≡ made (pool_fields original.now.pools) (lines_of original.now) edit.now) }
         ensures memory { IfErr result (λ fault. fault ≡ Memory) }
     {
         if edit.rank == 0 || edit.rank > self.replacements.len() {
-            return Ok(None);
+            return Ok(false);
         }
         let Some(line) = original.checked.program().line(edit.statement) else {
-            return Ok(None);
+            return Ok(false);
         };
         let new = &self.replacements[edit.rank - 1];
-        Ok(Some(put(alloc, &line.stmt, edit.position, new)?))
+        put(alloc, &line.stmt, edit.position, new, statement)?;
+        Ok(true)
     }
 }

@@ -1,6 +1,6 @@
 //! What operators give the nodes of a program, one node of each operator at a time.
 
-ghost use Rattle.std.specs.Prelude.{◌≡◌, option_map, IfErr, IfOk};
+ghost use Rattle.std.specs.Prelude.{◌≡◌, Some, None, if◌then◌else◌, IfErr, IfOk};
 ghost use Rattle.f77_tree.specs.Statement.{statement_of};
 ghost use Rattle.mothra_ops.specs.Edits.{made};
 ghost use Rattle.mothra_ops.specs.Giving.{AreGiven};
@@ -37,22 +37,24 @@ impl Giving {
         Ok(Giving { list })
     }
 
-    /// The statement that the edit makes; none where no replacement has its rank.
+    /// The statement that the edit makes is put in the place of `statement`, in whose memory it is made: whether there
+    /// is one, which is not where no replacement has its rank.
     /// What the operator gives the node is found once for edits of the node in a row.
-    pub(crate) fn made(
+    pub(crate) fn remake(
         &mut self,
         alloc: Global,
         original: &Original<'_>,
         edit: &Edit,
-    ) -> Result<Option<Stmt>, OpsFault>
+        statement: &mut Stmt,
+    ) -> Result<bool, OpsFault>
         requires { AreGiven original.now self.old.list.items }
         ensures given { AreGiven original.now self.new.list.items }
-        ensures made { IfOk result (λ statement. option_map statement_of statement
+        ensures made { IfOk result (λ found. (if found then Some (statement_of statement.new) else None)
             ≡ made (pool_fields original.now.pools) (lines_of original.now) edit.now) }
         ensures memory { IfErr result (λ fault. fault ≡ Memory) }
     {
         let place = edit.op.index();
         self.list[place].turn_to(alloc, original, edit)?;
-        self.list[place].made(alloc, original, edit)
+        self.list[place].remake(alloc, original, edit, statement)
     }
 }

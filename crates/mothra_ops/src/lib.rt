@@ -12,6 +12,7 @@ mod in_places;
 pub mod law;
 pub mod listing;
 mod mutants;
+mod node_lists;
 mod original;
 mod places;
 mod plan;

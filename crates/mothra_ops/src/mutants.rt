@@ -1,6 +1,6 @@
 //! The mutants of a plan, one at a time.
 
-ghost use Rattle.std.specs.Prelude.{◌≡◌, ◌++◌, option_map, string_bytes, codes, None};
+ghost use Rattle.std.specs.Prelude.{◌≡◌, ◌++◌, if◌then◌else◌, option_map, string_bytes, codes, true, false, Some, None};
 ghost use Rattle.std.specs.Prelude.{IfOk, IfErr, IfSome, IfNone, OnOk, OnErr};
 ghost use Rattle.f77_check.specs.Checked.{shapes};
 ghost use Rattle.f77_program.specs.Canonical.{statement_text};
@@ -24,6 +24,9 @@ use mothra_codes::Op;
 use std::alloc::{AllocError, Global};
 use std::marker::Model;
 
+/// Room for as many characters as most lines about a mutant have.
+const LINE: usize = 96;
+
 /// What a mutant has in the place of a statement of the program.
 #[derive(Debug, Drop)]
 pub struct Mutant {
@@ -33,6 +36,16 @@ pub struct Mutant {
     pub stmt: Stmt,
 }
 
+impl Mutant {
+    /// The place of a mutant, where none stands yet. It takes no memory.
+    pub fn place() -> Mutant {
+        Mutant {
+            number: 0,
+            stmt: Stmt::Continue,
+        }
+    }
+}
+
 /// The mutants of a plan. What the operators draw from its program is found once,
 /// and what an operator gives a node once for its mutants of that node in a row.
 #[derive(Drop)]
@@ -40,6 +53,8 @@ pub struct Mutants<'a> {
     plan: &'a Plan,
     original: Original<'a>,
     giving: Giving,
+    /// The statement of the mutant that was told last, in whose memory that of the next is made.
+    told: Stmt,
 }
 
 impl<'a> Model for Mutants<'a> {
@@ -86,6 +101,7 @@ impl<'a> Mutants<'a> {
             plan,
             original,
             giving,
+            told: Stmt::Continue,
         })
     }
 
@@ -103,48 +119,56 @@ impl<'a> Mutants<'a> {
         ensures none { IfOk result (λ mutant. IfNone mutant (numbered (edits_of self.old op) number ≡ None)) }
         ensures memory { IfErr result (λ fault. fault ≡ Memory) }
     {
-        match self.plan.edit(op, number) {
-            Some(edit) => self.made(alloc, edit),
-            None => Ok(None),
+        let mut mutant = Mutant::place();
+        if self.remake(alloc, op, number, &mut mutant)? {
+            Ok(Some(mutant))
+        } else {
+            Ok(None)
         }
     }
 
-    /// What an edit of the plan makes.
-    fn made(&mut self, alloc: Global, edit: &Edit) -> Result<Option<Mutant>, OpsFault>
+    /// The same, put in the place of `mutant`, in whose memory it is made: whether there is one.
+    pub fn remake(
+        &mut self,
+        alloc: Global,
+        op: Op,
+        number: u32,
+        mutant: &mut Mutant,
+    ) -> Result<bool, OpsFault>
         ensures plan { self.new ≡ self.old }
-        ensures made { IfOk result
-            (λ mutant. option_map mutant_fields mutant ≡ mutant_made (program_of self.old) edit.now) }
+        ensures mutant { IfOk result (λ found.
+            (if found then Some (mutant_fields mutant.new) else None) ≡ mutant_of self.old op number) }
+        // What it makes is legal, and another program.
+        ensures legal { IfOk result (λ found. found ≡ true
+            → IsMutant (program_of self.old) mutant.new.number (statement_of mutant.new.stmt)) }
+        // It takes the arguments that the program takes.
+        ensures shapes { IfOk result (λ found. found ≡ true
+            → shapes (patched (program_of self.old) mutant.new.number (statement_of mutant.new.stmt))
+            ≡ shapes (program_of self.old)) }
+        ensures none { IfOk result (λ found. found ≡ false → numbered (edits_of self.old op) number ≡ None) }
         ensures memory { IfErr result (λ fault. fault ≡ Memory) }
     {
-        match self.giving.made(alloc, &self.original, edit)? {
-            Some(stmt) => Ok(Some(Mutant {
-                number: edit.statement,
-                stmt,
-            })),
-            None => Ok(None),
+        match self.plan.edit(op, number) {
+            Some(edit) => self.remake_by(alloc, edit, mutant),
+            None => Ok(false),
         }
     }
 
-    /// The line number of a statement; 0 where the program has none of this number.
-    fn line_number(&self, number: usize) -> u32
-        ensures { result ≡ line_number_at (program_of self.now) number }
-    {
-        match self.plan.program().program().line(number) {
-            Some(line) => line.line,
-            None => 0,
-        }
-    }
-
-    /// Where this mutant is changed: the line number of the
-    /// statement, and the canonical text of what stands in its place.
-    fn change(&self, alloc: Global, mutant: &Mutant) -> Result<String, OpsFault>
-        ensures text { IfOk result
-            (λ text. string_bytes text ≡ change_text (program_of self.now) (mutant_fields mutant.now)) }
+    /// What an edit of the plan makes is put in the place of `mutant`: whether it makes something.
+    fn remake_by(
+        &mut self,
+        alloc: Global,
+        edit: &Edit,
+        mutant: &mut Mutant,
+    ) -> Result<bool, OpsFault>
+        ensures plan { self.new ≡ self.old }
+        ensures made { IfOk result (λ found.
+            (if found then Some (mutant_fields mutant.new) else None) ≡ mutant_made (program_of self.old) edit.now) }
         ensures memory { IfErr result (λ fault. fault ≡ Memory) }
     {
-        let line = self.line_number(mutant.number);
-        let statement = printed(alloc, &mutant.stmt)?;
-        Ok(format!(in alloc; "LINE {line} {statement}")?)
+        mutant.number = edit.statement;
+        self.giving
+            .remake(alloc, &self.original, edit, &mut mutant.stmt)
     }
 
     /// Appends where this mutant of the plan is changed: the line number of the statement, and the canonical text of
@@ -155,20 +179,9 @@ impl<'a> Mutants<'a> {
         ensures unchanged { OnErr result (string_bytes text.new ≡ string_bytes text.old) }
         ensures memory { IfErr result (λ fault. fault ≡ Memory) }
     {
-        let change = self.change(*text.allocator(), mutant)?;
+        let mut change = String::with_capacity(*text.allocator(), LINE)?;
+        push_changed(&mut change, self.plan, mutant.number, &mutant.stmt)?;
         Ok(text.push_str(&change)?)
-    }
-
-    /// How this mutant of the operator is told.
-    fn told(&self, alloc: Global, op: Op, number: u32, mutant: &Mutant) -> Result<String, OpsFault>
-        ensures text { IfOk result (λ text. string_bytes text ≡ mutant_name self.now.every op number
-            ++ (codes " " ++ change_text (program_of self.now) (mutant_fields mutant.now))) }
-        ensures memory { IfErr result (λ fault. fault ≡ Memory) }
-    {
-        let change = self.change(alloc, mutant)?;
-        let mut text = name(alloc, self.plan.every(), op, number)?;
-        write!(text, " {change}")?;
-        Ok(text)
     }
 
     /// How the operator's mutant of this number is told; no text where the plan has no such mutant.
@@ -177,9 +190,16 @@ impl<'a> Mutants<'a> {
         ensures text { IfOk result (λ text. string_bytes text ≡ mutant_text self.old op number) }
         ensures memory { IfErr result (λ fault. fault ≡ Memory) }
     {
-        match self.mutant(alloc, op, number)? {
-            Some(mutant) => self.told(alloc, op, number, &mutant),
-            None => Ok(String::new(alloc)),
+        let Some(edit) = self.plan.edit(op, number) else {
+            return Ok(String::new(alloc));
+        };
+        let found = self
+            .giving
+            .remake(alloc, &self.original, edit, &mut self.told)?;
+        if found {
+            told(alloc, self.plan, op, number, edit.statement, &self.told)
+        } else {
+            Ok(String::new(alloc))
         }
     }
 
@@ -194,6 +214,49 @@ impl<'a> Mutants<'a> {
         let told = self.text_of(*text.allocator(), op, number)?;
         Ok(text.push_str(&told)?)
     }
+}
+
+/// The line number of a statement; 0 where the program has none of this number.
+fn line_number(plan: &Plan, number: usize) -> u32
+    ensures { result ≡ line_number_at (program_of plan.now) number }
+{
+    match plan.program().program().line(number) {
+        Some(line) => line.line,
+        None => 0,
+    }
+}
+
+/// Appends where the statement of this number is changed: its line number, and the canonical text of what stands in its
+/// place.
+fn push_changed(text: &mut String, plan: &Plan, number: usize, stmt: &Stmt) -> Result<(), OpsFault>
+    ensures text { OnOk result (string_bytes text.new ≡ string_bytes text.old ++ change_text (program_of plan.now)
+        (record { number = number; statement = statement_of stmt.now })) }
+    ensures memory { IfErr result (λ fault. fault ≡ Memory) }
+{
+    let line = line_number(plan, number);
+    write!(text, "LINE {line} ")?;
+    let statement = printed(*text.allocator(), stmt)?;
+    Ok(text.push_str(&statement)?)
+}
+
+/// How the operator's mutant of this number is told, which has this in the place of the statement of that number.
+fn told(
+    alloc: Global,
+    plan: &Plan,
+    op: Op,
+    number: u32,
+    changed: usize,
+    stmt: &Stmt,
+) -> Result<String, OpsFault>
+    ensures text { IfOk result (λ text. string_bytes text ≡ mutant_name plan.now.every op number
+        ++ (codes " " ++ change_text (program_of plan.now)
+        (record { number = changed; statement = statement_of stmt.now }))) }
+    ensures memory { IfErr result (λ fault. fault ≡ Memory) }
+{
+    let mut text = name(alloc, plan.every(), op, number)?;
+    text.push(' ')?;
+    push_changed(&mut text, plan, changed, stmt)?;
+    Ok(text)
 }
 
 /// The canonical text of a statement.
@@ -214,7 +277,9 @@ fn name(alloc: Global, every: u32, op: Op, number: u32) -> Result<String, AllocE
 {
     let code = op.code();
     let original = u64::from(number.saturating_sub(1)) * u64::from(every) + 1;
-    format!(in alloc; "{code} {number} {original}")
+    let mut name = String::with_capacity(alloc, LINE)?;
+    write!(name, "{code} {number} {original}")?;
+    Ok(name)
 }
 
 /// Appends how a mutant is named: the operator's code, its number, and its number in the whole list, of which each such

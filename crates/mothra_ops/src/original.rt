@@ -1,40 +1,37 @@
 //! The program that mutants are made of.
 
-ghost use Rattle.std.specs.Prelude.{◌≡◌, ◌↔◌, ◌<◌, ◌+◌, ◌^◌, length, map, option_map, IfOk, IfErr, IsTrue};
+ghost use Rattle.std.specs.Prelude.{◌≡◌, ◌<◌, ◌+◌, ◌^◌, OnOk, IfErr};
+ghost use Rattle.std.specs.Coded.{Coded-set};
 ghost use Rattle.f77_tree.specs.Statement.{statement_of};
 ghost use Rattle.f77_sites.specs.Replacement.{replacement_of};
 ghost use Rattle.f77_sites.specs.Sites.{changed};
-ghost use Rattle.mothra_ops.specs.code.Edits.{IsMadeBy};
-ghost use Rattle.mothra_ops.specs.Edits.{IsMutant};
-ghost use Rattle.mothra_ops.specs.Given.{given_at};
-ghost use Rattle.mothra_ops.specs.Original.{IsOriginal, lines_of};
-ghost use Rattle.mothra_ops.specs.Pools.{pool_fields};
 ghost use Rattle.mothra_ops.specs.declared.fault.OpsFault.TheVariants.{Memory};
 
 use crate::edit::Edit;
 use crate::fault::OpsFault;
 use crate::given::Given;
+use crate::node_lists::NodeLists;
 use crate::pools::Pools;
 use crate::replacing::gives;
 use f77_check::{CheckFault, Checked};
-use f77_nodes::nodes;
-use f77_sites::{Replacement, with_node};
+use f77_sites::{Replacement, remake};
 use f77_tree::Stmt;
 use std::alloc::Global;
 
-/// The statement with the new node at this position.
+/// The statement with the new node at this position is put in the place of `made`, in whose memory it is made.
 pub(crate) fn put(
     alloc: Global,
     stmt: &Stmt,
     position: usize,
     new: &Replacement,
-) -> Result<Stmt, OpsFault>
+    made: &mut Stmt,
+) -> Result<(), OpsFault>
     requires { position + 1 < 2 ^ 64 }
-    ensures made { IfOk result
-        (λ made. statement_of made ≡ changed (statement_of stmt.now) position (replacement_of new.now)) }
+    ensures made { OnOk result
+        (statement_of made.new ≡ changed (statement_of stmt.now) position (replacement_of new.now)) }
     ensures memory { IfErr result (λ fault. fault ≡ Memory) }
 {
-    Ok(with_node(alloc, stmt, position, new.as_node())?)
+    Ok(remake(alloc, stmt, position, new.as_node(), made)?)
 }
 
 /// A checked program, with what the operators draw from it.
@@ -42,16 +39,30 @@ pub(crate) fn put(
 pub(crate) struct Original<'a> {
     pub(crate) checked: &'a Checked,
     pub(crate) pools: Pools<'a>,
+    pub(crate) nodes: NodeLists<'a>,
+    ghost numbered: { nodes ≡ checked.now.program } by { Coded-set nodes-code nodes checked.now.program },
 }
 
 impl<'a> Original<'a> {
+    ghost use Rattle.std.specs.Prelude.{◌↔◌, length, map, option_map, IfOk, IsTrue};
+    ghost use Rattle.mothra_ops.specs.code.Edits.{IsMadeBy};
+    ghost use Rattle.mothra_ops.specs.Edits.{IsMutant};
+    ghost use Rattle.mothra_ops.specs.Given.{given_at};
+    ghost use Rattle.mothra_ops.specs.Original.{IsOriginal, lines_of};
+    ghost use Rattle.mothra_ops.specs.Pools.{pool_fields};
+
     pub(crate) fn of(alloc: Global, checked: &'a Checked) -> Result<Original<'a>, OpsFault>
         ensures original { IfOk result (λ original. IsOriginal original) }
         ensures program { IfOk result (λ original. original.checked.now ≡ checked.now) }
         ensures memory { IfErr result (λ fault. fault ≡ Memory) }
     {
         let pools = Pools::of(alloc, checked)?;
-        Ok(Original { checked, pools })
+        let nodes = NodeLists::of(alloc, checked.program().lines())?;
+        Ok(Original {
+            checked,
+            pools,
+            nodes,
+        })
     }
 
     /// Whether the statement makes a mutant in the place of the one with this number.
@@ -85,9 +96,8 @@ impl<'a> Original<'a> {
         let Some(line) = self.checked.program().line(edit.statement) else {
             return Ok(Vec::new(alloc));
         };
-        let nodes = nodes(alloc, &line.stmt)?;
-        match nodes.get(edit.position) {
-            Some(node) => gives(alloc, edit.op, &self.pools, &line.stmt, *node),
+        match self.nodes.node(edit.statement, edit.position) {
+            Some(node) => gives(alloc, edit.op, &self.pools, &line.stmt, node),
             None => Ok(Vec::new(alloc)),
         }
     }
@@ -99,9 +109,10 @@ impl<'a> Original<'a> {
         ensures memory { IfErr result (λ fault. fault ≡ Memory) }
     {
         let given = Given::of(alloc, self, edit)?;
-        let Some(made) = given.made(alloc, self, edit)? else {
+        let mut made = Stmt::Continue;
+        if !given.remake(alloc, self, edit, &mut made)? {
             return Ok(None);
-        };
+        }
         if self.is_mutant(edit.statement, &made)? {
             Ok(Some(made))
         } else {

@@ -1,9 +1,11 @@
 -- A program that mutants are made of.
 -- Private functions and proofs alone cite what stands here.
-use Rattle.std.specs.Prelude.{◌≡◌, ℕ, List, Some, option_map, slice_get}
+use Rattle.std.specs.Prelude.{◌≡◌, ℕ, List, Option, Some, Vec, map, option_map, slice_get}
+use Rattle.std.specs.declared.alloc.Global.{Global}
 use Rattle.f77_nodes.specs.Node.{NodeOf, node_of, nodes_of}
 use Rattle.f77_program.specs.Program.{LineFields}
 use Rattle.f77_tree.specs.Statement.{statement_of, Statement}
+use Rattle.f77_nodes.specs.declared.node.Node.{Node}
 use Rattle.mothra_ops.specs.Edits.{numbered}
 use Rattle.mothra_ops.specs.declared.site.Site.{Site}
 
@@ -20,3 +22,12 @@ pub record StandsAt (program : List LineFields) (number position : ℕ) (stateme
 -- the site is one of the program's
 abbrev pub IsSiteOf : List LineFields → Site → Type 0
 IsSiteOf program site = StandsAt program site.number site.position (statement_of site.stmt.now) (node_of site.node)
+
+-- the nodes of the statement of this number, where there is one
+abbrev pub nodes_at : List LineFields → ℕ → Option (List NodeOf)
+nodes_at program number = option_map (λ line. nodes_of line.stmt) (numbered program number)
+
+-- these are of each line in turn the nodes of its statement
+abbrev pub AreNodesOf : List LineFields → List (Vec Node Global) → Type 0
+AreNodesOf program lists =
+    map (λ list. map node_of list.items) lists ≡ map (λ line. nodes_of line.stmt) program

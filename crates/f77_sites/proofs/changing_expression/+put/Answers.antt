@@ -3,36 +3,36 @@ use Rattle.f77_nodes.specs.Node.{node_of}
 use Rattle.f77_tree.specs.View.{tree_of}
 use Rattle.f77_sites.specs.Sites.{tree_sites}
 use Rattle.f77_sites.proofs.Passes.{building_starts, next_viewed, last_viewed, passed_items}
-use Rattle.f77_sites.proofs.PutExpressions.{not_next, passed_signed, passed_not, passed_push, passed_binary, passed_call, passed_reference}
+use Rattle.f77_sites.proofs.PutExpressions.{passed_signed, passed_not, passed_push, passed_binary, passed_call, passed_reference}
 use Rattle.f77_sites.proofs.changing_expression.+put.Goals as goal
 
-pub put_expression-returns-in_ok-put_items-in-Reference : goal.put_expression-returns-in_ok-put_items-in-Reference
-put_expression-returns-in_ok-put_items-in-Reference t c =
-    passed_reference _ _ _ _ _ (not_next _ _ c.if-is_next.false c.is_next.ensures.decided) c.is_next.ensures.counted c.in-Reference.place _ _ c.in-Reference.is refl
+pub put_parts-returns-in_ok-put_items-in-Reference : goal.put_parts-returns-in_ok-put_items-in-Reference
+put_parts-returns-in_ok-put_items-in-Reference t c =
+    passed_reference _ _ _ _ c.in-Reference.place _ _ c.in-Reference.is refl
     c.deref.ensures.value c.in_ok-put_items-in-Reference.ensures
 
-pub put_expression-returns-in_ok-arguments-in-Call : goal.put_expression-returns-in_ok-arguments-in-Call
-put_expression-returns-in_ok-arguments-in-Call t c =
-    passed_call _ _ _ _ _ (not_next _ _ c.if-is_next.false c.is_next.ensures.decided) c.is_next.ensures.counted c.in-Call.function c.in-Call.arguments _ _ c.in-Call.is
+pub put_parts-returns-in_ok-arguments-in-Call : goal.put_parts-returns-in_ok-arguments-in-Call
+put_parts-returns-in_ok-arguments-in-Call t c =
+    passed_call _ _ _ _ c.in-Call.function c.in-Call.arguments _ _ c.in-Call.is
     c.deref-in-Call.ensures.value c.in_ok-arguments-in-Call.ensures
 
-pub put_expression-returns-in_ok-operand-in-Signed : goal.put_expression-returns-in_ok-operand-in-Signed
-put_expression-returns-in_ok-operand-in-Signed t c =
-    passed_signed _ _ _ _ _ (not_next _ _ c.if-is_next.false c.is_next.ensures.decided) c.is_next.ensures.counted c.in-Signed.sign _ _ c.in-Signed.is
+pub put_parts-returns-in_ok-operand-in-Signed : goal.put_parts-returns-in_ok-operand-in-Signed
+put_parts-returns-in_ok-operand-in-Signed t c =
+    passed_signed _ _ _ _ c.in-Signed.sign _ _ c.in-Signed.is
     c.in_ok-operand-in-Signed.ensures
 
-pub put_expression-returns-in_ok-put_boxed-in-Not : goal.put_expression-returns-in_ok-put_boxed-in-Not
-put_expression-returns-in_ok-put_boxed-in-Not t c =
-    passed_not _ _ _ _ _ (not_next _ _ c.if-is_next.false c.is_next.ensures.decided) c.is_next.ensures.counted _ _ c.in-Not.is c.in_ok-put_boxed-in-Not.ensures
+pub put_parts-returns-in_ok-put_boxed-in-Not : goal.put_parts-returns-in_ok-put_boxed-in-Not
+put_parts-returns-in_ok-put_boxed-in-Not t c =
+    passed_not _ _ _ _ _ _ c.in-Not.is c.in_ok-put_boxed-in-Not.ensures
 
-pub put_expression-returns-in_ok-right-in-Binary : goal.put_expression-returns-in_ok-right-in-Binary
-put_expression-returns-in_ok-right-in-Binary t c =
-    passed_binary _ _ _ _ _ (not_next _ _ c.if-is_next.false c.is_next.ensures.decided) c.is_next.ensures.counted c.in-Binary.operator _ _ _ _ _ c.in-Binary.is
+pub put_parts-returns-in_ok-right-in-Binary : goal.put_parts-returns-in_ok-right-in-Binary
+put_parts-returns-in_ok-right-in-Binary t c =
+    passed_binary _ _ _ _ c.in-Binary.operator _ _ _ _ _ c.in-Binary.is
     c.in_ok-left-in-Binary.ensures c.in_ok-right-in-Binary.ensures
 
-pub put_expression-returns-in_ok-put_boxed-in-ZeroPush : goal.put_expression-returns-in_ok-put_boxed-in-ZeroPush
-put_expression-returns-in_ok-put_boxed-in-ZeroPush t c =
-    passed_push _ _ _ _ _ (not_next _ _ c.if-is_next.false c.is_next.ensures.decided) c.is_next.ensures.counted _ _ c.in-ZeroPush.is
+pub put_parts-returns-in_ok-put_boxed-in-ZeroPush : goal.put_parts-returns-in_ok-put_boxed-in-ZeroPush
+put_parts-returns-in_ok-put_boxed-in-ZeroPush t c =
+    passed_push _ _ _ _ _ _ c.in-ZeroPush.is
     c.in_ok-put_boxed-in-ZeroPush.ensures
 
 pub put_items-loop-item-init : goal.put_items-loop-item-init

@@ -1,4 +1,4 @@
-use Rattle.std.proofs.Common.{arith, ◌≡◌, ◌<◌, length, ap, sym, ◌∙◌}
+use Rattle.std.proofs.Common.{arith, ◌≡◌, length, map, ap, sym, ◌∙◌}
 use Rattle.std.proofs.lemmas.List.{length-map}
 use Rattle.std.proofs.lemmas.Result.{err_from_is_err_and}
 use Rattle.f77_nodes.specs.Node.{node_of, nodes_of}
@@ -6,40 +6,48 @@ use Rattle.f77_tree.specs.Statement.{statement_of}
 use Rattle.mothra_ops.specs.Original.{lines_of}
 use Rattle.mothra_ops.proofs.Comings.{statement_done, no_list_of}
 use Rattle.mothra_ops.proofs.Made.{node_listed}
+use Rattle.mothra_ops.proofs.NodeLists.{nodes_are}
 use Rattle.mothra_ops.proofs.original.Original.list_statement.Goals as goal
 
 pub returns-in_err-list_site-clause-refused : goal.returns-in_err-list_site-clause-refused
-returns-in_err-list_site-clause-refused c = let p = err_from_is_err_and c.from_residual-in_err-list_site.result c.from_residual-in_err-list_site.ensures.1 in rw (p.1, p.2) (λ own has come.
+returns-in_err-list_site-clause-refused c = let p = err_from_is_err_and c.from_residual.result c.from_residual.ensures.1 in rw (p.1, p.2) (λ own has come.
     let old = c.loop-position.listing in
-    let low : c.loop-position.position < length c.in_ok-nodes.nodes.items = omega (arith, c.len-position-end.ensures, c.loop-position-test.true) in
+    let nodes = c.in-Some.nodes.now in
+    let s = statement_of c.args.stmt.now in
+    let all : map node_of nodes ≡ nodes_of s =
+    nodes_are c.args.self.now.nodes c.args.self.now.checked.now.program c.args.number s nodes c.in-Some.ensures c.args.self.now.numbered has in
     no_list_of c.args.listing.now.op old.op (lines_of c.args.self.now) c.args.listing.now.every old.every c.in_err-list_site.field-0.0 c.loop-position.invariant.same_op
     c.loop-position.invariant.same_every
     (c.in_err-list_site.ensures.refused own
     (record {
       statement_at = has;
-      node_at = node_listed c.in_ok-nodes.nodes.items (statement_of c.args.stmt.now) c.loop-position.position
-          c.index.result.now c.in_ok-nodes.ensures low c.index.ensures;
+      node_at = node_listed nodes s c.loop-position.position c.index-nodes-position.result all c.loop-position-test.true c.index-nodes-position.is;
     })
     (c.loop-position.invariant.come own has come)))
 
 pub loop-position-preserved : goal.loop-position-preserved
 loop-position-preserved c =
-    let low : c.loop-position.position < length c.in_ok-nodes.nodes.items = omega (arith, c.len-position-end.ensures, c.loop-position-test.true) in
+    let nodes = c.in-Some.nodes.now in
+    let s = statement_of c.args.stmt.now in
     record {
       same_op = c.in_ok-list_site.ensures.same_op ∙ c.loop-position.invariant.same_op;
       same_every = c.in_ok-list_site.ensures.same_every ∙ c.loop-position.invariant.same_every;
       come = λ own has come. c.in_ok-list_site.ensures.come own
           (record {
             statement_at = has;
-            node_at = node_listed c.in_ok-nodes.nodes.items (statement_of c.args.stmt.now) c.loop-position.position
-                c.index.result.now c.in_ok-nodes.ensures low c.index.ensures;
+            node_at = node_listed nodes s c.loop-position.position c.index-nodes-position.result
+                (nodes_are c.args.self.now.nodes c.args.self.now.checked.now.program c.args.number s nodes c.in-Some.ensures c.args.self.now.numbered has)
+                c.loop-position-test.true c.index-nodes-position.is;
           })
           (c.loop-position.invariant.come own has come);
     }
 
 pub returns-clause-come : goal.returns-clause-come
 returns-clause-come c = λ own has come.
+    let nodes = c.in-Some.nodes.now in
     let s = statement_of c.args.stmt.now in
-    let long : length (nodes_of s) ≡ length c.in_ok-nodes.nodes.items = sym (ap length c.in_ok-nodes.ensures) ∙ length-map c.in_ok-nodes.nodes.items node_of in
-    statement_done c.loop-position.listing (lines_of c.args.self.now) c.args.number c.loop-position.position s has (omega (arith, long, c.len-position-end.ensures, c.loop-position-test.false))
+    let all : map node_of nodes ≡ nodes_of s =
+    nodes_are c.args.self.now.nodes c.args.self.now.checked.now.program c.args.number s nodes c.in-Some.ensures c.args.self.now.numbered has in
+    let long : length (nodes_of s) ≡ length nodes = sym (ap length all) ∙ length-map nodes node_of in
+    statement_done c.loop-position.listing (lines_of c.args.self.now) c.args.number c.loop-position.position s has (omega (arith, long, c.loop-position-test.false))
     (c.loop-position.invariant.come own has come)
