@@ -28,15 +28,20 @@ module _ (code : List Instruction) (start : Point) where
   pub stands_on : (made more : ℕ) (p q : Point) → code_after code made start ≡ p → q ≡ code_after code more p → code_after code (made + more) start ≡ q
   stands_on made more p q here is = after_more code made more start ∙ ap (code_after code more) here ∙ sym is
 
-  -- what is kept, whether it was before or is now, is behind the block some instructions ago
-  pub kept_on : (made more : ℕ) (p : Point) (old new : Option Point) → code_after code made start ≡ p → 0 < more → IsKeptBefore made old
-      → (new ≡ old) ⊎ (new ≡ Some p) → IsKeptBefore (made + more) new
-  kept_on made more p None new here some kept (inl same) = subst (IsKeptBefore (made + more)) (sym same) tt
-  kept_on made more p (Some q) new here some kept (inl same) =
-      subst (IsKeptBefore (made + more)) (sym same)
-      (record { before = kept.before; since = kept.since + more; sum = omega (arith, kept.sum); stood = kept.stood })
-  kept_on made more p old new here some kept (inr same) =
-      subst (IsKeptBefore (made + more)) (sym same) (record { before = made; since = more - 1; sum = omega (arith, some); stood = here })
+  -- what was kept up to a block is behind it some instructions ago
+  pub kept_behind : (made more : ℕ) (o : Option Point) → 0 < more → IsKeptBefore (made + 1) o → IsKeptBefore (made + more) o
+  kept_behind made more None some kept = tt
+  kept_behind made more (Some q) some kept =
+      record { before = kept.before; since = kept.since + (more - 1); sum = omega (arith, kept.sum, some); stood = kept.stood }
+
+  -- what is kept, whether it was before or is now, is kept up to the next block
+  pub kept_on : (made : ℕ) (p : Point) (old new : Option Point) → code_after code made start ≡ p → IsKeptBefore made old
+      → (new ≡ old) ⊎ (new ≡ Some p) → IsKeptBefore (made + 1) new
+  kept_on made p None new here kept (inl same) = subst (IsKeptBefore (made + 1)) (sym same) tt
+  kept_on made p (Some q) new here kept (inl same) =
+      subst (IsKeptBefore (made + 1)) (sym same) (record { before = kept.before; since = kept.since + 1; sum = omega (arith, kept.sum); stood = kept.stood })
+  kept_on made p old new here kept (inr same) =
+      subst (IsKeptBefore (made + 1)) (sym same) (record { before = made; since = 0; sum = omega arith; stood = here })
 
   -- where the code stands where it was kept, it came back
   pub came_back : (made : ℕ) (p : Point) (o : Option Point) → code_after code made start ≡ p → p.place < length code → IsKeptBefore made o → o ≡ Some p

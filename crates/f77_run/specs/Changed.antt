@@ -1,7 +1,7 @@
 -- A checked program with another statement in the
 -- place of one. Statements are numbered from 0 here.
 use Rattle.std.specs.Prelude.{◌≡◌, ◌<◌, ℕ, List, length, map, Option, None, slice_set}
-use Rattle.std.specs.Option.{option_map_or}
+use Rattle.std.specs.Option.{option_map, option_map_or}
 use Rattle.f77_program.specs.Patching.{replaced}
 use Rattle.f77_program.specs.Program.{LineFields, IsProgram, line_of}
 use Rattle.f77_tree.specs.Statement.{statement_of}
@@ -22,8 +22,11 @@ pub record ChangedFields : Type 0 where
   pub stmt : Option Stmt
 
 abbrev pub changed_fields : Change → ChangedFields
-changed_fields change =
-    record { checked = change.checked.now; place = change.place; stmt = change.stmt }
+changed_fields change = record {
+  checked = change.checked.now;
+  place = change.place;
+  stmt = option_map (λ stmt. stmt.value) change.stmt;
+}
 
 -- the changed program
 abbrev pub changed_program : ChangedFields → List LineFields

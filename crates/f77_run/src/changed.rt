@@ -25,14 +25,16 @@ use f77_tree::{Shared, Stmt};
 use std::alloc::Global;
 use std::marker::Model;
 use std::mem;
+use std::snapshot::Snapshot;
 
 /// A program with one statement changed.
 #[derive(Drop)]
 pub(crate) struct Change<'a> {
     pub(crate) checked: &'a Checked,
-    /// The number of the changed statement, from 0, and what stands in its place, if anything does.
+    /// The number of the changed statement, from 0.
     pub(crate) place: usize,
-    pub(crate) stmt: Option<Stmt>,
+    /// What stands in its place, if anything does: clauses alone read it.
+    pub(crate) stmt: Option<Snapshot<Stmt>>,
     /// The statements resolved, with the changed one.
     pub(crate) statements: Vec<Shared<Resolved>>,
     /// The one of the program that is changed there.
@@ -50,20 +52,20 @@ fn exchange(statements: &mut Vec<Shared<Resolved>>, place: usize, other: &mut Sh
 
 impl Change<'_> {
     /// This statement stands in the place of the one of this number, and every other one is the program's own.
-    fn put(&mut self, number: usize, stmt: Stmt, resolved: Shared<Resolved>)
+    fn put(&mut self, number: usize, stmt: &Stmt, resolved: Shared<Resolved>)
         requires changed { IsChanged (changed_fields self.old) self.old.statements.items self.old.own }
-        requires fits { Fits (map line_of self.old.checked.now.program) number (statement_of stmt) }
-        requires legal { IsLegal (patched (map line_of self.old.checked.now.program) number (statement_of stmt)) }
-        requires in_place { IsInPlace self.old.checked.now number (statement_of stmt) resolved }
+        requires fits { Fits (map line_of self.old.checked.now.program) number (statement_of stmt.now) }
+        requires legal { IsLegal (patched (map line_of self.old.checked.now.program) number (statement_of stmt.now)) }
+        requires in_place { IsInPlace self.old.checked.now number (statement_of stmt.now) resolved }
         ensures program { self.new.checked.now ≡ self.old.checked.now }
         ensures place { self.new.place ≡ number - 1 }
-        ensures stmt { self.new.stmt ≡ Some stmt }
+        ensures stmt { option_map (λ s. s.value) self.new.stmt ≡ Some stmt.now }
         ensures changed { IsChanged (changed_fields self.new) self.new.statements.items self.new.own }
     {
         exchange(&mut self.statements, self.place, &mut self.own);
         self.own = resolved;
         self.place = number - 1;
-        drop(mem::replace(&mut self.stmt, Some(stmt)));
+        self.stmt = Some(Snapshot::of(stmt));
         exchange(&mut self.statements, self.place, &mut self.own);
     }
 }
@@ -147,13 +149,13 @@ impl<'a> ChangedRunner<'a> {
 
     /// From now on the runs are those of the program with this statement in the place of
     /// the one of this number, from 1, and every other one its own. It takes no memory.
-    pub fn change(&mut self, number: usize, stmt: Stmt, resolved: Shared<Resolved>)
-        requires fits { Fits (map line_of self.old.checked.program) number (statement_of stmt) }
-        requires legal { IsLegal (patched (map line_of self.old.checked.program) number (statement_of stmt)) }
-        requires in_place { IsInPlace self.old.checked number (statement_of stmt) resolved }
+    pub fn change(&mut self, number: usize, stmt: &Stmt, resolved: Shared<Resolved>)
+        requires fits { Fits (map line_of self.old.checked.program) number (statement_of stmt.now) }
+        requires legal { IsLegal (patched (map line_of self.old.checked.program) number (statement_of stmt.now)) }
+        requires in_place { IsInPlace self.old.checked number (statement_of stmt.now) resolved }
         ensures program { self.new.checked ≡ self.old.checked }
         ensures changed { changed_program self.new
-            ≡ patched (map line_of self.old.checked.program) number (statement_of stmt) }
+            ≡ patched (map line_of self.old.checked.program) number (statement_of stmt.now) }
     {
         self.change.put(number, stmt, resolved);
         self.code.forget();

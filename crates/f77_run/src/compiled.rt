@@ -64,7 +64,7 @@ impl<'a> Model for Compiled<'a> {
 }
 
 /// The registers and the counters at the start of each run of a program, before the arguments are there.
-pub(crate) fn image_of(alloc: Global, checked: &Checked, code: &Code) -> Result<Registers, RunFault>
+fn image_of(alloc: Global, checked: &Checked, code: &Code) -> Result<Registers, RunFault>
     ensures image { IfOk result (IsImage checked.now code.now.constants.values.items) }
     ensures memory { IfErr result (λ e. e ≡ fault.Memory) }
 {

@@ -54,7 +54,14 @@ fn values_told(outcome: &Outcome) -> Option<&[Arg]>
 {
     match outcome {
         Outcome::Returned(arguments) | Outcome::Stopped(arguments) => Some(arguments.as_slice()),
-        _ => None,
+        Outcome::Overflow
+        | Outcome::DivideByZero
+        | Outcome::ZeroPower
+        | Outcome::BadSubscript
+        | Outcome::ZeroStep
+        | Outcome::Undefined
+        | Outcome::Trapped
+        | Outcome::StepLimit => None,
     }
 }
 

@@ -159,10 +159,15 @@ fn load_counters(
 }
 
 /// The list becomes the other. It takes memory where it has another length.
-fn copy_items<T: Copy>(list: &mut Vec<T>, other: &[T]) -> Result<(), RunFault>
+pub(crate) fn copy_items<T: Copy>(list: &mut Vec<T>, other: &[T]) -> Result<(), RunFault>
     ensures items { OnOk result (list.new.items ≡ other.now) }
     ensures memory { IfErr result (λ e. e ≡ fault.Memory) }
 {
+    // Most programs have no DO: to copy nothing would take a call, too.
+    if other.is_empty() {
+        list.clear();
+        return Ok(());
+    }
     if list.len() == other.len() {
         list.copy_from_slice(other);
         return Ok(());

@@ -67,8 +67,8 @@ fn some_more(
     }
 }
 
-/// At most so many instructions, from a place on: in blocks, between
-/// which it is seen whether the code came back to where it stood.
+/// At most so many instructions, from a place on: in blocks, behind
+/// each of which it is seen whether the code came back to where it stood.
 fn advance(
     code: &[Shared<Instruction>],
     registers: &mut [i64],
@@ -91,14 +91,14 @@ fn advance(
     let mut place = start;
     let mut made = 0;
     'looks: while place < code.len() && made < steps {
-        if earlier.is_seen_back(place, registers, counters, made)? {
-            return Ok(Stand { place, made });
-        }
         let most = earlier.steps_to_look(made).min(steps - made);
         let watched = earlier.watched(made);
         let more = some_more(code, registers, counters, place, most, watched);
         place = more.place;
         made += more.made;
+        if place < code.len() && earlier.is_seen_back(place, registers, counters, made)? {
+            return Ok(Stand { place, made });
+        }
     }
     Ok(Stand { place, made })
 }

@@ -15,6 +15,7 @@ ghost use Rattle.f77_run.specs.declared.visits.Visited.{Visited as VisitedModel}
 use crate::effect::deciding;
 use crate::machine::{Machine, number};
 use crate::outcome::RunFault;
+use crate::registers::copy_items;
 use f77_check::{Action, Resolved};
 use f77_code::{Place, Turn};
 use f77_tree::Shared;
@@ -62,10 +63,8 @@ impl Visit {
         ensures state { OnOk result (state_of machine.new ≡ state_in self.now) }
         ensures memory { IfErr result (λ e. e ≡ fault.Memory) }
     {
-        machine.cells.clear();
-        machine.cells.extend_from_slice(&self.cells)?;
-        machine.turns.clear();
-        machine.turns.extend_from_slice(&self.turns)?;
+        copy_items(&mut machine.cells, &self.cells)?;
+        copy_items(&mut machine.turns, &self.turns)?;
         machine.place = self.place;
         Ok(())
     }

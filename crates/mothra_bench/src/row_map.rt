@@ -25,7 +25,7 @@ impl RowMap {
         ensures refused { IfErr result (λ fault. IsNoRowMap rows.items fault) }
     {
         let mut map = RowMap {
-            rows: HashMap::new(alloc),
+            rows: HashMap::with_capacity(alloc, rows.len())?,
         };
         for row in rows {
             let ticket = row.ticket;

@@ -1,6 +1,6 @@
 //! The verdict of running a mutant alone.
 
-ghost use Rattle.std.specs.Prelude.{◌≡◌, map, IfOk, IfErr};
+ghost use Rattle.std.specs.Prelude.{◌≡◌, length, map, IfOk, IfErr};
 ghost use Rattle.f77_check.specs.Checked.{shapes};
 ghost use Rattle.f77_program.specs.Program.{line_of};
 ghost use Rattle.f77_tree.specs.Statement.{statement_of};
@@ -16,6 +16,7 @@ use crate::killing::{kills_from_start, kills_of};
 use crate::want;
 use f77_check::Checked;
 use f77_run::{ChangedRunner, Values};
+use mothra_codes::Op;
 use mothra_exchange::Ticket;
 use mothra_ops::{Mutant, Mutants};
 use std::alloc::Global;
@@ -37,10 +38,13 @@ pub struct Verdicts<'a> {
     bench: &'a Bench,
     mutants: Mutants<'a>,
     runner: ChangedRunner<'a>,
+    /// The last mutant of each operator, in the order of the operators, in whose memory the
+    /// next is made: that changes most often the same statement.
+    made: Vec<Mutant>,
 }
 
 impl<'a> Model for Verdicts<'a> {
-    ghost use Rattle.std.specs.Prelude.{◌≡◌};
+    ghost use Rattle.std.specs.Prelude.{◌≡◌, length};
     ghost use Rattle.std.specs.Coded.{codes};
     ghost use Rattle.f77_tree.specs.contracts.tree.Expr as expr;
     ghost use Rattle.f77_tree.specs.contracts.statement.Stmt as stmt;
@@ -65,7 +69,68 @@ impl<'a> Model for Verdicts<'a> {
     ghost view = { λ verdicts. verdicts.bench.now };
 
     ghost invariant = { λ verdicts. IsBench verdicts.bench.now × (verdicts.mutants ≡ verdicts.bench.now.plan)
-        × (verdicts.runner.checked ≡ verdicts.bench.now.plan.checked) };
+        × (verdicts.runner.checked ≡ verdicts.bench.now.plan.checked)
+        × (length verdicts.made.items ≡ 22) };
+}
+
+/// A place for a mutant of each operator.
+fn places(alloc: Global) -> Result<Vec<Mutant>, BenchFault>
+    ensures places { IfOk result (λ places. length places.items ≡ 22) }
+    ensures memory { IfErr result (λ fault. fault ≡ Memory) }
+{
+    let mut places = Vec::with_capacity(alloc, Op::ALL.len())?;
+    for _op in 0..Op::ALL.len() {
+        places.push(Mutant::place())?;
+    }
+    Ok(places)
+}
+
+/// Which tests kill the mutant, whose runs all begin at the start.
+fn kills_of_whole_runs(
+    alloc: Global,
+    bench: &Bench,
+    mutant: &Mutant,
+) -> Result<Values<bool>, BenchFault>
+    requires mutant { IsMutant (program_of bench.now.plan) mutant.now.number (statement_of mutant.now.stmt) }
+    requires shapes { shapes (mutated (program_of bench.now.plan) (mutant_fields mutant.now))
+        ≡ shapes (program_of bench.now.plan) }
+    ensures kills { IfOk result
+        (λ kills. IsAlone (program_of bench.now.plan) (mutated (program_of bench.now.plan) (mutant_fields mutant.now))
+        bench.now.steps bench.now.tests kills) }
+    ensures memory { IfErr result (λ fault. fault ≡ Memory) }
+{
+    match bench.plan().program().patched(mutant.number, &mutant.stmt) {
+        Ok(changed) => kills_from_start(alloc, bench, &changed),
+        Err(fault) => Err(want::of_check(&fault)),
+    }
+}
+
+/// Which tests kill the mutant: it is run from where it parts from the program, where that can be.
+fn kills(
+    alloc: Global,
+    bench: &Bench,
+    runner: &mut ChangedRunner<'_>,
+    mutant: &Mutant,
+) -> Result<Values<bool>, BenchFault>
+    requires program { runner.old.checked ≡ bench.now.plan.checked }
+    requires mutant { IsMutant (program_of bench.now.plan) mutant.now.number (statement_of mutant.now.stmt) }
+    requires shapes { shapes (mutated (program_of bench.now.plan) (mutant_fields mutant.now))
+        ≡ shapes (program_of bench.now.plan) }
+    ensures program { runner.new.checked ≡ runner.old.checked }
+    ensures kills { IfOk result
+        (λ kills. IsAlone (program_of bench.now.plan) (mutated (program_of bench.now.plan) (mutant_fields mutant.now))
+        bench.now.steps bench.now.tests kills) }
+    ensures memory { IfErr result (λ fault. fault ≡ Memory) }
+{
+    let program = bench.plan().program();
+    match program.resolved_in_place(mutant.number, &mutant.stmt) {
+        Ok(Some(resolved)) => {
+            runner.change(mutant.number, &mutant.stmt, resolved);
+            kills_of(alloc, bench, runner)
+        }
+        Ok(None) => kills_of_whole_runs(alloc, bench, mutant),
+        Err(fault) => Err(want::of_check(&fault)),
+    }
 }
 
 impl<'a> Verdicts<'a> {
@@ -74,6 +139,7 @@ impl<'a> Verdicts<'a> {
         ensures verdicts { IfOk result (λ verdicts. verdicts ≡ bench.now) }
         ensures memory { IfErr result (λ fault. fault ≡ Memory) }
     {
+        let made = places(alloc)?;
         let runner = match ChangedRunner::of(alloc, bench.plan().program()) {
             Ok(runner) => runner,
             Err(fault) => return Err(want::of_run(fault)),
@@ -83,66 +149,9 @@ impl<'a> Verdicts<'a> {
                 bench,
                 mutants,
                 runner,
+                made,
             }),
             Err(fault) => Err(want::of_plan(fault)),
-        }
-    }
-
-    /// The program that the mutant is.
-    fn changed(&self, mutant: &Mutant) -> Result<Checked, BenchFault>
-        requires { IsMutant (program_of self.now.plan) mutant.now.number (statement_of mutant.now.stmt) }
-        ensures program { IfOk result
-            (λ checked. map line_of checked.program ≡ mutated (program_of self.now.plan) (mutant_fields mutant.now)) }
-        ensures arguments { IfOk result
-            (λ checked. checked.arguments ≡ shapes (mutated (program_of self.now.plan) (mutant_fields mutant.now))) }
-        ensures memory { IfErr result (λ fault. fault ≡ Memory) }
-    {
-        match self
-            .bench
-            .plan()
-            .program()
-            .patched(mutant.number, &mutant.stmt)
-        {
-            Ok(checked) => Ok(checked),
-            Err(fault) => Err(want::of_check(&fault)),
-        }
-    }
-
-    /// Which tests kill the mutant, whose runs all begin at the start.
-    fn kills_from_start(&self, alloc: Global, mutant: &Mutant) -> Result<Values<bool>, BenchFault>
-        requires mutant { IsMutant (program_of self.now.plan) mutant.now.number (statement_of mutant.now.stmt) }
-        requires shapes { shapes (mutated (program_of self.now.plan) (mutant_fields mutant.now))
-            ≡ shapes (program_of self.now.plan) }
-        ensures kills { IfOk result
-            (λ kills. IsAlone (program_of self.now.plan) (mutated (program_of self.now.plan) (mutant_fields mutant.now))
-            self.now.steps self.now.tests kills) }
-        ensures memory { IfErr result (λ fault. fault ≡ Memory) }
-    {
-        match self.changed(mutant) {
-            Ok(changed) => kills_from_start(alloc, self.bench, &changed),
-            Err(fault) => Err(fault),
-        }
-    }
-
-    /// Which tests kill the mutant.
-    fn kills(&mut self, alloc: Global, mutant: Mutant) -> Result<Values<bool>, BenchFault>
-        requires mutant { IsMutant (program_of self.old.plan) mutant.number (statement_of mutant.stmt) }
-        requires shapes { shapes (mutated (program_of self.old.plan) (mutant_fields mutant))
-            ≡ shapes (program_of self.old.plan) }
-        ensures bench { self.new ≡ self.old }
-        ensures kills { IfOk result
-            (λ kills. IsAlone (program_of self.old.plan) (mutated (program_of self.old.plan) (mutant_fields mutant))
-            self.old.steps self.old.tests kills) }
-        ensures memory { IfErr result (λ fault. fault ≡ Memory) }
-    {
-        let program = self.bench.plan().program();
-        match program.resolved_in_place(mutant.number, &mutant.stmt) {
-            Ok(Some(resolved)) => {
-                self.runner.change(mutant.number, mutant.stmt, resolved);
-                kills_of(alloc, self.bench, &mut self.runner)
-            }
-            Ok(None) => self.kills_from_start(alloc, &mutant),
-            Err(fault) => Err(want::of_check(&fault)),
         }
     }
 
@@ -153,12 +162,13 @@ impl<'a> Verdicts<'a> {
         ensures kills { IfOk result (λ row. IsVerdict self.old ticket row.kills) }
         ensures refused { IfErr result (λ fault. IsNoVerdict self.old.plan ticket fault) }
     {
-        let mutant = match self.mutants.mutant(alloc, ticket.op, ticket.number) {
-            Ok(Some(mutant)) => mutant,
-            Ok(None) => return Err(BenchFault::Stranger(ticket)),
+        let mutant = &mut self.made[ticket.op.index()];
+        match self.mutants.remake(alloc, ticket.op, ticket.number, mutant) {
+            Ok(true) => {}
+            Ok(false) => return Err(BenchFault::Stranger(ticket)),
             Err(fault) => return Err(want::of_plan(fault)),
-        };
-        match self.kills(alloc, mutant) {
+        }
+        match kills(alloc, self.bench, &mut self.runner, mutant) {
             Ok(kills) => Ok(Row { ticket, kills }),
             Err(fault) => Err(fault),
         }

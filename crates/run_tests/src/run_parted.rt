@@ -29,7 +29,7 @@ fn is_noticed(
     let mut own = Runner::of(rt.alloc(), old)?;
     let course = own.course(rt.alloc(), arguments, steps, &mut room)?;
     let mut runner = ChangedRunner::of(rt.alloc(), old)?;
-    runner.change(number, stmt.clone()?, resolved);
+    runner.change(number, stmt, resolved);
     let same = runner.comes_to(&course.visits, arguments, steps, &course.outcome)?;
     Ok(Some(!same))
 }

@@ -1,38 +1,27 @@
-use Rattle.std.proofs.Common.{arith, ◌<◌, inl, inr, refl, subst, sym}
+use Rattle.std.proofs.Common.{arith, ◌+◌, inl, inr, refl, sym}
 use Rattle.f77_code.specs.Operation.{point}
 use Rattle.f77_run.specs.code.Snapshot.{kept_point}
-use Rattle.f77_run.proofs.Advancing.{IsKeptBefore, came_back, kept_on, stands_on}
+use Rattle.f77_run.proofs.Advancing.{came_back, kept_behind, kept_on, stands_on}
+use Rattle.f77_run.proofs.running.advance.Goals.{else-place-code-via-then-place-code+in_ok-is_seen_back+else-branch, else-place-code-via-else-place-code}
 use Rattle.f77_run.proofs.running.advance.Goals as goal
 
--- at the start nothing is kept
-pub looks-init : goal.looks-init
-looks-init c =
+pub returns-then-branch-clause-stands : goal.returns-then-branch-clause-stands
+returns-then-branch-clause-stands c =
     let begin = point c.args.start c.args.registers.now c.args.counters.now in
-    record {
-      held = c.requires.held;
-      stands = refl;
-      within = omega arith;
-      kept = subst (IsKeptBefore c.args.code.now begin 0) (sym c.requires.none) tt;
-    }
-
-pub some_more-more-requires-clause-within : goal.some_more-more-requires-clause-within
-some_more-more-requires-clause-within c = rw (c.looks.auto.registers, c.looks.auto.counters) c.requires.within
-
-pub some_more-more-requires-clause-most : goal.some_more-more-requires-clause-most
-some_more-more-requires-clause-most c = omega (arith, c.min-most.ensures, c.steps_to_look.ensures, c.if-made-steps.true)
-
-pub overflow_add-made : goal.overflow_add-made
-overflow_add-made c = omega (arith, c.some_more-more.ensures.made, c.min-most.ensures, c.looks.invariant.within, c.ranges.steps)
+    let here = point c.looks.place c.looks.registers c.looks.counters in
+    let there = point c.some_more-more.result.place c.some_more-more.new.registers c.some_more-more.new.counters in
+    sym (stands_on c.args.code.now begin c.looks.made c.some_more-more.result.made here there c.looks.invariant.stands c.some_more-more.ensures.stands)
 
 -- where it came back it never ends
-pub returns-then-branch-clause-stands : goal.returns-then-branch-clause-stands
-returns-then-branch-clause-stands c = sym c.looks.invariant.stands
-
 pub returns-then-branch-clause-ends : goal.returns-then-branch-clause-ends
 returns-then-branch-clause-ends c =
     let begin = point c.args.start c.args.registers.now c.args.counters.now in
     let here = point c.looks.place c.looks.registers c.looks.counters in
-    let back = came_back c.args.code.now begin c.looks.made here (kept_point c.looks.earlier) c.looks.invariant.stands c.looks-test.true c.looks.invariant.kept
+    let there = point c.some_more-more.result.place c.some_more-more.new.registers c.some_more-more.new.counters in
+    let more = c.some_more-more.result.made in
+    let stands = stands_on c.args.code.now begin c.looks.made more here there c.looks.invariant.stands c.some_more-more.ensures.stands in
+    let kept = kept_behind c.args.code.now begin c.looks.made more (kept_point c.looks.earlier) c.some_more-more.ensures.some c.looks.invariant.kept in
+    let back = came_back c.args.code.now begin (c.looks.made + more) there (kept_point c.looks.earlier) stands c.if-place-code.true kept
     (c.in_ok-is_seen_back.ensures.back c.if-branch.true) in
     λ _. inr back
 
@@ -42,32 +31,18 @@ looks-preserved c =
     let begin = point c.args.start c.args.registers.now c.args.counters.now in
     let here = point c.looks.place c.looks.registers c.looks.counters in
     let there = point c.some_more-more.result.place c.some_more-more.new.registers c.some_more-more.new.counters in
-    let made : 0 < c.some_more-more.result.made = c.some_more-more.ensures.some in
+    let more = c.some_more-more.result.made in
+    let made = c.looks.made + more in
+    let stands = stands_on c.args.code.now begin c.looks.made more here there c.looks.invariant.stands c.some_more-more.ensures.stands in
+    let kept = kept_behind c.args.code.now begin c.looks.made more (kept_point c.looks.earlier) c.some_more-more.ensures.some c.looks.invariant.kept in
     record {
       held = c.some_more-more.ensures.held;
-      stands = stands_on c.args.code.now begin c.looks.made c.some_more-more.result.made here there c.looks.invariant.stands c.some_more-more.ensures.stands;
+      stands = stands;
       within = omega (arith, c.some_more-more.ensures.made, c.min-most.ensures, c.looks.invariant.within);
-      kept = kept_on c.args.code.now begin c.looks.made c.some_more-more.result.made here (kept_point c.looks.earlier) (kept_point c.is_seen_back.new.self)
-          c.looks.invariant.stands made c.looks.invariant.kept c.in_ok-is_seen_back.ensures.kept;
+      kept = elim c.else-place-code.branch [
+        | else-place-code-via-then-place-code+in_ok-is_seen_back+else-branch w ↦
+            rw w.earlier-is (kept_on c.args.code.now begin made there (kept_point c.looks.earlier) (kept_point w.is_seen_back.new.self) stands kept w.in_ok-is_seen_back.ensures.kept)
+        | else-place-code-via-else-place-code w ↦
+            rw w.earlier-is (kept_on c.args.code.now begin made there (kept_point c.looks.earlier) (kept_point c.looks.earlier) stands kept (inl refl))
+      ];
     }
-
-pub looks-smaller : goal.looks-smaller
-looks-smaller c =
-    let here = point c.looks.place c.looks.registers c.looks.counters in
-    let there = point c.some_more-more.result.place c.some_more-more.new.registers c.some_more-more.new.counters in
-    let made : 0 < c.some_more-more.result.made = c.some_more-more.ensures.some in
-    omega (arith, made, c.if-made-steps.true)
-
--- all instructions that were asked for are made
-pub returns-else-made-steps-clause-stands : goal.returns-else-made-steps-clause-stands
-returns-else-made-steps-clause-stands c = sym c.looks.invariant.stands
-
-pub returns-else-made-steps-clause-ends : goal.returns-else-made-steps-clause-ends
-returns-else-made-steps-clause-ends c = λ less. absurd (omega (arith, less, c.if-made-steps.false))
-
--- there is no instruction any more
-pub returns-after-looks-clause-stands : goal.returns-after-looks-clause-stands
-returns-after-looks-clause-stands c = sym c.looks.invariant.stands
-
-pub returns-after-looks-clause-ends : goal.returns-after-looks-clause-ends
-returns-after-looks-clause-ends c = λ _. inl c.looks-test.false

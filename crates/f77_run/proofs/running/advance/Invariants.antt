@@ -1,4 +1,4 @@
-use Rattle.std.proofs.Common.{◌≡◌, ◌≤◌, ◌-◌, true}
+use Rattle.std.proofs.Common.{◌≡◌, ◌≤◌, ◌+◌, ◌-◌, true}
 use Rattle.f77_code.specs.Block.{code_after}
 use Rattle.f77_code.specs.Operation.{point}
 use Rattle.f77_code.specs.Registers.{are_held}
@@ -11,7 +11,7 @@ invariant-looks l = record {
   held : are_held l.registers ≡ true;
   stands : code_after l.code l.made (point l.start l.fn.registers l.fn.counters) ≡ point l.place l.registers l.counters;
   within : l.made ≤ l.steps;
-  kept : IsKeptBefore l.code (point l.start l.fn.registers l.fn.counters) l.made (kept_point l.earlier);
+  kept : IsKeptBefore l.code (point l.start l.fn.registers l.fn.counters) (l.made + 1) (kept_point l.earlier);
 }
 
 abbrev pub decreases-looks : goal.decreases-looks
