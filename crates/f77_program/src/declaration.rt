@@ -18,7 +18,7 @@ fn known(items: &[Decl])
     ensures short { limits.declaration_names (map decl_of items.now) ≡ true }
 {
     for item in items {
-        let _ = item.name.as_str();
+        item.name.known();
     }
 }
 

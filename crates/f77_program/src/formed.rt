@@ -23,10 +23,10 @@ fn is_some_list(items: &[Expr]) -> bool
 
 /// Whether a name with this list behind it is a call in an expression.
 #[tactic(auto, using(crate::proofs::Forming::called, crate::proofs::Forming::not_called))]
-fn is_call(name: &[u8], items: &[Expr]) -> bool
+fn is_call(name: &Name, items: &[Expr]) -> bool
     ensures { result ≡ grammar.is_call name.now (trees (map tree_of items.now)) }
 {
-    is_some_list(items) && Intrinsic::named(name).is_some()
+    is_some_list(items) && Intrinsic::named(name.as_str().as_bytes()).is_some()
 }
 
 #[tactic(auto, unfolding(crate::specs::code::Formed::is_reference))]
@@ -34,7 +34,8 @@ fn is_reference(name: &Name, items: &[Expr]) -> bool
     ensures reference { result ≡ forms_code.is_reference name.now (trees (map tree_of items.now)) }
     ensures short { is_short name.now ≡ true }
 {
-    !is_call(name.as_str().as_bytes(), items)
+    name.known();
+    !is_call(name, items)
 }
 
 #[cycle(formed)]
@@ -81,7 +82,7 @@ fn statement_formed(stmt: &Stmt) -> bool
 {
     match stmt {
         Stmt::Subroutine { name, arguments } => {
-            let _ = name.as_str();
+            name.known();
             known_names(arguments);
             true
         }
@@ -89,7 +90,7 @@ fn statement_formed(stmt: &Stmt) -> bool
         Stmt::Dimension { items } => declaration_formed(items) && all_bounded(items),
         Stmt::Preset { groups } => data_formed(groups),
         Stmt::Assign { target, value } => {
-            let _ = target.name.as_str();
+            target.name.known();
             all_formed(&target.subscripts) && formed(value)
         }
         Stmt::LogicalIf {
@@ -103,7 +104,7 @@ fn statement_formed(stmt: &Stmt) -> bool
             step,
             ..
         } => {
-            let _ = variable.as_str();
+            variable.known();
             formed(first) && formed(last) && value_formed(step.as_ref())
         }
         _ => stmt.has_labels() && value_formed(stmt.value()),
