@@ -1,7 +1,7 @@
 -- When a changed statement stands alone, and what is told of it.
 use Rattle.std.proofs.Common.{arith, ◌≡◌, ◌≢◌, ◌<◌, ◌==◌, ◌∙◌, inl, inr, ℕ, Bool, true, false, true≢false, cond, List, []}
 use Rattle.std.proofs.Common.{◌∷◌, length, get_or, set, map, filter, reverse, Option, Some, None, refl, sym, ap, subst}
-use Rattle.std.specs.Prelude.{is_some, option_map, IsNone}
+use Rattle.std.specs.Prelude.{◌-◌, is_some, option_map, IsNone}
 use Rattle.std.specs.List.{AllZip, find, slice_get}
 use Rattle.std.specs.Option.{option_and_then, option_map_or}
 use Rattle.std.proofs.lemmas.Bool.{cases_lt}
@@ -9,14 +9,15 @@ use Rattle.std.proofs.lemmas.Bool.Decides.{nat_tests}
 use Rattle.std.proofs.lemmas.List.{length-map, length-reverse}
 use Rattle.std.proofs.lemmas.Option.{same_Some, slice_get_cases, slice_get-map, slice_get_past, slice_get_read, slice_get_within}
 use Rattle.indexmap.specs.IndexMap.{keys}
-use Rattle.f77_program.specs.Patching.{replaced}
+use Rattle.f77_program.specs.Patching.{patched, replaced}
 use Rattle.f77_program.specs.Program.{LineFields, IsProgram, line_of}
 use Rattle.f77_tree.specs.StatementGrammar.{IsFormed}
 use Rattle.f77_tree.specs.Statement.{Statement}
 use Rattle.f77_program.specs.declared.program.Line.{Line}
 use Rattle.f77_check.specs.Checked.{CheckedFields, IsChecked, shapes}
 use Rattle.f77_check.specs.CheckedView.{checked_fields}
-use Rattle.f77_check.specs.code.Patching.{IsChangedAlone}
+use Rattle.f77_check.specs.code.Patching.{FrameStays, IsChangedAlone}
+use Rattle.f77_check.specs.Patching.{IsInPlace}
 use Rattle.f77_check.specs.Ready.{CanResolve}
 use Rattle.f77_check.specs.Resolved.{IsResolved, AreResolved}
 use Rattle.f77_check.specs.Start.{IsStartOf}
@@ -31,11 +32,11 @@ use Rattle.f77_legal.specs.Legal.{IsLegal, faults, first_fault}
 use Rattle.f77_legal.specs.Loops.{terminal, ends_at, loops_ending}
 use Rattle.f77_legal.specs.NameTable.{has_name}
 use Rattle.f77_legal.specs.Names.{Symbol, name_in}
-use Rattle.f77_legal.specs.Patches.{is_name_among, names_pass, IsStock}
+use Rattle.f77_legal.specs.Patches.{is_name_among, names_pass, own_statement_fault, IsStock}
 use Rattle.f77_legal.specs.code.Patches.{MayStandAt, NamesAmong, StandsAlone}
 use Rattle.f77_legal.specs.declared.fault.CheckFault.{CheckFault}
 use Rattle.f77_legal.specs.declared.names.Names.{Names}
-use Rattle.f77_legal.proofs.Alone.{alone_frame, alone_stock}
+use Rattle.f77_legal.proofs.Alone.{alone_fault, alone_frame, alone_stock}
 use Rattle.f77_legal.proofs.Branches.{found_some}
 use Rattle.f77_legal.proofs.PatchNames.{is_executed, executed, among_kept, symbols_pass}
 use Rattle.f77_legal.proofs.Replaced.{other_line, changed_line}
@@ -142,7 +143,7 @@ module _ (names : Names) (p : List LineFields) (stock : IsStock (keys names.fact
   same_among s same = subst (NamesAmong (keys names.facts)) (sym same) there_among
 
   -- the names of a statement of the same frame are among those of the table, where the table has those that are executed
-  pub among_framed : (s : Statement) → IsFormed s → framed s ≡ framed t → names_pass (has_name names) s ≡ true → NamesAmong (keys names.facts) s
+  among_framed : (s : Statement) → IsFormed s → framed s ≡ framed t → names_pass (has_name names) s ≡ true → NamesAmong (keys names.facts) s
   among_framed (Statement.Subroutine name dummies) formed same pass = same_among _ (unframed t _ refl same)
   among_framed (Statement.Declare kind declarations) formed same pass = same_among _ (unframed t _ refl same)
   among_framed (Statement.Dimension declarations) formed same pass = same_among _ (unframed t _ refl same)
@@ -150,10 +151,26 @@ module _ (names : Names) (p : List LineFields) (stock : IsStock (keys names.fact
   among_framed Statement.End formed same pass = refl
   among_framed s formed same pass = among_kept names s (executed s formed refl) pass
 
+-- a statement whose names the table has stands alone where the frame stays
+pub alone_where_kept : (r : Resolver) (p : List LineFields) → CanResolve r p → (i : ℕ) (s : Statement) → IsFormed s → FrameStays p i s
+    → names_pass (has_name r.tables.names) s ≡ true → StandsAlone (keys r.tables.names.facts) p i s
+alone_where_kept r p can i s formed stays pass = record {
+  line = stays.line;
+  at = stays.at;
+  frame = stays.frame;
+  ends = stays.ends;
+  among = among_framed r.tables.names p can.names i stays.line.stmt (ap (option_map (λ (line : LineFields). line.stmt)) stays.at) s formed stays.frame pass;
+}
+
 -- a program is legal where it has no first fault
 no_fault : (list : List CheckFault) → slice_get list 0 ≡ None → list ≡ []
 no_fault [] none = refl
 no_fault (fault ∷ list) none = absurd (cc (none))
+
+-- a program is legal where the statement that is changed alone owes nothing
+pub owes_none_legal : (names : List Symbol) (p : List LineFields) (i : ℕ) (s : Statement) → StandsAlone names p i s → IsLegal p → IsStock names p
+    → ((line : ℕ) → own_statement_fault p i line s ≡ None) → IsLegal (replaced p i s)
+owes_none_legal names p i s alone legal stock none = no_fault (faults (replaced p i s)) (alone_fault names p i s alone legal stock ∙ none alone.line.line)
 
 pub none_legal : (p : List LineFields) (told : Option CheckFault) → told ≡ first_fault p → IsNone told → IsLegal p
 none_legal p None same none = no_fault (faults p) (sym same)
@@ -193,18 +210,54 @@ module _ (r : Resolver) (p q : List LineFields) (i : ℕ) (can : CanResolve r p)
 
 -- with the changed statement resolved in its place, the statements resolved are those of the changed program
 module _ (names : List Symbol) (p : List LineFields) (i : ℕ) (s : Statement) (alone : StandsAlone names p i s) where
-  pub changed_here : nth_statement (replaced p i s) i ≡ Some s
+  changed_here : nth_statement (replaced p i s) i ≡ Some s
   changed_here = ap (option_map (λ (line : LineFields). line.stmt)) (changed_line p i alone.line s alone.at)
 
-  pub changed_behind : (next : ℕ) → statement_behind p i ≡ Some next → statement_behind (replaced p i s) i ≡ Some next
+  changed_behind : (next : ℕ) → statement_behind p i ≡ Some next → statement_behind (replaced p i s) i ≡ Some next
   changed_behind next is = behind_same (replaced p i s) p (alone_frame names p i s alone) i ∙ is
 
-  pub in_its_place : (list : List Resolved) (new : Resolved) → AreResolved p names list → IsResolved (replaced p i s) names i s new
+  in_its_place : (list : List Resolved) (new : Resolved) → AreResolved p names list → IsResolved (replaced p i s) names i s new
       → AreResolved (replaced p i s) names (set list i new)
   in_its_place list new are is =
       all_resolved_same p (replaced p i s) (sym (alone_frame names p i s alone)) names i list new
       (λ j apart. ap (option_map (λ (line : LineFields). line.stmt)) (other_line p i j s apart)) are
       (λ t at. subst (λ t. IsResolved (replaced p i s) names i t new) (same_Some _ _ (sym changed_here ∙ at)) is)
+
+-- a checked program and what it keeps, which is changed in the statement i alone
+module _ (checked : CheckedFields) (is : IsChecked checked) (i : ℕ) (s : Statement) (alone : StandsAlone checked.names (map line_of checked.program) i s) where
+  -- what the changed statement is resolved by
+  pub changed_resolvable : (r : Resolver) → CanResolve r (map line_of checked.program) → keys r.tables.names.facts ≡ checked.names
+      → (list : List Resolved) → list ≡ checked.statements → (own : Resolved) → own ≡ get_or list i own
+      → (q : List LineFields) → q ≡ replaced (map line_of checked.program) i s → IsProgram None q → IsLegal q
+      → (nth_statement q i ≡ Some s) × ((statement_behind q i ≡ Some own.next) × CanResolve r q)
+  changed_resolvable r can named list same own read q changed formed legal =
+      let p = map line_of checked.program in
+      let change : IsChangedAlone (keys r.tables.names.facts) p i q = record {
+        statement = s;
+        alone = subst (λ names. StandsAlone names p i s) (sym named) alone;
+        changed = changed;
+        legal = legal;
+      } in
+      let within = statement_within checked is i alone.line alone.at in
+      let below = subst (λ n. i < n) (ap length (sym same)) within in
+      let told : slice_get checked.statements i ≡ Some own = ap (λ list. slice_get list i) (sym same) ∙ slice_get_read list (length list) i own refl below read in
+      let at : nth_statement p i ≡ Some alone.line.stmt = ap (option_map (λ (line : LineFields). line.stmt)) alone.at in
+      let next : statement_behind p i ≡ Some own.next = (is.statements.each i alone.line.stmt own at told).next in (
+        subst (λ q. nth_statement q i ≡ Some s) (sym changed) (changed_here checked.names p i s alone),
+        (
+          subst (λ q. statement_behind q i ≡ Some own.next) (sym changed) (changed_behind checked.names p i s alone own.next next),
+          changed_can r p q i can change formed,
+        ),
+      )
+
+pub changed_in_place : (checked : CheckedFields) → IsChecked checked → (number : ℕ) (s : Statement)
+    → StandsAlone checked.names (map line_of checked.program) (number - 1) s → IsProgram None (patched (map line_of checked.program) number s) → (new : Resolved)
+    → IsResolved (patched (map line_of checked.program) number s) checked.names (number - 1) s new → IsInPlace checked number s new
+changed_in_place checked is number s alone formed new resolved = record {
+  formed = formed;
+  frame = sym (alone_frame checked.names (map line_of checked.program) (number - 1) s alone);
+  resolved = in_its_place checked.names (map line_of checked.program) (number - 1) s alone checked.statements new is.statements resolved;
+}
 
 -- the parts of the changed program
 pub changed_parts : (checked : CheckedFields) → IsChecked checked → (r : Resolver) → CanResolve r (map line_of checked.program) → keys r.tables.names.facts ≡ checked.names

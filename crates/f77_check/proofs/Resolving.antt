@@ -1,7 +1,8 @@
 -- Expressions with their names looked up, from their operands.
-use Rattle.std.proofs.Common.{◌≡◌, List, ℕ, Some, ap, sym, ◌∙◌}
-use Rattle.std.specs.Prelude.{Box}
+use Rattle.std.proofs.Common.{◌≡◌, ◌<◌, ◌≤◌, List, ℕ, Some, length, get_or, refl, ap, sym, ◌∙◌}
+use Rattle.std.specs.Prelude.{Box, map}
 use Rattle.std.specs.declared.alloc.Global.{Global}
+use Rattle.f77_tree.specs.declared.intrinsic.Intrinsic.TheVariants.{Mod}
 use Rattle.f77_tree.specs.declared.operator.Operator.{Operator}
 use Rattle.f77_tree.specs.declared.operator.Sign.{Sign}
 use Rattle.f77_tree.specs.declared.operator.Sign.TheVariants.{Minus}
@@ -12,12 +13,15 @@ use Rattle.f77_tree.specs.declared.tree.Expr.TheViews as views
 use Rattle.f77_tree.specs.declared.tree.Expr.TheOpen.{Expr-F}
 use Rattle.f77_tree.specs.declared.tree.Expr.TheFolds.{fold-roll-Expr}
 use Rattle.f77_tree.specs.Tree.{Tree}
-use Rattle.f77_tree.specs.View.{tree_of, expr_step, ref_step}
+use Rattle.f77_tree.specs.View.{tree_of, trees, expr_step, ref_step}
 use Rattle.f77_check.specs.code.Boxed.{HoldsNumber, HoldsCondition}
-use Rattle.f77_check.specs.Expression.{IsNumber, IsCondition}
+use Rattle.f77_check.specs.Expression.{IsElement, IsNumber, IsCondition}
+use Rattle.f77_check.specs.Slots.{first_slot}
+use Rattle.f77_check.proofs.Items.{only_one, only_two, one_item, two_items}
 use Rattle.f77_actions.specs.Operators.{arithmetic_of, connective_of}
 use Rattle.f77_legal.specs.Names.{Symbol}
 use Rattle.f77_actions.specs.declared.expression.Arithmetic.{Arithmetic}
+use Rattle.f77_actions.specs.declared.expression.Arithmetic.TheVariants.{Modulus}
 use Rattle.f77_actions.specs.declared.expression.Element.TheViews as resolved
 use Rattle.f77_actions.specs.declared.expression.Number.{Number}
 use Rattle.f77_actions.specs.declared.expression.Connective.{Connective}
@@ -40,13 +44,41 @@ push_view : (a : Box Expr Global) → tree_of (views.ZeroPush a) ≡ Tree.ZeroPu
 push_view a = ap tree_of (sym (rolls-ZeroPush a)) ∙ fold-roll-Expr Tree (List ℕ × List Tree) expr_step ref_step (Expr-F.ZeroPush a)
 
 module _ (bounds : Symbol → List ℕ) (names : List Symbol) where
+  -- an element of an array, from its subscripts
+  pub vector_element : (name : Symbol) (sizes : List ℕ) (first : ℕ) (xs : List Expr) (x : Expr) (p : Box Number Global) → sizes ≡ bounds name
+      → 1 ≤ length sizes → length sizes < 2 → 1 ≤ length xs → length xs < 2 → x ≡ get_or xs 0 x → first_slot bounds names name ≡ Some first
+      → HoldsNumber bounds names (tree_of x) p → IsElement bounds names name (trees (map tree_of xs)) (resolved.Vector first (get_or sizes 0 0) p)
+  unfolding HoldsNumber
+  vector_element name sizes first xs x p told some_sizes few_sizes some few is slot h =
+      rw (one_item xs x some few is) (sym told ∙ only_one 0 sizes some_sizes few_sizes, slot, h)
+
+  pub matrix_element : (name : Symbol) (sizes : List ℕ) (first : ℕ) (xs : List Expr) (x y : Expr) (p q : Box Number Global) → sizes ≡ bounds name
+      → 2 ≤ length sizes → length sizes < 3 → 2 ≤ length xs → length xs < 3 → x ≡ get_or xs 0 x → y ≡ get_or xs 1 y
+      → first_slot bounds names name ≡ Some first → HoldsNumber bounds names (tree_of x) p → HoldsNumber bounds names (tree_of y) q
+      → IsElement bounds names name (trees (map tree_of xs)) (resolved.Matrix first (get_or sizes 0 0) (get_or sizes 1 0) p q)
+  unfolding HoldsNumber
+  matrix_element name sizes first xs x y p q told some_sizes few_sizes some few is also slot h k =
+      rw (two_items xs x y some few is also) (sym told ∙ only_two 0 0 sizes some_sizes few_sizes, slot, h, k)
+
+  -- a call of MOD
+  pub modulus_number : (xs : List Expr) (x y : Expr) (p q : Box Number Global) → 2 ≤ length xs → length xs < 3 → x ≡ get_or xs 0 x → y ≡ get_or xs 1 y
+      → HoldsNumber bounds names (tree_of x) p → HoldsNumber bounds names (tree_of y) q
+      → IsNumber bounds names (Tree.Call Mod (trees (map tree_of xs))) (resolved.Binary Modulus p q)
+  unfolding HoldsNumber
+  modulus_number xs x y p q some few is also h k = rw (two_items xs x y some few is also) (refl, h, k)
+
   pub constant_number : (e : Expr) (n : ℕ) (x : Number) → e ≡ forms.Number n → IsNumber bounds names (Tree.Number n) x → IsNumber bounds names (tree_of e) x
   constant_number e n x is h = rw (is, number_view n) h
 
+  -- an operand behind a minus
+  pub minus_number : (t : Tree) (sign : Sign) (p : Box Number Global) → sign ≡ Minus → HoldsNumber bounds names t p
+      → IsNumber bounds names (Tree.Signed sign t) (resolved.Negated p)
+  unfolding HoldsNumber
+  minus_number t sign p minus h = rw minus h
+
   pub negated_number : (e x : Expr) (sign : Sign) (a : Box Expr Global) (p : Box Number Global) → e ≡ views.Signed sign a → sign ≡ Minus → x ≡ a.value
       → HoldsNumber bounds names (tree_of x) p → IsNumber bounds names (tree_of e) (resolved.Negated p)
-  unfolding HoldsNumber
-  negated_number e x sign a p is minus held h = rw (is, minus, signed_view Minus a, ← held) h
+  negated_number e x sign a p is minus held h = rw (is, signed_view sign a, ← held) (minus_number (tree_of x) sign p minus h)
 
   pub pushed_number : (e x : Expr) (a : Box Expr Global) (p : Box Number Global) → e ≡ views.ZeroPush a → x ≡ a.value
       → HoldsNumber bounds names (tree_of x) p → IsNumber bounds names (tree_of e) (resolved.ZeroPush p)

@@ -4,8 +4,10 @@
 mod checked;
 mod checking;
 mod lookup;
+mod lookup_into;
 mod patching;
 mod resolve;
+mod resolve_into;
 mod shapes;
 mod slots;
 mod start;

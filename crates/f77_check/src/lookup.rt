@@ -34,7 +34,7 @@ fn constant(value: u32) -> Number
 }
 
 /// What an arithmetic operator stands for.
-fn operation(operator: Operator) -> Arithmetic
+pub(crate) fn operation(operator: Operator) -> Arithmetic
     requires { same_kind (result_kind operator) Integer ≡ true }
     ensures { arithmetic_of operator ≡ Some result }
 {
@@ -45,7 +45,7 @@ fn operation(operator: Operator) -> Arithmetic
 }
 
 /// What a logical operator on two truth values stands for.
-fn connective(operator: Operator) -> Connective
+pub(crate) fn connective(operator: Operator) -> Connective
     requires kind { same_kind (result_kind operator) Logical ≡ true }
     requires other { relation_of operator ≡ None }
     ensures { connective_of operator ≡ Some result }
@@ -73,8 +73,11 @@ impl Resolver {
     {
         let names = &self.tables.names;
         let first = self.slots.first(names, name);
+        // It has as many bounds as subscripts: those of a variable need not be looked up.
+        if subscripts.is_empty() {
+            return Ok(Element::Variable(first));
+        }
         match (names.bounds(name), subscripts) {
-            ([], []) => Ok(Element::Variable(first)),
             ([bound], [subscript]) => Ok(Element::Vector {
                 first,
                 bound: *bound,
@@ -122,7 +125,7 @@ impl Resolver {
     /// The same on the heap.
     #[cycle(numbers)]
     #[tactic(auto, unfolding(crate::specs::code::Boxed::HoldsNumber))]
-    fn boxed(&self, alloc: Global, expr: &Expr) -> Result<Box<Number>, CheckFault>
+    pub(crate) fn boxed(&self, alloc: Global, expr: &Expr) -> Result<Box<Number>, CheckFault>
         requires { IsReadyTree self.now Integer (tree_of expr.now) }
         ensures number { IfOk result (by_tables self.now HoldsNumber (tree_of expr.now)) }
         ensures memory { IfErr result (λ fault. fault ≡ Memory) }
@@ -132,7 +135,7 @@ impl Resolver {
 
     /// A call of an intrinsic function (15.10).
     #[cycle(numbers)]
-    fn call(
+    pub(crate) fn call(
         &self,
         alloc: Global,
         function: Intrinsic,
@@ -207,7 +210,7 @@ impl Resolver {
     }
 
     /// Two numbers with a relational operator between them.
-    fn related(
+    pub(crate) fn related(
         &self,
         alloc: Global,
         operator: Operator,

@@ -1,12 +1,12 @@
 //! Checked programs with one statement changed.
 
 ghost use Rattle.std.specs.Prelude.{◌≡◌, ◌<◌, ◌⊎◌, ◌-◌, true, false, List, length};
-ghost use Rattle.std.specs.Prelude.{map, IfOk, IfErr, IfSome, IsNone, None, Some};
+ghost use Rattle.std.specs.Prelude.{map, IfOk, IfErr, IfSome, IsNone, None, OnOk, Some};
 ghost use Rattle.f77_program.specs.Program.{LineFields, IsProgram, line_of};
 ghost use Rattle.f77_program.specs.Patching.{Fits, replaced, patched};
 ghost use Rattle.f77_tree.specs.Statement.{statement_of};
 ghost use Rattle.f77_check.specs.Checked.{shapes};
-ghost use Rattle.f77_check.specs.code.Patching.{IsChangedAlone};
+ghost use Rattle.f77_check.specs.code.Patching.{FrameStays, IsChangedAlone};
 ghost use Rattle.f77_check.specs.Patching.{IsInPlace};
 ghost use Rattle.f77_check.specs.Resolved.{IsResolved, AreResolved};
 ghost use Rattle.f77_legal.specs.Legal.{IsLegal, TellsFirstFault, faults, first_fault};
@@ -39,17 +39,34 @@ impl Checked {
         is_terminal(stmt) || self.statements()[i].ends.is_empty()
     }
 
+    /// Whether the program keeps its frame, and the statement may end the DOs that end there. It takes no memory.
+    fn frame_stays(&self, number: usize, stmt: &Stmt) -> bool
+        requires { Fits (map line_of self.now.program) number (statement_of stmt.now) }
+        ensures { result ≡ true → FrameStays (map line_of self.now.program) (number - 1) (statement_of stmt.now) }
+    {
+        let i = number - 1;
+        keeps_frame(&self.program().lines()[i].stmt, stmt) && self.may_stand_at(i, stmt)
+    }
+
     /// Whether the change is judged by the changed statement alone. It takes no memory.
     fn stands_alone(&self, number: usize, stmt: &Stmt) -> bool
         requires { Fits (map line_of self.now.program) number (statement_of stmt.now) }
         ensures { result ≡ true
             → StandsAlone self.now.names (map line_of self.now.program) (number - 1) (statement_of stmt.now) }
     {
-        let i = number - 1;
-        if !keeps_frame(&self.program().lines()[i].stmt, stmt) {
+        self.frame_stays(number, stmt) && self.resolver().tables.names.have(stmt)
+    }
+
+    /// Whether it is seen in one walk over the changed statement that the program stays legal. It takes no memory.
+    fn stays_legal(&self, number: usize, stmt: &Stmt) -> bool
+        requires { Fits (map line_of self.now.program) number (statement_of stmt.now) }
+        ensures { result ≡ true → IsLegal (patched (map line_of self.now.program) number (statement_of stmt.now)) }
+    {
+        if !self.frame_stays(number, stmt) {
             return false;
         }
-        self.may_stand_at(i, stmt) && self.resolver().tables.names.have(stmt)
+        let lines = self.program().lines();
+        self.resolver().tables.owes_nothing(lines, number - 1, stmt)
     }
 
     /// The first fault of the program with this statement in the place of
@@ -125,6 +142,32 @@ impl Checked {
         Ok(Some(Shared::new(program.allocator(), resolved)?))
     }
 
+    /// The same in the place of `made`, whose memory it takes over as far as the two have one form; false where
+    /// the change is not judged by the changed statement alone.
+    ///
+    /// Want of memory is told in place of any answer, and nothing is said of `made` then.
+    pub fn resolve_in_place(
+        &self,
+        number: usize,
+        stmt: &Stmt,
+        made: &mut Resolved,
+    ) -> Result<bool, CheckFault>
+        requires fits { Fits (map line_of self.now.program) number (statement_of stmt.now) }
+        requires legal { IsLegal (patched (map line_of self.now.program) number (statement_of stmt.now)) }
+        ensures in_place { IfOk result (λ alone. alone ≡ true
+            → IsInPlace self.now number (statement_of stmt.now) made.new) }
+        ensures memory { IfErr result (λ fault. fault ≡ Memory) }
+    {
+        if !self.stands_alone(number, stmt) {
+            return Ok(false);
+        }
+        // A statement that some text spells has short names, as those of a program are.
+        let _formed = is_formed(stmt);
+        let alloc = self.program().allocator();
+        self.resolve_for(alloc, number - 1, stmt, made)?;
+        Ok(true)
+    }
+
     /// The statement `i` of the changed program, which this statement is, resolved.
     fn resolved_for(&self, i: usize, stmt: &Stmt) -> Result<Resolved, CheckFault>
         ghost program: { List LineFields }
@@ -139,6 +182,26 @@ impl Checked {
         let next = self.statements()[i].next;
         self.resolver()
             .resolved_as(self.program().allocator(), i, stmt, next)
+    }
+
+    /// The same in the place of `made`.
+    fn resolve_for(
+        &self,
+        alloc: Global,
+        i: usize,
+        stmt: &Stmt,
+        made: &mut Resolved,
+    ) -> Result<(), CheckFault>
+        ghost program: { List LineFields }
+        requires changed { program ≡ replaced (map line_of self.now.program) i (statement_of stmt.now) }
+        requires alone { StandsAlone self.now.names (map line_of self.now.program) i (statement_of stmt.now) }
+        requires formed { IsProgram None program }
+        requires legal { IsLegal program }
+        ensures resolved { OnOk result (IsResolved program self.now.names i (statement_of stmt.now) made.new) }
+        ensures memory { IfErr result (λ fault. fault ≡ Memory) }
+    {
+        let next = self.statements()[i].next;
+        self.resolver().resolve_into(alloc, i, stmt, next, made)
     }
 
     /// The program with this statement in the place of the one of this number, checked: it and the shapes of its dummy
@@ -180,6 +243,9 @@ impl Checked {
         ensures fault { let program = patched (map line_of self.now.program) number (statement_of stmt.now) in
             IfSome result (λ fault. (fault ≡ Memory) ⊎ (first_fault program ≡ Some fault)) }
     {
+        if self.stays_legal(number, stmt) {
+            return None;
+        }
         if self.stands_alone(number, stmt) {
             return self.own_fault(number - 1, stmt);
         }

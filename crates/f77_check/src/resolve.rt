@@ -64,7 +64,12 @@ impl Resolver {
     }
 
     /// An assignment, by the kind of what is assigned to (10.1, 10.2).
-    fn assignment(&self, alloc: Global, target: &Ref, value: &Expr) -> Result<Action, CheckFault>
+    pub(crate) fn assignment(
+        &self,
+        alloc: Global,
+        target: &Ref,
+        value: &Expr,
+    ) -> Result<Action, CheckFault>
         requires { CanBeResolved self.now (Statement.Assign (reference_fields target.now).0
             (trees (reference_fields target.now).1) (tree_of value.now)) }
         ensures action { IfOk result (λ action. ResolvesAssignment self.now (reference_fields target.now).0
@@ -130,7 +135,12 @@ impl Resolver {
     }
 
     /// A statement that may stand in a logical IF.
-    fn inner_action(&self, alloc: Global, i: usize, stmt: &Stmt) -> Result<Action, CheckFault>
+    pub(crate) fn inner_action(
+        &self,
+        alloc: Global,
+        i: usize,
+        stmt: &Stmt,
+    ) -> Result<Action, CheckFault>
         ghost program: { List LineFields }
         requires tables { Serve self.now.tables program }
         requires ready { CanBeResolved self.now (statement_of stmt.now) }
@@ -169,7 +179,7 @@ impl Resolver {
 
     /// A logical IF (11.5).
     #[tactic(auto, using(crate::proofs::Readiness::inner_ready))]
-    fn logical(
+    pub(crate) fn logical(
         &self,
         alloc: Global,
         i: usize,
@@ -192,7 +202,7 @@ impl Resolver {
     }
 
     /// A block IF or an ELSE IF (11.6, 11.7).
-    fn branch(&self, alloc: Global, i: usize, test: &Expr) -> Result<Action, CheckFault>
+    pub(crate) fn branch(&self, alloc: Global, i: usize, test: &Expr) -> Result<Action, CheckFault>
         ghost program: { List LineFields }
         requires tables { Serve self.now.tables program }
         requires ready { CanBeResolved self.now (Statement.BlockIf (tree_of test.now)) }
@@ -247,7 +257,7 @@ impl Resolver {
     }
 
     /// What the statement `i` does (section 10, 11.1 to 11.14).
-    fn action(&self, alloc: Global, i: usize, stmt: &Stmt) -> Result<Action, CheckFault>
+    pub(crate) fn action(&self, alloc: Global, i: usize, stmt: &Stmt) -> Result<Action, CheckFault>
         ghost program: { List LineFields }
         requires tables { Serve self.now.tables program }
         requires ready { CanBeResolved self.now (statement_of stmt.now) }

@@ -8,3 +8,4 @@ pub mod Tables
 pub mod Legal
 pub mod Frames
 pub mod Patches
+pub mod Owing

@@ -23,7 +23,7 @@ fn takes(function: Intrinsic, count: usize) -> bool
 }
 
 #[tactic(auto, using(crate::proofs::Counts::count_trees))]
-fn takes_these(function: Intrinsic, arguments: &[Expr]) -> bool
+pub(crate) fn takes_these(function: Intrinsic, arguments: &[Expr]) -> bool
     ensures { result ≡ dimensions.takes function (dimensions.tree_count (trees (map tree_of arguments.now))) }
 {
     takes(function, arguments.len())

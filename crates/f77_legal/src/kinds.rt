@@ -43,7 +43,7 @@ pub fn result_kind(operator: Operator) -> Kind
 }
 
 /// The kind that an operator takes.
-fn operand_kind(operator: Operator) -> Kind
+pub(crate) fn operand_kind(operator: Operator) -> Kind
     ensures { result ≡ kinds.operand_kind operator }
 {
     match operator {

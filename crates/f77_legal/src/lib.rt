@@ -15,6 +15,7 @@ mod legal;
 mod loops;
 mod mentions;
 pub mod names;
+mod owing;
 mod patches;
 mod presets;
 mod tables;

@@ -1,12 +1,20 @@
 -- When a changed program is told from a checked one by the changed statement alone.
 -- Private functions and proofs alone cite what stands here.
-use Rattle.std.specs.Prelude.{◌≡◌, ℕ, List}
+use Rattle.std.specs.Prelude.{◌≡◌, ℕ, List, Some, slice_get}
 use Rattle.f77_program.specs.Program.{LineFields}
 use Rattle.f77_program.specs.Patching.{replaced}
 use Rattle.f77_tree.specs.Statement.{Statement}
 use Rattle.f77_legal.specs.Legal.{IsLegal}
 use Rattle.f77_legal.specs.Names.{Symbol}
-use Rattle.f77_legal.specs.code.Patches.{StandsAlone}
+use Rattle.f77_legal.specs.Frames.{framed}
+use Rattle.f77_legal.specs.code.Patches.{MayStandAt, StandsAlone}
+
+-- the frame stays where the statement i is changed to this one, which may end the DOs that end there
+pub record FrameStays (program : List LineFields) (i : ℕ) (statement : Statement) : Type 0 where
+  pub line : LineFields
+  pub at : slice_get program i ≡ Some line
+  pub frame : framed statement ≡ framed line.stmt
+  pub ends : MayStandAt program i statement
 
 -- the other program is legal, and this one but for the statement i, which stands alone
 pub record IsChangedAlone (names : List Symbol) (program : List LineFields) (i : ℕ)

@@ -1,13 +1,13 @@
-use Rattle.std.proofs.Common.{rules, arith, refl, sym, ap, ◌∙◌, ◌≡◌, ◌<◌, ◌≤◌, ◌+◌, ◌-◌, suc, length}
+use Rattle.std.proofs.Common.{rules, arith, ap, ◌≡◌, ◌<◌, ◌+◌, ◌-◌, suc, length}
 use Rattle.std.proofs.lemmas.Grind.{common_steps}
 use Rattle.f77_check.specs.code.Boxed.{HoldsNumber}
 use Rattle.f77_legal.specs.Dimensions.{takes}
 use Rattle.f77_legal.specs.NameTable.{array_bounds}
 use Rattle.indexmap.specs.IndexMap.{keys}
 use Rattle.f77_check.proofs.Deepest.{most_at}
-use Rattle.f77_check.proofs.Items.{only_one, only_two, one_item, two_items, some_items, items_ready, item_ready}
+use Rattle.f77_check.proofs.Items.{one_item, some_items, items_ready, item_ready}
 use Rattle.f77_check.proofs.Chosen.{chosen_last, chosen_more}
-use Rattle.f77_check.proofs.Resolving.{constant_number, negated_number, pushed_number, binary_number}
+use Rattle.f77_check.proofs.Resolving.{vector_element, matrix_element, modulus_number, constant_number, negated_number, pushed_number, binary_number}
 use Rattle.f77_check.proofs.resolve.Resolver.+numbers.Goals as goal
 
 pub absolute-returns-clause-number : goal.absolute-returns-clause-number
@@ -16,10 +16,9 @@ absolute-returns-clause-number t c =
     rw (one_item _ _ c.in-len1.len_at_least c.in-len1.len_below c.operand-item.is) c.in_ok-boxed-in-len1.ensures.number
 
 pub modulus-returns-clause-number : goal.modulus-returns-clause-number
-unfolding HoldsNumber
 modulus-returns-clause-number t c =
-    rw (two_items _ _ _ c.in-len2.len_at_least c.in-len2.len_below c.left-item.is c.right-item.is)
-    (refl, c.in_ok-boxed-in-len2.ensures.number, c.in_ok-boxed-in-len2-2.ensures.number)
+    modulus_number _ _ _ _ _ _ _ c.in-len2.len_at_least c.in-len2.len_below c.left-item.is c.right-item.is c.in_ok-boxed-in-len2.ensures.number
+    c.in_ok-boxed-in-len2-2.ensures.number
 
 pub number-returns-in-Number-clause-number : goal.number-returns-in-Number-clause-number
 number-returns-in-Number-clause-number t c =
@@ -39,24 +38,14 @@ number-returns-in_ok-boxed-in-Minus-clause-number t c =
     negated_number _ _ _ _ _ _ _ c.in-Signed.is c.in-Minus.is c.deref-in-Minus.ensures c.in_ok-boxed-in-Minus.ensures.number
 
 pub element-returns-in_ok-boxed-in-len1-len1-clause-element : goal.element-returns-in_ok-boxed-in-len1-len1-clause-element
-unfolding HoldsNumber
 element-returns-in_ok-boxed-in-len1-len1-clause-element t c =
-    let some : 1 ≤ length c.args.subscripts.now = search rules in
-    let few : length c.args.subscripts.now < 2 = search rules in
-    let some_bounds : 1 ≤ length c.bounds.result.now = search rules in
-    let few_bounds : length c.bounds.result.now < 2 = search rules in
-    rw (one_item _ _ some few c.subscript-item.is)
-    (sym c.bounds.ensures ∙ only_one 0 _ some_bounds few_bounds, c.first-first.ensures, c.in_ok-boxed-in-len1-len1.ensures.number)
+    vector_element _ _ c.args.name.now c.bounds.result.now _ c.args.subscripts.now _ _ c.bounds.ensures (search rules) (search rules) (search rules) (search rules)
+    c.subscript-item.is c.first-first.ensures c.in_ok-boxed-in-len1-len1.ensures.number
 
 pub element-returns-in_ok-boxed-in-len2-len2-2-clause-element : goal.element-returns-in_ok-boxed-in-len2-len2-2-clause-element
-unfolding HoldsNumber
 element-returns-in_ok-boxed-in-len2-len2-2-clause-element t c =
-    let some : 2 ≤ length c.args.subscripts.now = search rules in
-    let few : length c.args.subscripts.now < 3 = search rules in
-    let some_bounds : 2 ≤ length c.bounds.result.now = search rules in
-    let few_bounds : length c.bounds.result.now < 3 = search rules in
-    rw (two_items _ _ _ some few c.row-item.is c.column-item.is)
-    (sym c.bounds.ensures ∙ only_two 0 0 _ some_bounds few_bounds, c.first-first.ensures, c.in_ok-boxed-in-len2-len2.ensures.number, c.in_ok-boxed-in-len2-len2-2.ensures.number)
+    matrix_element _ _ c.args.name.now c.bounds.result.now _ c.args.subscripts.now _ _ _ _ c.bounds.ensures (search rules) (search rules) (search rules) (search rules)
+    c.row-item.is c.column-item.is c.first-first.ensures c.in_ok-boxed-in-len2-len2.ensures.number c.in_ok-boxed-in-len2-len2-2.ensures.number
 
 pub chosen-loop-i-init : goal.chosen-loop-i-init
 chosen-loop-i-init t c = chosen_last _ _ c.args.operation c.args.items.now _ _ c.requires.some c.index-items-last.is c.in_ok-chosen.ensures.number
