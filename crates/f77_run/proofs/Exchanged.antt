@@ -1,6 +1,7 @@
 -- One statement in the place of another.
 use Rattle.std.proofs.Common.{arith, ◌≡◌, ◌≢◌, ◌∙◌, ◌-◌, ◌<◌, ℕ, zero, suc, List, [], ◌∷◌, length, map, Option, Some, None, refl, sym, ap, subst}
 use Rattle.std.specs.Prelude.{option_map, slice_get, slice_set}
+use Rattle.std.specs.Option.{option_map_or}
 use Rattle.std.proofs.lemmas.List.{length-map}
 use Rattle.std.proofs.lemmas.Option.{same_Some, slice_get_within}
 use Rattle.f77_program.specs.Patching.{Fits, patched}
@@ -10,7 +11,7 @@ use Rattle.f77_tree.specs.declared.statement.Stmt.{Stmt}
 use Rattle.f77_legal.specs.Legal.{IsLegal}
 use Rattle.f77_legal.proofs.Replaced.{other_line}
 use Rattle.f77_legal.proofs.SameFrame.{length_same}
-use Rattle.f77_check.specs.Checked.{CheckedFields}
+use Rattle.f77_check.specs.Checked.{CheckedFields, IsChecked}
 use Rattle.f77_check.specs.Patching.{IsInPlace}
 use Rattle.f77_check.specs.Resolved.{AreResolved}
 use Rattle.f77_actions.specs.declared.resolved.Resolved.{Resolved}
@@ -41,7 +42,7 @@ set_other (y ∷ xs) (suc i) zero x other = refl
 set_other (y ∷ xs) (suc i) (suc j) x other = set_other xs i j x (λ same. other (ap suc same))
 
 -- the statements of the two programs are the same but for the changed one
-pub agree_but : (own changed : List Resolved) (i : ℕ) (old : Resolved) → slice_set changed i old ≡ own → AgreeElsewhere i own changed
+agree_but : (own changed : List Resolved) (i : ℕ) (old : Resolved) → slice_set changed i old ≡ own → AgreeElsewhere i own changed
 agree_but own changed i old is j other = ap (λ list. slice_get list j) (sym is) ∙ set_other changed i j old other
 
 pub set_same : {X : Type 0} (xs : List X) (i : ℕ) (x : X) → slice_get xs i ≡ Some x → slice_set xs i x ≡ xs
@@ -64,17 +65,15 @@ module _ (checked : CheckedFields) (number : ℕ) (stmt : Stmt) (fits : Fits (ma
       let long = length-map checked.program line_of in
       omega (arith, within, long)
 
-  -- another statement of the program is changed, and the one that was changed before is its own again
-  pub put_in_place : (place : ℕ) (before kept : Option Stmt) (statements one two : List Resolved) (own new back : Resolved)
-      → IsChanged (record { checked = checked; place = place; stmt = before }) statements own → one ≡ slice_set statements place own
-      → two ≡ slice_set one (number - 1) new → slice_get one (number - 1) ≡ Some back → kept ≡ Some stmt
+  -- a statement of the program is changed, where none was
+  pub put_in_place : (kept : Option Stmt) (one two : List Resolved) (new back : Resolved)
+      → IsChecked checked → one ≡ checked.statements → two ≡ slice_set one (number - 1) new → slice_get one (number - 1) ≡ Some back → kept ≡ Some stmt
       → IsLegal (patched (map line_of checked.program) number (statement_of stmt)) → IsInPlace checked number (statement_of stmt) new
       → IsChanged (record { checked = checked; place = number - 1; stmt = kept }) two back
-  put_in_place place before kept statements one two own new back is first second found same legal in_place =
-      let original : one ≡ checked.statements = first ∙ is.own in
+  put_in_place kept one two new back is original second found same legal in_place =
       subst (λ stmt. IsChanged (record { checked = checked; place = number - 1; stmt = stmt }) two back) (sym same)
       (record {
-        checked = is.checked;
+        checked = is;
         within = fits_within;
         formed = in_place.formed;
         legal = legal;
@@ -83,6 +82,36 @@ module _ (checked : CheckedFields) (number : ℕ) (stmt : Stmt) (fits : Fits (ma
             (sym (second ∙ ap (λ list. slice_set list (number - 1) new) original)) in_place.resolved;
         own = ap (λ list. slice_set list (number - 1) back) second ∙ set_back one (number - 1) new back found ∙ original;
       })
+
+module _ (changed : ChangedFields) (statements : List Resolved) (own : Resolved) (is : IsChanged changed statements own) where
+  -- the statements of the two programs are the same but for the changed one
+  pub agree_elsewhere : AgreeElsewhere changed.place changed.checked.statements statements
+  agree_elsewhere = by changed.stmt is.own
+    where
+      by : (stmt : Option Stmt) → option_map_or (λ stmt. slice_set statements changed.place own) stmt statements ≡ changed.checked.statements
+          → AgreeElsewhere changed.place changed.checked.statements statements
+      by None same = λ j other. ap (λ list. slice_get list j) (sym same)
+      by (Some stmt) same = agree_but changed.checked.statements statements changed.place own same
+
+  -- none is changed
+  pub none_changed : (one : List Resolved) (other : Resolved) → one ≡ changed.checked.statements
+      → IsChanged (record { checked = changed.checked; place = changed.place; stmt = None }) one other
+  none_changed one other same = record {
+    checked = is.checked;
+    within = is.within;
+    formed = is.checked.formed;
+    legal = is.checked.legal;
+    frame = refl;
+    resolved = subst (AreResolved (map line_of changed.checked.program) changed.checked.names) (sym same) is.checked.statements;
+    own = same;
+  }
+
+-- where none is changed, the statements are the program's own
+pub none_left : (change : Change) → IsChanged (changed_fields change) change.statements.items change.own → change.stmt ≡ None
+    → change.statements.items ≡ change.checked.now.statements
+none_left change is none =
+    ap (λ stmt. option_map_or (λ (stmt : Stmt). slice_set change.statements.items change.place change.own) (option_map (λ s. s.value) stmt) change.statements.items) (sym none)
+    ∙ is.own
 
 -- but for the changed statement the programs are one
 others : (changed : ChangedFields) → AreSameBut changed.place (map line_of changed.checked.program) (changed_program changed)

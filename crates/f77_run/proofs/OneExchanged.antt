@@ -20,7 +20,7 @@ use Rattle.f77_code.specs.declared.code.Code.{Code}
 use Rattle.f77_code.specs.Compiled.{HasOneFrame, IsExchanged, are_ready}
 use Rattle.f77_code.specs.Moves.{is_loop}
 use Rattle.f77_run.specs.Changed.{ChangedFields, IsChanged, IsCodeOf, changed_program}
-use Rattle.f77_run.proofs.Exchanged.{agree_but}
+use Rattle.f77_run.proofs.Exchanged.{agree_elsewhere}
 use Rattle.f77_run.proofs.Readiness.{all_ready}
 use Rattle.f77_run.proofs.Simulation.{statement_of}
 
@@ -55,7 +55,7 @@ module _ (change : ChangedFields) (statements : List Resolved) (own : Resolved) 
   pub exchanged : IsExchanged change.checked.statements change.place statements
   exchanged = record {
     count = is.resolved.count ∙ sym (length_same p q is.frame) ∙ sym is.checked.statements.count;
-    others = λ j apart. sym (agree_but change.checked.statements statements change.place own is.own j apart);
+    others = λ j apart. sym (agree_elsewhere change statements own is j apart);
     changed = λ r s before after.
         let one = statement_of p change.checked.names change.checked.statements is.checked.statements change.place r before in
         let other = statement_of q change.checked.names statements is.resolved change.place s after in

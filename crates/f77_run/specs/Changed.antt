@@ -34,8 +34,8 @@ changed_program changed =
     let program = map line_of changed.checked.program in
     option_map_or (λ stmt. replaced program changed.place (statement_of stmt)) changed.stmt program
 
--- It is legal and of the same frame, these are its statements resolved, and
--- with this one in the place of the changed one they are those of the program.
+-- It is legal and of the same frame, these are its statements resolved, and with
+-- this one in the place of the changed one, if one is, they are those of the program.
 pub record IsChanged (changed : ChangedFields) (statements : List Resolved)
     (old : Resolved) : Type 0 where
   pub checked : IsChecked changed.checked
@@ -44,7 +44,8 @@ pub record IsChanged (changed : ChangedFields) (statements : List Resolved)
   pub legal : IsLegal (changed_program changed)
   pub frame : HaveOneFrame (map line_of changed.checked.program) (changed_program changed)
   pub resolved : AreResolved (changed_program changed) changed.checked.names statements
-  pub own : slice_set statements changed.place old ≡ changed.checked.statements
+  pub own : option_map_or (λ stmt. slice_set statements changed.place old) changed.stmt statements
+      ≡ changed.checked.statements
 
 -- this is code of these statements over the slots of a checked program
 pub record IsCodeOf (checked : CheckedFields) (statements : List Resolved)

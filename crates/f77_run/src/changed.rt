@@ -1,12 +1,13 @@
 //! Runs of a program with one statement changed, one change after another.
 
-ghost use Rattle.std.specs.Prelude.{◌≡◌, ◌<◌, ◌-◌, length, map, option_map};
+ghost use Rattle.std.specs.Prelude.{◌≡◌, ◌<◌, ◌-◌, true, false, length, map, option_map};
 ghost use Rattle.std.specs.Prelude.{slice_get, slice_set, Some, None, IfOk, IfErr};
 ghost use Rattle.std.specs.Bool.{Decides};
 ghost use Rattle.f77_program.specs.Patching.{Fits, patched};
 ghost use Rattle.f77_program.specs.Program.{line_of};
 ghost use Rattle.f77_tree.specs.Statement.{statement_of};
 ghost use Rattle.f77_legal.specs.Legal.{IsLegal};
+ghost use Rattle.f77_legal.specs.declared.fault.CheckFault.TheVariants as refused;
 ghost use Rattle.f77_check.specs.Patching.{IsInPlace};
 ghost use Rattle.f77_run.specs.Changed.{IsChanged, changed_fields, changed_program};
 ghost use Rattle.f77_run.specs.Interpreter.{IsOutcomeOf};
@@ -20,14 +21,14 @@ use crate::parting::comes_alike;
 use crate::recompiled::Recompiled;
 use crate::visits::Visits;
 use crate::workspace::Workspace;
-use f77_check::{Checked, Resolved};
+use f77_check::{Action, CheckFault, Checked, Resolved};
 use f77_tree::{Shared, Stmt};
 use std::alloc::Global;
 use std::marker::Model;
 use std::mem;
 use std::snapshot::Snapshot;
 
-/// A program with one statement changed.
+/// A program with one statement changed, or with none.
 #[derive(Drop)]
 pub(crate) struct Change<'a> {
     pub(crate) checked: &'a Checked,
@@ -37,8 +38,10 @@ pub(crate) struct Change<'a> {
     pub(crate) stmt: Option<Snapshot<Stmt>>,
     /// The statements resolved, with the changed one.
     pub(crate) statements: Vec<Shared<Resolved>>,
-    /// The one of the program that is changed there.
+    /// The one of the program that is changed there; where none is, what the next changed one is put into.
     pub(crate) own: Shared<Resolved>,
+    /// In the place of each statement the one that it was changed to last, in whose memory the next is resolved.
+    pub(crate) last: Vec<Resolved>,
 }
 
 /// Puts a statement in the place of another, and gives that back.
@@ -50,23 +53,70 @@ fn exchange(statements: &mut Vec<Shared<Resolved>>, place: usize, other: &mut Sh
     mem::swap(&mut statements[place], other);
 }
 
+/// Puts the changed statement, resolved in the memory of the last one there,
+/// into `own`: whether the change is judged by the changed statement alone.
+fn is_resolved(
+    checked: &Checked,
+    number: usize,
+    stmt: &Stmt,
+    last: &mut Resolved,
+    own: &mut Shared<Resolved>,
+) -> Result<bool, CheckFault>
+    requires fits { Fits (map line_of checked.now.program) number (statement_of stmt.now) }
+    requires legal { IsLegal (patched (map line_of checked.now.program) number (statement_of stmt.now)) }
+    ensures in_place { IfOk result (λ alone. alone ≡ true
+        → IsInPlace checked.now number (statement_of stmt.now) own.new) }
+    ensures memory { IfErr result (λ fault. fault ≡ refused.Memory) }
+{
+    if !checked.resolve_in_place(number, stmt, last)? {
+        return Ok(false);
+    }
+    Ok(own.exchange(last))
+}
+
 impl Change<'_> {
-    /// This statement stands in the place of the one of this number, and every other one is the program's own.
-    fn put(&mut self, number: usize, stmt: &Stmt, resolved: Shared<Resolved>)
+    /// Every statement is the program's own again.
+    fn restore(&mut self)
         requires changed { IsChanged (changed_fields self.old) self.old.statements.items self.old.own }
+        requires last { length self.old.last.items ≡ length self.old.statements.items }
+        ensures program { self.new.checked.now ≡ self.old.checked.now }
+        ensures stmt { self.new.stmt ≡ None }
+        ensures changed { IsChanged (changed_fields self.new) self.new.statements.items self.new.own }
+        ensures last { length self.new.last.items ≡ length self.new.statements.items }
+    {
+        if self.stmt.is_none() {
+            return;
+        }
+        exchange(&mut self.statements, self.place, &mut self.own);
+        self.own.exchange(&mut self.last[self.place]);
+        self.stmt = None;
+    }
+
+    /// This statement stands in the place of the one of this number, and every other one is the program's
+    /// own: whether the change is judged by the changed statement alone. Where not, none is changed.
+    fn put(&mut self, number: usize, stmt: &Stmt) -> Result<bool, CheckFault>
+        requires changed { IsChanged (changed_fields self.old) self.old.statements.items self.old.own }
+        requires last { length self.old.last.items ≡ length self.old.statements.items }
         requires fits { Fits (map line_of self.old.checked.now.program) number (statement_of stmt.now) }
         requires legal { IsLegal (patched (map line_of self.old.checked.now.program) number (statement_of stmt.now)) }
-        requires in_place { IsInPlace self.old.checked.now number (statement_of stmt.now) resolved }
         ensures program { self.new.checked.now ≡ self.old.checked.now }
-        ensures place { self.new.place ≡ number - 1 }
-        ensures stmt { option_map (λ s. s.value) self.new.stmt ≡ Some stmt.now }
         ensures changed { IsChanged (changed_fields self.new) self.new.statements.items self.new.own }
+        ensures last { length self.new.last.items ≡ length self.new.statements.items }
+        ensures place { IfOk result (λ alone. alone ≡ true → self.new.place ≡ number - 1) }
+        ensures stmt { IfOk result (λ alone. alone ≡ true → option_map (λ s. s.value) self.new.stmt ≡ Some stmt.now) }
+        ensures none { IfOk result (λ alone. alone ≡ false → self.new.stmt ≡ None) }
+        ensures memory { IfErr result (λ fault. fault ≡ refused.Memory) }
     {
-        exchange(&mut self.statements, self.place, &mut self.own);
-        self.own = resolved;
-        self.place = number - 1;
+        self.restore();
+        let place = number - 1;
+        let last = &mut self.last[place];
+        if !is_resolved(self.checked, number, stmt, last, &mut self.own)? {
+            return Ok(false);
+        }
+        exchange(&mut self.statements, place, &mut self.own);
+        self.place = place;
         self.stmt = Some(Snapshot::of(stmt));
-        exchange(&mut self.statements, self.place, &mut self.own);
+        Ok(true)
     }
 }
 
@@ -79,7 +129,7 @@ pub struct ChangedRunner<'a> {
 }
 
 impl<'a> Model for ChangedRunner<'a> {
-    ghost use Rattle.std.specs.Prelude.{◌≡◌, map, option_map, IfSome};
+    ghost use Rattle.std.specs.Prelude.{◌≡◌, length, map, option_map, IfSome};
     ghost use Rattle.std.specs.Coded.{codes};
     ghost use Rattle.f77_tree.specs.contracts.tree.Expr as expr;
     ghost use Rattle.f77_tree.specs.contracts.statement.Stmt as stmt;
@@ -106,9 +156,31 @@ impl<'a> Model for ChangedRunner<'a> {
 
     ghost invariant = { λ runner. IsChanged (changed_fields runner.change)
         runner.change.statements.items runner.change.own
+        × (length runner.change.last.items ≡ length runner.change.statements.items)
         × (runner.space.initial.items ≡ map (option_map constant_value) runner.change.checked.now.start.initial.items)
         × IsCodeOf runner.change.checked.now runner.change.checked.now.statements runner.code.own
         × IfSome runner.code.changed (IsCodeOf runner.change.checked.now runner.change.statements.items) };
+}
+
+/// What stands where no changed statement was resolved yet.
+fn no_statement(alloc: Global) -> Resolved {
+    Resolved {
+        action: Action::Continue,
+        next: 0,
+        ends: Vec::new(alloc),
+    }
+}
+
+/// The place of each of so many statements, where none was changed yet.
+fn no_statements(alloc: Global, count: usize) -> Result<Vec<Resolved>, RunFault>
+    ensures count { IfOk result (λ list. length list.items ≡ count) }
+    ensures memory { IfErr result (λ e. e ≡ fault.Memory) }
+{
+    let mut list = Vec::with_capacity(alloc, count)?;
+    for _statement in 0..count {
+        list.push(no_statement(alloc))?;
+    }
+    Ok(list)
 }
 
 /// The program, with no statement changed.
@@ -116,16 +188,18 @@ fn unchanged<'a>(alloc: Global, checked: &'a Checked) -> Result<Change<'a>, RunF
     ensures program { IfOk result (λ change. change.checked.now ≡ checked.now) }
     ensures stmt { IfOk result (λ change. change.stmt ≡ None) }
     ensures changed { IfOk result (λ change. IsChanged (changed_fields change) change.statements.items change.own) }
+    ensures last { IfOk result (λ change. length change.last.items ≡ length change.statements.items) }
     ensures memory { IfErr result (λ e. e ≡ fault.Memory) }
 {
     let statements = checked.statements().to_vec(alloc)?;
-    let own = statements[0].clone()?;
+    let last = no_statements(alloc, statements.len())?;
     Ok(Change {
         checked,
         place: 0,
         stmt: None,
         statements,
-        own,
+        own: Shared::new(alloc, no_statement(alloc))?,
+        last,
     })
 }
 
@@ -147,18 +221,21 @@ impl<'a> ChangedRunner<'a> {
         })
     }
 
-    /// From now on the runs are those of the program with this statement in the place of
-    /// the one of this number, from 1, and every other one its own. It takes no memory.
-    pub fn change(&mut self, number: usize, stmt: &Stmt, resolved: Shared<Resolved>)
+    /// From now on the runs are those of the program with this statement in the place of the one of this number, from
+    /// 1, and every other one its own: whether the change is judged by the changed statement alone. Where it is not,
+    /// the runs are those of the program itself. No memory is taken for what the last changed statement there has.
+    pub fn change(&mut self, number: usize, stmt: &Stmt) -> Result<bool, CheckFault>
         requires fits { Fits (map line_of self.old.checked.program) number (statement_of stmt.now) }
         requires legal { IsLegal (patched (map line_of self.old.checked.program) number (statement_of stmt.now)) }
-        requires in_place { IsInPlace self.old.checked number (statement_of stmt.now) resolved }
         ensures program { self.new.checked ≡ self.old.checked }
-        ensures changed { changed_program self.new
-            ≡ patched (map line_of self.old.checked.program) number (statement_of stmt.now) }
+        ensures changed { IfOk result (λ alone. alone ≡ true → changed_program self.new
+            ≡ patched (map line_of self.old.checked.program) number (statement_of stmt.now)) }
+        ensures unchanged { IfOk result (λ alone. alone ≡ false
+            → changed_program self.new ≡ map line_of self.old.checked.program) }
+        ensures memory { IfErr result (λ fault. fault ≡ refused.Memory) }
     {
-        self.change.put(number, stmt, resolved);
         self.code.forget();
+        self.change.put(number, stmt)
     }
 
     /// Whether the run of the changed program with these values of the dummy arguments, in order, for so

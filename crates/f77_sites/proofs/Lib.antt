@@ -1,4 +1,4 @@
 pub mod Numbering
 pub mod Passes
-pub mod PutExpressions
-pub mod PutStatements
+pub mod ExchangedExpressions
+pub mod ExchangedStatements

@@ -1,1 +1,1 @@
-pub mod Changing
+pub mod Exchanging

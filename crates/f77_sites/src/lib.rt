@@ -1,14 +1,12 @@
 //! Statements with one node changed.
 #![tactic(auto)]
 
-mod changing;
-mod changing_data;
-mod changing_expression;
-mod changing_node;
+mod exchanging;
+mod exchanging_data;
+mod exchanging_expression;
+mod exchanging_node;
 pub mod law;
-mod remaking;
-mod remaking_expression;
 mod replacement;
 
-pub use remaking::remake;
+pub use exchanging::exchange;
 pub use replacement::Replacement;

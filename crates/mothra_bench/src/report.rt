@@ -14,7 +14,7 @@ use crate::matrix::{Entry, Matrix};
 use f77_legal::heading::unit;
 use f77_program::Line;
 use f77_tree::Shared;
-use mothra_ops::{Mutants, Op, Plan, push_name};
+use mothra_ops::{Mutants, Op, Plan, push_name, write_name};
 use std::alloc::{AllocError, Global};
 
 /// The report of a matrix: its heading, the numbers of each operator and of all, the score, each
@@ -26,8 +26,9 @@ pub fn render(alloc: Global, bench: &Bench, matrix: &Matrix) -> Result<String, B
     let mut text = String::new(alloc);
     push_heading(&mut text, bench)?;
     push_operators(&mut text, bench.plan(), matrix)?;
-    push_counts(&mut text, "TOTAL", &Counts::of(matrix.entries()))?;
-    push_score(&mut text, matrix.score())?;
+    let counts = Counts::of(matrix.entries());
+    push_counts(&mut text, "TOTAL", &counts)?;
+    push_score(&mut text, counts.score())?;
     push_entries(&mut text, bench.plan(), matrix.entries())?;
     text.push_str("END\n")?;
     Ok(text)
@@ -97,17 +98,25 @@ fn push_mutants(text: &mut String, plan: &Plan, entries: &[Entry]) -> Result<(),
     ensures { OnOk result
         (string_bytes text.new ≡ string_bytes text.old ++ flat_map (mutant_line plan.now) entries.now) }
 {
+    let mut name = String::new(*text.allocator());
     for entry in entries {
-        push_mutant(text, plan, entry)?;
+        push_mutant(text, &mut name, plan, entry)?;
     }
     Ok(())
 }
 
-fn push_mutant(text: &mut String, plan: &Plan, entry: &Entry) -> Result<(), AllocError>
+/// The line of a mutant, whose name is written in the place of what `name` has.
+fn push_mutant(
+    text: &mut String,
+    name: &mut String,
+    plan: &Plan,
+    entry: &Entry,
+) -> Result<(), AllocError>
     ensures { OnOk result (string_bytes text.new ≡ string_bytes text.old ++ mutant_line plan.now entry.now) }
 {
     text.push_str("MUTANT ")?;
-    push_name(text, plan.every(), entry.ticket.op, entry.ticket.number)?;
+    write_name(name, plan.every(), entry.ticket.op, entry.ticket.number)?;
+    text.push_str(name)?;
     let status = status(entry);
     write!(text, " {status} ")?;
     push_bits(text, entry.kills.as_slice())?;

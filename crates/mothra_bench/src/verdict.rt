@@ -1,11 +1,12 @@
 //! The verdict of running a mutant alone.
 
-ghost use Rattle.std.specs.Prelude.{◌≡◌, length, map, IfOk, IfErr};
+ghost use Rattle.std.specs.Prelude.{◌≡◌, IfOk, IfErr, IfSome, IsSome};
 ghost use Rattle.f77_check.specs.Checked.{shapes};
-ghost use Rattle.f77_program.specs.Program.{line_of};
+ghost use Rattle.f77_program.specs.Patching.{patched};
 ghost use Rattle.f77_tree.specs.Statement.{statement_of};
-ghost use Rattle.mothra_ops.specs.Edits.{IsMutant};
-ghost use Rattle.mothra_ops.specs.Mutants.{mutant_fields, program_of};
+ghost use Rattle.mothra_ops.specs.Change.{change_fields, copied_statements};
+ghost use Rattle.mothra_ops.specs.Edits.{numbered, IsMutant};
+ghost use Rattle.mothra_ops.specs.Mutants.{mutant_by, program_of};
 ghost use Rattle.mothra_bench.specs.Bench.{BenchFields, IsBench};
 ghost use Rattle.mothra_bench.specs.Verdict.{IsAlone, IsVerdict, IsNoVerdict, mutated};
 ghost use Rattle.mothra_bench.specs.declared.fault.BenchFault.TheVariants.{Memory};
@@ -16,9 +17,9 @@ use crate::killing::{kills_from_start, kills_of};
 use crate::want;
 use f77_check::Checked;
 use f77_run::{ChangedRunner, Values};
-use mothra_codes::Op;
+use f77_tree::Stmt;
 use mothra_exchange::Ticket;
-use mothra_ops::{Mutant, Mutants};
+use mothra_ops::{Change, Copies, Mutants};
 use std::alloc::Global;
 use std::marker::Model;
 
@@ -38,13 +39,12 @@ pub struct Verdicts<'a> {
     bench: &'a Bench,
     mutants: Mutants<'a>,
     runner: ChangedRunner<'a>,
-    /// The last mutant of each operator, in the order of the operators, in whose memory the
-    /// next is made: that changes most often the same statement.
-    made: Vec<Mutant>,
+    /// The statements of the program, among which a mutant stands while it is run.
+    copies: Copies,
 }
 
 impl<'a> Model for Verdicts<'a> {
-    ghost use Rattle.std.specs.Prelude.{◌≡◌, length};
+    ghost use Rattle.std.specs.Prelude.{◌≡◌};
     ghost use Rattle.std.specs.Coded.{codes};
     ghost use Rattle.f77_tree.specs.contracts.tree.Expr as expr;
     ghost use Rattle.f77_tree.specs.contracts.statement.Stmt as stmt;
@@ -52,6 +52,8 @@ impl<'a> Model for Verdicts<'a> {
     ghost use Rattle.f77_actions.specs.contracts.expression.Condition as condition;
     ghost use Rattle.f77_actions.specs.contracts.expression.Element as element;
     ghost use Rattle.f77_actions.specs.contracts.expression.Number as number;
+    ghost use Rattle.mothra_ops.specs.Change.{copied_statements, statements_of};
+    ghost use Rattle.mothra_ops.specs.Mutants.{program_of};
     ghost use Rattle.mothra_bench.specs.Bench.{BenchFields, IsBench};
 
     ghost Value = { BenchFields };
@@ -70,67 +72,107 @@ impl<'a> Model for Verdicts<'a> {
 
     ghost invariant = { λ verdicts. IsBench verdicts.bench.now × (verdicts.mutants ≡ verdicts.bench.now.plan)
         × (verdicts.runner.checked ≡ verdicts.bench.now.plan.checked)
-        × (length verdicts.made.items ≡ 22) };
+        × (copied_statements verdicts.copies ≡ statements_of (program_of verdicts.bench.now.plan)) };
 }
 
-/// A place for a mutant of each operator.
-fn places(alloc: Global) -> Result<Vec<Mutant>, BenchFault>
-    ensures places { IfOk result (λ places. length places.items ≡ 22) }
-    ensures memory { IfErr result (λ fault. fault ≡ Memory) }
-{
-    let mut places = Vec::with_capacity(alloc, Op::ALL.len())?;
-    for _op in 0..Op::ALL.len() {
-        places.push(Mutant::place())?;
-    }
-    Ok(places)
-}
-
-/// Which tests kill the mutant, whose runs all begin at the start.
+/// Which tests kill the mutant with this in the place of the
+/// statement of this number, whose runs all begin at the start.
 fn kills_of_whole_runs(
     alloc: Global,
     bench: &Bench,
-    mutant: &Mutant,
+    number: usize,
+    stmt: &Stmt,
 ) -> Result<Values<bool>, BenchFault>
-    requires mutant { IsMutant (program_of bench.now.plan) mutant.now.number (statement_of mutant.now.stmt) }
-    requires shapes { shapes (mutated (program_of bench.now.plan) (mutant_fields mutant.now))
+    requires mutant { IsMutant (program_of bench.now.plan) number (statement_of stmt.now) }
+    requires shapes { shapes (patched (program_of bench.now.plan) number (statement_of stmt.now))
         ≡ shapes (program_of bench.now.plan) }
     ensures kills { IfOk result
-        (λ kills. IsAlone (program_of bench.now.plan) (mutated (program_of bench.now.plan) (mutant_fields mutant.now))
-        bench.now.steps bench.now.tests kills) }
+        (λ kills. IsAlone (program_of bench.now.plan)
+        (patched (program_of bench.now.plan) number (statement_of stmt.now)) bench.now.steps bench.now.tests kills) }
     ensures memory { IfErr result (λ fault. fault ≡ Memory) }
 {
-    match bench.plan().program().patched(mutant.number, &mutant.stmt) {
+    match bench.plan().program().patched(number, stmt) {
         Ok(changed) => kills_from_start(alloc, bench, &changed),
         Err(fault) => Err(want::of_check(&fault)),
     }
 }
 
-/// Which tests kill the mutant: it is run from where it parts from the program, where that can be.
+/// The same, where the mutant is run from where it parts from the program, if that can be.
 fn kills(
     alloc: Global,
     bench: &Bench,
     runner: &mut ChangedRunner<'_>,
-    mutant: &Mutant,
+    number: usize,
+    stmt: &Stmt,
 ) -> Result<Values<bool>, BenchFault>
     requires program { runner.old.checked ≡ bench.now.plan.checked }
-    requires mutant { IsMutant (program_of bench.now.plan) mutant.now.number (statement_of mutant.now.stmt) }
-    requires shapes { shapes (mutated (program_of bench.now.plan) (mutant_fields mutant.now))
+    requires mutant { IsMutant (program_of bench.now.plan) number (statement_of stmt.now) }
+    requires shapes { shapes (patched (program_of bench.now.plan) number (statement_of stmt.now))
         ≡ shapes (program_of bench.now.plan) }
     ensures program { runner.new.checked ≡ runner.old.checked }
     ensures kills { IfOk result
-        (λ kills. IsAlone (program_of bench.now.plan) (mutated (program_of bench.now.plan) (mutant_fields mutant.now))
-        bench.now.steps bench.now.tests kills) }
+        (λ kills. IsAlone (program_of bench.now.plan)
+        (patched (program_of bench.now.plan) number (statement_of stmt.now)) bench.now.steps bench.now.tests kills) }
     ensures memory { IfErr result (λ fault. fault ≡ Memory) }
 {
-    let program = bench.plan().program();
-    match program.resolved_in_place(mutant.number, &mutant.stmt) {
-        Ok(Some(resolved)) => {
-            runner.change(mutant.number, &mutant.stmt, resolved);
-            kills_of(alloc, bench, runner)
-        }
-        Ok(None) => kills_of_whole_runs(alloc, bench, mutant),
+    match runner.change(number, stmt) {
+        Ok(true) => kills_of(alloc, bench, runner),
+        Ok(false) => kills_of_whole_runs(alloc, bench, number, stmt),
         Err(fault) => Err(want::of_check(&fault)),
     }
+}
+
+/// The same of the mutant that stands among these copies, at the statement of this number.
+fn kills_of_copy(
+    alloc: Global,
+    bench: &Bench,
+    runner: &mut ChangedRunner<'_>,
+    number: usize,
+    copies: &Copies,
+) -> Result<Values<bool>, BenchFault>
+    requires program { runner.old.checked ≡ bench.now.plan.checked }
+    requires there { IsSome (numbered (copied_statements copies.now) number) }
+    requires mutant { IfSome (numbered (copied_statements copies.now) number)
+        (IsMutant (program_of bench.now.plan) number) }
+    requires shapes { IfSome (numbered (copied_statements copies.now) number)
+        (λ s. shapes (patched (program_of bench.now.plan) number s) ≡ shapes (program_of bench.now.plan)) }
+    ensures program { runner.new.checked ≡ runner.old.checked }
+    ensures kills { IfOk result (λ kills. IfSome (numbered (copied_statements copies.now) number)
+        (λ s. IsAlone (program_of bench.now.plan) (patched (program_of bench.now.plan) number s) bench.now.steps
+        bench.now.tests kills)) }
+    ensures memory { IfErr result (λ fault. fault ≡ Memory) }
+{
+    match copies.at(number) {
+        Some(stmt) => kills(alloc, bench, runner, number, stmt),
+        None => unreachable!(),
+    }
+}
+
+/// Which tests kill the mutant that this changes, which stands among these copies for a while.
+fn kills_by(
+    alloc: Global,
+    bench: &Bench,
+    runner: &mut ChangedRunner<'_>,
+    mut change: Change,
+    copies: &mut Copies,
+) -> Result<Values<bool>, BenchFault>
+    requires program { runner.old.checked ≡ bench.now.plan.checked }
+    requires there { IsSome (mutant_by (copied_statements copies.old) (change_fields change)) }
+    requires mutant { IfSome (mutant_by (copied_statements copies.old) (change_fields change))
+        (λ m. IsMutant (program_of bench.now.plan) m.number m.statement) }
+    requires shapes { IfSome (mutant_by (copied_statements copies.old) (change_fields change))
+        (λ m. shapes (mutated (program_of bench.now.plan) m) ≡ shapes (program_of bench.now.plan)) }
+    ensures program { runner.new.checked ≡ runner.old.checked }
+    ensures copies { copied_statements copies.new ≡ copied_statements copies.old }
+    ensures kills { IfOk result (λ kills. IfSome (mutant_by (copied_statements copies.old) (change_fields change))
+        (λ m. IsAlone (program_of bench.now.plan) (mutated (program_of bench.now.plan) m) bench.now.steps
+        bench.now.tests kills)) }
+    ensures memory { IfErr result (λ fault. fault ≡ Memory) }
+{
+    copies.exchange(&mut change);
+    let kills = kills_of_copy(alloc, bench, runner, change.number(), copies);
+    copies.exchange(&mut change);
+    kills
 }
 
 impl<'a> Verdicts<'a> {
@@ -139,7 +181,10 @@ impl<'a> Verdicts<'a> {
         ensures verdicts { IfOk result (λ verdicts. verdicts ≡ bench.now) }
         ensures memory { IfErr result (λ fault. fault ≡ Memory) }
     {
-        let made = places(alloc)?;
+        let copies = match Copies::of(alloc, bench.plan().program()) {
+            Ok(copies) => copies,
+            Err(fault) => return Err(want::of_plan(fault)),
+        };
         let runner = match ChangedRunner::of(alloc, bench.plan().program()) {
             Ok(runner) => runner,
             Err(fault) => return Err(want::of_run(fault)),
@@ -149,7 +194,7 @@ impl<'a> Verdicts<'a> {
                 bench,
                 mutants,
                 runner,
-                made,
+                copies,
             }),
             Err(fault) => Err(want::of_plan(fault)),
         }
@@ -162,13 +207,18 @@ impl<'a> Verdicts<'a> {
         ensures kills { IfOk result (λ row. IsVerdict self.old ticket row.kills) }
         ensures refused { IfErr result (λ fault. IsNoVerdict self.old.plan ticket fault) }
     {
-        let mutant = &mut self.made[ticket.op.index()];
-        match self.mutants.remake(alloc, ticket.op, ticket.number, mutant) {
-            Ok(true) => {}
-            Ok(false) => return Err(BenchFault::Stranger(ticket)),
+        let change = match self.mutants.change(alloc, ticket.op, ticket.number) {
+            Ok(Some(change)) => change,
+            Ok(None) => return Err(BenchFault::Stranger(ticket)),
             Err(fault) => return Err(want::of_plan(fault)),
-        }
-        match kills(alloc, self.bench, &mut self.runner, mutant) {
+        };
+        match kills_by(
+            alloc,
+            self.bench,
+            &mut self.runner,
+            change,
+            &mut self.copies,
+        ) {
             Ok(kills) => Ok(Row { ticket, kills }),
             Err(fault) => Err(fault),
         }

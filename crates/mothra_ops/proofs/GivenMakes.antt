@@ -1,27 +1,29 @@
 -- What an edit makes, by what its operator gives its node.
-use Rattle.std.proofs.Common.{◌≡◌, ℕ, List, [], map, Option, Some, None, refl, ap, sym, ◌∙◌}
+use Rattle.std.proofs.Common.{◌≡◌, ℕ, zero, suc, List, [], map, Option, Some, None, refl, ap, sym, ◌∙◌}
 use Rattle.std.specs.Prelude.{option_map, slice_get}
 use Rattle.std.specs.Option.{option_and_then, option_map_or}
-use Rattle.std.proofs.lemmas.Option.{none-some}
+use Rattle.std.proofs.lemmas.Option.{none-some, slice_get-map}
+use Rattle.f77_check.specs.Checked.{CheckedFields}
 use Rattle.f77_nodes.specs.Node.{NodeOf, nodes_of}
 use Rattle.f77_program.specs.Program.{LineFields, line_of, line_at}
 use Rattle.f77_tree.specs.Statement.{statement_of, Statement}
 use Rattle.f77_program.specs.declared.program.Line.{Line}
 use Rattle.f77_sites.specs.Sites.{Site, changed, sites}
+use Rattle.mothra_ops.specs.Change.{ChangeFields, statements_of}
 use Rattle.mothra_ops.specs.Edits.{made, numbered}
-use Rattle.mothra_ops.specs.code.Given.{IsFor}
-use Rattle.mothra_ops.specs.Given.{IsGiven, given_at}
-use Rattle.mothra_ops.specs.Original.{lines_of}
-use Rattle.mothra_ops.specs.Pools.{PoolFields, pool_fields}
+use Rattle.mothra_ops.specs.Given.{given_at}
+use Rattle.mothra_ops.specs.code.Given.{change_given}
+use Rattle.mothra_ops.specs.Mutants.{MutantFields, mutant_by, mutant_made, program_of}
+use Rattle.mothra_ops.specs.Original.{IsOriginal, lines_of}
+use Rattle.mothra_ops.specs.Plan.{PlanFields}
+use Rattle.mothra_ops.specs.Pools.{PoolFields, pool_fields, pools_of}
 use Rattle.mothra_ops.specs.Replacements.{gives}
 use Rattle.mothra_ops.specs.declared.edit.Edit.{Edit}
-use Rattle.mothra_ops.specs.declared.given.Given.{Given}
 use Rattle.mothra_ops.specs.declared.original.Original.{Original}
-use Rattle.mothra_codes.specs.declared.op.Op.{Op}
-use Rattle.f77_sites.specs.Replacement.{replacement_of}
 use Rattle.mothra_ops.proofs.Made.{no_node, no_new, the_new}
 use Rattle.mothra_ops.proofs.MakesMutant.{line_numbered}
-use Rattle.mothra_ops.proofs.Numbered.{nothing_numbered}
+use Rattle.mothra_ops.proofs.Numbered.{nothing_numbered, of_edit}
+use Rattle.mothra_ops.proofs.Taken.{puts}
 
 module _ (pools : PoolFields) (lines : List Line) (edit : Edit) where
   abbrev given : List NodeOf
@@ -79,10 +81,53 @@ module _ (pools : PoolFields) (lines : List Line) (edit : Edit) where
       by (Some line) e = not_made line e none
       by None e = none_made e
 
--- what is kept is given for the edit
-pub given_for : (original : Original) (given : Given) (edit : Edit) → IsGiven original given → IsFor given edit
-    → map replacement_of given.replacements.items ≡ given_at (pool_fields original.pools) (lines_of original) edit.op edit.statement edit.position
-given_for original given edit is own =
-    is ∙ ap (λ (op : Op). given_at (pool_fields original.pools) (lines_of original) op given.statement given.position) own.op
-    ∙ ap (λ (n : ℕ). given_at (pool_fields original.pools) (lines_of original) edit.op n given.position) own.statement
-    ∙ ap (λ (n : ℕ). given_at (pool_fields original.pools) (lines_of original) edit.op edit.statement n) own.position
+-- an item of a list that was made item by item
+numbered-map : {A B : Type 0} (f : A → B) (xs : List A) (n : ℕ) → numbered (map f xs) n ≡ option_map f (numbered xs n)
+numbered-map f xs zero = refl
+numbered-map f xs (suc k) = slice_get-map f xs k
+
+-- the change that is given makes of the statements what the edit makes of the program
+module _ (pools : PoolFields) (lines : List Line) (edit : Edit) where
+  abbrev statements : List Statement
+  statements = statements_of (map line_of lines)
+
+  abbrev makes_of : List NodeOf → Option MutantFields
+  makes_of nodes = option_and_then (mutant_by statements) (option_map (puts edit) (numbered nodes edit.rank))
+
+  statement_there : (line : Line) → line_at lines edit.statement ≡ Some line → numbered statements edit.statement ≡ Some (statement_of line.stmt)
+  statement_there line at =
+      numbered-map (λ (l : LineFields). l.stmt) (map line_of lines) edit.statement
+      ∙ ap (option_map (λ (l : LineFields). l.stmt)) (line_numbered lines edit.statement ∙ ap (option_map line_of) at)
+
+  pub given_makes : option_and_then (mutant_by statements) (change_given pools (map line_of lines) edit)
+      ≡ option_map (of_edit edit) (made pools (map line_of lines) edit)
+  given_makes = by_line (line_at lines edit.statement) refl
+    where
+      by_given : (line : Line) (o : Option NodeOf) → line_at lines edit.statement ≡ Some line → numbered (given pools lines edit) edit.rank ≡ o
+          → option_and_then (mutant_by statements) (option_map (puts edit) (numbered (given pools lines edit) edit.rank))
+          ≡ option_map (of_edit edit) (made pools (map line_of lines) edit)
+      by_given line None at e =
+          ap (λ (o : Option NodeOf). option_and_then (mutant_by statements) (option_map (puts edit) o)) e
+          ∙ sym (ap (option_map (of_edit edit)) (ungiven_unmade pools lines edit e))
+      by_given line (Some new) at e =
+          ap (λ (o : Option NodeOf). option_and_then (mutant_by statements) (option_map (puts edit) o)) e
+          ∙ ap (λ (o : Option Statement). option_map (of_edit edit) (option_map (λ s. changed s edit.position new) o)) (statement_there line at)
+          ∙ sym (ap (option_map (of_edit edit)) (given_made pools lines edit line at new e))
+
+      by_line : (o : Option Line) → line_at lines edit.statement ≡ o
+          → makes_of (given pools lines edit) ≡ option_map (of_edit edit) (made pools (map line_of lines) edit)
+      by_line (Some line) e = by_given line (numbered (given pools lines edit) edit.rank) e refl
+      by_line None e =
+          ap makes_of (none_given pools lines edit e)
+          ∙ ap (λ (o : Option NodeOf). option_and_then (mutant_by statements) (option_map (puts edit) o)) (nothing_numbered edit.rank)
+          ∙ sym (ap (option_map (of_edit edit)) (none_made pools lines edit e))
+
+-- the same of the plan's program
+pub made_by_change : (original : Original) (plan : PlanFields) (edit : Edit) (answer : Option ChangeFields) → IsOriginal original → original.checked.now ≡ plan.checked
+    → answer ≡ change_given (pool_fields original.pools) (lines_of original) edit
+    → option_and_then (mutant_by (statements_of (program_of plan))) answer ≡ mutant_made (program_of plan) edit
+made_by_change original plan edit answer own same is =
+    ap (option_and_then (mutant_by (statements_of (program_of plan))))
+    (is ∙ ap (λ (pools : PoolFields). change_given pools (lines_of original) edit) own
+    ∙ ap (λ (checked : CheckedFields). change_given (pools_of (map line_of checked.program)) (map line_of checked.program) edit) same)
+    ∙ given_makes (pools_of (program_of plan)) plan.checked.program edit

@@ -13,12 +13,17 @@ mod Cursor
 mod Members
 mod MakesMutant
 mod Comings
+mod Left
 mod Made
 mod NodeLists
 mod Applied
 mod Plans
 mod Numbered
+mod Taken
 mod GivenMakes
+mod Copying
+mod Changes
+mod MutantChanges
 mod Shapes
 mod FormedNodes
 mod FormedSites

@@ -1,9 +1,9 @@
 -- What an edit makes, by the line, the node and the replacement that are found.
-use Rattle.std.proofs.Common.{arith, ◌≡◌, ◌<◌, ◌≤◌, ◌-◌, ◌+◌, ℕ, zero, suc, length, List, map, refl, Option, Some, None, ap, sym, ◌∙◌, inl, inr, get_or}
+use Rattle.std.proofs.Common.{arith, ◌≡◌, ◌<◌, ◌≤◌, ◌-◌, ◌+◌, ℕ, zero, suc, length, List, map, drop, set, refl, Option, Some, None, ap, sym, ◌∙◌, inl, inr, get_or}
 use Rattle.std.specs.Prelude.{◌⊎◌, option_map, slice_get}
 use Rattle.std.specs.Option.{option_and_then}
 use Rattle.std.proofs.lemmas.Option.{none-some, slice_get-map, slice_get_cases, slice_get_past, slice_get_read}
-use Rattle.std.proofs.lemmas.List.{length-map}
+use Rattle.std.proofs.lemmas.List.{drop-drop, drop-set-lt, length-map, map-set}
 use Rattle.f77_nodes.specs.Node.{NodeOf, node_of, nodes_of}
 use Rattle.f77_program.specs.Program.{LineFields, line_of, line_at}
 use Rattle.f77_tree.specs.Statement.{statement_of, Statement}
@@ -18,6 +18,7 @@ use Rattle.mothra_ops.specs.Pools.{PoolFields}
 use Rattle.mothra_ops.specs.Replacements.{gives}
 use Rattle.mothra_ops.specs.declared.edit.Edit.{Edit}
 use Rattle.mothra_codes.specs.declared.op.Op.{Op}
+use Rattle.mothra_ops.proofs.Left.{numbered_behind}
 use Rattle.mothra_ops.proofs.Members.{node_there, made_there}
 use Rattle.mothra_ops.proofs.MakesMutant.{line_numbered}
 
@@ -60,11 +61,23 @@ module _ (op other : Op) (pools wanted : PoolFields) (s : Statement) (node : Nod
   pub the_given : gives other wanted s node ≡ map replacement_of replacements
   the_given = ap (λ (o : Op). gives o wanted s node) same ∙ ap (λ (p : PoolFields). gives op p s node) (sym drawn) ∙ sym given
 
-  pub given_next : (k : ℕ) (new : Replacement) → k < length replacements → new ≡ get_or replacements k new → numbered (gives other wanted s node) (k + 1) ≡ Some (replacement_of new)
-  given_next k new low is = ap (λ (ns : List NodeOf). numbered ns (k + 1)) the_given ∙ next_numbered replacements k new low is
-
   pub given_many : length (gives other wanted s node) ≡ length replacements
   given_many = ap length the_given ∙ length-map replacements replacement_of
+
+-- what an operator gives, where those before a rank were changed
+pub left_next : (op other : Op) (pools wanted : PoolFields) (s : Statement) (node : NodeOf) (replacements : List Replacement) (k : ℕ) (new : Replacement)
+    → other ≡ op → pools ≡ wanted → drop k (map replacement_of replacements) ≡ drop k (gives op pools s node) → k < length replacements → new ≡ get_or replacements k new
+    → numbered (gives other wanted s node) (k + 1) ≡ Some (replacement_of new)
+left_next op other pools wanted s node replacements k new same drawn left low is =
+    ap (λ (o : Op). numbered (gives o wanted s node) (k + 1)) same ∙ ap (λ (p : PoolFields). numbered (gives op p s node) (k + 1)) (sym drawn)
+    ∙ sym (numbered_behind (map replacement_of replacements) (gives op pools s node) k left (k + 1) (omega arith)) ∙ next_numbered replacements k new low is
+
+pub left_more : (given : List NodeOf) (replacements : List Replacement) (k : ℕ) (new : Replacement) → drop k (map replacement_of replacements) ≡ drop k given
+    → drop (k + 1) (map replacement_of (set replacements k new)) ≡ drop (k + 1) given
+left_more given replacements k new left =
+    let after : k < k + 1 = omega arith in
+    ap (drop (k + 1)) (map-set replacement_of replacements k new) ∙ drop-set-lt (k + 1) (map replacement_of replacements) k (replacement_of new) after
+    ∙ sym (drop-drop 1 k (map replacement_of replacements)) ∙ ap (drop 1) left ∙ drop-drop 1 k given
 
 -- where the statement has no node, and where the operator puts nothing of the rank
 module _ (pools : PoolFields) (lines : List Line) (edit : Edit) (line : Line) (at : line_at lines edit.statement ≡ Some line) where

@@ -1,5 +1,5 @@
 -- What an operator gives one node of a program.
-use Rattle.std.specs.Prelude.{◌≡◌, ℕ, List, [], map, slice_get}
+use Rattle.std.specs.Prelude.{◌≡◌, ℕ, List, [], drop, length, map, slice_get}
 use Rattle.std.specs.Option.{option_map_or}
 use Rattle.f77_nodes.specs.Node.{NodeOf, nodes_of}
 use Rattle.f77_program.specs.Program.{LineFields}
@@ -19,9 +19,11 @@ given_at pools program op statement position =
     option_map_or (λ line. option_map_or (gives op pools line.stmt)
     (slice_get (nodes_of line.stmt) position) []) (numbered program statement) []
 
--- it is what its operator gives its node in this program
-abbrev pub IsGiven : Original → Given → Type 0
-IsGiven original given =
-    map replacement_of given.replacements.items
-    ≡ given_at (pool_fields original.pools) (lines_of original) given.op
-    given.statement given.position
+-- it has what its operator gives its node in this program, but for those that were taken out
+pub record IsGiven (original : Original) (given : Given) : Type 0 where
+  pub count : length given.replacements.items
+      ≡ length (given_at (pool_fields original.pools) (lines_of original) given.op
+      given.statement given.position)
+  pub left : drop given.taken (map replacement_of given.replacements.items)
+      ≡ drop given.taken (given_at (pool_fields original.pools) (lines_of original) given.op
+      given.statement given.position)

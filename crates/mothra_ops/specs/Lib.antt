@@ -1,6 +1,7 @@
 pub mod Pools
 pub mod Replacements
 pub mod Edits
+pub mod Change
 pub mod Original
 pub mod Given
 pub mod Giving

@@ -7,6 +7,7 @@ use Rattle.f77_program.specs.Program.{LineFields, line_of}
 use Rattle.f77_tree.specs.Statement.{statement_of, Statement}
 use Rattle.mothra_codes.specs.Op.{code_of}
 use Rattle.mothra_codes.specs.declared.op.Op.{Op}
+use Rattle.mothra_ops.specs.Change.{ChangeFields, statement_made}
 use Rattle.mothra_ops.specs.Edits.{made, numbered}
 use Rattle.mothra_ops.specs.Plan.{PlanFields, edits_of}
 use Rattle.mothra_ops.specs.Pools.{pools_of}
@@ -29,6 +30,12 @@ abbrev pub mutant_made : List LineFields → Edit → Option MutantFields
 mutant_made program edit =
     option_map (λ statement. record { number = edit.statement; statement = statement })
     (made (pools_of program) program edit)
+
+-- the mutant that a change makes of these statements, if they have one of its number
+abbrev pub mutant_by : List Statement → ChangeFields → Option MutantFields
+mutant_by statements change =
+    option_map (λ statement. record { number = change.number; statement = statement })
+    (statement_made statements change)
 
 -- what the operator's edit of this number makes, none where it has no such edit
 abbrev pub mutant_of : PlanFields → Op → ℕ → Option MutantFields

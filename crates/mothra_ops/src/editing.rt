@@ -6,6 +6,7 @@ ghost use Rattle.f77_program.specs.Patching.{patched};
 ghost use Rattle.f77_tree.specs.Statement.{statement_of};
 ghost use Rattle.f77_sites.specs.Replacement.{replacement_of};
 ghost use Rattle.f77_sites.specs.Sites.{changed};
+ghost use Rattle.mothra_ops.specs.Change.{copied_statements, statements_of};
 ghost use Rattle.mothra_ops.specs.Edits.{IsCountedList, IsList, IsMember, IsMutant, IsNoList};
 ghost use Rattle.mothra_ops.specs.code.Edits.{IsMadeBy};
 ghost use Rattle.mothra_ops.specs.code.Listing.{HasCome};
@@ -13,47 +14,53 @@ ghost use Rattle.mothra_ops.specs.code.Original.{HasStatement, IsSiteOf};
 ghost use Rattle.mothra_ops.specs.Original.{IsOriginal, lines_of};
 ghost use Rattle.mothra_ops.specs.declared.fault.OpsFault.TheVariants.{Memory, NotASite};
 
+use crate::copies::Copies;
 use crate::edit::Edit;
 use crate::fault::{OpsFault, memory_fault};
 use crate::listing::{Limits, Listing};
-use crate::original::{Original, put};
+use crate::original::Original;
 use crate::replacing::gives;
 use crate::site::Site;
 use f77_check::Checked;
-use f77_sites::Replacement;
+use f77_sites::{Replacement, exchange};
 use f77_tree::Stmt;
 use mothra_codes::Op;
 use std::alloc::Global;
 
 impl Original<'_> {
-    /// Whether a mutant comes of putting the node at the site. It is made in the memory of `made`.
+    /// Whether a mutant comes of putting the node at the site. It stands in this copy of the statement for a while.
     fn makes_mutant(
         &self,
-        alloc: Global,
         site: Site<'_>,
-        new: &Replacement,
-        made: &mut Stmt,
+        new: &mut Replacement,
+        copy: &mut Stmt,
     ) -> Result<bool, OpsFault>
-        requires { site.position + 1 < 2 ^ 64 }
+        requires position { site.position + 1 < 2 ^ 64 }
+        requires copy { statement_of copy.old ≡ statement_of site.stmt.now }
         ensures decided { IfOk result (λ yes. IsTrue yes
             ↔ IsMutant (lines_of self.now) site.entry.number
-            (changed (statement_of site.entry.stmt.now) site.entry.position (replacement_of new.now))) }
+            (changed (statement_of site.entry.stmt.now) site.entry.position (replacement_of new.old))) }
+        ensures copy { OnOk result (statement_of copy.new ≡ statement_of site.entry.stmt.now) }
         ensures memory { IfErr result (λ fault. fault ≡ Memory) }
     {
-        put(alloc, site.stmt, site.position, new, made)?;
-        self.is_mutant(site.number, made)
+        exchange(copy, site.position, new);
+        let is_mutant = self.is_mutant(site.number, copy)?;
+        exchange(copy, site.position, new);
+        Ok(is_mutant)
     }
 
-    /// Puts the edits of a site into the list. What they make is made in the memory of `made`.
+    /// Puts the edits of a site into the list. What they make stands in this copy of the statement for a while.
     fn list_site(
         &self,
         alloc: Global,
         site: Site<'_>,
         listing: &mut Listing,
-        made: &mut Stmt,
+        copy: &mut Stmt,
     ) -> Result<(), OpsFault>
         requires every { 1 ≤ listing.now.every }
         requires position { site.position + 1 < 2 ^ 64 }
+        requires copy { statement_of copy.old ≡ statement_of site.stmt.now }
+        ensures copy { OnOk result (statement_of copy.new ≡ statement_of site.entry.stmt.now) }
         ensures same_op { listing.new.op ≡ listing.old.op }
         ensures same_every { listing.new.every ≡ listing.old.every }
         ensures come { OnOk result (IsOriginal self.now → IsSiteOf (lines_of self.now) site.entry
@@ -63,9 +70,9 @@ impl Original<'_> {
             → HasCome listing.old (lines_of self.now) site.entry.number site.entry.position 0
             → IsNoList listing.old.op (lines_of self.now) listing.old.every fault) }
     {
-        let replacements = gives(alloc, listing.op, &self.pools, site.stmt, site.node)?;
+        let mut replacements = gives(alloc, listing.op, &self.pools, site.stmt, site.node)?;
         for k in 0..replacements.len() {
-            if self.makes_mutant(alloc, site, &replacements[k], made)? {
+            if self.makes_mutant(site, &mut replacements[k], copy)? {
                 listing.add(Edit {
                     op: listing.op,
                     statement: site.number,
@@ -77,16 +84,18 @@ impl Original<'_> {
         Ok(())
     }
 
-    /// Puts the edits of a statement into the list. What they make is made in the memory of `made`.
+    /// Puts the edits of a statement into the list. What they make stands in this copy of it for a while.
     fn list_statement(
         &self,
         alloc: Global,
         number: usize,
         stmt: &Stmt,
         listing: &mut Listing,
-        made: &mut Stmt,
+        copy: &mut Stmt,
     ) -> Result<(), OpsFault>
-        requires { 1 ≤ listing.now.every }
+        requires every { 1 ≤ listing.now.every }
+        requires copy { statement_of copy.old ≡ statement_of stmt.now }
+        ensures copy { OnOk result (statement_of copy.new ≡ statement_of stmt.now) }
         ensures same_op { listing.new.op ≡ listing.old.op }
         ensures same_every { listing.new.every ≡ listing.old.every }
         ensures come { OnOk result
@@ -108,24 +117,32 @@ impl Original<'_> {
                 position,
                 node: nodes[position],
             };
-            self.list_site(alloc, site, listing, made)?;
+            self.list_site(alloc, site, listing, copy)?;
         }
         Ok(())
     }
 
-    /// The operator's whole list, thinned.
-    pub(crate) fn listing(&self, alloc: Global, op: Op, every: u32) -> Result<Listing, OpsFault>
-        requires { 1 ≤ every }
+    /// The operator's whole list, thinned. What its edits make stands among these copies for a while.
+    pub(crate) fn listing(
+        &self,
+        alloc: Global,
+        op: Op,
+        every: u32,
+        copies: &mut Copies,
+    ) -> Result<Listing, OpsFault>
+        requires every { 1 ≤ every }
+        requires copies { copied_statements copies.old ≡ statements_of (lines_of self.now) }
+        ensures copies { OnOk result (copied_statements copies.new ≡ copied_statements copies.old) }
         ensures op { IfOk result (λ listing. listing.op ≡ op) }
         ensures list { IfOk result (λ listing. IsOriginal self.now
             → IsCountedList op (lines_of self.now) every listing.edits.items listing.whole) }
         ensures refused { IfErr result (λ fault. IsOriginal self.now → IsNoList op (lines_of self.now) every fault) }
     {
         let mut listing = Listing::new(alloc, op, every, Limits::of_lists());
-        let mut made = Stmt::Continue;
         let lines = self.checked.program().lines();
         for i in 0..lines.len() {
-            self.list_statement(alloc, i + 1, &lines[i].stmt, &mut listing, &mut made)?;
+            let copy = &mut copies.list[i];
+            self.list_statement(alloc, i + 1, &lines[i].stmt, &mut listing, copy)?;
         }
         Ok(listing)
     }
@@ -141,7 +158,8 @@ pub fn edits(alloc: Global, checked: &Checked, op: Op, every: u32) -> Result<Vec
     ensures refused { IfErr result (λ fault. IsNoList op (map line_of checked.now.program) every fault) }
 {
     let original = Original::of(alloc, checked)?;
-    let listing = original.listing(alloc, op, every)?;
+    let mut copies = Copies::of(alloc, checked)?;
+    let listing = original.listing(alloc, op, every, &mut copies)?;
     Ok(listing.edits)
 }
 

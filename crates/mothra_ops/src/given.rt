@@ -2,15 +2,16 @@
 
 ghost use Rattle.std.specs.Prelude.{◌<◌, ◌+◌, ◌^◌, length};
 
+use crate::change::Change;
 use crate::edit::Edit;
 use crate::fault::OpsFault;
-use crate::original::{Original, put};
+use crate::original::Original;
 use f77_sites::Replacement;
-use f77_tree::Stmt;
 use mothra_codes::Op;
 use std::alloc::Global;
+use std::mem;
 
-/// What an operator puts in the place of one node.
+/// What an operator puts in the place of one node. Who asks for it takes it out.
 #[derive(Drop)]
 pub(crate) struct Given {
     op: Op,
@@ -20,14 +21,15 @@ pub(crate) struct Given {
     position: usize,
     /// In the order of the ranks.
     replacements: Vec<Replacement>,
+    /// The last rank that was asked for, 0 at first: the replacements behind it are there.
+    taken: usize,
     ghost counted: { 0 < length replacements.items → position + 1 < 2 ^ 64 },
 }
 
 impl Given {
-    ghost use Rattle.std.specs.Prelude.{◌≡◌, ◌↔◌, Some, None, if◌then◌else◌, OnOk, IfOk, IfErr, IsTrue};
-    ghost use Rattle.f77_tree.specs.Statement.{statement_of};
-    ghost use Rattle.mothra_ops.specs.Edits.{made};
-    ghost use Rattle.mothra_ops.specs.code.Given.{IsFor};
+    ghost use Rattle.std.specs.Prelude.{◌≡◌, true, option_map, OnOk, IfOk, IfErr};
+    ghost use Rattle.mothra_ops.specs.Change.{change_fields};
+    ghost use Rattle.mothra_ops.specs.code.Given.{IsFor, change_given};
     ghost use Rattle.mothra_ops.specs.Given.{IsGiven};
     ghost use Rattle.mothra_ops.specs.Original.{lines_of};
     ghost use Rattle.mothra_ops.specs.Pools.{pool_fields};
@@ -43,6 +45,7 @@ impl Given {
             statement: 0,
             position: 0,
             replacements: Vec::new(alloc),
+            taken: 0,
         }
     }
 
@@ -58,14 +61,18 @@ impl Given {
             statement: edit.statement,
             position: edit.position,
             replacements,
+            taken: 0,
         })
     }
 
-    /// Whether it is of the operator and the node of the edit.
+    /// Whether it is of the operator and the node of the edit, whose replacement was not taken out.
     fn is_for(&self, edit: &Edit) -> bool
-        ensures { IsTrue result ↔ IsFor self.now edit.now }
+        ensures { result ≡ true → IsFor self.now edit.now }
     {
-        self.op == edit.op && self.statement == edit.statement && self.position == edit.position
+        self.op == edit.op
+            && self.statement == edit.statement
+            && self.position == edit.position
+            && self.taken < edit.rank
     }
 
     /// Becomes what is given for the edit, where it is of another operator or node.
@@ -85,29 +92,22 @@ impl Given {
         Ok(())
     }
 
-    /// The statement that the edit makes is put in the place of `statement`, in whose memory it is made: whether there
-    /// is one, which is not where no replacement has its rank.
-    pub(crate) fn remake(
-        &self,
-        alloc: Global,
-        original: &Original<'_>,
-        edit: &Edit,
-        statement: &mut Stmt,
-    ) -> Result<bool, OpsFault>
-        requires given { IsGiven original.now self.now }
-        requires edit { IsFor self.now edit.now }
-        ensures made { IfOk result (λ found. (if found then Some (statement_of statement.new) else None)
-            ≡ made (pool_fields original.now.pools) (lines_of original.now) edit.now) }
-        ensures memory { IfErr result (λ fault. fault ≡ Memory) }
+    /// The change that the edit makes, taken out: none, where no replacement has its rank. It takes no memory.
+    pub(crate) fn take(&mut self, edit: &Edit) -> Option<Change>
+        requires { IsFor self.old edit.now }
+        ensures given { (original : Original) → IsGiven original self.old → IsGiven original self.new }
+        ensures change { (original : Original) → IsGiven original self.old
+            → option_map change_fields result ≡ change_given (pool_fields original.pools) (lines_of original) edit.now }
     {
         if edit.rank == 0 || edit.rank > self.replacements.len() {
-            return Ok(false);
+            return None;
         }
-        let Some(line) = original.checked.program().line(edit.statement) else {
-            return Ok(false);
-        };
-        let new = &self.replacements[edit.rank - 1];
-        put(alloc, &line.stmt, edit.position, new, statement)?;
-        Ok(true)
+        self.taken = edit.rank;
+        let place = &mut self.replacements[edit.rank - 1];
+        Some(Change {
+            number: edit.statement,
+            position: edit.position,
+            node: mem::replace(place, Replacement::Label(0)),
+        })
     }
 }

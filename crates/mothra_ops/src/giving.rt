@@ -1,19 +1,19 @@
 //! What operators give the nodes of a program, one node of each operator at a time.
 
-ghost use Rattle.std.specs.Prelude.{◌≡◌, Some, None, if◌then◌else◌, IfErr, IfOk};
-ghost use Rattle.f77_tree.specs.Statement.{statement_of};
-ghost use Rattle.mothra_ops.specs.Edits.{made};
+ghost use Rattle.std.specs.Prelude.{◌≡◌, option_map, IfErr, IfOk};
+ghost use Rattle.mothra_ops.specs.Change.{change_fields};
+ghost use Rattle.mothra_ops.specs.code.Given.{change_given};
 ghost use Rattle.mothra_ops.specs.Giving.{AreGiven};
 ghost use Rattle.mothra_ops.specs.Original.{lines_of};
 ghost use Rattle.mothra_ops.specs.Pools.{pool_fields};
 ghost use Rattle.mothra_ops.specs.declared.fault.OpsFault.TheVariants.{Memory};
 ghost use Rattle.mothra_ops.specs.declared.original.Original.{Original as OriginalModel};
 
+use crate::change::Change;
 use crate::edit::Edit;
 use crate::fault::OpsFault;
 use crate::given::Given;
 use crate::original::Original;
-use f77_tree::Stmt;
 use mothra_codes::Op;
 use std::alloc::Global;
 
@@ -37,24 +37,23 @@ impl Giving {
         Ok(Giving { list })
     }
 
-    /// The statement that the edit makes is put in the place of `statement`, in whose memory it is made: whether there
-    /// is one, which is not where no replacement has its rank.
-    /// What the operator gives the node is found once for edits of the node in a row.
-    pub(crate) fn remake(
+    /// The change that the edit makes: none, where no replacement has its rank.
+    /// What the operator gives the node is found once for edits of the node in a row, in the order of their ranks.
+    pub(crate) fn change(
         &mut self,
         alloc: Global,
         original: &Original<'_>,
         edit: &Edit,
-        statement: &mut Stmt,
-    ) -> Result<bool, OpsFault>
+    ) -> Result<Option<Change>, OpsFault>
         requires { AreGiven original.now self.old.list.items }
         ensures given { AreGiven original.now self.new.list.items }
-        ensures made { IfOk result (λ found. (if found then Some (statement_of statement.new) else None)
-            ≡ made (pool_fields original.now.pools) (lines_of original.now) edit.now) }
+        ensures change { IfOk result
+            (λ change. option_map change_fields change
+            ≡ change_given (pool_fields original.now.pools) (lines_of original.now) edit.now) }
         ensures memory { IfErr result (λ fault. fault ≡ Memory) }
     {
         let place = edit.op.index();
         self.list[place].turn_to(alloc, original, edit)?;
-        self.list[place].remake(alloc, original, edit, statement)
+        Ok(self.list[place].take(edit))
     }
 }

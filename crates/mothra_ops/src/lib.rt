@@ -1,6 +1,8 @@
 //! The operators of the mutation analyser.
 #![tactic(auto)]
 
+mod change;
+mod copies;
 mod edit;
 mod editing;
 mod expressions;
@@ -22,9 +24,11 @@ mod replacing;
 mod site;
 mod statements;
 
+pub use change::Change;
+pub use copies::Copies;
 pub use edit::Edit;
 pub use editing::{apply, edits};
 pub use fault::OpsFault;
 pub use mothra_codes::Op;
-pub use mutants::{Mutant, Mutants, push_name};
+pub use mutants::{Mutant, Mutants, push_name, write_name};
 pub use plan::Plan;

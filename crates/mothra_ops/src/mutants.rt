@@ -1,19 +1,20 @@
 //! The mutants of a plan, one at a time.
 
-ghost use Rattle.std.specs.Prelude.{◌≡◌, ◌++◌, if◌then◌else◌, option_map, string_bytes, codes, true, false, Some, None};
-ghost use Rattle.std.specs.Prelude.{IfOk, IfErr, IfSome, IfNone, OnOk, OnErr};
+ghost use Rattle.std.specs.Prelude.{◌≡◌, ◌++◌, option_map, string_bytes, codes, None};
+ghost use Rattle.std.specs.Prelude.{IfOk, IfErr, IfSome, IfNone, IsSome, OnOk, OnErr};
 ghost use Rattle.f77_check.specs.Checked.{shapes};
 ghost use Rattle.f77_program.specs.Canonical.{statement_text};
 ghost use Rattle.f77_program.specs.Patching.{patched};
 ghost use Rattle.f77_tree.specs.Statement.{statement_of};
 ghost use Rattle.mothra_ops.specs.Edits.{IsMutant, numbered};
-ghost use Rattle.mothra_ops.specs.Mutants.{change_text, line_number_at, mutant_fields, mutant_made};
+ghost use Rattle.mothra_ops.specs.Change.{change_fields, copied_statements, statements_of};
+ghost use Rattle.mothra_ops.specs.Mutants.{change_text, line_number_at, mutant_by, mutant_fields};
 ghost use Rattle.mothra_ops.specs.Mutants.{mutant_name, mutant_of, mutant_text, program_of};
-ghost use Rattle.mothra_ops.specs.Original.{IsOriginal};
 ghost use Rattle.mothra_ops.specs.Plan.{PlanFields, edits_of};
 ghost use Rattle.mothra_ops.specs.declared.fault.OpsFault.TheVariants.{Memory};
 
-use crate::edit::Edit;
+use crate::change::Change;
+use crate::copies::Copies;
 use crate::fault::OpsFault;
 use crate::giving::Giving;
 use crate::original::Original;
@@ -27,6 +28,9 @@ use std::marker::Model;
 /// Room for as many characters as most lines about a mutant have.
 const LINE: usize = 96;
 
+/// Room for as many characters as most names of mutants have.
+const NAME: usize = 24;
+
 /// What a mutant has in the place of a statement of the program.
 #[derive(Debug, Drop)]
 pub struct Mutant {
@@ -36,16 +40,6 @@ pub struct Mutant {
     pub stmt: Stmt,
 }
 
-impl Mutant {
-    /// The place of a mutant, where none stands yet. It takes no memory.
-    pub fn place() -> Mutant {
-        Mutant {
-            number: 0,
-            stmt: Stmt::Continue,
-        }
-    }
-}
-
 /// The mutants of a plan. What the operators draw from its program is found once,
 /// and what an operator gives a node once for its mutants of that node in a row.
 #[derive(Drop)]
@@ -53,13 +47,15 @@ pub struct Mutants<'a> {
     plan: &'a Plan,
     original: Original<'a>,
     giving: Giving,
-    /// The statement of the mutant that was told last, in whose memory that of the next is made.
-    told: Stmt,
+    /// Among which a mutant stands while it is told.
+    copies: Copies,
 }
 
 impl<'a> Model for Mutants<'a> {
     ghost use Rattle.std.specs.Prelude.{◌≡◌};
     ghost use Rattle.std.specs.Coded.{codes};
+    ghost use Rattle.mothra_ops.specs.Change.{copied_statements, statements_of};
+    ghost use Rattle.mothra_ops.specs.Original.{lines_of};
     ghost use Rattle.f77_tree.specs.contracts.tree.Expr as expr;
     ghost use Rattle.f77_tree.specs.contracts.statement.Stmt as stmt;
     ghost use Rattle.f77_actions.specs.contracts.action.Action as action;
@@ -86,7 +82,8 @@ impl<'a> Model for Mutants<'a> {
 
     ghost invariant = { λ mutants. IsOriginal mutants.original
         × (mutants.original.checked.now ≡ mutants.plan.now.checked)
-        × AreGiven mutants.original mutants.giving.list.items };
+        × AreGiven mutants.original mutants.giving.list.items
+        × (copied_statements mutants.copies ≡ statements_of (lines_of mutants.original)) };
 }
 
 impl<'a> Mutants<'a> {
@@ -97,11 +94,12 @@ impl<'a> Mutants<'a> {
     {
         let original = Original::of(alloc, plan.program())?;
         let giving = Giving::nothing(alloc)?;
+        let copies = Copies::of(alloc, plan.program())?;
         Ok(Mutants {
             plan,
             original,
             giving,
-            told: Stmt::Continue,
+            copies,
         })
     }
 
@@ -119,56 +117,39 @@ impl<'a> Mutants<'a> {
         ensures none { IfOk result (λ mutant. IfNone mutant (numbered (edits_of self.old op) number ≡ None)) }
         ensures memory { IfErr result (λ fault. fault ≡ Memory) }
     {
-        let mut mutant = Mutant::place();
-        if self.remake(alloc, op, number, &mut mutant)? {
-            Ok(Some(mutant))
-        } else {
-            Ok(None)
+        let Some(change) = self.change(alloc, op, number)? else {
+            return Ok(None);
+        };
+        let number = change.number();
+        match self.copies.at(number) {
+            Some(stmt) => Ok(Some(Mutant {
+                number,
+                stmt: change.made(stmt)?,
+            })),
+            None => Ok(None),
         }
     }
 
-    /// The same, put in the place of `mutant`, in whose memory it is made: whether there is one.
-    pub fn remake(
-        &mut self,
-        alloc: Global,
-        op: Op,
-        number: u32,
-        mutant: &mut Mutant,
-    ) -> Result<bool, OpsFault>
+    /// What the operator's mutant of this number changes; none where the plan has no such mutant.
+    pub fn change(&mut self, alloc: Global, op: Op, number: u32) -> Result<Option<Change>, OpsFault>
         ensures plan { self.new ≡ self.old }
-        ensures mutant { IfOk result (λ found.
-            (if found then Some (mutant_fields mutant.new) else None) ≡ mutant_of self.old op number) }
+        ensures mutant { IfOk result (λ change. IfSome change (λ c. mutant_of self.old op number
+            ≡ mutant_by (statements_of (program_of self.old)) (change_fields c))) }
+        // There is a statement of its number.
+        ensures there { IfOk result (λ change. IfSome change (λ c. IsSome (mutant_of self.old op number))) }
         // What it makes is legal, and another program.
-        ensures legal { IfOk result (λ found. found ≡ true
-            → IsMutant (program_of self.old) mutant.new.number (statement_of mutant.new.stmt)) }
+        ensures legal { IfOk result (λ change. IfSome change (λ c. IfSome (mutant_of self.old op number)
+            (λ m. IsMutant (program_of self.old) m.number m.statement))) }
         // It takes the arguments that the program takes.
-        ensures shapes { IfOk result (λ found. found ≡ true
-            → shapes (patched (program_of self.old) mutant.new.number (statement_of mutant.new.stmt))
-            ≡ shapes (program_of self.old)) }
-        ensures none { IfOk result (λ found. found ≡ false → numbered (edits_of self.old op) number ≡ None) }
+        ensures shapes { IfOk result (λ change. IfSome change (λ c. IfSome (mutant_of self.old op number)
+            (λ m. shapes (patched (program_of self.old) m.number m.statement) ≡ shapes (program_of self.old)))) }
+        ensures none { IfOk result (λ change. IfNone change (numbered (edits_of self.old op) number ≡ None)) }
         ensures memory { IfErr result (λ fault. fault ≡ Memory) }
     {
         match self.plan.edit(op, number) {
-            Some(edit) => self.remake_by(alloc, edit, mutant),
-            None => Ok(false),
+            Some(edit) => self.giving.change(alloc, &self.original, edit),
+            None => Ok(None),
         }
-    }
-
-    /// What an edit of the plan makes is put in the place of `mutant`: whether it makes something.
-    fn remake_by(
-        &mut self,
-        alloc: Global,
-        edit: &Edit,
-        mutant: &mut Mutant,
-    ) -> Result<bool, OpsFault>
-        ensures plan { self.new ≡ self.old }
-        ensures made { IfOk result (λ found.
-            (if found then Some (mutant_fields mutant.new) else None) ≡ mutant_made (program_of self.old) edit.now) }
-        ensures memory { IfErr result (λ fault. fault ≡ Memory) }
-    {
-        mutant.number = edit.statement;
-        self.giving
-            .remake(alloc, &self.original, edit, &mut mutant.stmt)
     }
 
     /// Appends where this mutant of the plan is changed: the line number of the statement, and the canonical text of
@@ -190,17 +171,14 @@ impl<'a> Mutants<'a> {
         ensures text { IfOk result (λ text. string_bytes text ≡ mutant_text self.old op number) }
         ensures memory { IfErr result (λ fault. fault ≡ Memory) }
     {
-        let Some(edit) = self.plan.edit(op, number) else {
+        let Some(mut change) = self.change(alloc, op, number)? else {
             return Ok(String::new(alloc));
         };
-        let found = self
-            .giving
-            .remake(alloc, &self.original, edit, &mut self.told)?;
-        if found {
-            told(alloc, self.plan, op, number, edit.statement, &self.told)
-        } else {
-            Ok(String::new(alloc))
-        }
+        let changed = change.number();
+        self.copies.exchange(&mut change);
+        let text = told_among(alloc, self.plan, op, number, changed, &self.copies);
+        self.copies.exchange(&mut change);
+        text
     }
 
     /// Appends how the operator's mutant of this number is told: its name, the line number of the statement that it
@@ -253,10 +231,30 @@ fn told(
         (record { number = changed; statement = statement_of stmt.now }))) }
     ensures memory { IfErr result (λ fault. fault ≡ Memory) }
 {
-    let mut text = name(alloc, plan.every(), op, number)?;
+    let mut text = name(alloc, LINE, plan.every(), op, number)?;
     text.push(' ')?;
     push_changed(&mut text, plan, changed, stmt)?;
     Ok(text)
+}
+
+/// The same, where the statement stands among these.
+fn told_among(
+    alloc: Global,
+    plan: &Plan,
+    op: Op,
+    number: u32,
+    changed: usize,
+    copies: &Copies,
+) -> Result<String, OpsFault>
+    ensures text { IfOk result (λ text. IfSome (numbered (copied_statements copies.now) changed) (λ s. string_bytes text
+        ≡ mutant_name plan.now.every op number ++ (codes " " ++ change_text (program_of plan.now)
+        (record { number = changed; statement = s })))) }
+    ensures memory { IfErr result (λ fault. fault ≡ Memory) }
+{
+    match copies.at(changed) {
+        Some(stmt) => told(alloc, plan, op, number, changed, stmt),
+        None => Ok(String::new(alloc)),
+    }
 }
 
 /// The canonical text of a statement.
@@ -271,24 +269,33 @@ fn printed(alloc: Global, stmt: &Stmt) -> Result<String, OpsFault>
     }
 }
 
-/// How a mutant is named.
-fn name(alloc: Global, every: u32, op: Op, number: u32) -> Result<String, AllocError>
-    ensures { IfOk result (λ name. string_bytes name ≡ mutant_name every op number) }
+/// Writes how a mutant is named in the place of what `name` has: the operator's code, its number,
+/// and its number in the whole list, of which each such item is kept.
+pub fn write_name(name: &mut String, every: u32, op: Op, number: u32) -> Result<(), AllocError>
+    ensures { OnOk result (string_bytes name.new ≡ mutant_name every op number) }
 {
     let code = op.code();
     let original = u64::from(number.saturating_sub(1)) * u64::from(every) + 1;
-    let mut name = String::with_capacity(alloc, LINE)?;
+    name.clear();
     write!(name, "{code} {number} {original}")?;
+    Ok(())
+}
+
+/// How a mutant is named, in a text that has room for so many characters.
+fn name(alloc: Global, room: usize, every: u32, op: Op, number: u32) -> Result<String, AllocError>
+    ensures { IfOk result (λ name. string_bytes name ≡ mutant_name every op number) }
+{
+    let mut name = String::with_capacity(alloc, room)?;
+    write_name(&mut name, every, op, number)?;
     Ok(name)
 }
 
-/// Appends how a mutant is named: the operator's code, its number, and its number in the whole list, of which each such
-/// item is kept.
+/// Appends how a mutant is named.
 pub fn push_name(text: &mut String, every: u32, op: Op, number: u32) -> Result<(), AllocError>
     ensures text { OnOk result (string_bytes text.new ≡ string_bytes text.old ++ mutant_name every op number) }
     ensures unchanged { OnErr result (string_bytes text.new ≡ string_bytes text.old) }
 {
     // The contract of `write!` does not say what a refusal leaves.
-    let name = name(*text.allocator(), every, op, number)?;
+    let name = name(*text.allocator(), NAME, every, op, number)?;
     text.push_str(&name)
 }

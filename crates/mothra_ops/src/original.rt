@@ -1,11 +1,7 @@
 //! The program that mutants are made of.
 
-ghost use Rattle.std.specs.Prelude.{◌≡◌, ◌<◌, ◌+◌, ◌^◌, OnOk, IfErr};
+ghost use Rattle.std.specs.Prelude.{◌≡◌};
 ghost use Rattle.std.specs.Coded.{Coded-set};
-ghost use Rattle.f77_tree.specs.Statement.{statement_of};
-ghost use Rattle.f77_sites.specs.Replacement.{replacement_of};
-ghost use Rattle.f77_sites.specs.Sites.{changed};
-ghost use Rattle.mothra_ops.specs.declared.fault.OpsFault.TheVariants.{Memory};
 
 use crate::edit::Edit;
 use crate::fault::OpsFault;
@@ -14,25 +10,9 @@ use crate::node_lists::NodeLists;
 use crate::pools::Pools;
 use crate::replacing::gives;
 use f77_check::{CheckFault, Checked};
-use f77_sites::{Replacement, remake};
+use f77_sites::Replacement;
 use f77_tree::Stmt;
 use std::alloc::Global;
-
-/// The statement with the new node at this position is put in the place of `made`, in whose memory it is made.
-pub(crate) fn put(
-    alloc: Global,
-    stmt: &Stmt,
-    position: usize,
-    new: &Replacement,
-    made: &mut Stmt,
-) -> Result<(), OpsFault>
-    requires { position + 1 < 2 ^ 64 }
-    ensures made { OnOk result
-        (statement_of made.new ≡ changed (statement_of stmt.now) position (replacement_of new.now)) }
-    ensures memory { IfErr result (λ fault. fault ≡ Memory) }
-{
-    Ok(remake(alloc, stmt, position, new.as_node(), made)?)
-}
 
 /// A checked program, with what the operators draw from it.
 #[derive(Drop)]
@@ -44,7 +24,10 @@ pub(crate) struct Original<'a> {
 }
 
 impl<'a> Original<'a> {
-    ghost use Rattle.std.specs.Prelude.{◌↔◌, length, map, option_map, IfOk, IsTrue};
+    ghost use Rattle.std.specs.Prelude.{◌↔◌, ◌<◌, ◌+◌, ◌^◌, length, map, option_map, IfOk, IfErr, IsTrue};
+    ghost use Rattle.f77_sites.specs.Replacement.{replacement_of};
+    ghost use Rattle.f77_tree.specs.Statement.{statement_of};
+    ghost use Rattle.mothra_ops.specs.declared.fault.OpsFault.TheVariants.{Memory};
     ghost use Rattle.mothra_ops.specs.code.Edits.{IsMadeBy};
     ghost use Rattle.mothra_ops.specs.Edits.{IsMutant};
     ghost use Rattle.mothra_ops.specs.Given.{given_at};
@@ -108,11 +91,14 @@ impl<'a> Original<'a> {
             (λ made. IsOriginal self.now → IsMadeBy (lines_of self.now) edit.now (option_map statement_of made)) }
         ensures memory { IfErr result (λ fault. fault ≡ Memory) }
     {
-        let given = Given::of(alloc, self, edit)?;
-        let mut made = Stmt::Continue;
-        if !given.remake(alloc, self, edit, &mut made)? {
+        let Some(line) = self.checked.program().line(edit.statement) else {
             return Ok(None);
-        }
+        };
+        let mut given = Given::of(alloc, self, edit)?;
+        let Some(change) = given.take(edit) else {
+            return Ok(None);
+        };
+        let made = change.made(&line.stmt)?;
         if self.is_mutant(edit.statement, &made)? {
             Ok(Some(made))
         } else {

@@ -14,6 +14,7 @@ ghost use Rattle.mothra_codes.specs.declared.op.Op.{Op};
 ghost use Rattle.mothra_ops.specs.Plan.{PlanFields, IsPlan, IsNoPlan, plan_fields, list_fields};
 ghost use Rattle.mothra_ops.specs.Plan.{list_of_operator, asked, edits_of, whole_of};
 
+use crate::copies::Copies;
 use crate::edit::Edit;
 use crate::fault::OpsFault;
 use crate::listing::Listing;
@@ -59,10 +60,11 @@ fn lists(alloc: Global, checked: &Checked, ops: &[Op], every: u32) -> Result<Vec
     ensures refused { IfErr result (λ fault. IsNoPlan ops.now (map line_of checked.now.program) every fault) }
 {
     let original = Original::of(alloc, checked)?;
+    let mut copies = Copies::of(alloc, checked)?;
     let mut lists = Vec::new(alloc);
     for op in Op::ALL {
         if ops.contains(&op) {
-            lists.push(original.listing(alloc, op, every)?)?;
+            lists.push(original.listing(alloc, op, every, &mut copies)?)?;
         }
     }
     Ok(lists)

@@ -22,14 +22,13 @@ fn is_noticed(
     if !old.fits(number, stmt) || old.patch_fault(number, stmt).is_some() {
         return Err(Fail::new("the statement does not fit"));
     }
-    let Some(resolved) = old.resolved_in_place(number, stmt)? else {
-        return Ok(None);
-    };
     let mut room = room;
     let mut own = Runner::of(rt.alloc(), old)?;
     let course = own.course(rt.alloc(), arguments, steps, &mut room)?;
     let mut runner = ChangedRunner::of(rt.alloc(), old)?;
-    runner.change(number, stmt, resolved);
+    if !runner.change(number, stmt)? {
+        return Ok(None);
+    }
     let same = runner.comes_to(&course.visits, arguments, steps, &course.outcome)?;
     Ok(Some(!same))
 }

@@ -1,4 +1,4 @@
-use Rattle.std.proofs.Common.{rules, ◌≡◌, map, arith, subst, sym, ℕ, ◌+◌, ◌++◌, ◌∷◌, List, [], nat_eq}
+use Rattle.std.proofs.Common.{rules, ◌≡◌, ◌∙◌, map, arith, subst, sym, ℕ, ◌+◌, ◌++◌, ◌∷◌, List, [], nat_eq}
 use Rattle.mothra_codes.specs.contracts.op.OpPartialEq.TheImpl.{ghosts}
 use Rattle.std.proofs.lemmas.Bool.Decides.{not_from_Decides}
 use Rattle.std.proofs.lemmas.List.Elements.{Decides-contains, contains_decides}
@@ -33,8 +33,11 @@ no_list original checked op every fault is same none =
     subst (λ (x : CheckedFields). IsNoList op (map line_of x.program) every fault) same (none is)
 
 pub loop-op-init : goal.loop-op-init
-loop-op-init c = subst (HasLists c.args.ops.now (map line_of c.args.checked.now.program) c.args.every 0) (sym c.new-lists.ensures.items)
-    (no_lists c.args.ops.now (map line_of c.args.checked.now.program) c.args.every)
+loop-op-init c = record {
+  copies = c.in_ok-copies.ensures.copies;
+  lists = subst (HasLists c.args.ops.now (map line_of c.args.checked.now.program) c.args.every 0) (sym c.new-lists.ensures.items)
+      (no_lists c.args.ops.now (map line_of c.args.checked.now.program) c.args.every);
+}
 
 pub returns-in_err-listing-clause-refused : goal.returns-in_err-listing-clause-refused
 returns-in_err-listing-clause-refused c =
@@ -42,7 +45,7 @@ returns-in_err-listing-clause-refused c =
     (contains_decides ghosts.eq (λ a b. one_op a b (ghosts.eq a b) (same_answer a b)) c.args.ops.now (op_at c.loop-op.op-index) c.contains.result c.contains.ensures.cases) in
     let told : IsNoPlan c.args.ops.now (map line_of c.args.checked.now.program) c.args.every c.in_err-listing.field-0.0 =
     no_plan c.args.ops.now (map line_of c.args.checked.now.program) c.args.every c.loop-op.op-index c.loop-op.lists.items (op_at c.loop-op.op-index) c.in_err-listing.field-0.0
-    (index-op_at c.loop-op.op-index c.loop-op-test.true) c.loop-op.invariant (decided.0 c.if-contains.true)
+    (index-op_at c.loop-op.op-index c.loop-op-test.true) c.loop-op.invariant.lists (decided.0 c.if-contains.true)
     (no_list c.in_ok-original.original c.args.checked.now (op_at c.loop-op.op-index) c.args.every c.in_err-listing.field-0.0
     c.in_ok-original.ensures.original c.in_ok-original.ensures.program c.in_err-listing.ensures.refused) in
     search rules
@@ -57,28 +60,34 @@ loop-op-preserved c = elim c.if-contains.branch [
       = counted_list c.in_ok-original.original c.args.checked.now (op_at c.loop-op.op-index) c.args.every w.in_ok-listing.field-0.edits.items w.in_ok-listing.field-0.whole
       c.in_ok-original.ensures.original c.in_ok-original.ensures.program w.in_ok-listing.ensures.list in
       let items : c.if-contains.lists.items ≡ c.loop-op.lists.items ++ w.in_ok-listing.field-0 ∷ [] = search rules in
-      subst (HasLists c.args.ops.now (map line_of c.args.checked.now.program) c.args.every (c.loop-op.op-index + 1)) (sym items)
-      (one_more_listed c.args.ops.now (map line_of c.args.checked.now.program) c.args.every c.loop-op.op-index c.loop-op.lists.items w.in_ok-listing.field-0 (op_at c.loop-op.op-index)
-      (index-op_at c.loop-op.op-index c.loop-op-test.true) own c.loop-op.invariant (decided.0 w.if-contains.true) counted)
+      record {
+        copies = rw w.copies-is (w.in_ok-listing.ensures.copies ∙ c.loop-op.invariant.copies);
+        lists = subst (HasLists c.args.ops.now (map line_of c.args.checked.now.program) c.args.every (c.loop-op.op-index + 1)) (sym items)
+            (one_more_listed c.args.ops.now (map line_of c.args.checked.now.program) c.args.every c.loop-op.op-index c.loop-op.lists.items w.in_ok-listing.field-0 (op_at c.loop-op.op-index)
+            (index-op_at c.loop-op.op-index c.loop-op-test.true) own c.loop-op.invariant.lists (decided.0 w.if-contains.true) counted);
+      }
   | else-contains w ↦
       let decided = Decides-contains c.args.ops.now (op_at c.loop-op.op-index) c.contains.result
       (contains_decides ghosts.eq (λ a b. one_op a b (ghosts.eq a b) (same_answer a b)) c.args.ops.now (op_at c.loop-op.op-index) c.contains.result c.contains.ensures.cases) in
       let items : c.if-contains.lists.items ≡ c.loop-op.lists.items = search rules in
-      subst (HasLists c.args.ops.now (map line_of c.args.checked.now.program) c.args.every (c.loop-op.op-index + 1)) (sym items)
-      (none_more c.args.ops.now (map line_of c.args.checked.now.program) c.args.every c.loop-op.op-index c.loop-op.lists.items (op_at c.loop-op.op-index)
-      (index-op_at c.loop-op.op-index c.loop-op-test.true) (not_from_Decides c.contains.result decided w.if-contains.false) c.loop-op.invariant)
+      record {
+        copies = rw w.copies-is c.loop-op.invariant.copies;
+        lists = subst (HasLists c.args.ops.now (map line_of c.args.checked.now.program) c.args.every (c.loop-op.op-index + 1)) (sym items)
+            (none_more c.args.ops.now (map line_of c.args.checked.now.program) c.args.every c.loop-op.op-index c.loop-op.lists.items (op_at c.loop-op.op-index)
+            (index-op_at c.loop-op.op-index c.loop-op-test.true) (not_from_Decides c.contains.result decided w.if-contains.false) c.loop-op.invariant.lists);
+      }
 ]
 
 pub returns-clause-lists : goal.returns-clause-lists
 returns-clause-lists c =
     let end : c.loop-op.op-index ≡ 22 = omega (arith, c.loop-op-test.false, c.loop-op.auto.op-index-end) in
     is_plan c.args.ops.now c.args.checked.now c.args.every c.loop-op.lists.items c.requires
-    (subst (λ (k : ℕ). HasLists c.args.ops.now (map line_of c.args.checked.now.program) c.args.every k c.loop-op.lists.items) end c.loop-op.invariant)
+    (subst (λ (k : ℕ). HasLists c.args.ops.now (map line_of c.args.checked.now.program) c.args.every k c.loop-op.lists.items) end c.loop-op.invariant.lists)
 
 pub returns-clause-asked : goal.returns-clause-asked
 returns-clause-asked c op =
     let end : c.loop-op.op-index ≡ 22 = omega (arith, c.loop-op-test.false, c.loop-op.auto.op-index-end) in
-    let has = subst (λ (k : ℕ). HasLists c.args.ops.now (map line_of c.args.checked.now.program) c.args.every k c.loop-op.lists.items) end c.loop-op.invariant in (
+    let has = subst (λ (k : ℕ). HasLists c.args.ops.now (map line_of c.args.checked.now.program) c.args.every k c.loop-op.lists.items) end c.loop-op.invariant.lists in (
       was_asked c.args.ops.now (map line_of c.args.checked.now.program) c.args.every c.loop-op.lists.items has op,
       is_asked c.args.ops.now (map line_of c.args.checked.now.program) c.args.every c.loop-op.lists.items has op,
     )

@@ -3,10 +3,10 @@ use Rattle.std.specs.Prelude.{slice_get}
 use Rattle.std.proofs.lemmas.Option.{slice_get_read}
 use Rattle.f77_program.specs.Program.{line_of}
 use Rattle.f77_check.specs.Checked.{CheckedFields}
-use Rattle.f77_run.specs.Changed.{ChangedFields}
+use Rattle.f77_run.specs.Changed.{ChangedFields, changed_fields}
 use Rattle.f77_run.specs.Interpreter.{IsOutcomeOf}
 use Rattle.f77_run.specs.Visits.{IsFollowed}
-use Rattle.f77_run.proofs.Exchanged.{agree_but, are_parting, visits_there, visits_within}
+use Rattle.f77_run.proofs.Exchanged.{agree_elsewhere, are_parting, visits_there, visits_within}
 use Rattle.f77_run.proofs.changed.ChangedRunner.comes_to.Goals as goal
 
 pub comes_alike-requires : goal.comes_alike-requires
@@ -24,18 +24,18 @@ comes_alike-requires c =
       (
         are_parting change arguments is follows.fitting,
         (
-          agree_but change.checked.now.statements change.statements.items change.place change.own is.own,
+          agree_elsewhere (changed_fields change) change.statements.items change.own is,
           (
             is,
             (
-              c.self.invariant.2,
+              c.self.invariant.3,
               (
-                c.self.invariant.3,
+                c.self.invariant.4,
                 (
                   visits_there change arguments is c.args.steps c.args.visits.now c.index-visited.result.now follows at,
                   (
                     subst (λ (checked : CheckedFields). IsOutcomeOf (map line_of checked.program) arguments c.args.steps c.args.outcome.now) (sym same) c.requires.outcome,
-                    (c.self.invariant.1, λ own here. follows.decided change.place c.index-visited.result.now own at here),
+                    (c.self.invariant.2, λ own here. follows.decided change.place c.index-visited.result.now own at here),
                   ),
                 ),
               ),

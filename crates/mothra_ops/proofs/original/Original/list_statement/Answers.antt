@@ -32,6 +32,7 @@ loop-position-preserved c =
     record {
       same_op = c.in_ok-list_site.ensures.same_op ∙ c.loop-position.invariant.same_op;
       same_every = c.in_ok-list_site.ensures.same_every ∙ c.loop-position.invariant.same_every;
+      copy = c.in_ok-list_site.ensures.copy;
       come = λ own has come. c.in_ok-list_site.ensures.come own
           (record {
             statement_at = has;

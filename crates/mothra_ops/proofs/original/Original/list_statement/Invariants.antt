@@ -9,6 +9,7 @@ abbrev pub invariant-loop-position : goal.invariant-loop-position
 invariant-loop-position l = record {
   same_op : l.listing.op ≡ l.fn.listing.op;
   same_every : l.listing.every ≡ l.fn.listing.every;
+  copy : statement_of l.copy ≡ statement_of l.stmt;
   come : IsOriginal l.self → HasStatement (lines_of l.self) l.number (statement_of l.stmt) → HasCome l.fn.listing (lines_of l.self) l.number 0 0
       → HasCome l.listing (lines_of l.self) l.number l.position 0;
 }

@@ -4,9 +4,11 @@ use Rattle.std.proofs.lemmas.Result.{err_from_is_err_and}
 use Rattle.f77_program.specs.Program.{line_of}
 use Rattle.f77_tree.specs.Statement.{statement_of}
 use Rattle.f77_program.specs.declared.program.Line.{Line}
+use Rattle.mothra_ops.specs.Change.{statements_of}
 use Rattle.mothra_ops.specs.code.Original.{HasStatement}
 use Rattle.mothra_ops.specs.Original.{lines_of}
 use Rattle.mothra_ops.proofs.Comings.{come_at_start, come_to_end, counted_of, no_list_of}
+use Rattle.mothra_ops.proofs.Copying.{again, as_many, copy_is}
 use Rattle.mothra_ops.proofs.Made.{line_has}
 use Rattle.mothra_ops.proofs.original.Original.listing.Goals as goal
 
@@ -14,6 +16,7 @@ pub loop-i-init : goal.loop-i-init
 loop-i-init c = record {
   op = c.new-listing.ensures.op;
   every = c.new-listing.ensures.every;
+  copies = c.requires.copies;
   come = λ own. come_at_start _ (lines_of c.args.self.now) (c.new-listing.ensures.limits ∙ c.of_lists.ensures) c.new-listing.ensures.empty;
 }
 
@@ -28,8 +31,21 @@ returns-in_err-list_statement-clause-refused c =
     no_list_of c.args.op c.loop-i.listing.op (lines_of c.args.self.now) c.args.every c.loop-i.listing.every c.in_err-list_statement.field-0.0 c.loop-i.invariant.op c.loop-i.invariant.every
     (c.in_err-list_statement.ensures.refused own has (c.loop-i.invariant.come own)))
 
+pub list_statement-requires-clause-copy : goal.list_statement-requires-clause-copy
+list_statement-requires-clause-copy c =
+    let lines = c.lines-lines.result.now in
+    let same : lines ≡ c.args.self.now.checked.now.program = c.lines-lines.ensures.lines ∙ c.program.ensures.program in
+    let all = c.loop-i.invariant.copies ∙ ap (λ (ls : List Line). statements_of (map line_of ls)) (sym same) in
+    copy_is lines c.loop-i.copies.list.items all c.loop-i.i c.index_mut-copy.result.now c.index-lines-i.result c.loop-i-test.true c.index-lines-i.is c.index_mut-copy.ensures.value
+    ∙ ap (λ (l : Line). statement_of l.stmt) (sym c.deref.ensures)
+
 pub loop-i-preserved : goal.loop-i-preserved
 loop-i-preserved c =
+    let lines = c.lines-lines.result.now in
+    let copies = c.loop-i.copies.list.items in
+    let same : lines ≡ c.args.self.now.checked.now.program = c.lines-lines.ensures.lines ∙ c.program.ensures.program in
+    let all = c.loop-i.invariant.copies ∙ ap (λ (ls : List Line). statements_of (map line_of ls)) (sym same) in
+    let within : c.loop-i.i < length copies = omega (arith, as_many lines copies all, c.loop-i-test.true) in
     let has : HasStatement (lines_of c.args.self.now) (c.loop-i.i + 1) (statement_of c.deref.result.now.stmt) =
     subst (λ (ls : List Line). HasStatement (map line_of ls) (c.loop-i.i + 1) (statement_of c.deref.result.now.stmt)) (c.lines-lines.ensures.lines ∙ c.program.ensures.program)
     (subst (λ (l : Line). HasStatement (map line_of c.lines-lines.result.now) (c.loop-i.i + 1) (statement_of l.stmt)) (sym c.deref.ensures)
@@ -37,6 +53,10 @@ loop-i-preserved c =
     record {
       op = c.in_ok-list_statement.ensures.same_op ∙ c.loop-i.invariant.op;
       every = c.in_ok-list_statement.ensures.same_every ∙ c.loop-i.invariant.every;
+      copies = again lines copies all c.loop-i.i c.index_mut-copy.result.now c.list_statement.new.copy within c.index_mut-copy.ensures.value
+          (c.in_ok-list_statement.ensures.copy ∙ ap (λ (l : Line). statement_of l.stmt) c.deref.ensures
+          ∙ sym (copy_is lines copies all c.loop-i.i c.index_mut-copy.result.now c.index-lines-i.result c.loop-i-test.true c.index-lines-i.is c.index_mut-copy.ensures.value))
+          ∙ ap (λ (ls : List Line). statements_of (map line_of ls)) same;
       come = λ own. c.in_ok-list_statement.ensures.come own has (c.loop-i.invariant.come own);
     }
 

@@ -1,5 +1,0 @@
-use Rattle.f77_sites.proofs.PutStatements as statements
-use Rattle.f77_sites.proofs.changing.put_block_if.Goals as goal
-
-pub returns : goal.returns
-returns c = statements.put_block_if _ _ _ _ c.in_ok-condition.condition c.in_ok-condition.ensures
