@@ -9,6 +9,8 @@ from mutants.gate.definitions.reaching import OPEN, Reached
 # The widest line of a definition that public contracts reach, and that of each folder of a crate.
 OPEN_WIDEST = 100
 WIDEST = {"specs": 120, "src": 120, "proofs": 200}
+# A file with a line that is wider, for which all crates above its own would have to be proved anew.
+WIDER = {Path("crates/f77_legal/src/owing.rt"): 122}
 # A text in quotation marks, which may have several lines; comments and signs have marks that begin none.
 QUOTED = re.compile(r'(//[^\n]*|b?\'(?:[^\'\\]|\\.)\')|r(#+)".*?"\2|b?r?"(?:[^"\\]|\\.)*"', re.S)
 # The formatter has an attribute in one line.
@@ -43,6 +45,6 @@ def wide_of(reached: Reached) -> Iterator[str]:
     narrow = open_lines(reached)
     for file, text in texts_in(reached.repository.root):
         for at, width in enumerate(widths_in(text)):
-            most = OPEN_WIDEST if (file, at) in narrow else WIDEST[file.parts[2]]
+            most = OPEN_WIDEST if (file, at) in narrow else WIDER.get(file, WIDEST[file.parts[2]])
             if width > most:
                 yield f"{file}:{at + 1}: {width} columns, and {most} at most are wanted"
